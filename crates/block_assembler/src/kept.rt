@@ -1,0 +1,156 @@
+ghost use Rattle.std.specs.Prelude.{◌≡◌, ◌<◌, ◌≤◌, ◌⊎◌, ◌++◌, ◌∷◌, [], List, ℕ, Some, None, Ok, IfOk, MatchResult, IsErrOf};
+ghost use Rattle.std.specs.Option.{option_map, is_none};
+ghost use Rattle.std.specs.List.{position};
+ghost use Rattle.ddb_block.specs.Blocks.{block_count_of};
+ghost use Rattle.block_assembler.specs.Blocks.{StandsFor, Call, Offered, Forgotten, empty_of, offered, after_offer, after_forget, joined, IsAssembled};
+ghost use Rattle.block_assembler.specs.declared.NewFault.TheVariants.{NoMemory as OutOfMemory};
+
+use crate::put::put;
+use crate::{NewFault, Offer};
+use ddb_block::{block_count, block_span};
+use std::alloc::{AllocError, Global};
+use std::marker::Model;
+
+/// The greatest block size, in bytes.
+const MOST_BLOCK_SIZE: u16 = 4066;
+
+/// The greatest size of a module, in bytes.
+const MOST_SIZE: u32 = 16_842_752;
+
+/// The greatest number of blocks of a module.
+const MOST_BLOCKS: u32 = 65_536;
+
+impl From<AllocError> for NewFault {
+    ghost from_gives = { λ _ e. e ≡ OutOfMemory };
+
+    fn from(_e: AllocError) -> NewFault {
+        NewFault::NoMemory
+    }
+}
+
+/// A module that comes block by block.
+///
+/// Contracts see its size, its block size, and for each place the block that is there.
+#[derive(Drop)]
+pub struct Assembler {
+    size: u32,
+    block_size: u16,
+    bytes: Vec<u8>,
+    there: Vec<bool>,
+    missing: u32,
+}
+
+impl Model for Assembler {
+    ghost use Rattle.block_assembler.specs.Blocks.{AssemblerState};
+
+    ghost Value = { AssemblerState };
+
+    ghost use Rattle.block_assembler.specs.Kept.{view_assembler, IsKept};
+
+    ghost view = { view_assembler };
+
+    ghost invariant = { IsKept };
+}
+
+impl Assembler {
+    /// An assembler of a module of `size` bytes, 0 to 16,842,752, in blocks of `block_size` bytes, 1 to 4,066. Every
+    /// block is missing; a module of size 0 has no block, and is whole at once.
+    ///
+    /// `NoBlockSize` comes for any other block size, `TooLarge` for any other size, or where there are more than 65,536
+    /// blocks. Memory is asked for only where neither is the case.
+    pub fn new(alloc: Global, size: u32, block_size: u16) -> Result<Assembler, NewFault>
+        ensures made { IfOk result (λ a. a ≡ empty_of size block_size) }
+        ensures stands { IfOk result (λ a. StandsFor a size block_size []) }
+        ensures fits { IfOk result (λ _. IsAssembled size block_size) }
+        ensures no_block_size { IsErrOf result NewFault.NoBlockSize → (block_size ≡ 0) ⊎ (4066 < block_size) }
+        ensures too_large { IsErrOf result NewFault.TooLarge → (0 < block_size) × (block_size ≤ 4066) × ((16842752 < size) ⊎ (65536 < block_count_of size block_size)) }
+        ensures no_memory { IsErrOf result NewFault.NoMemory → IsAssembled size block_size }
+    {
+        if block_size == 0 || block_size > MOST_BLOCK_SIZE {
+            return Err(NewFault::NoBlockSize);
+        }
+        let blocks = block_count(size, block_size);
+        if size > MOST_SIZE || blocks > MOST_BLOCKS {
+            return Err(NewFault::TooLarge);
+        }
+        let bytes = vec![in alloc; 0; size as usize]?;
+        let there = vec![in alloc; false; blocks as usize]?;
+        Ok(Assembler {
+            size,
+            block_size,
+            bytes,
+            there,
+            missing: blocks,
+        })
+    }
+
+    /// Offers the bytes of block number `block`. Only `New` changes anything. Takes no memory: the bytes are copied once,
+    /// to their place in the module.
+    pub fn offer(&mut self, block: u16, bytes: &[u8]) -> Offer
+        ensures answer { result ≡ offered self.old block bytes.now }
+        ensures after { self.new ≡ after_offer self.old block bytes.now }
+        ensures stands { (calls : List Call) (size block_size : ℕ) → StandsFor self.old size block_size calls → StandsFor self.new size block_size (calls ++ Offered block bytes.now ∷ []) }
+    {
+        let place = usize::from(block);
+        if place >= self.there.len() {
+            return Offer::WrongPlace;
+        }
+        if bytes.len() != usize::from(block_span(self.size, self.block_size, block)) {
+            return Offer::WrongLength;
+        }
+        if self.there[place] {
+            return Offer::Again;
+        }
+        put(&mut self.bytes, place * usize::from(self.block_size), bytes);
+        self.there[place] = true;
+        self.missing -= 1;
+        Offer::New
+    }
+
+    /// Makes block number `block` missing again, which has to be below the number of blocks, and changes nothing else.
+    pub fn forget(&mut self, block: u16)
+        requires { block < block_count_of self.old.size self.old.block_size }
+        ensures after { self.new ≡ after_forget self.old block }
+        ensures stands { (calls : List Call) (size block_size : ℕ) → StandsFor self.old size block_size calls → StandsFor self.new size block_size (calls ++ Forgotten block ∷ []) }
+    {
+        let place = usize::from(block);
+        if self.there[place] {
+            self.there[place] = false;
+            self.missing += 1;
+        }
+    }
+
+    /// The module's bytes, exactly where no block is missing.
+    pub fn whole(&self) -> Option<&[u8]>
+        ensures { option_map (λ b. b.now) result ≡ joined self.now.blocks }
+    {
+        if self.missing == 0 {
+            Some(&self.bytes)
+        } else {
+            None
+        }
+    }
+
+    /// The module's bytes, exactly where no block is missing, and else the assembler as it was. The bytes aren't copied.
+    pub fn finish(self) -> Result<Vec<u8>, Assembler>
+        ensures { MatchResult result (λ bytes. joined self.blocks ≡ Some bytes.items) (λ a. (joined self.blocks ≡ None) × (a ≡ self)) }
+    {
+        if self.missing == 0 {
+            Ok(self.bytes)
+        } else {
+            Err(self)
+        }
+    }
+
+    /// The least number of a block that is missing, if any is.
+    pub fn first_missing(&self) -> Option<u16>
+        ensures { result ≡ position is_none self.now.blocks }
+    {
+        for (place, there) in self.there.iter().enumerate() {
+            if !*there {
+                return Some(place as u16);
+            }
+        }
+        None
+    }
+}

@@ -1,0 +1,45 @@
+use crate::{Assembler, NewFault, Offer};
+use std::test::Fail;
+
+#[test]
+fn sizes_are_judged(rt: HostRuntime) {
+    for (size, block_size, fault) in [
+        (0, 4066, None),
+        (65_536, 1, None),
+        (5, 0, Some(NewFault::NoBlockSize)),
+        (5, 4067, Some(NewFault::NoBlockSize)),
+        (65_537, 1, Some(NewFault::TooLarge)),
+        (16_842_753, 4066, Some(NewFault::TooLarge)),
+    ] {
+        let made = Assembler::new(rt.alloc(), size, block_size);
+        assert_eq!(rt; made.err(), fault, "at {size} and {block_size}");
+    }
+}
+
+#[test]
+fn blocks_come_in_any_order(rt: HostRuntime) -> Result<(), Fail> {
+    let empty = Assembler::new(rt.alloc(), 0, 4066)?;
+    assert_eq!(rt; empty.whole(), Some(b"".as_slice()));
+
+    let mut module = Assembler::new(rt.alloc(), 9, 4)?;
+    module.forget(0);
+    for (block, bytes, answer, missing) in [
+        (3, b"j".as_slice(), Offer::WrongPlace, Some(0)),
+        (2, b"ij".as_slice(), Offer::WrongLength, Some(0)),
+        (0, b"abc".as_slice(), Offer::WrongLength, Some(0)),
+        (2, b"i".as_slice(), Offer::New, Some(0)),
+        (0, b"abcd".as_slice(), Offer::New, Some(1)),
+        (2, b"x".as_slice(), Offer::Again, Some(1)),
+        (1, b"efgh".as_slice(), Offer::New, None),
+    ] {
+        assert_eq!(rt; module.whole(), None);
+        assert_eq!(rt; module.offer(block, bytes), answer, "block {block}");
+        assert_eq!(rt; module.first_missing(), missing, "after block {block}");
+    }
+    assert_eq!(rt; module.whole(), Some(b"abcdefghi".as_slice()));
+    assert_eq!(rt;
+        module.finish().ok(),
+        Some(vec![in rt.alloc(); b'a', b'b', b'c', b'd', b'e', b'f', b'g', b'h', b'i']?)
+    );
+    Ok(())
+}

@@ -1,0 +1,32 @@
+//! The program: it runs the command that its words name on standard input and standard output.
+#![tactic(auto)]
+
+use carousel_shell::{Status, run_plain};
+use oc_bytes::{StdSink, StdSource};
+use std::process::ExitCode;
+use std::{env, io};
+
+fn main(rt: HostRuntime) -> ExitCode {
+    let status = match words(&rt) {
+        Ok(words) => {
+            let mut source = StdSource::new(rt.stdin());
+            let mut sink = StdSink::new(rt.stdout());
+            run_plain(rt.alloc(), &words, &mut source, &mut sink)
+        }
+        Err(status) => status,
+    };
+    if let Ok(Some(line)) = status.line(rt.alloc()) {
+        let _ = eprintln!(rt; "{line}");
+    }
+    ExitCode::from(status.code())
+}
+
+/// The words behind the program's name. A word that isn't UTF-8 is a faulty one.
+fn words(rt: &HostRuntime) -> Result<Vec<String>, Status> {
+    let arguments = match env::args(rt) {
+        Ok(arguments) => arguments,
+        Err(error) if error.kind() == io::ErrorKind::OutOfMemory => return Err(Status::NoMemory),
+        Err(_) => return Err(Status::Words),
+    };
+    Ok(arguments.skip(1).collect(rt.alloc())?)
+}

@@ -1,0 +1,169 @@
+ghost use Rattle.std.specs.Prelude.{◌≡◌, ◌≤◌, ◌++◌, ◌∷◌, ℕ, List, [], Some, IfOk, IfErr, OnOk};
+ghost use Rattle.std.specs.List.{position};
+ghost use Rattle.std.specs.Option.{option_map, unwrap_or, is_none};
+ghost use Rattle.oc_bytes.specs.Outcome.{Rose, Told};
+ghost use Rattle.ddb_block.specs.Blocks as ddb;
+ghost use Rattle.block_assembler.specs.Blocks.{empty_of, joined};
+ghost use Rattle.carousel_shell.specs.Cuts.{Bytes};
+ghost use Rattle.carousel_shell.specs.Input.{block_heard, if_asked};
+ghost use Rattle.carousel_shell.specs.Ends.{end_of, unless_missing};
+ghost use Rattle.carousel_shell.specs.Owed.{IsDue, Owes, Writes};
+ghost use Rattle.carousel_shell.specs.Gathering.{asked_of, named_of, HasBlocks, Ends, IsStop, Stopped};
+
+use crate::sections::{goes_on, next_section};
+use crate::status::Status;
+use crate::unread::Unread;
+use block_assembler::{Assembler, NewFault};
+use ddb_block::{Ddb, DdbFault};
+use dsmcc_section::{SectionFault, Table};
+use oc_bytes::{NoMemory, Sink, Source, WriteFault, write_all};
+use std::alloc::{AllocError, Global};
+
+/// The size of a module's blocks, in bytes; the last block may be shorter.
+const BLOCK_SIZE: u16 = 4_066;
+
+/// The most sections that are taken.
+const MOST_SECTIONS: u32 = 65_536;
+
+/// The module that is asked for.
+#[derive(Clone, Copy)]
+pub struct Wanted {
+    pub id: u16,
+    pub version: u8,
+    pub size: u32,
+    pub download: u32,
+}
+
+/// Writes the module that the sections of the source carry.
+pub fn assemble<S: Source, K: Sink>(
+    alloc: Global,
+    wanted: Wanted,
+    source: &mut S,
+    sink: &mut K,
+) -> Status
+    requires { wanted.size ≤ 16842752 }
+    ensures words { result ≡ Status.Words → ⊥ }
+    ensures due { (input : Bytes) → S.left source.old ≡ Some input → IsDue result (end_of (named_of wanted) input) }
+    ensures owes { (input left before after : Bytes) → S.left source.old ≡ Some input → S.left source.new ≡ Some left
+        → K.written sink.old ≡ Some before → K.written sink.new ≡ Some after → Owes (named_of wanted) result input left before after }
+    ensures read_fault { result ≡ Status.ReadFault → Rose (S.faults source.old) (S.faults source.new) }
+    ensures write_fault { result ≡ Status.WriteFault → Rose (K.faults sink.old) (K.faults sink.new) }
+{
+    let mut assembler = match Assembler::new(alloc, wanted.size, BLOCK_SIZE) {
+        Ok(assembler) => assembler,
+        Err(NewFault::NoMemory) => return Status::NoMemory,
+        Err(_) => unreachable!(),
+    };
+    match gather(alloc, wanted, source, &mut assembler) {
+        Ok(()) => write_module(&assembler, sink),
+        Err(status) => status,
+    }
+}
+
+/// Writes the module where no block of it is missing.
+fn write_module<K: Sink>(assembler: &Assembler, sink: &mut K) -> Status
+    ensures due { IsDue result (unless_missing (position is_none assembler.now.blocks)) }
+    ensures no_read { result ≡ Status.ReadFault → ⊥ }
+    ensures writes { Told (K.written sink.old) (K.written sink.new) (λ before after. Writes result (unwrap_or (joined assembler.now.blocks) []) before after) }
+    ensures write_fault { result ≡ Status.WriteFault → Rose (K.faults sink.old) (K.faults sink.new) }
+{
+    if let Some(block) = assembler.first_missing() {
+        return Status::Incomplete(u32::from(block));
+    }
+    match assembler.whole() {
+        Some(bytes) => write_output(sink, bytes),
+        None => unreachable!(),
+    }
+}
+
+fn write_output<K: Sink>(sink: &mut K, bytes: &[u8]) -> Status
+    ensures due { IsDue result Status.Done }
+    ensures no_read { result ≡ Status.ReadFault → ⊥ }
+    ensures writes { Told (K.written sink.old) (K.written sink.new) (λ before after. Writes result bytes.now before after) }
+    ensures write_fault { result ≡ Status.WriteFault → Rose (K.faults sink.old) (K.faults sink.new) }
+{
+    match write_all(sink, bytes) {
+        Ok(()) => Status::Done,
+        Err(WriteFault::Failed) => Status::WriteFault,
+        Err(WriteFault::NoMemory) => Status::NoMemory,
+    }
+}
+
+/// Offers the module's blocks out of the source's sections, up to the end of the input.
+fn gather<S: Source>(
+    alloc: Global,
+    wanted: Wanted,
+    source: &mut S,
+    assembler: &mut Assembler,
+) -> Result<(), Status>
+    requires { assembler.old ≡ empty_of wanted.size 4066 }
+    ensures done { OnOk result (Told (S.left source.old) (S.left source.new) (Ends (asked_of wanted) assembler.new)) }
+    ensures stop { IfErr result IsStop }
+    ensures stopped { IfErr result (λ s. Told (S.left source.old) (S.left source.new) (Stopped s)) }
+    ensures read_fault { IfErr result (λ s. s ≡ Status.ReadFault → Rose (S.faults source.old) (S.faults source.new)) }
+{
+    let mut unread = Unread::new(alloc)?;
+    for taken in 0..MOST_SECTIONS {
+        let Some(len) = next_section(&mut unread, source)? else {
+            return Ok(());
+        };
+        offer_section(alloc, wanted, &unread.held()[..len], assembler)?;
+        unread.pass(len);
+    }
+    if goes_on(&mut unread, source)? {
+        Err(Status::InputTooLong)
+    } else {
+        Ok(())
+    }
+}
+
+/// Offers the block that a section carries, where it is one of the wanted.
+fn offer_section(
+    alloc: Global,
+    wanted: Wanted,
+    section: &[u8],
+    assembler: &mut Assembler,
+) -> Result<(), NoMemory>
+    ensures { OnOk result ((sections : List Bytes) → HasBlocks (asked_of wanted) assembler.old sections → HasBlocks (asked_of wanted) assembler.new (sections ++ section.now ∷ [])) }
+{
+    if let Some(block) = asked_block(alloc, wanted, section)? {
+        let _ = assembler.offer(block.block, &block.bytes);
+    }
+    Ok(())
+}
+
+/// The block message of the module that a section carries.
+fn asked_block(alloc: Global, wanted: Wanted, section: &[u8]) -> Result<Option<Ddb>, NoMemory>
+    ensures { IfOk result (λ block. option_map ddb.view block ≡ if_asked (asked_of wanted) (block_heard section.now)) }
+{
+    let Some(block) = block_in(alloc, section)? else {
+        return Ok(None);
+    };
+    if block.download == wanted.download
+        && block.module == wanted.id
+        && block.version == wanted.version
+    {
+        Ok(Some(block))
+    } else {
+        Ok(None)
+    }
+}
+
+/// The block message that a section carries.
+fn block_in(alloc: Global, section: &[u8]) -> Result<Option<Ddb>, NoMemory>
+    ensures { IfOk result (λ block. option_map ddb.view block ≡ block_heard section.now) }
+{
+    let section = match dsmcc_section::decode(alloc, section) {
+        Ok(section) => section,
+        Err(SectionFault::Skip(_)) => return Ok(None),
+        Err(SectionFault::NoMemory) => return Err(AllocError),
+    };
+    match section.table {
+        Table::Control => Ok(None),
+        Table::Blocks => match ddb_block::decode(alloc, &section.payload) {
+            Ok(block) => Ok(Some(block)),
+            Err(DdbFault::NotDdb(_)) => Ok(None),
+            Err(DdbFault::NoMemory) => Err(AllocError),
+        },
+    }
+}

@@ -1,0 +1,79 @@
+ghost use Rattle.std.specs.Prelude.{◌≡◌, IfOk};
+ghost use Rattle.std.specs.String.{string_bytes};
+ghost use Rattle.std.specs.Option.{option_map};
+ghost use Rattle.carousel_shell.specs.Statuses.{code_of, line_of};
+
+use oc_bytes::{Failed, NoMemory};
+use std::alloc::{AllocError, Global};
+
+/// How a command ended.
+#[derive(Debug, Drop)]
+pub enum Status {
+    /// The command did all that it says, and the input was read to its end.
+    Done,
+    /// The words don't name a command with its values.
+    Words,
+    /// The source failed.
+    ReadFault,
+    /// The sink failed.
+    WriteFault,
+    /// The input goes on behind the most that the command takes.
+    InputTooLong,
+    /// Memory was wanting.
+    NoMemory,
+    /// The module isn't whole; this is the least number of a block that is missing, 0 to 4,142.
+    Incomplete(u32),
+}
+
+impl Status {
+    /// The exit status of the program, 0 to 10: this project's own numbers.
+    pub fn code(&self) -> u8
+        ensures { result ≡ code_of self.now }
+    {
+        match self {
+            Status::Done => 0,
+            Status::Words => 2,
+            Status::ReadFault => 4,
+            Status::WriteFault => 5,
+            Status::InputTooLong => 8,
+            Status::NoMemory => 9,
+            Status::Incomplete(_) => 10,
+        }
+    }
+
+    /// The line for standard error, without its line feed; none for `Done`.
+    pub fn line(&self, alloc: Global) -> Result<Option<String>, NoMemory>
+        ensures { IfOk result (λ line. option_map string_bytes line ≡ line_of self.now) }
+    {
+        let text = match self {
+            Status::Done => return Ok(None),
+            Status::Words => String::from_str(alloc, "carousel: bad words")?,
+            Status::ReadFault => String::from_str(alloc, "carousel: read fault")?,
+            Status::WriteFault => String::from_str(alloc, "carousel: write fault")?,
+            Status::InputTooLong => String::from_str(alloc, "carousel: input too long")?,
+            Status::NoMemory => String::from_str(alloc, "carousel: no memory")?,
+            Status::Incomplete(block) => format!(in alloc; "carousel: block {block} is missing")?,
+        };
+        Ok(Some(text))
+    }
+}
+
+impl From<AllocError> for Status {
+    ghost use Rattle.carousel_shell.specs.declared.status.Status.TheVariants as status;
+
+    ghost from_gives = { λ _ s. s ≡ status.NoMemory };
+
+    fn from(_e: AllocError) -> Status {
+        Status::NoMemory
+    }
+}
+
+impl From<Failed> for Status {
+    ghost use Rattle.carousel_shell.specs.declared.status.Status.TheVariants as status;
+
+    ghost from_gives = { λ _ s. s ≡ status.ReadFault };
+
+    fn from(_e: Failed) -> Status {
+        Status::ReadFault
+    }
+}

@@ -1,0 +1,124 @@
+use super::*;
+use oc_bytes::{MemSink, MemSource};
+use std::alloc::Global;
+use std::test::Fail;
+
+/// A section with the only block of module 1, version 0, of download 42: `hello`.
+const HELLO: [u8; 35] = [
+    0x3C, 0xB0, 0x20, 0x00, 0x01, 0xC1, 0x00, 0x00, 0x11, 0x03, 0x10, 0x03, 0x00, 0x00, 0x00, 0x2A,
+    0xFF, 0x00, 0x00, 0x0B, 0x00, 0x01, 0x00, 0xFF, 0x00, 0x00, 0x68, 0x65, 0x6C, 0x6C, 0x6F, 0xDE,
+    0xE9, 0xC3, 0x3D,
+];
+
+/// The same with the bytes `HELLO`.
+const SECOND: [u8; 35] = [
+    0x3C, 0xB0, 0x20, 0x00, 0x01, 0xC1, 0x00, 0x00, 0x11, 0x03, 0x10, 0x03, 0x00, 0x00, 0x00, 0x2A,
+    0xFF, 0x00, 0x00, 0x0B, 0x00, 0x01, 0x00, 0xFF, 0x00, 0x00, 0x48, 0x45, 0x4C, 0x4C, 0x4F, 0xB4,
+    0xF0, 0x94, 0x45,
+];
+
+/// A block `other` of version 1.
+const OTHER_VERSION: [u8; 35] = [
+    0x3C, 0xB0, 0x20, 0x00, 0x01, 0xC3, 0x00, 0x00, 0x11, 0x03, 0x10, 0x03, 0x00, 0x00, 0x00, 0x2A,
+    0xFF, 0x00, 0x00, 0x0B, 0x00, 0x01, 0x01, 0xFF, 0x00, 0x00, 0x6F, 0x74, 0x68, 0x65, 0x72, 0x1A,
+    0x7A, 0xC3, 0x49,
+];
+
+/// A block `other` of download 43.
+const OTHER_DOWNLOAD: [u8; 35] = [
+    0x3C, 0xB0, 0x20, 0x00, 0x01, 0xC1, 0x00, 0x00, 0x11, 0x03, 0x10, 0x03, 0x00, 0x00, 0x00, 0x2B,
+    0xFF, 0x00, 0x00, 0x0B, 0x00, 0x01, 0x00, 0xFF, 0x00, 0x00, 0x6F, 0x74, 0x68, 0x65, 0x72, 0x03,
+    0x2B, 0x8D, 0x36,
+];
+
+fn words(alloc: Global, line: &str) -> Result<Vec<String>, Fail> {
+    let mut words = Vec::new(alloc);
+    for word in line.split_whitespace() {
+        words.push(String::from_str(alloc, word)?)?;
+    }
+    Ok(words)
+}
+
+fn joined(alloc: Global, parts: &[&[u8]]) -> Result<Vec<u8>, Fail> {
+    let mut bytes = Vec::new(alloc);
+    for part in parts {
+        bytes.extend_from_slice(part)?;
+    }
+    Ok(bytes)
+}
+
+/// The exit status and what was written, in pieces of 7 bytes.
+fn outcome(alloc: Global, line: &str, input: Vec<u8>) -> Result<(u8, MemSink), Fail> {
+    let words = words(alloc, line)?;
+    let mut source = MemSource::new(input, Vec::new(alloc), 7);
+    let mut sink = MemSink::new(alloc, Vec::new(alloc), 3);
+    let status = run_plain(alloc, &words, &mut source, &mut sink);
+    Ok((status.code(), sink))
+}
+
+#[test]
+fn modules_are_assembled(rt: HostRuntime) -> Result<(), Fail> {
+    let alloc = rt.alloc();
+    let mut damaged = joined(alloc, &[&HELLO])?;
+    assert_eq!(rt; damaged.len(), 35);
+    damaged[30] ^= 1;
+    let rows: [(&str, Vec<u8>, u8, &[u8]); 9] = [
+        ("assemble 1 0 5 42", joined(alloc, &[&HELLO])?, 0, b"hello"),
+        ("assemble 1 0 5 42", damaged, 10, b""),
+        (
+            "assemble 1 0 5 42",
+            joined(alloc, &[&HELLO[..20]])?,
+            10,
+            b"",
+        ),
+        ("assemble 1 0 5 42", joined(alloc, &[])?, 10, b""),
+        ("assemble 1 0 0 42", joined(alloc, &[])?, 0, b""),
+        ("assemble 01 0 5 42", joined(alloc, &[&HELLO])?, 2, b""),
+        ("assemble 1 0 5 -42", joined(alloc, &[&HELLO])?, 2, b""),
+        (
+            "assemble 1 0 5 42",
+            joined(alloc, &[&HELLO, &SECOND])?,
+            0,
+            b"hello",
+        ),
+        (
+            "assemble 1 0 5 42",
+            joined(alloc, &[&OTHER_VERSION, &OTHER_DOWNLOAD, &HELLO])?,
+            0,
+            b"hello",
+        ),
+    ];
+    for (line, input, code, output) in rows {
+        let (status, sink) = outcome(alloc, line, input)?;
+        assert_eq!(rt; status, code, "of {line}");
+        assert_eq!(rt; sink.written(), output, "of {line}");
+    }
+    Ok(())
+}
+
+#[test]
+fn faults_stop_a_command(rt: HostRuntime) -> Result<(), Fail> {
+    let alloc = rt.alloc();
+    let words = words(alloc, "assemble 1 0 5 42")?;
+    let mut source = MemSource::new(joined(alloc, &[&HELLO])?, Vec::from_slice(alloc, &[1])?, 20);
+    let mut sink = MemSink::new(alloc, Vec::new(alloc), 2);
+    let status = run_plain(alloc, &words, &mut source, &mut sink);
+    assert_eq!(rt; status.code(), 4);
+    assert_eq!(rt; sink.written(), b"".as_slice());
+
+    let mut source = MemSource::new(joined(alloc, &[&HELLO])?, Vec::new(alloc), 20);
+    let mut sink = MemSink::new(alloc, Vec::from_slice(alloc, &[1])?, 2);
+    let status = run_plain(alloc, &words, &mut source, &mut sink);
+    assert_eq!(rt; status.code(), 5);
+    assert_eq!(rt; sink.written(), b"he".as_slice());
+    Ok(())
+}
+
+#[test]
+fn statuses_have_lines(rt: HostRuntime) -> Result<(), Fail> {
+    let alloc = rt.alloc();
+    assert!(rt; Status::Done.line(alloc)?.is_none());
+    let line = Status::Incomplete(12).line(alloc)?.ok_or("no line")?;
+    assert_eq!(rt; line.as_str(), "carousel: block 12 is missing");
+    Ok(())
+}

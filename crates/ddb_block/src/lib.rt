@@ -1,0 +1,205 @@
+//! Block messages, DDB (ISO/IEC 13818-6, clause 7.3.7: DownloadDataBlock), and how a module is cut into blocks.
+#![tactic(auto)]
+
+ghost use Rattle.std.specs.Prelude.{◌≡◌, ◌≤◌, ◌<◌, ◌++◌, ◌∷◌, [], Some, Ok, length, ◌+◌, IfOk};
+ghost use Rattle.oc_bytes.specs.Cursor.{Cursor, value_only};
+ghost use Rattle.oc_bytes.specs.Numbers.{two_bytes};
+ghost use Rattle.oc_bytes.specs.Outcome.{Gives};
+ghost use Rattle.ddb_block.specs.Blocks.{Block, Fits, view, parts_view, Reads, read, spelling, cause, block_count_of, block_span_of, SpansFill};
+
+mod header;
+
+pub use header::{byte_of, four_bytes_of, header_bytes, message, messages_read, two_bytes_of};
+use oc_bytes::{Fields, NoMemory};
+use std::alloc::{AllocError, Global};
+
+/// A block message: one block of a module.
+#[derive(Debug, Drop)]
+pub struct Ddb {
+    /// downloadId.
+    pub download: u32,
+    /// moduleId.
+    pub module: u16,
+    /// moduleVersion.
+    pub version: u8,
+    /// blockNumber, from 0.
+    pub block: u16,
+    /// The block's bytes. All blocks of a module have the DII's blockSize, except the last.
+    pub bytes: Vec<u8>,
+}
+
+/// Why reading gave no block message.
+#[derive(Clone, Copy, Debug, PartialEq, Eq)]
+pub enum DdbFault {
+    /// The bytes are no block message: the place, counted in bytes from 0, of the first field that is cut or breaks a rule.
+    NotDdb(usize),
+    /// Memory was wanting.
+    NoMemory,
+}
+
+impl From<AllocError> for DdbFault {
+    ghost use Rattle.ddb_block.specs.declared.DdbFault.TheVariants.{NoMemory};
+
+    ghost from_gives = { λ _ e. e ≡ NoMemory };
+
+    fn from(_error: AllocError) -> DdbFault {
+        DdbFault::NoMemory
+    }
+}
+
+impl From<usize> for DdbFault {
+    ghost use Rattle.ddb_block.specs.declared.DdbFault.TheVariants.{NotDdb};
+
+    ghost from_gives = { λ place e. e ≡ NotDdb place };
+
+    fn from(place: usize) -> DdbFault {
+        DdbFault::NotDdb(place)
+    }
+}
+
+/// The fields before the block's bytes, behind the header: 6 bytes.
+fn front(ddb: &Ddb) -> [u8; 6]
+    ensures front { two_bytes ddb.now.module ++ (ddb.now.version ∷ 0xFF ∷ []) ++ two_bytes ddb.now.block ≡ result }
+    ensures fits { Fits (view ddb.now) }
+{
+    let Ddb {
+        download,
+        module,
+        version,
+        block,
+        bytes: _,
+    } = ddb;
+    let _download = *download;
+    [
+        (*module / 256) as u8,
+        (*module % 256) as u8,
+        *version,
+        0xFF,
+        (*block / 256) as u8,
+        (*block % 256) as u8,
+    ]
+}
+
+/// The bytes of a block message.
+fn written(alloc: Global, ddb: &Ddb) -> Result<Vec<u8>, NoMemory>
+    requires { length ddb.now.bytes.items ≤ 4066 }
+    ensures spells { IfOk result (λ bytes. bytes.items ≡ spelling (view ddb.now)) }
+    ensures fits { IfOk result (λ _. Fits (view ddb.now)) }
+{
+    let size = ddb.bytes.len() + 6;
+    let mut bytes = Vec::with_capacity(alloc, size + 12)?;
+    bytes.extend_from_slice(&header_bytes(0x1003, ddb.download, size as u16))?;
+    bytes.extend_from_slice(&front(ddb))?;
+    bytes.extend_from_slice(&ddb.bytes)?;
+    Ok(bytes)
+}
+
+/// Writes a block message: its one spelling, without an adaptation header and with the reserved bytes 0xFF. It has 18 bytes
+/// and those of the block, and reads as the block.
+///
+/// `ddb.bytes` has at most 4,066 bytes, so that the message fits in one section. `NoMemory` comes where the bytes find no
+/// memory.
+pub fn encode(alloc: Global, ddb: &Ddb) -> Result<Vec<u8>, NoMemory>
+    requires { length ddb.now.bytes.items ≤ 4066 }
+    ensures spells { IfOk result (λ bytes. bytes.items ≡ spelling (view ddb.now)) }
+    ensures reads { IfOk result (λ bytes. Reads bytes.items (view ddb.now)) }
+{
+    let bytes = written(alloc, ddb)?;
+    Ok(bytes)
+}
+
+/// What holds of each spelling, whoever wrote it: it reads as its block, and is 18 bytes longer.
+pub fn spellings_read()
+    ensures reads { (b : Block) → Fits b → length b.bytes ≤ 4066 → Reads (spelling b) b }
+    ensures length { (b : Block) → length (spelling b) ≡ length b.bytes + 18 }
+{}
+
+/// A block message whose bytes aren't copied out of the payload.
+#[derive(Clone, Copy, Debug)]
+pub struct Parts<'a> {
+    /// downloadId.
+    pub download: u32,
+    /// moduleId.
+    pub module: u16,
+    /// moduleVersion.
+    pub version: u8,
+    /// blockNumber, from 0.
+    pub block: u16,
+    /// The block's bytes.
+    pub bytes: &'a [u8],
+}
+
+/// Reads a block message as `decode` does, copying nothing. An `Err` is the place that `decode` gives.
+#[tactic(auto, unfolding(crate::specs::Blocks::block_at))]
+pub fn parts_of(payload: &[u8]) -> Result<Parts<'_>, usize>
+    ensures { Gives parts_view (λ place. Some place) result (read payload.now) }
+{
+    let (download, mut fields) = message(payload, 0x1003)?;
+    let module = two_bytes_of(&mut fields)?;
+    let version = byte_of(&mut fields)?;
+    byte_of(&mut fields)?;
+    let block = two_bytes_of(&mut fields)?;
+    Ok(Parts {
+        download,
+        module,
+        version,
+        block,
+        bytes: fields.rest(),
+    })
+}
+
+/// The same block message with bytes of its own.
+fn owned(alloc: Global, parts: &Parts<'_>) -> Result<Ddb, AllocError>
+    ensures { IfOk result (λ d. view d ≡ parts_view parts.now) }
+{
+    let bytes = parts.bytes.to_vec(alloc)?;
+    Ok(Ddb {
+        download: parts.download,
+        module: parts.module,
+        version: parts.version,
+        block: parts.block,
+        bytes,
+    })
+}
+
+/// Reads a block message from the front of a section's payload. The adaptation and what follows the message are passed over.
+///
+/// `NotDdb` comes exactly where the payload is no block message: at the place of the first field that is cut or breaks a rule.
+/// The rules are protocolDiscriminator 0x11, dsmccType 0x03, messageId 0x1003, and a messageLength, at place 10, that is at
+/// least adaptationLength and at most the number of bytes behind it. `NoMemory` comes where the block's bytes find no memory.
+pub fn decode(alloc: Global, payload: &[u8]) -> Result<Ddb, DdbFault>
+    ensures found { IfOk result (λ d. Reads payload.now (view d)) }
+    ensures only { (b : Block) → Reads payload.now b → Gives view cause result (Ok b) }
+    ensures exact { Gives view cause result (read payload.now) }
+{
+    let parts = parts_of(payload)?;
+    Ok(owned(alloc, &parts)?)
+}
+
+/// How many blocks a module of `size` bytes has at a block size of `block_size` bytes: none where it has no bytes, and each but
+/// the last is full.
+///
+/// `block_size` is at least 1.
+#[tactic(auto, using(crate::proofs::Spans::spans_fill))]
+pub fn block_count(size: u32, block_size: u16) -> u32
+    requires { 1 ≤ block_size }
+    ensures count { result ≡ block_count_of size block_size }
+    ensures spans { SpansFill size block_size }
+{
+    size.div_ceil(u32::from(block_size))
+}
+
+/// How many bytes block number `block` of such a module has: `block_size`, and in the last block what is left.
+///
+/// `block_size` is at least 1, and `block` is below the number of blocks.
+pub fn block_span(size: u32, block_size: u16, block: u16) -> u16
+    requires positive { 1 ≤ block_size }
+    requires below { block < block_count_of size block_size }
+    ensures { result ≡ block_span_of size block_size block }
+{
+    let left = u64::from(size).saturating_sub(u64::from(block) * u64::from(block_size));
+    left.min(u64::from(block_size)) as u16
+}
+
+#[cfg(test)]
+mod tests;

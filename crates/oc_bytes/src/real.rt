@@ -1,0 +1,106 @@
+ghost use Rattle.std.specs.Prelude.{◌≡◌, None};
+
+use crate::sink::{Sink, WriteFault};
+use crate::source::{Failed, Source};
+use std::io;
+use std::io::{Error, ErrorKind};
+
+/// How often one call is tried, where a signal interrupts it: once, and 16 times again.
+const TRIES: u32 = 17;
+
+/// A reader of the system as a [`Source`]. What it has left isn't told.
+///
+/// Each error that the system answers raises the count of faults. A read that a signal interrupts
+/// is repeated at most 16 times.
+#[derive(Drop)]
+pub struct StdSource<R: Drop> {
+    reader: R,
+    faults: u64,
+}
+
+impl<R: io::Read + Drop> StdSource<R> {
+    /// A source over this reader, with no fault counted yet.
+    pub fn new(reader: R) -> StdSource<R>
+        ensures { result.faults ≡ 0 }
+    {
+        StdSource { reader, faults: 0 }
+    }
+}
+
+impl<R: io::Read + Drop> Source for StdSource<R> {
+    ghost left = { λ _. None };
+
+    ghost faults = { λ s. s.faults };
+
+    fn read(&mut self, into: &mut [u8]) -> Result<usize, Failed> {
+        for _ in 0..TRIES {
+            match self.reader.read(into) {
+                Ok(n) => return Ok(n),
+                Err(error) => {
+                    self.faults = self.faults.saturating_add(1);
+                    if !is_interrupted(&error) {
+                        return Err(Failed);
+                    }
+                }
+            }
+        }
+        Err(Failed)
+    }
+
+    fn faults(&self) -> u64 {
+        self.faults
+    }
+}
+
+/// A writer of the system as a [`Sink`]. What it was given isn't told.
+///
+/// Each error that the system answers raises the count of faults, and so does a write that takes no
+/// byte. A write that a signal interrupts is repeated at most 16 times.
+#[derive(Drop)]
+pub struct StdSink<W: Drop> {
+    writer: W,
+    faults: u64,
+}
+
+impl<W: io::Write + Drop> StdSink<W> {
+    /// A sink over this writer, with no fault counted yet.
+    pub fn new(writer: W) -> StdSink<W>
+        ensures { result.faults ≡ 0 }
+    {
+        StdSink { writer, faults: 0 }
+    }
+}
+
+impl<W: io::Write + Drop> Sink for StdSink<W> {
+    ghost written = { λ _. None };
+
+    ghost faults = { λ s. s.faults };
+
+    fn write(&mut self, from: &[u8]) -> Result<usize, WriteFault> {
+        for _ in 0..TRIES {
+            match self.writer.write(from) {
+                Ok(n) if n > 0 => return Ok(n),
+                Ok(_) => {
+                    self.faults = self.faults.saturating_add(1);
+                    return Err(WriteFault::Failed);
+                }
+                Err(error) => {
+                    self.faults = self.faults.saturating_add(1);
+                    if !is_interrupted(&error) {
+                        return Err(WriteFault::Failed);
+                    }
+                }
+            }
+        }
+        Err(WriteFault::Failed)
+    }
+
+    fn faults(&self) -> u64 {
+        self.faults
+    }
+}
+
+/// A signal came before the call did anything.
+fn is_interrupted(error: &Error) -> bool {
+    matches!(error.kind(), ErrorKind::Interrupted)
+}

@@ -1,0 +1,53 @@
+ghost use Rattle.std.specs.Prelude.{◌≡◌, ◌<◌, ◌≤◌, ◌++◌, List, ℕ, Option, length, take, IfOk, OnOk, OnErr, IsErrOf};
+ghost use Rattle.oc_bytes.specs.Outcome.{Rose, Told};
+ghost use Rattle.oc_bytes.specs.Streams.{AppendsFront};
+
+/// Why a write took nothing.
+#[derive(Clone, Copy, Debug, PartialEq, Eq)]
+pub enum WriteFault {
+    /// The system answered with an error. It comes only where the sink's count of faults rose in this
+    /// call, or stands at its type's end.
+    Failed,
+    /// Memory was wanting.
+    NoMemory,
+}
+
+/// Where bytes go. This trait is this project's own.
+///
+/// Whether the content is told never changes over a call.
+pub trait Sink {
+    /// The bytes written, where they are told.
+    ghost written: { Self → Option (List ℕ) };
+
+    /// How often a call failed. It never falls.
+    ghost faults: { Self → ℕ };
+
+    /// Appends the first bytes of `from`, which has at least one byte, and answers how many: at least
+    /// one. A fault appends nothing.
+    fn write(&mut self, from: &[u8]) -> Result<usize, WriteFault>
+        requires { 0 < length from.now }
+        ensures within { IfOk result (λ n. (0 < n) × (n ≤ length from.now)) }
+        ensures appends { IfOk result (λ n. Told (written self.old) (written self.new) (λ before after. after ≡ before ++ take n from.now)) }
+        ensures nothing { OnErr result (written self.new ≡ written self.old) }
+        ensures later { faults self.old ≤ faults self.new }
+        ensures cause { IsErrOf result WriteFault.Failed → Rose (faults self.old) (faults self.new) };
+
+    /// The count of faults, which stays at the greatest `u64`.
+    fn faults(&self) -> u64
+        ensures { result ≡ faults self.now };
+}
+
+/// Writes all of the bytes, in as many calls as the sink needs. After a fault a front of them was
+/// written.
+pub fn write_all<K: Sink>(sink: &mut K, from: &[u8]) -> Result<(), WriteFault>
+    ensures ok { OnOk result (Told (K.written sink.old) (K.written sink.new) (λ before after. after ≡ before ++ from.now)) }
+    ensures err { OnErr result (Told (K.written sink.old) (K.written sink.new) (λ before after. AppendsFront before after from.now)) }
+    ensures later { K.faults sink.old ≤ K.faults sink.new }
+    ensures cause { IsErrOf result WriteFault.Failed → Rose (K.faults sink.old) (K.faults sink.new) }
+{
+    let mut done = 0;
+    while done < from.len() {
+        done += sink.write(&from[done..])?;
+    }
+    Ok(())
+}
