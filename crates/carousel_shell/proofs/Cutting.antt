@@ -8,7 +8,7 @@ use Rattle.std.proofs.lemmas.List.{get_or_append_left, take-append-le, drop-appe
 use Rattle.std.proofs.lemmas.List.Folds.{concat-append}
 use Rattle.oc_bytes.specs.Outcome.{Told}
 use Rattle.carousel_shell.specs.Cuts.{Bytes, back_to_back_in, back_to_back, front_len}
-use Rattle.carousel_shell.specs.Held.{onto_left, IsDry, AreCut, IsRear}
+use Rattle.carousel_shell.specs.Held.{onto_left, IsDry, AreCut, IsRear, AllTaken}
 use Rattle.block_assembler.specs.Blocks.{AssemblerState}
 use Rattle.carousel_shell.specs.Input.{Asked, blocks_among, is_over_sections}
 use Rattle.carousel_shell.specs.Gathering.{HasBlocks, Ends, Stopped}
@@ -190,38 +190,40 @@ told_here a (Some y) x t i = (y, refl, t.each x y i refl)
 told_here a None x t i = absurd (true≢false (sym (t.kept ∙ ap is_some i)))
 
 -- a front was taken, and the status isn't that of the limit
-pub stopped_other : {a b : Option Bytes} (s : Status) → (s ≡ status.InputTooLong → ⊥) → Told a b IsRear → Told a b (Stopped s)
+pub stopped_other : {over : Bytes → Bool} {a b : Option Bytes} (s : Status) → (s ≡ status.InputTooLong → ⊥) → Told a b IsRear → Told a b (Stopped over s)
 stopped_other s n t = record { kept = t.kept; each = λ x y i o. record { rear = t.each x y i o; too_long = λ e. absurd (n e) } }
 
-nil_by_cases : (rest : Bytes) → (rest ≢ [] → ⊥) → rest ≡ []
+pub nil_by_cases : (rest : Bytes) → (rest ≢ [] → ⊥) → rest ≡ []
 nil_by_cases [] n = refl
 nil_by_cases (c ∷ cs) n = absurd (n (λ e. cc))
 
-pub stopped_long : (a : Option Bytes) (held held2 : Bytes) (left left2 : Option Bytes) (sections : List Bytes) → length sections ≡ 65536
+pub stopped_long : (most : ℕ) (a : Option Bytes) (held held2 : Bytes) (left left2 : Option Bytes) (sections : List Bytes) → length sections ≡ most
     → Told a (onto_left held left) (AreCut sections) → onto_left held2 left2 ≡ onto_left held left → ((rest : Bytes) → onto_left held left ≡ Some rest → rest ≢ [])
-    → Told a left2 (Stopped status.InputTooLong)
-stopped_long a held held2 left left2 sections n t e more =
+    → Told a left2 (Stopped (is_over_sections most) status.InputTooLong)
+stopped_long most a held held2 left left2 sections n t e more =
     let rear = told_rear a held2 left2 sections (rw e t) in
     record {
       kept = rear.kept;
       each = λ x y i o. record {
         rear = rear.each x y i o;
-        too_long = λ _. let r = told_here a (onto_left held left) x t i in over_rest 65536 x r.0 sections r.2 n (more r.0 r.1);
+        too_long = λ _. let r = told_here a (onto_left held left) x t i in over_rest most x r.0 sections r.2 n (more r.0 r.1);
       };
     }
 
-pub ended_few : (m : Asked) (s : AssemblerState) (a left : Option Bytes) (sections : List Bytes) → length sections < 65536 → HasBlocks m s sections
-    → Told a left (AreAll sections) → Told a left (Ends m s)
-ended_few m s a left sections n b t = record {
+pub ended_few : (most : ℕ) (a left : Option Bytes) (sections : List Bytes) → length sections < most → Told a left (AreAll sections) → Told a left (AllTaken back_to_back (is_over_sections most) sections)
+ended_few most a left sections n t = record {
   kept = t.kept;
-  each = λ x y i o. let r = t.each x y i o in
-      record { to_end = r.to_end; within = within_few 65536 x sections r.all n; blocks = b.blocks ∙ ap (blocks_among m) (sym r.all) };
+  each = λ x y i o. let r = t.each x y i o in record { to_end = r.to_end; within = within_few most x sections r.all n; all = r.all };
 }
 
-pub ended_full : (m : Asked) (s : AssemblerState) (a : Option Bytes) (held held2 : Bytes) (left left2 : Option Bytes) (sections : List Bytes) → length sections ≡ 65536 → HasBlocks m s sections
+pub dry_end : (left : Option Bytes) (y : Bytes) → IsDry left → left ≡ Some y → y ≡ []
+dry_end (Some l) y d o = sym (same_Some l y o) ∙ d
+dry_end None y d o = cc
+
+pub ended_full : (most : ℕ) (a : Option Bytes) (held held2 : Bytes) (left left2 : Option Bytes) (sections : List Bytes) → length sections ≡ most
     → Told a (onto_left held left) (AreCut sections) → onto_left held2 left2 ≡ onto_left held left → IsDry left2 → ((rest : Bytes) → onto_left held left ≡ Some rest → rest ≢ [] → ⊥)
-    → Told a left2 (Ends m s)
-ended_full m s a held held2 left left2 sections n b t e dry none = record {
+    → Told a left2 (AllTaken back_to_back (is_over_sections most) sections)
+ended_full most a held held2 left left2 sections n t e dry none = record {
   kept = (told_rear a held2 left2 sections (rw e t)).kept;
   each = λ x y i o.
       let r = told_here a (onto_left held left) x t i in
@@ -229,11 +231,33 @@ ended_full m s a held held2 left left2 sections n b t e dry none = record {
       let c : AreCut sections x [] = rw z at r.2 in
       record {
         to_end = dry_end left2 y dry o;
-        within = within_all 65536 x sections c n;
-        blocks = b.blocks ∙ ap (blocks_among m) (sym (c.cuts ∙ append-nil sections));
+        within = within_all most x sections c n;
+        all = c.cuts ∙ append-nil sections;
       };
 }
+
+-- the assembler has the blocks of the whole input
+pub gathered : (m : Asked) (s : AssemblerState) (a left : Option Bytes) (sections : List Bytes) → HasBlocks m s sections
+    → Told a left (AllTaken back_to_back (is_over_sections 65536) sections) → Told a left (Ends m s)
+gathered m s a left sections b t = record {
+  kept = t.kept;
+  each = λ x y i o. let r = t.each x y i o in record { to_end = r.to_end; within = r.within; blocks = b.blocks ∙ ap (blocks_among m) (sym r.all) };
+}
+
+pub all_rear : {f : Bytes → List Bytes} {over : Bytes → Bool} {candidates : List Bytes} {a b : Option Bytes} → Told a b (AllTaken f over candidates) → Told a b IsRear
+all_rear t = record {
+  kept = t.kept;
+  each = λ x y i o. let r = t.each x y i o in record { taken = x; whole = sym (ap (λ bs. x ++ bs) r.to_end ∙ append-nil x) };
+}
+
+-- what was taken is what stands in front of what is left
+pub rear_of : {P : Bytes → Bytes → Type 0} (front : Bytes) (a : Option Bytes) (held : Bytes) (left : Option Bytes) → ((x l : Bytes) → P x l → x ≡ front ++ l)
+    → Told a (onto_left held left) P → Told a left IsRear
+rear_of {P} front a held left f t = record { kept = sym (told_both a held left) ∙ t.kept; each = λ x y i o. rear left x y i o t }
   where
-    dry_end : (left : Option Bytes) (y : Bytes) → IsDry left → left ≡ Some y → y ≡ []
-    dry_end (Some l) y d o = sym (same_Some l y o) ∙ d
-    dry_end None y d o = cc
+    rear : (left : Option Bytes) (x y : Bytes) → a ≡ Some x → left ≡ Some y → Told a (onto_left held left) P → IsRear x y
+    rear (Some l) x y i o t = record {
+      taken = front ++ held;
+      whole = f x (held ++ l) (t.each x (held ++ l) i refl) ∙ sym (append_assoc front held l) ∙ ap (λ bs. (front ++ held) ++ bs) (same_Some l y o);
+    }
+    rear None x y i o t = cc

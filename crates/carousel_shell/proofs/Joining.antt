@@ -36,6 +36,7 @@ due_stop c input status.ReadFault h t = inr tt
 due_stop c input status.NoMemory h t = inr tt
 due_stop c input status.InputTooLong h t = inl (sym (cond-true (is_too_long c input) status.InputTooLong (end_within c input) (t refl)))
 due_stop c input status.Done h t = absurd h
+due_stop c input status.NotAll h t = absurd h
 due_stop c input status.Words h t = absurd h
 due_stop c input status.WriteFault h t = absurd h
 due_stop c input (status.Incomplete b) h t = absurd h
@@ -45,6 +46,7 @@ not_at_end status.ReadFault h t = t
 not_at_end status.NoMemory h t = t
 not_at_end status.InputTooLong h t = t
 not_at_end status.Done h t = h
+not_at_end status.NotAll h t = h
 not_at_end status.Words h t = h
 not_at_end status.WriteFault h t = h
 not_at_end (status.Incomplete b) h t = h
@@ -55,6 +57,7 @@ writes_nothing status.ReadFault output before after h e = record { written = [];
 writes_nothing status.InputTooLong output before after h e = record { written = []; after_is = e ∙ sym (append-nil before); extent = refl }
 writes_nothing status.NoMemory output before after h e = record { written = []; after_is = e ∙ sym (append-nil before); extent = record { rest = output; whole_is = refl } }
 writes_nothing status.Done output before after h e = absurd h
+writes_nothing status.NotAll output before after h e = absurd h
 writes_nothing status.Words output before after h e = absurd h
 writes_nothing status.WriteFault output before after h e = absurd h
 writes_nothing (status.Incomplete b) output before after h e = absurd h

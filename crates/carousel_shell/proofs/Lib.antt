@@ -4,3 +4,8 @@ pub mod Holding
 pub mod Cutting
 pub mod Offering
 pub mod Joining
+pub mod Putting
+pub mod Packeting
+pub mod Accepting
+pub mod Walking
+pub mod Halting

@@ -1,13 +1,16 @@
 -- Words as a name and what stands behind it.
-use Rattle.std.proofs.Common.{◌≡◌, ℕ, ◌<◌, true, false, ◌||◌, List, [], ◌∷◌, length, get_or, drop, map, Result, Err, Option, Some, None, refl, arith, ◌∙◌, sym, ap}
+use Rattle.std.proofs.Common.{◌≡◌, ℕ, ◌+◌, ◌<◌, ◌≤◌, true, false, ◌||◌, List, [], ◌∷◌, ◌++◌, length, get_or, drop, map, Result, Ok, Err, Option, Some, None, IfSome, refl, arith, ◌∙◌, sym, ap, append_assoc, append-nil, codes}
 use Rattle.std.specs.List.{list_any}
+use Rattle.std.specs.Str.{bytes_eq}
 use Rattle.std.proofs.lemmas.Bool.{cond-true, cond-false}
+use Rattle.std.proofs.lemmas.List.{drop_more, drop_all}
 use Rattle.std.specs.Option.{option_map, ok_or}
 use Rattle.oc_bytes.specs.Outcome.{Gives}
+use Rattle.path_tree.specs.Paths.{PathNames}
 use Rattle.carousel_shell.specs.declared.words.Command.{Command}
 use Rattle.carousel_shell.specs.declared.words.WordsFault.{WordsFault}
 use Rattle.carousel_shell.specs.declared.words.WordsFault.TheVariants as faults
-use Rattle.carousel_shell.specs.Words.{Named, Words, begins_with_dash, or_misfit, named, command_of, view, cause}
+use Rattle.carousel_shell.specs.Words.{Named, OpenSections, Words, begins_with_dash, or_misfit, named, command_of, view, cause, path_in, onto_paths, all_paths, paths_in, open_by}
 
 any_map : {A : Type 0} (f : A → List ℕ) (words : List A) → list_any begins_with_dash (map f words) ≡ list_any (λ w. begins_with_dash (f w)) words
 any_map f [] = refl
@@ -25,6 +28,56 @@ pub command_of-named : {A : Type 0} (f : A → List ℕ) (words : List A) (d : A
     → command_of (map f words) ≡ or_misfit (named name (map f (drop 1 words)))
 command_of-named f [] d name n h e = absurd (omega arith)
 command_of-named f (w ∷ ws) d name n h e = cond-false _ _ _ (any_map f (w ∷ ws) ∙ h) ∙ ap (λ m. or_misfit (named m (map f ws))) (sym e)
+
+paths_in_all : {A : Type 0} (f : A → List ℕ) (words : List A) → 0 < length words → paths_in (map f words) ≡ all_paths (map f words)
+paths_in_all f [] n = absurd (omega arith)
+paths_in_all f (w ∷ ws) n = refl
+
+-- paths in front of those of other words
+abbrev pub prepended : List PathNames → Option (List PathNames) → Option (List PathNames)
+prepended paths o = option_map (λ more. paths ++ more) o
+
+pub paths_begin : (o : Option (List PathNames)) → o ≡ prepended [] o
+paths_begin (Some paths) = refl
+paths_begin None = refl
+
+path_read : (o : Option PathNames) (path : PathNames) → or_misfit o ≡ Ok path → o ≡ Some path
+path_read (Some p) path e = cc
+path_read None path e = cc
+
+path_unread : (o : Option PathNames) → or_misfit o ≡ Err Words → o ≡ None
+path_unread (Some p) e = cc
+path_unread None e = refl
+
+prepended_one : (paths : List PathNames) (path : PathNames) (o : Option (List PathNames)) → prepended paths (onto_paths (Some path) o) ≡ prepended (paths ++ path ∷ []) o
+prepended_one paths path (Some more) = ap Some (sym (append_assoc paths (path ∷ []) more))
+prepended_one paths path None = refl
+
+rest_of_words : {A : Type 0} (f : A → List ℕ) (words : List A) (i : ℕ) (d : A) → i < length words → all_paths (map f (drop i words)) ≡ onto_paths (path_in (f (get_or words i d))) (all_paths (map f (drop (i + 1) words)))
+rest_of_words f words i d h = ap (λ ws. all_paths (map f ws)) (drop_more words i d h)
+
+-- one word more was read
+pub paths_more : {A : Type 0} (f : A → List ℕ) (words : List A) (i : ℕ) (d : A) (paths : List PathNames) (path : PathNames) → i < length words
+    → all_paths (map f words) ≡ prepended paths (all_paths (map f (drop i words))) → or_misfit (path_in (f (get_or words i d))) ≡ Ok path
+    → all_paths (map f words) ≡ prepended (paths ++ path ∷ []) (all_paths (map f (drop (i + 1) words)))
+paths_more f words i d paths path h e r =
+    e ∙ ap (prepended paths) (rest_of_words f words i d h ∙ ap (λ o. onto_paths o (all_paths (map f (drop (i + 1) words)))) (path_read _ path r))
+    ∙ prepended_one paths path (all_paths (map f (drop (i + 1) words)))
+
+-- a word is no path, so the words aren't paths
+pub paths_fault : {A : Type 0} (f : A → List ℕ) (words : List A) (i : ℕ) (d : A) (paths : List PathNames) (fault : WordsFault) → i < length words
+    → all_paths (map f words) ≡ prepended paths (all_paths (map f (drop i words)))
+    → IfSome (cause fault) (λ m. or_misfit (path_in (f (get_or words i d))) ≡ Err m) → IfSome (cause fault) (λ m. or_misfit (paths_in (map f words)) ≡ Err m)
+paths_fault f words i d paths faults.NoMemory h e r = tt
+paths_fault f words i d paths faults.Words h e r =
+    let none : all_paths (map f (drop i words)) ≡ None = rest_of_words f words i d h ∙ ap (λ o. onto_paths o (all_paths (map f (drop (i + 1) words)))) (path_unread _ r) in
+    ap or_misfit (paths_in_all f words (omega arith) ∙ e ∙ ap (prepended paths) none)
+
+-- all words were read
+pub paths_all : {A : Type 0} (f : A → List ℕ) (words : List A) (i : ℕ) (paths : List PathNames) → 0 < length words → length words ≤ i
+    → all_paths (map f words) ≡ prepended paths (all_paths (map f (drop i words))) → or_misfit (paths_in (map f words)) ≡ Ok paths
+paths_all f words i paths n h e =
+    ap or_misfit (paths_in_all f words n ∙ e ∙ ap (λ ws. prepended paths (all_paths (map f ws))) (drop_all i words h) ∙ ap Some (append-nil paths))
 
 -- a command that was named, or none
 pub gives_named : (r : Result Command WordsFault) (o : Option Command) (n : Option Named) → r ≡ ok_or o faults.Words → option_map view o ≡ n → Gives view cause r (or_misfit n)

@@ -1,5 +1,5 @@
 -- One module as it is gathered out of an input.
-use Rattle.std.specs.Prelude.{◌≡◌, List, [], true, false}
+use Rattle.std.specs.Prelude.{◌≡◌, Bool, List, [], true, false}
 use Rattle.block_assembler.specs.Blocks.{AssemblerState}
 use Rattle.carousel_shell.specs.Cuts.{Bytes}
 use Rattle.carousel_shell.specs.Held.{IsRear}
@@ -35,6 +35,6 @@ IsStop status.NoMemory = Unit {0}
 IsStop _ = ⊥
 
 -- a front of the input was taken; where it goes on behind the limit, that is so
-pub record Stopped (s : Status) (input left : Bytes) : Type 0 where
+pub record Stopped (over : Bytes → Bool) (s : Status) (input left : Bytes) : Type 0 where
   pub rear : IsRear input left
-  pub too_long : s ≡ status.InputTooLong → is_over_sections 65536 input ≡ true
+  pub too_long : s ≡ status.InputTooLong → over input ≡ true

@@ -1,5 +1,5 @@
 -- An input that is read in pieces: what was taken of it, what is held of it, and what the source has left.
-use Rattle.std.specs.Prelude.{◌≡◌, ℕ, ◌≤◌, ◌++◌, List, [], length, take, drop, Option, IfSome}
+use Rattle.std.specs.Prelude.{◌≡◌, ℕ, Bool, false, ◌≤◌, ◌++◌, List, [], length, take, drop, Option, IfSome}
 use Rattle.std.specs.Option.{option_map}
 use Rattle.std.specs.List.{concat}
 use Rattle.carousel_shell.specs.Cuts.{Bytes, back_to_back}
@@ -16,6 +16,12 @@ IsDry left = IfSome left (λ l. l ≡ [])
 pub record AreCut (sections : List Bytes) (input rest : Bytes) : Type 0 where
   pub whole : input ≡ concat sections ++ rest
   pub cuts : back_to_back input ≡ sections ++ back_to_back rest
+
+-- all that these candidates are was taken, within the limit that `over` tests, and the input has ended
+pub record AllTaken (candidates_in : Bytes → List Bytes) (over : Bytes → Bool) (candidates : List Bytes) (input left : Bytes) : Type 0 where
+  pub to_end : left ≡ []
+  pub within : over input ≡ false
+  pub all : candidates_in input ≡ candidates
 
 -- `left` is what is left of the input behind what was taken of it
 pub record IsRear (input left : Bytes) : Type 0 where

@@ -6,3 +6,11 @@ pub mod Statuses
 pub mod Ends
 pub mod Owed
 pub mod Gathering
+pub mod Texts
+pub mod Hearing
+pub mod Sending
+pub mod Extents
+pub mod Packets
+pub mod Recording
+pub mod Accepted
+pub mod Listing

@@ -1,62 +1,20 @@
 -- What each command owes, where the input and the output are told.
-use Rattle.std.specs.Prelude.{◌≡◌, ◌⊎◌, [], ◌++◌}
+use Rattle.std.specs.Prelude.{◌≡◌, [], ◌++◌}
 use Rattle.carousel_shell.specs.Cuts.{Bytes}
 use Rattle.carousel_shell.specs.Words as commands
 use Rattle.carousel_shell.specs.Ends.{output_of}
+pub use Rattle.carousel_shell.specs.Extents.{Stops, IsDue, IsAtEnd, Extent, Whole, Nothing, Front, extent_of, IsFront, IsWritten, WritesPart, Writes}
+use Rattle.carousel_shell.specs.Recording.{record_extent}
 use Rattle.carousel_shell.specs.declared.status.Status.{Status}
-use Rattle.carousel_shell.specs.declared.status.Status.TheVariants as status
 
--- ---- the end
-
--- a fault of the outside, or want of memory
-abbrev pub Stops : Status → Type 0
-Stops status.ReadFault = Unit {0}
-Stops status.WriteFault = Unit {0}
-Stops status.NoMemory = Unit {0}
-Stops _ = ⊥
-
--- the status is the one that the input defines, or something stopped the command
-abbrev pub IsDue : Status → Status → Type 0
-IsDue s due = (s ≡ due) ⊎ Stops s
-
--- the input was read to its end
-abbrev pub IsAtEnd : Status → Type 0
-IsAtEnd status.Done = Unit {0}
-IsAtEnd (status.Incomplete b) = Unit {0}
-IsAtEnd _ = ⊥
-
--- ---- what was written
-
--- how much of the output
-pub data Extent : Type 0 where
-  Whole : Extent
-  Nothing : Extent
-  Front : Extent
-
-abbrev pub extent_of : Status → Extent
-extent_of status.Done = Whole
-extent_of status.WriteFault = Front
-extent_of status.NoMemory = Front
-extent_of _ = Nothing
-
-pub record IsFront (front whole : Bytes) : Type 0 where
-  pub rest : Bytes
-  pub whole_is : whole ≡ front ++ rest
-
-abbrev pub IsWritten : Extent → Bytes → Bytes → Type 0
-IsWritten Whole output written = written ≡ output
-IsWritten Nothing output written = written ≡ []
-IsWritten Front output written = IsFront written output
-
--- what was written behind what the sink had: the whole output, nothing, or a front of it
-pub record Writes (s : Status) (output before after : Bytes) : Type 0 where
-  pub written : Bytes
-  pub after_is : after ≡ before ++ written
-  pub extent : IsWritten (extent_of s) output written
+-- `record` writes as it reads
+abbrev pub extent_for : commands.Named → Status → Extent
+extent_for (commands.Record pid) s = record_extent s
+extent_for _ s = extent_of s
 
 -- what was taken of the input, and what was written of the output that it defines
 pub record Owes (c : commands.Named) (s : Status) (input left before after : Bytes) : Type 0 where
   pub taken : Bytes
   pub input_is : input ≡ taken ++ left
   pub to_end : IsAtEnd s → left ≡ []
-  pub writes : Writes s (output_of c taken) before after
+  pub writes : WritesPart (extent_for c s) (output_of c taken) before after

@@ -7,6 +7,7 @@ use Rattle.carousel_shell.specs.declared.status.Status.TheVariants as status
 
 abbrev pub code_of : Status → ℕ
 code_of status.Done = 0
+code_of status.NotAll = 1
 code_of status.Words = 2
 code_of status.ReadFault = 4
 code_of status.WriteFault = 5
@@ -19,6 +20,7 @@ fault_line text = Some (codes "carousel: " ++ text)
 
 abbrev pub line_of : Status → Option Bytes
 line_of status.Done = None
+line_of status.NotAll = None
 line_of status.Words = fault_line (codes "bad words")
 line_of status.ReadFault = fault_line (codes "read fault")
 line_of status.WriteFault = fault_line (codes "write fault")

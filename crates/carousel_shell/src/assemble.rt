@@ -5,7 +5,7 @@ ghost use Rattle.oc_bytes.specs.Outcome.{Rose, Told};
 ghost use Rattle.ddb_block.specs.Blocks as ddb;
 ghost use Rattle.block_assembler.specs.Blocks.{empty_of, joined};
 ghost use Rattle.carousel_shell.specs.Cuts.{Bytes};
-ghost use Rattle.carousel_shell.specs.Input.{block_heard, if_asked};
+ghost use Rattle.carousel_shell.specs.Input.{block_heard, if_asked, is_over_sections};
 ghost use Rattle.carousel_shell.specs.Ends.{end_of, unless_missing};
 ghost use Rattle.carousel_shell.specs.Owed.{IsDue, Owes, Writes};
 ghost use Rattle.carousel_shell.specs.Gathering.{asked_of, named_of, HasBlocks, Ends, IsStop, Stopped};
@@ -99,7 +99,7 @@ fn gather<S: Source>(
     requires { assembler.old ≡ empty_of wanted.size 4066 }
     ensures done { OnOk result (Told (S.left source.old) (S.left source.new) (Ends (asked_of wanted) assembler.new)) }
     ensures stop { IfErr result IsStop }
-    ensures stopped { IfErr result (λ s. Told (S.left source.old) (S.left source.new) (Stopped s)) }
+    ensures stopped { IfErr result (λ s. Told (S.left source.old) (S.left source.new) (Stopped (is_over_sections 65536) s)) }
     ensures read_fault { IfErr result (λ s. s ≡ Status.ReadFault → Rose (S.faults source.old) (S.faults source.new)) }
 {
     let mut unread = Unread::new(alloc)?;

@@ -7,28 +7,105 @@ ghost use Rattle.oc_bytes.specs.Decimals as decimals;
 ghost use Rattle.carousel_shell.specs.Words as commands;
 
 use crate::words::{Command, WordsFault};
+use path_tree::{Path, PathFault};
 use std::alloc::Global;
 
+/// The greatest PID of a stream; the one above it is that of stuffing (ISO/IEC 13818-1, 2.4.3.3).
+const MOST_PID: u32 = 8_190;
+
 /// The command that the words name. A word that begins with `-` is refused.
-pub fn command(_alloc: Global, words: &[String]) -> Result<Command, WordsFault>
+pub fn command(alloc: Global, words: &[String]) -> Result<Command, WordsFault>
     ensures gives { Gives commands.view commands.cause result (commands.command_of (map string_bytes words.now)) }
     ensures sized { IfOk result commands.IsSized }
 {
     if words.is_empty() || has_dash(words) {
         return Err(WordsFault::Words);
     }
-    named(words[0].as_str(), &words[1..]).ok_or(WordsFault::Words)
+    named(alloc, words[0].as_str(), &words[1..])
 }
 
 /// The command of this name, with the values of the words behind its name.
-fn named(name: &str, words: &[String]) -> Option<Command>
-    ensures by { option_map commands.view result ≡ commands.named name.now (map string_bytes words.now) }
-    ensures sized { IfSome result commands.IsSized }
+fn named(alloc: Global, name: &str, words: &[String]) -> Result<Command, WordsFault>
+    ensures gives { Gives commands.view commands.cause result (commands.or_misfit (commands.named name.now (map string_bytes words.now))) }
+    ensures sized { IfOk result commands.IsSized }
 {
     if name == "assemble" {
-        assemble_by(words)
+        assemble_by(words).ok_or(WordsFault::Words)
+    } else if name == "open" {
+        open_by(alloc, words)
+    } else if name == "record" {
+        match pid_by(words) {
+            Some(pid) => Ok(Command::Record(pid)),
+            None => Err(WordsFault::Words),
+        }
+    } else if name == "list" {
+        match pid_by(words) {
+            Some(pid) => Ok(Command::List(pid)),
+            None => Err(WordsFault::Words),
+        }
     } else {
-        None
+        Err(WordsFault::Words)
+    }
+}
+
+fn open_by(alloc: Global, words: &[String]) -> Result<Command, WordsFault>
+    ensures gives { Gives commands.view commands.cause result (commands.or_misfit (commands.open_by (map string_bytes words.now))) }
+    ensures sized { IfOk result commands.IsSized }
+{
+    if words.is_empty() {
+        return Err(WordsFault::Words);
+    }
+    if words[0].as_str() == "sections" {
+        return match paths_by(alloc, &words[1..]) {
+            Ok(paths) => Ok(Command::OpenSections(paths)),
+            Err(fault) => Err(fault),
+        };
+    }
+    let Some(pid) = decimal(&words[0], MOST_PID) else {
+        return Err(WordsFault::Words);
+    };
+    match paths_by(alloc, &words[1..]) {
+        Ok(paths) => Ok(Command::Open(pid as u16, paths)),
+        Err(fault) => Err(fault),
+    }
+}
+
+/// The PID that is the only word of a command.
+fn pid_by(words: &[String]) -> Option<u16>
+    ensures by { result ≡ commands.pid_by (map string_bytes words.now) }
+    ensures bound { IfSome result (λ pid. pid ≤ 8190) }
+{
+    let [pid] = words else {
+        return None;
+    };
+    let pid = decimal(pid, MOST_PID)?;
+    Some(pid as u16)
+}
+
+/// The paths of one or more words.
+fn paths_by(alloc: Global, words: &[String]) -> Result<Vec<Path>, WordsFault>
+    ensures { Gives (λ paths. paths.items) commands.cause result (commands.or_misfit (commands.paths_in (map string_bytes words.now))) }
+{
+    if words.is_empty() {
+        return Err(WordsFault::Words);
+    }
+    let mut paths = Vec::new(alloc);
+    for word in words {
+        let path = path_by(alloc, word)?;
+        if paths.push(path).is_err() {
+            return Err(WordsFault::NoMemory);
+        }
+    }
+    Ok(paths)
+}
+
+fn path_by(alloc: Global, word: &String) -> Result<Path, WordsFault>
+    ensures { Gives (λ path. path) commands.cause result (commands.or_misfit (commands.path_in (string_bytes word.now))) }
+{
+    match Path::parse(alloc, word.as_bytes()) {
+        Ok(path) => Ok(path),
+        Err(PathFault::NoMemory) => Err(WordsFault::NoMemory),
+        Err(_) => Err(WordsFault::Words),
     }
 }
 

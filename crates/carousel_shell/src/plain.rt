@@ -7,7 +7,9 @@ ghost use Rattle.carousel_shell.specs.Ends.{end_of};
 ghost use Rattle.carousel_shell.specs.Owed.{IsDue, Owes};
 
 use crate::assemble::{Wanted, assemble};
+use crate::open::{list_packets, open_packets, open_sections};
 use crate::parsing::command;
+use crate::record::record;
 use crate::status::Status;
 use crate::words::{Command, WordsFault};
 use oc_bytes::{Sink, Source};
@@ -59,6 +61,10 @@ pub fn run_plain<S: Source, K: Sink>(
             };
             assemble(alloc, wanted, source, sink)
         }
+        Ok(Command::OpenSections(paths)) => open_sections(alloc, &paths, source, sink),
+        Ok(Command::Open(pid, paths)) => open_packets(alloc, pid, &paths, source, sink),
+        Ok(Command::Record(pid)) => record(alloc, pid, source, sink),
+        Ok(Command::List(pid)) => list_packets(alloc, pid, source, sink),
         Err(WordsFault::Words) => Status::Words,
         Err(WordsFault::NoMemory) => Status::NoMemory,
     }

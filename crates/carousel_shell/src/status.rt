@@ -11,6 +11,8 @@ use std::alloc::{AllocError, Global};
 pub enum Status {
     /// The command did all that it says, and the input was read to its end.
     Done,
+    /// `open`: some path's answer is neither a file nor a folder.
+    NotAll,
     /// The words don't name a command with its values.
     Words,
     /// The source failed.
@@ -32,6 +34,7 @@ impl Status {
     {
         match self {
             Status::Done => 0,
+            Status::NotAll => 1,
             Status::Words => 2,
             Status::ReadFault => 4,
             Status::WriteFault => 5,
@@ -41,12 +44,12 @@ impl Status {
         }
     }
 
-    /// The line for standard error, without its line feed; none for `Done`.
+    /// The line for standard error, without its line feed; none for `Done` and `NotAll`.
     pub fn line(&self, alloc: Global) -> Result<Option<String>, NoMemory>
         ensures { IfOk result (λ line. option_map string_bytes line ≡ line_of self.now) }
     {
         let text = match self {
-            Status::Done => return Ok(None),
+            Status::Done | Status::NotAll => return Ok(None),
             Status::Words => String::from_str(alloc, "carousel: bad words")?,
             Status::ReadFault => String::from_str(alloc, "carousel: read fault")?,
             Status::WriteFault => String::from_str(alloc, "carousel: write fault")?,

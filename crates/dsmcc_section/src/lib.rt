@@ -2,7 +2,7 @@
 //! its fields and the CRC over all of it. The message inside is a payload of bytes here.
 #![tactic(auto)]
 
-ghost use Rattle.std.specs.Prelude.{◌≡◌, ◌<◌, ◌≤◌, ◌++◌, ◌↔◌, Ok, Err, length, IfOk, IsErrOf, MatchResult};
+ghost use Rattle.std.specs.Prelude.{◌≡◌, ◌<◌, ◌≤◌, ◌++◌, ◌↔◌, Ok, Err, length, IfErr, IfOk, IsErrOf, MatchResult};
 ghost use Rattle.oc_bytes.specs.Outcome.{Gives};
 ghost use Rattle.dsmcc_section.specs.Sections.{Fields, Fits, view, Reads, read, spelling, cause, fields_of, front_with, IsFramed};
 
@@ -203,6 +203,16 @@ fn table_of(bytes: &[u8]) -> Result<Table, Skip>
         return Err(Skip::BadCrc);
     }
     Ok(table)
+}
+
+/// The table and the payload of a section that takes all of the bytes, which is lent and not copied. An `Err` is the first skip
+/// that holds, as in `decode`.
+pub fn payload_of(bytes: &[u8]) -> Result<(Table, &[u8]), Skip>
+    ensures found { IfOk result (λ x. (read bytes.now ≡ Ok (fields_of x.0 bytes.now)) × (x.1.now ≡ (fields_of x.0 bytes.now).payload)) }
+    ensures skipped { IfErr result (λ skip. read bytes.now ≡ Err skip) }
+{
+    let table = table_of(bytes)?;
+    Ok((table, &bytes[8..bytes.len() - 4]))
 }
 
 /// The section of this table that takes all of the bytes.

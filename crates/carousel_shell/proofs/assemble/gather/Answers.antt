@@ -4,7 +4,7 @@ use Rattle.std.proofs.lemmas.Bool.{true≢false}
 use Rattle.carousel_shell.specs.Gathering.{asked_of}
 use Rattle.carousel_shell.specs.declared.status.Status.TheVariants as status
 use Rattle.carousel_shell.proofs.Offering.{blocks_begin}
-use Rattle.carousel_shell.proofs.Cutting.{told_begin, told_next, told_end, told_rear, stopped_other, stopped_long, ended_few, ended_full}
+use Rattle.carousel_shell.proofs.Cutting.{told_begin, told_next, told_end, told_rear, stopped_other, stopped_long, ended_few, ended_full, gathered}
 use Rattle.carousel_shell.proofs.assemble.gather.Goals as goal
 
 pub loop-taken-init : goal.loop-taken-init
@@ -24,9 +24,10 @@ returns-in_err-len-clause-stopped g c =
 pub returns-in_default-clause-done : goal.returns-in_default-clause-done
 returns-in_default-clause-done g c =
     let few : length c.loop-taken.invariant.sections < 65536 = omega (arith, c.loop-taken.invariant.number, c.loop-taken-test.true) in
-    ended_few (asked_of c.args.wanted) c.loop-taken.assembler _ _ c.loop-taken.invariant.sections few c.loop-taken.invariant.blocks
+    gathered (asked_of c.args.wanted) c.loop-taken.assembler _ _ c.loop-taken.invariant.sections c.loop-taken.invariant.blocks
+    (ended_few 65536 _ _ c.loop-taken.invariant.sections few
     (told_end _ c.next_section.new.unread _ c.loop-taken.invariant.sections (sym c.in_ok-len.ensures.len ∙ c.in_default.is) (c.in_ok-len.ensures.ended (ap Ok c.in_default.is))
-    (rw c.next_section.ensures.rest c.loop-taken.invariant.cut))
+    (rw c.next_section.ensures.rest c.loop-taken.invariant.cut)))
 
 pub returns-in_err-offer_section-clause-stopped : goal.returns-in_err-offer_section-clause-stopped
 returns-in_err-offer_section-clause-stopped g c =
@@ -51,12 +52,13 @@ returns-in_err-goes_on-clause-stopped g c =
 pub returns-then-branch-clause-stopped : goal.returns-then-branch-clause-stopped
 returns-then-branch-clause-stopped g c =
     let full : length c.loop-taken.invariant.sections ≡ 65536 = omega (arith, c.loop-taken.invariant.number, c.loop-taken-test.false, c.loop-taken.auto.taken-end) in
-    stopped_long _ c.loop-taken.unread c.goes_on.new.unread _ _ c.loop-taken.invariant.sections full c.loop-taken.invariant.cut c.goes_on.ensures.rest
+    stopped_long 65536 _ c.loop-taken.unread c.goes_on.new.unread _ _ c.loop-taken.invariant.sections full c.loop-taken.invariant.cut c.goes_on.ensures.rest
     (λ rest e. (c.in_ok-goes_on.ensures.more rest e).0 c.if-branch.true)
 
 pub returns-clause-done : goal.returns-clause-done
 returns-clause-done g c =
     let full : length c.loop-taken.invariant.sections ≡ 65536 = omega (arith, c.loop-taken.invariant.number, c.loop-taken-test.false, c.loop-taken.auto.taken-end) in
-    ended_full (asked_of c.args.wanted) c.loop-taken.assembler _ c.loop-taken.unread c.goes_on.new.unread _ _ c.loop-taken.invariant.sections full c.loop-taken.invariant.blocks
+    gathered (asked_of c.args.wanted) c.loop-taken.assembler _ _ c.loop-taken.invariant.sections c.loop-taken.invariant.blocks
+    (ended_full 65536 _ c.loop-taken.unread c.goes_on.new.unread _ _ c.loop-taken.invariant.sections full
     c.loop-taken.invariant.cut c.goes_on.ensures.rest (c.in_ok-goes_on.ensures.ended (ap Ok c.if-branch.false))
-    (λ rest e n. true≢false (sym ((c.in_ok-goes_on.ensures.more rest e).1 n) ∙ c.if-branch.false))
+    (λ rest e n. true≢false (sym ((c.in_ok-goes_on.ensures.more rest e).1 n) ∙ c.if-branch.false)))

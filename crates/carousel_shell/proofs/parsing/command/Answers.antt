@@ -17,4 +17,4 @@ returns-clause-gives c =
     let some : 0 < length c.args.words.now = omega (arith, eqb-false _ _ (sym c.is_empty.ensures ∙ c.if-is_empty.false)) in
     let name = c.as_str.ensures.value ∙ ap string_bytes c.index-words-0.is in
     rw (command_of-named string_bytes c.args.words.now c.index-words-0.result c.as_str.result.now some (sym c.has_dash.ensures ∙ c.if-has_dash.false) name)
-    (gives_named c.ok_or.result c.named.result _ c.ok_or.ensures.value (rw (take_rest c.args.words.now 1) at c.named.ensures.by))
+    (rw (take_rest c.args.words.now 1) at c.named.ensures.gives)

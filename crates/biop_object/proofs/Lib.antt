@@ -1,0 +1,12 @@
+pub mod Part
+pub mod Nested
+pub mod Comparing
+pub mod Indexing
+pub mod Finding
+pub mod Placed
+pub mod Messages
+pub mod ObjectLaws
+pub mod Whole
+pub mod ModuleLaws
+pub mod Spellings
+pub mod PutTogether

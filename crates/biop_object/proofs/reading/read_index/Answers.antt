@@ -1,0 +1,16 @@
+use Rattle.std.proofs.Common.{◌≡◌, ◌<◌, ◌++◌, ◌∷◌, [], length}
+use Rattle.std.proofs.lemmas.List.{map_push}
+use Rattle.biop_object.specs.Index.{view_indexed, view_index}
+use Rattle.biop_object.specs.ObjectReading.{index_of}
+use Rattle.biop_object.proofs.Indexing.{object_shrinks, object_read, not_empty}
+use Rattle.biop_object.proofs.reading.read_index.Goals as goal
+
+pub loop-fields-smaller : goal.loop-fields-smaller
+loop-fields-smaller c = object_shrinks c.loop-fields.fields (view_indexed c.in-Ok.object, c.object_of.new.fields) c.in-Ok.ensures
+
+pub loop-fields-preserved : goal.loop-fields-preserved
+loop-fields-preserved c =
+    let o = c.in-Ok.object in
+    let lt : 0 < length c.loop-fields.fields.rest = not_empty c.loop-fields.fields.rest c.rest.result.now c.is_empty.result c.rest.ensures c.is_empty.ensures c.loop-fields-test.true in
+    let e : view_index c.push.new.self.items ≡ view_index c.loop-fields.objects.items ++ view_indexed o ∷ [] = rw c.in_ok-push-in-Ok.ensures.items (map_push view_indexed c.loop-fields.objects.items o) in
+    rw e (object_read (view_index c.loop-fields.objects.items) c.loop-fields.fields c.object_of.new.fields (view_indexed o) (index_of c.args.bytes.now) lt c.in-Ok.ensures c.loop-fields.invariant)

@@ -1,0 +1,6 @@
+pub mod Objects
+pub mod ObjectReading
+pub mod Names
+pub mod Index
+pub mod ModuleFacts
+pub mod Spelled

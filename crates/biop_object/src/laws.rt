@@ -1,0 +1,9 @@
+//! A law about the definitions alone, for the crates above.
+
+ghost use Rattle.biop_object.specs.Spelled.{SpellingsReadBack};
+
+/// The spellings of objects one after another are read as those objects, each at its place, and to the end. So a module
+/// of written objects has an index of just these.
+pub fn spellings_read_back()
+    ensures { SpellingsReadBack }
+{}

@@ -1,0 +1,262 @@
+//! Writing BIOP messages of files and folders.
+
+ghost use Rattle.std.specs.Prelude.{◌≡◌, ◌≤◌, ◌<◌, ◌+◌, ◌∷◌, [], ◌++◌, ℕ, length, map, take, IfOk, OnOk, MatchOption, IsErrOf};
+ghost use Rattle.std.specs.List.{All, flat_map};
+ghost use Rattle.ior_tap.specs.Iors.{IsLocation};
+ghost use Rattle.biop_object.specs.Objects.{ReadsObject, IsFile, IsFolder, IsEntry, binding_of, file_spelling, folder_spelling, biop_front, kind_of, bound_kind, bound_tail, binding_spelling, binding_size, folder_size};
+ghost use Rattle.biop_object.specs.declared.written.ObjectFault.TheVariants.{NoMemory as OutOfMemory};
+
+use crate::reading::{DIRECTORY, FILE, GATEWAY, HEAD};
+use ior_tap::{Key, Location, put_reference};
+use oc_bytes::{NoMemory, Writer};
+use path_tree::Name;
+use std::alloc::{AllocError, Global};
+
+/// Which folder is written: a directory below the root, or the root, which is the service gateway.
+#[derive(Clone, Copy, Debug, PartialEq, Eq)]
+pub enum FolderKind {
+    Directory,
+    Gateway,
+}
+
+impl FolderKind {
+    fn name(self) -> &'static [u8]
+        ensures { result.now ≡ kind_of self }
+    {
+        match self {
+            FolderKind::Directory => &DIRECTORY,
+            FolderKind::Gateway => &GATEWAY,
+        }
+    }
+}
+
+/// What a binding that is written leads to.
+#[derive(Clone, Copy, Debug, PartialEq, Eq)]
+pub enum Bound {
+    /// A file, with the size of its content in bytes.
+    File(u64),
+    /// A directory.
+    Folder,
+}
+
+/// A binding to be written.
+#[derive(Drop)]
+pub struct Written {
+    /// The name, 1 to 254 bytes, which is written with a zero byte behind it.
+    pub name: Name,
+    /// What it leads to.
+    pub bound: Bound,
+    /// Where that object lies; its key has 4 bytes.
+    pub location: Location,
+}
+
+/// Why a folder wasn't written.
+#[derive(Clone, Copy, Debug, PartialEq, Eq)]
+pub enum ObjectFault {
+    /// The message would have more than 1,048,576 bytes, which is this project's own limit.
+    TooLarge,
+    /// Memory was wanting.
+    NoMemory,
+}
+
+impl From<AllocError> for ObjectFault {
+    ghost from_gives = { λ _ e. e ≡ OutOfMemory };
+
+    fn from(_e: AllocError) -> ObjectFault {
+        ObjectFault::NoMemory
+    }
+}
+
+/// The one spelling of a file as a BIOP message, 44 bytes and the content.
+///
+/// The key has 4 bytes, and the content at most 16,777,216. The objectInfo is the content's size in 8 bytes, no service
+/// context is written, and the sizes are exact (ISO/IEC 13818-6, clause 11.3.2.2; ETSI TR 101 202, clause 4.7.4.2).
+pub fn encode_file(alloc: Global, key: &Key, content: &[u8]) -> Result<Vec<u8>, NoMemory>
+    requires key { length key.now ≡ 4 }
+    requires size { length content.now ≤ 16777216 }
+    ensures spells { IfOk result (λ bytes. bytes.items ≡ file_spelling key.now content.now) }
+    ensures size { IfOk result (λ bytes. length bytes.items ≡ 44 + length content.now) }
+    ensures reads { IfOk result (λ bytes. (at : ℕ) → ReadsObject at bytes.items
+        (record { key = key.now; shape = IsFile (at + 44) (length content.now) })) }
+{
+    file_bytes(alloc, key.bytes(), content)
+}
+
+fn file_bytes(alloc: Global, key: &[u8], content: &[u8]) -> Result<Vec<u8>, NoMemory>
+    requires key { length key.now ≡ 4 }
+    requires size { length content.now ≤ 16777216 }
+    ensures { IfOk result (λ bytes. bytes.items ≡ file_spelling key.now content.now) }
+{
+    let length = content.len() as u32;
+    let info = u64::from(length).to_be_bytes();
+    let mut out = Writer::new(alloc);
+    put_front(&mut out, key, &FILE, &info, 4 + length)?;
+    out.put_u32(length)?;
+    out.put_bytes(content)?;
+    Ok(out.done())
+}
+
+/// The one spelling of a folder as a BIOP message: 34 bytes, and for each binding the bytes of its name and 82 more for
+/// a file, 74 more for a directory.
+///
+/// The key has 4 bytes, each name 1 to 254, and the key of each location 4. The bindings stand in the order of the
+/// entries; the objectInfo is empty, no service context is written, and the sizes are exact. `TooLarge` comes exactly
+/// where the message would have more than 1,048,576 bytes.
+/// (ISO/IEC 13818-6, clause 11.3.2.2; ETSI TR 101 202, clauses 4.7.4.1 and 4.7.4.3.)
+pub fn encode_folder(
+    alloc: Global,
+    kind: FolderKind,
+    key: &Key,
+    entries: &[Written],
+) -> Result<Vec<u8>, ObjectFault>
+    requires key { length key.now ≡ 4 }
+    requires entries { All IsEntry entries.now }
+    ensures spells { IfOk result (λ bytes. (bytes.items ≡ folder_spelling kind key.now entries.now) × (length bytes.items ≤ 1048576)) }
+    ensures size { IfOk result (λ bytes. length bytes.items ≡ folder_size entries.now) }
+    ensures reads { IfOk result (λ bytes. (at : ℕ) → ReadsObject at bytes.items
+        (record { key = key.now; shape = IsFolder (map binding_of entries.now) })) }
+    ensures too_large { IsErrOf result ObjectFault.TooLarge → 1048576 < length (folder_spelling kind key.now entries.now) }
+{
+    let Some(size) = size_of(entries) else {
+        return Err(ObjectFault::TooLarge);
+    };
+    let bytes = folder_bytes(alloc, kind, key.bytes(), entries, size)?;
+    Ok(bytes)
+}
+
+fn folder_bytes(
+    alloc: Global,
+    kind: FolderKind,
+    key: &[u8],
+    entries: &[Written],
+    size: u32,
+) -> Result<Vec<u8>, NoMemory>
+    requires key { length key.now ≡ 4 }
+    requires entries { All IsEntry entries.now }
+    requires size { size ≡ folder_size entries.now }
+    requires small { size ≤ 1048576 }
+    ensures spells { IfOk result (λ bytes. bytes.items ≡ folder_spelling kind key.now entries.now) }
+    ensures room { OnOk result (All (λ w. IsLocation w.location) entries.now) }
+{
+    let mut out = Writer::new(alloc);
+    put_front(&mut out, key, kind.name(), &[], size - 32)?;
+    out.put_u16(entries.len() as u16)?;
+    put_bindings(&mut out, entries)?;
+    Ok(out.done())
+}
+
+/// The number of bytes of a folder, if it is at most 1,048,576.
+fn size_of(entries: &[Written]) -> Option<u32>
+    requires { All IsEntry entries.now }
+    ensures { MatchOption result (1048576 < folder_size entries.now) (λ size. (size ≡ folder_size entries.now) × (size ≤ 1048576)) }
+{
+    let mut size = 34u32;
+    for entry in entries {
+        size += size_of_binding(entry);
+        if size > 1_048_576 {
+            return None;
+        }
+    }
+    Some(size)
+}
+
+fn size_of_binding(entry: &Written) -> u32
+    requires { IsEntry entry.now }
+    ensures size { result ≡ binding_size entry.now }
+    ensures small { result ≤ 336 }
+{
+    let name = entry.name.bytes().len() as u32;
+    match entry.bound {
+        Bound::File(_) => name + 82,
+        Bound::Folder => name + 74,
+    }
+}
+
+/// What stands before the body of a message.
+fn put_front(
+    out: &mut Writer,
+    key: &[u8],
+    kind: &[u8],
+    info: &[u8],
+    body_length: u32,
+) -> Result<(), NoMemory>
+    requires key { length key.now ≡ 4 }
+    requires kind { length kind.now ≡ 4 }
+    requires info { length info.now ≤ 8 }
+    requires body { body_length ≤ 16777220 }
+    ensures { OnOk result (out.new ≡ out.old ++ biop_front key.now kind.now info.now body_length) }
+{
+    out.put_u64(HEAD)?;
+    out.put_u32(20 + info.len() as u32 + body_length)?;
+    out.put_u8(4)?;
+    out.put_bytes(key)?;
+    out.put_u32(4)?;
+    out.put_bytes(kind)?;
+    out.put_u16(info.len() as u16)?;
+    out.put_bytes(info)?;
+    out.put_u8(0)?;
+    out.put_u32(body_length)?;
+    Ok(())
+}
+
+fn put_bindings(out: &mut Writer, entries: &[Written]) -> Result<(), NoMemory>
+    requires { All IsEntry entries.now }
+    ensures put { OnOk result (out.new ≡ out.old ++ flat_map binding_spelling entries.now) }
+    ensures room { OnOk result (All (λ w. IsLocation w.location) entries.now) }
+{
+    for entry in entries {
+        put_binding(out, entry)?;
+    }
+    Ok(())
+}
+
+fn put_binding(out: &mut Writer, entry: &Written) -> Result<(), NoMemory>
+    requires { IsEntry entry.now }
+    ensures put { OnOk result (out.new ≡ out.old ++ binding_spelling entry.now) }
+    ensures room { OnOk result (IsLocation entry.now.location) }
+{
+    put_id(out, entry.name.bytes())?;
+    match entry.bound {
+        Bound::File(size) => put_file(out, &entry.location, size)?,
+        Bound::Folder => put_folder(out, &entry.location)?,
+    }
+    Ok(())
+}
+
+/// A name with a zero byte behind it, as the one name component.
+fn put_id(out: &mut Writer, name: &[u8]) -> Result<(), NoMemory>
+    requires { length name.now ≤ 254 }
+    ensures { OnOk result (out.new ≡ out.old ++ 1 ∷ (length name.now + 1) ∷ name.now ++ 0 ∷ 4 ∷ []) }
+{
+    out.put_u8(1)?;
+    out.put_u8(name.len() as u8 + 1)?;
+    out.put_bytes(name)?;
+    out.put_u8(0)?;
+    out.put_u8(4)?;
+    Ok(())
+}
+
+fn put_file(out: &mut Writer, location: &Location, size: u64) -> Result<(), NoMemory>
+    requires { length location.now.key ≡ 4 }
+    ensures put { OnOk result (out.new ≡ out.old ++ bound_kind (Bound.File size) ++ bound_tail (Bound.File size) location.now) }
+    ensures room { OnOk result (IsLocation location.now) }
+{
+    out.put_bytes(&FILE)?;
+    out.put_u8(1)?;
+    put_reference(out, &FILE, location)?;
+    out.put_u16(8)?;
+    out.put_u64(size)?;
+    Ok(())
+}
+
+fn put_folder(out: &mut Writer, location: &Location) -> Result<(), NoMemory>
+    requires { length location.now.key ≡ 4 }
+    ensures put { OnOk result (out.new ≡ out.old ++ bound_kind Bound.Folder ++ bound_tail Bound.Folder location.now) }
+    ensures room { OnOk result (IsLocation location.now) }
+{
+    out.put_bytes(&DIRECTORY)?;
+    out.put_u8(2)?;
+    put_reference(out, &DIRECTORY, location)?;
+    out.put_u16(0)?;
+    Ok(())
+}

@@ -1,0 +1,20 @@
+-- Where the reading of packets stops.
+use Rattle.std.proofs.Common.{◌≡◌, ℕ, ◌++◌, List, Option, Some, None, refl, sym, ap, ◌∙◌, append_assoc}
+use Rattle.std.specs.List.{concat}
+use Rattle.oc_bytes.specs.Outcome.{Told}
+use Rattle.carousel_shell.specs.Cuts.{Bytes}
+use Rattle.carousel_shell.specs.Held.{onto_left, IsRear}
+use Rattle.carousel_shell.specs.Packets.{HasCut, Halts, is_over_packets, AreTaken}
+use Rattle.carousel_shell.specs.declared.packets.PacketReader.{PacketReader}
+use Rattle.carousel_shell.specs.Gathering.{Stopped}
+use Rattle.carousel_shell.specs.declared.status.Status.{Status}
+use Rattle.carousel_shell.specs.declared.status.Status.TheVariants as status
+use Rattle.carousel_shell.proofs.Holding.{told_weaker}
+use Rattle.carousel_shell.proofs.Cutting.{stopped_other, rear_of}
+
+pub halted : {pid : ℕ} {candidates : List Bytes} {s : Status} {a b : Option Bytes} → Told a b (Halts pid candidates s) → Told a b (Stopped (is_over_packets 16777216) s)
+halted t = told_weaker t (λ x y h. record { rear = record { taken = h.taken; whole = h.whole }; too_long = h.too_long })
+
+pub halted_here : {pid : ℕ} {reader : PacketReader} {candidates : List Bytes} {a b : Option Bytes} (s : Status) → (s ≡ status.InputTooLong → ⊥) → HasCut pid reader a b candidates
+    → Told a b (Stopped (is_over_packets 16777216) s)
+halted_here {reader = reader} {a = a} {b = b} s n c = stopped_other s n (rear_of (concat c.packets) a reader.unread b (λ x l t. t.whole) c.taken)

@@ -1,0 +1,386 @@
+-- A listing in parts: the paths below a path by more and more of its folder's names.
+use Rattle.std.proofs.Common.{◌≡◌, ℕ, zero, suc, ◌+◌, ◌-◌, ◌<◌, ◌≤◌, Bool, true, false, cond, not, ◌&&◌, ◌||◌, nat_le, nat_lt, List, [], ◌∷◌, ◌++◌, length, take, drop, Option, Some, None, Ok, refl, sym, ap, ◌∙◌, subst, arith, append_assoc, append-nil, length-append}
+use Rattle.std.specs.Prelude.{slice_get}
+use Rattle.std.specs.List.{flat_map, list_any, filter}
+use Rattle.std.specs.Cmp.Lexicographic.{pointwise}
+use Rattle.std.proofs.Math.Dec.{eqb}
+use Rattle.std.proofs.Math.Seq.{take-append-add}
+use Rattle.std.proofs.lemmas.List.{take-append-le, take_all, take-append-drop, take_more}
+use Rattle.std.proofs.lemmas.List.Elements.{filter-append}
+use Rattle.std.proofs.lemmas.List.Folds.{list_all-append, list_any-append}
+use Rattle.std.proofs.lemmas.Grind.{flat_map-append}
+use Rattle.std.proofs.lemmas.Bool.{le-leb, leb-true, lt-leb, leb-false}
+use Rattle.std.proofs.lemmas.Option.{same_Some, slice_get_within, get_or_from_slice_get}
+use Rattle.path_tree.specs.Paths.{PathNames, same_name}
+use Rattle.path_tree.specs.Texts.{is_name, with_below, path_of}
+use Rattle.path_resolver.specs.declared.answer.Answer.{Answer}
+use Rattle.path_resolver.specs.declared.answer.Answer.TheVariants as answers
+use Rattle.carousel_shell.specs.Cuts.{Bytes}
+use Rattle.carousel_shell.specs.Sending.{IsSending, HasStopped}
+use Rattle.carousel_shell.specs.Texts.{is_found}
+use Rattle.carousel_shell.specs.Listing.{first_only, names_in, folder_in, walk, list_line, lines_in, are_found, paths_below, paths_by, Lists, list_text, more_unless, all_listed}
+use Rattle.carousel_shell.proofs.Putting.{stopped_more}
+
+pub same_as : (m n : Bytes) → same_name m n ≡ pointwise eqb m n
+same_as [] [] = refl
+same_as [] (b ∷ n) = refl
+same_as (a ∷ m) [] = refl
+same_as (a ∷ m) (b ∷ n) = ap (λ (rest : Bool). eqb a b && rest) (same_as m n)
+
+-- ---- lines of lists one behind another
+
+le_or_above : (m n : ℕ) → (b : Bool) → nat_le m n ≡ b → (m ≤ n → b ≡ true) × (n < m → b ≡ false)
+le_or_above m n b e = ((λ h. sym e ∙ le-leb m n h), λ h. sym e ∙ lt-leb m n h)
+
+take_both : {X : Type 0} (n : ℕ) (xs ys : List X) → take n (xs ++ ys) ≡ take n xs ++ take (n - length xs) ys
+take_both {X} n xs ys = go (nat_le n (length xs)) refl where
+  go : (b : Bool) → nat_le n (length xs) ≡ b → take n (xs ++ ys) ≡ take n xs ++ take (n - length xs) ys
+  go true e =
+      let h : n ≤ length xs = leb-true n (length xs) e in
+      let z : n - length xs ≡ 0 = omega (arith, h) in
+      rw z (take-append-le n xs ys h ∙ sym (append-nil (take n xs)))
+  go false e =
+      let h : length xs < n = leb-false n (length xs) e in
+      let s : n ≡ length xs + (n - length xs) = omega (arith, h) in
+      let t : take n xs ≡ xs = take_all n xs (omega (arith, h)) in
+      ap (λ m. take m (xs ++ ys)) s ∙ take-append-add xs ys (n - length xs) ∙ ap (λ (zs : List X). zs ++ take (n - length xs) ys) (sym t)
+
+pub lines_both : (answer : PathNames → Answer) (n : ℕ) (ps qs : List PathNames) → lines_in answer n (ps ++ qs) ≡ lines_in answer n ps ++ lines_in answer (n - length ps) qs
+lines_both answer n ps qs = ap (flat_map (list_line answer)) (take_both n ps qs) ∙ flat_map-append (list_line answer) (take n ps) (take (n - length ps) qs)
+
+found_both : (answer : PathNames → Answer) (n : ℕ) (ps qs : List PathNames) → are_found answer (take n (ps ++ qs)) ≡ (are_found answer (take n ps) && are_found answer (take (n - length ps) qs))
+found_both answer n ps qs = ap (are_found answer) (take_both n ps qs) ∙ list_all-append (λ p. is_found (answer p)) (take n ps) (take (n - length ps) qs)
+
+and_assoc : (a b c : Bool) → ((a && b) && c) ≡ (a && (b && c))
+and_assoc true b c = refl
+and_assoc false b c = refl
+
+and_true : (a : Bool) → (a && true) ≡ a
+and_true true = refl
+and_true false = refl
+
+-- ---- listings one behind another
+
+pub lists_nothing : (answer : PathNames → Answer) (l : ℕ) (a : Bool) → Lists answer [] l a l a true
+lists_nothing answer l a = record {
+  left_is = omega arith;
+  all_is = sym (and_true a) ∙ ap (λ (ps : List PathNames). a && are_found answer ps) (sym (take_all l [] (omega arith)));
+  whole_is = sym (le-leb 0 l (omega arith));
+}
+
+pub lists_then : (answer : PathNames → Answer) (ps qs : List PathNames) (l : ℕ) (a : Bool) (m : ℕ) (b : Bool) (n : ℕ) (c w : Bool) → Lists answer ps l a m b true → Lists answer qs m b n c w → Lists answer (ps ++ qs) l a n c w
+lists_then answer ps qs l a m b n c w s t =
+    let within : length ps ≤ l = leb-true (length ps) l (sym s.whole_is) in
+    record {
+      left_is = omega (arith, s.left_is, t.left_is, length-append ps qs);
+      all_is = t.all_is ∙ ap (λ k. b && are_found answer (take k qs)) s.left_is ∙ ap (λ x. x && are_found answer (take (l - length ps) qs)) s.all_is
+          ∙ and_assoc a (are_found answer (take l ps)) (are_found answer (take (l - length ps) qs)) ∙ ap (λ x. a && x) (sym (found_both answer l ps qs));
+      whole_is = t.whole_is ∙ whole (nat_le (length qs) m) refl within;
+    }
+  where
+    whole : (x : Bool) → nat_le (length qs) m ≡ x → length ps ≤ l → x ≡ nat_le (length (ps ++ qs)) l
+    whole true e h = sym (le-leb (length (ps ++ qs)) l (omega (arith, h, leb-true (length qs) m e, s.left_is, length-append ps qs)))
+    whole false e h = sym (lt-leb (length (ps ++ qs)) l (omega (arith, h, leb-false (length qs) m e, s.left_is, length-append ps qs)))
+
+-- where the lines didn't suffice, nothing more is written
+pub lists_full : (answer : PathNames → Answer) (ps qs : List PathNames) (l : ℕ) (a : Bool) (m : ℕ) (b : Bool) → Lists answer ps l a m b false → Lists answer (ps ++ qs) l a m b false
+lists_full answer ps qs l a m b s =
+    let full : l < length ps = leb-false (length ps) l (sym s.whole_is) in
+    record {
+      left_is = omega (arith, s.left_is, full, length-append ps qs);
+      all_is = s.all_is ∙ ap (λ (rs : List PathNames). a && are_found answer rs) (sym (take-append-le l ps qs (omega (arith, full))));
+      whole_is = sym (lt-leb (length (ps ++ qs)) l (omega (arith, full, length-append ps qs)));
+    }
+
+pub lines_full : (answer : PathNames → Answer) (ps qs : List PathNames) (l : ℕ) (a : Bool) (m : ℕ) (b : Bool) → Lists answer ps l a m b false → lines_in answer l (ps ++ qs) ≡ lines_in answer l ps
+lines_full answer ps qs l a m b s =
+    let full : l < length ps = leb-false (length ps) l (sym s.whole_is) in
+    ap (flat_map (list_line answer)) (take-append-le l ps qs (omega (arith, full)))
+
+-- ---- output
+
+pub sending_then : (answer : PathNames → Answer) (start w : Option Bytes) (pending output : Bytes) (n m : ℕ) (ps qs : List PathNames) → m ≡ n - length ps → IsSending start w pending ((output ++ lines_in answer n ps) ++ lines_in answer m qs) → IsSending start w pending (output ++ lines_in answer n (ps ++ qs))
+sending_then answer start w pending output n m ps qs e s =
+    let all : (output ++ lines_in answer n ps) ++ lines_in answer m qs ≡ output ++ lines_in answer n (ps ++ qs) = together answer output n m ps qs e in
+    subst (IsSending start w pending) all s
+  where
+    together : (answer : PathNames → Answer) (output : Bytes) (n m : ℕ) (ps qs : List PathNames) → m ≡ n - length ps → (output ++ lines_in answer n ps) ++ lines_in answer m qs ≡ output ++ lines_in answer n (ps ++ qs)
+    together answer output n m ps qs e =
+        append_assoc output (lines_in answer n ps) (lines_in answer m qs) ∙ ap (λ k. output ++ (lines_in answer n ps ++ lines_in answer k qs)) e ∙ ap (λ bs. output ++ bs) (sym (lines_both answer n ps qs))
+
+pub stopped_then : (answer : PathNames → Answer) (start w : Option Bytes) (output : Bytes) (n m : ℕ) (ps qs : List PathNames) → m ≡ n - length ps → HasStopped start w ((output ++ lines_in answer n ps) ++ lines_in answer m qs) → HasStopped start w (output ++ lines_in answer n (ps ++ qs))
+stopped_then answer start w output n m ps qs e s =
+    let all : (output ++ lines_in answer n ps) ++ lines_in answer m qs ≡ output ++ lines_in answer n (ps ++ qs) =
+    append_assoc output (lines_in answer n ps) (lines_in answer m qs) ∙ ap (λ k. output ++ (lines_in answer n ps ++ lines_in answer k qs)) e ∙ ap (λ bs. output ++ bs) (sym (lines_both answer n ps qs)) in
+    subst (HasStopped start w) all s
+
+-- a front of the paths' lines was to be written
+pub stopped_front : (answer : PathNames → Answer) (start w : Option Bytes) (output : Bytes) (n : ℕ) (ps qs : List PathNames) → HasStopped start w (output ++ lines_in answer n ps) → HasStopped start w (output ++ lines_in answer n (ps ++ qs))
+stopped_front answer start w output n ps qs s = stopped_then answer start w output n (n - length ps) ps qs refl (stopped_more start w (output ++ lines_in answer n ps) (lines_in answer (n - length ps) qs) s)
+
+-- ---- the names of a folder, one after another
+
+-- what stays of later names behind earlier ones
+unfoldable pub rest_of : List Bytes → List Bytes → List Bytes
+rest_of [] ys = first_only ys
+rest_of (m ∷ ms) ys = filter (λ n. not (same_name m n)) (rest_of ms ys)
+
+first_only-append : (xs ys : List Bytes) → first_only (xs ++ ys) ≡ first_only xs ++ rest_of xs ys
+unfolding rest_of
+first_only-append [] ys = refl
+first_only-append (m ∷ ms) ys =
+    ap (λ (ns : List Bytes). m ∷ filter (λ n. not (same_name m n)) ns) (first_only-append ms ys)
+    ∙ ap (λ (ns : List Bytes). m ∷ ns) (filter-append (λ n. not (same_name m n)) (first_only ms) (rest_of ms ys))
+
+rest_of-one : (xs : List Bytes) (n : Bytes) → rest_of xs (n ∷ []) ≡ cond (list_any (λ m. same_name m n) xs) [] (n ∷ [])
+unfolding rest_of
+rest_of-one [] n = refl
+rest_of-one (m ∷ ms) n = ap (filter (λ k. not (same_name m k))) (rest_of-one ms n) ∙ go (same_name m n) refl (list_any (λ k. same_name k n) ms) where
+  go : (a : Bool) → same_name m n ≡ a → (b : Bool) → filter (λ k. not (same_name m k)) (cond b [] (n ∷ [])) ≡ cond (a || b) [] (n ∷ [])
+  go true e true = refl
+  go false e true = refl
+  go true e false = rw e refl
+  go false e false = rw e refl
+
+pub below_append : (answer : PathNames → Answer) (room : ℕ) (p : PathNames) (xs ys : List Bytes) → paths_below answer room p (xs ++ ys) ≡ paths_below answer room p xs ++ flat_map (λ n. walk answer room (p ++ n ∷ [])) (filter is_name (rest_of xs ys))
+below_append answer room p xs ys =
+    ap (λ (ns : List Bytes). flat_map (λ n. walk answer room (p ++ n ∷ [])) (filter is_name ns)) (first_only-append xs ys)
+    ∙ ap (flat_map (λ n. walk answer room (p ++ n ∷ []))) (filter-append is_name (first_only xs) (rest_of xs ys))
+    ∙ flat_map-append (λ n. walk answer room (p ++ n ∷ [])) (filter is_name (first_only xs)) (filter is_name (rest_of xs ys))
+
+by_one : (answer : PathNames → Answer) (room : ℕ) (p : PathNames) (n : Bytes) → flat_map (λ m. walk answer room (p ++ m ∷ [])) (filter is_name (n ∷ [])) ≡ paths_by answer room p n
+by_one answer room p n = go (is_name n) where
+  go : (b : Bool) → flat_map (λ m. walk answer room (p ++ m ∷ [])) (cond b (n ∷ []) []) ≡ cond b (walk answer room (p ++ n ∷ [])) []
+  go true = append-nil (walk answer room (p ++ n ∷ []))
+  go false = refl
+
+front_more : (xs : List Bytes) (i : ℕ) (n : Bytes) → slice_get xs i ≡ Some n → take (i + 1) xs ≡ take i xs ++ n ∷ []
+front_more xs i n e = take_more xs i n (slice_get_within xs i n e) ∙ ap (λ (m : Bytes). take i xs ++ m ∷ []) (get_or_from_slice_get xs i n n e)
+
+-- a name that stood before
+pub below_met : (answer : PathNames → Answer) (room : ℕ) (p : PathNames) (xs : List Bytes) (i : ℕ) (n : Bytes) → slice_get xs i ≡ Some n → list_any (λ m. same_name m n) (take i xs) ≡ true → paths_below answer room p (take (i + 1) xs) ≡ paths_below answer room p (take i xs)
+below_met answer room p xs i n e met =
+    ap (paths_below answer room p) (front_more xs i n e) ∙ below_append answer room p (take i xs) (n ∷ [])
+    ∙ ap (λ (ns : List Bytes). paths_below answer room p (take i xs) ++ flat_map (λ m. walk answer room (p ++ m ∷ [])) (filter is_name ns)) (rest_of-one (take i xs) n ∙ ap (λ b. cond b [] (n ∷ [])) met)
+    ∙ append-nil (paths_below answer room p (take i xs))
+
+-- a name that stands for the first time
+pub below_new : (answer : PathNames → Answer) (room : ℕ) (p : PathNames) (xs : List Bytes) (i : ℕ) (n : Bytes) → slice_get xs i ≡ Some n → list_any (λ m. same_name m n) (take i xs) ≡ false → paths_below answer room p (take (i + 1) xs) ≡ paths_below answer room p (take i xs) ++ paths_by answer room p n
+below_new answer room p xs i n e new =
+    ap (paths_below answer room p) (front_more xs i n e) ∙ below_append answer room p (take i xs) (n ∷ [])
+    ∙ ap (λ (ns : List Bytes). paths_below answer room p (take i xs) ++ flat_map (λ m. walk answer room (p ++ m ∷ [])) (filter is_name ns)) (rest_of-one (take i xs) n ∙ ap (λ b. cond b [] (n ∷ [])) new)
+    ∙ ap (λ (qs : List PathNames). paths_below answer room p (take i xs) ++ qs) (by_one answer room p n)
+
+-- the paths by a front of the names are a front of all
+pub below_rest : (answer : PathNames → Answer) (room : ℕ) (p : PathNames) (xs : List Bytes) (i : ℕ) → (rest : List PathNames) × (paths_below answer room p xs ≡ paths_below answer room p (take i xs) ++ rest)
+below_rest answer room p xs i = (
+  flat_map (λ n. walk answer room (p ++ n ∷ [])) (filter is_name (rest_of (take i xs) (drop i xs))),
+  ap (paths_below answer room p) (sym (take-append-drop i xs)) ∙ below_append answer room p (take i xs) (drop i xs),
+)
+
+-- ---- one path
+
+-- a path whose answer is no folder, or that has sixteen names
+pub walk_end : (answer : PathNames → Answer) (room : ℕ) (p : PathNames) → names_in (answer p) ≡ [] → walk answer room p ≡ p ∷ []
+unfolding walk
+walk_end answer zero p e = refl
+walk_end answer (suc room) p e = ap (λ (ns : List Bytes). p ∷ flat_map (λ n. walk answer room (p ++ n ∷ [])) ns) e
+
+pub walk_deep : (answer : PathNames → Answer) (room : ℕ) (p : PathNames) → room ≡ 0 → walk answer room p ≡ p ∷ []
+unfolding walk
+walk_deep answer zero p e = refl
+walk_deep answer (suc room) p e = absurd (omega (arith, e))
+
+walk_suc : (answer : PathNames → Answer) (room : ℕ) (p : PathNames) → walk answer (suc room) p ≡ p ∷ flat_map (λ n. walk answer room (p ++ n ∷ [])) (names_in (answer p))
+unfolding walk
+walk_suc answer room p = refl
+
+pub walk_folder : (answer : PathNames → Answer) (p : PathNames) (ns : List Bytes) → length p < 16 → answer p ≡ answers.Folder ns → walk answer (16 - length p) p ≡ (p ∷ []) ++ paths_below answer (15 - length p) p ns
+walk_folder answer p ns few e =
+    let s : 16 - length p ≡ suc (15 - length p) = omega (arith, few) in
+    ap (λ r. walk answer r p) s ∙ walk_suc answer (15 - length p) p ∙ ap (λ a. p ∷ flat_map (λ n. walk answer (15 - length p) (p ++ n ∷ [])) (names_in a)) e
+
+pub walk_none : (answer : PathNames → Answer) (room : ℕ) (p : PathNames) → folder_in (answer p) ≡ None → walk answer room p ≡ p ∷ []
+walk_none answer room p e = walk_end answer room p (go (answer p) e) where
+  go : (a : Answer) → folder_in a ≡ None → names_in a ≡ []
+  go (answers.File b) e = refl
+  go (answers.Folder ns) e = cc
+  go answers.NoSuch e = refl
+  go (answers.NotYet m) e = refl
+  go answers.NoCarousel e = refl
+  go answers.Elsewhere e = refl
+  go (answers.Compressed m) e = refl
+  go (answers.Bad m place) e = refl
+  go (answers.Dangling m) e = refl
+  go (answers.OtherKind m) e = refl
+
+pub folder_is : (a : Answer) (ns : List Bytes) → folder_in a ≡ Some ns → a ≡ answers.Folder ns
+folder_is (answers.File b) ns e = cc
+folder_is (answers.Folder ms) ns e = ap answers.Folder (same_Some ms ns e)
+folder_is answers.NoSuch ns e = cc
+folder_is (answers.NotYet m) ns e = cc
+folder_is answers.NoCarousel ns e = cc
+folder_is answers.Elsewhere ns e = cc
+folder_is (answers.Compressed m) ns e = cc
+folder_is (answers.Bad m place) ns e = cc
+folder_is (answers.Dangling m) ns e = cc
+folder_is (answers.OtherKind m) ns e = cc
+
+pub walk_some : (answer : PathNames → Answer) (room : ℕ) (p : PathNames) → (rest : List PathNames) × (walk answer room p ≡ (p ∷ []) ++ rest)
+unfolding walk
+walk_some answer zero p = ([], refl)
+walk_some answer (suc room) p = (flat_map (λ n. walk answer room (p ++ n ∷ [])) (names_in (answer p)), refl)
+
+lines_one : (answer : PathNames → Answer) (l : ℕ) (p : PathNames) → 0 < l → lines_in answer l (p ∷ []) ≡ list_line answer p
+lines_one answer zero p h = absurd (omega arith)
+lines_one answer (suc l) p h = ap (λ (ps : List PathNames). list_line answer p ++ flat_map (list_line answer) ps) (take_all l [] (omega arith)) ∙ append-nil (list_line answer p)
+
+pub lists_one : (answer : PathNames → Answer) (p : PathNames) (l : ℕ) (a : Bool) (m : ℕ) (b : Bool) → m + 1 ≡ l → b ≡ (a && is_found (answer p)) → Lists answer (p ∷ []) l a m b true
+lists_one answer p l a m b e f = record {
+  left_is = omega (arith, e);
+  all_is = f ∙ ap (λ x. a && x) (sym (and_true (is_found (answer p)))) ∙ ap (λ (ps : List PathNames). a && are_found answer ps) (sym (take_all l (p ∷ []) (omega (arith, e))));
+  whole_is = sym (le-leb 1 l (omega (arith, e)));
+}
+
+-- no line is left, and the path's is due
+pub lists_none : (answer : PathNames → Answer) (room : ℕ) (p : PathNames) (l : ℕ) (a : Bool) → l ≡ 0 → Lists answer (walk answer room p) l a l a false
+lists_none answer room p l a e =
+    let some = walk_some answer room p in
+    let long : 0 < length (walk answer room p) = rw some.1 (omega (arith, length-append (p ∷ []) some.0)) in
+    record {
+      left_is = omega (arith, e);
+      all_is = sym (and_true a) ∙ ap (λ k. a && are_found answer (take k (walk answer room p))) (sym e);
+      whole_is = sym (lt-leb (length (walk answer room p)) l (omega (arith, e, long)));
+    }
+
+-- the line of a path was to be written
+pub stopped_at : (answer : PathNames → Answer) (start w : Option Bytes) (output : Bytes) (room l : ℕ) (p : PathNames) → 0 < l → HasStopped start w (output ++ list_line answer p) → HasStopped start w (output ++ lines_in answer l (walk answer room p))
+stopped_at answer start w output room l p h s =
+    let some = walk_some answer room p in
+    let one : HasStopped start w (output ++ lines_in answer l (p ∷ [])) = rw (lines_one answer l p h) s in
+    rw some.1 (stopped_front answer start w output l (p ∷ []) some.0 one)
+
+pub sending_one : (answer : PathNames → Answer) (start w : Option Bytes) (pending output : Bytes) (room l : ℕ) (p : PathNames) → 0 < l → walk answer room p ≡ p ∷ [] → IsSending start w pending (output ++ list_line answer p) → IsSending start w pending (output ++ lines_in answer l (walk answer room p))
+sending_one answer start w pending output room l p h e s = rw (e, lines_one answer l p h) s
+
+pub sending_folder : (answer : PathNames → Answer) (start w : Option Bytes) (pending output : Bytes) (l m : ℕ) (p : PathNames) (ns : List Bytes) → length p < 16 → folder_in (answer p) ≡ Some ns → m + 1 ≡ l
+    → IsSending start w pending ((output ++ list_line answer p) ++ lines_in answer m (paths_below answer (15 - length p) p ns)) → IsSending start w pending (output ++ lines_in answer l (walk answer (16 - length p) p))
+sending_folder answer start w pending output l m p ns few e f s =
+    rw (walk_folder answer p ns few (folder_is (answer p) ns e))
+    (sending_then answer start w pending output l m (p ∷ []) (paths_below answer (15 - length p) p ns) (omega (arith, f)) (rw (lines_one answer l p (omega (arith, f))) s))
+
+pub stopped_folder : (answer : PathNames → Answer) (start w : Option Bytes) (output : Bytes) (l m : ℕ) (p : PathNames) (ns : List Bytes) → length p < 16 → folder_in (answer p) ≡ Some ns → m + 1 ≡ l
+    → HasStopped start w ((output ++ list_line answer p) ++ lines_in answer m (paths_below answer (15 - length p) p ns)) → HasStopped start w (output ++ lines_in answer l (walk answer (16 - length p) p))
+stopped_folder answer start w output l m p ns few e f s =
+    rw (walk_folder answer p ns few (folder_is (answer p) ns e))
+    (stopped_then answer start w output l m (p ∷ []) (paths_below answer (15 - length p) p ns) (omega (arith, f)) (rw (lines_one answer l p (omega (arith, f))) s))
+
+pub lists_folder : (answer : PathNames → Answer) (p : PathNames) (ns : List Bytes) (l : ℕ) (a : Bool) (m : ℕ) (b : Bool) (n : ℕ) (c w : Bool) → length p < 16 → folder_in (answer p) ≡ Some ns → m + 1 ≡ l → b ≡ (a && is_found (answer p))
+    → Lists answer (paths_below answer (15 - length p) p ns) m b n c w → Lists answer (walk answer (16 - length p) p) l a n c w
+lists_folder answer p ns l a m b n c w few e f g s =
+    rw (walk_folder answer p ns few (folder_is (answer p) ns e)) (lists_then answer (p ∷ []) (paths_below answer (15 - length p) p ns) l a m b n c w (lists_one answer p l a m b f g) s)
+
+-- a path by one name
+pub below_some : (answer : PathNames → Answer) (p : PathNames) (n : Bytes) (q : PathNames) → length p < 16 → Some q ≡ with_below p n → walk answer (16 - length q) q ≡ paths_by answer (15 - length p) p n
+below_some answer p n q few e = go (is_name n) refl (nat_lt (length p) 16) e where
+  go : (b : Bool) → is_name n ≡ b → (c : Bool) → Some q ≡ cond (b && c) (Some (p ++ n ∷ [])) None → walk answer (16 - length q) q ≡ cond b (walk answer (15 - length p) (p ++ n ∷ [])) []
+  go true i true e =
+      let same : q ≡ p ++ n ∷ [] = same_Some q (p ++ n ∷ []) e in
+      let room : 16 - length (p ++ n ∷ []) ≡ 15 - length p = omega (arith, length-append p (n ∷ [])) in
+      ap (λ (r : PathNames). walk answer (16 - length r) r) same ∙ ap (λ k. walk answer k (p ++ n ∷ [])) room
+  go true i false e = cc
+  go false i c e = cc
+
+-- ---- names that stood before
+
+pub met_here : (xs : List Bytes) (i count : ℕ) (m n : Bytes) → slice_get xs i ≡ Some m → i < count → same_name m n ≡ true → list_any (λ k. same_name k n) (take count xs) ≡ true
+met_here [] i count m n e h s = absurd cc
+met_here (x ∷ xs) i zero m n e h s = absurd (omega arith)
+met_here (x ∷ xs) zero (suc c) m n e h s = ap (λ (y : Bytes). same_name y n || list_any (λ k. same_name k n) (take c xs)) (same_Some x m e) ∙ ap (λ b. b || list_any (λ k. same_name k n) (take c xs)) s
+met_here (x ∷ xs) (suc i) (suc c) m n e h s = go (same_name x n) (met_here xs i c m n e (omega (arith, h)) s) where
+  go : (b : Bool) → list_any (λ k. same_name k n) (take c xs) ≡ true → (b || list_any (λ k. same_name k n) (take c xs)) ≡ true
+  go true t = refl
+  go false t = t
+
+pub met_more : (xs : List Bytes) (i : ℕ) (m n : Bytes) → slice_get xs i ≡ Some m → list_any (λ k. same_name k n) (take i xs) ≡ false → same_name m n ≡ false → list_any (λ k. same_name k n) (take (i + 1) xs) ≡ false
+met_more xs i m n e f s =
+    ap (list_any (λ k. same_name k n)) (front_more xs i m e) ∙ list_any-append (λ k. same_name k n) (take i xs) (m ∷ [])
+    ∙ ap (λ b. b || (same_name m n || false)) f ∙ ap (λ b. b || false) s
+
+-- ---- one name more of a folder
+
+front_by : (answer : PathNames → Answer) (room : ℕ) (p : PathNames) (xs : List Bytes) (i : ℕ) (n : Bytes) → slice_get xs i ≡ Some n → list_any (λ m. same_name m n) (take i xs) ≡ false
+    → (rest : List PathNames) × (paths_below answer room p xs ≡ (paths_below answer room p (take i xs) ++ paths_by answer room p n) ++ rest)
+front_by answer room p xs i n e new =
+    let rest = below_rest answer room p xs (i + 1) in
+    (rest.0, rest.1 ∙ ap (λ (ps : List PathNames). ps ++ rest.0) (below_new answer room p xs i n e new))
+
+pub next_lists : (answer : PathNames → Answer) (room : ℕ) (p : PathNames) (xs : List Bytes) (i : ℕ) (n : Bytes) (l : ℕ) (a : Bool) (m : ℕ) (b : Bool) (k : ℕ) (c : Bool) → slice_get xs i ≡ Some n → list_any (λ m. same_name m n) (take i xs) ≡ false
+    → Lists answer (paths_below answer room p (take i xs)) l a m b true → Lists answer (paths_by answer room p n) m b k c true → Lists answer (paths_below answer room p (take (i + 1) xs)) l a k c true
+next_lists answer room p xs i n l a m b k c e new s t =
+    subst (λ (ps : List PathNames). Lists answer ps l a k c true) (sym (below_new answer room p xs i n e new))
+    (lists_then answer (paths_below answer room p (take i xs)) (paths_by answer room p n) l a m b k c true s t)
+
+pub next_sending : (answer : PathNames → Answer) (room : ℕ) (p : PathNames) (xs : List Bytes) (i : ℕ) (n : Bytes) (l m : ℕ) (start w : Option Bytes) (pending output : Bytes) → slice_get xs i ≡ Some n → list_any (λ m. same_name m n) (take i xs) ≡ false
+    → m ≡ l - length (paths_below answer room p (take i xs)) → IsSending start w pending ((output ++ lines_in answer l (paths_below answer room p (take i xs))) ++ lines_in answer m (paths_by answer room p n))
+    → IsSending start w pending (output ++ lines_in answer l (paths_below answer room p (take (i + 1) xs)))
+next_sending answer room p xs i n l m start w pending output e new left s =
+    subst (λ (ps : List PathNames). IsSending start w pending (output ++ lines_in answer l ps)) (sym (below_new answer room p xs i n e new))
+    (sending_then answer start w pending output l m (paths_below answer room p (take i xs)) (paths_by answer room p n) left s)
+
+pub full_lists : (answer : PathNames → Answer) (room : ℕ) (p : PathNames) (xs : List Bytes) (i : ℕ) (n : Bytes) (l : ℕ) (a : Bool) (m : ℕ) (b : Bool) (k : ℕ) (c : Bool) → slice_get xs i ≡ Some n → list_any (λ m. same_name m n) (take i xs) ≡ false
+    → Lists answer (paths_below answer room p (take i xs)) l a m b true → Lists answer (paths_by answer room p n) m b k c false → Lists answer (paths_below answer room p xs) l a k c false
+full_lists answer room p xs i n l a m b k c e new s t =
+    let rest = front_by answer room p xs i n e new in
+    let front = paths_below answer room p (take i xs) ++ paths_by answer room p n in
+    subst (λ (ps : List PathNames). Lists answer ps l a k c false) (sym rest.1)
+    (lists_full answer front rest.0 l a k c (lists_then answer (paths_below answer room p (take i xs)) (paths_by answer room p n) l a m b k c false s t))
+
+pub full_sending : (answer : PathNames → Answer) (room : ℕ) (p : PathNames) (xs : List Bytes) (i : ℕ) (n : Bytes) (l : ℕ) (a : Bool) (m : ℕ) (b : Bool) (k : ℕ) (c : Bool) (start w : Option Bytes) (pending output : Bytes) → slice_get xs i ≡ Some n → list_any (λ m. same_name m n) (take i xs) ≡ false
+    → Lists answer (paths_below answer room p (take i xs)) l a m b true → Lists answer (paths_by answer room p n) m b k c false
+    → IsSending start w pending ((output ++ lines_in answer l (paths_below answer room p (take i xs))) ++ lines_in answer m (paths_by answer room p n))
+    → IsSending start w pending (output ++ lines_in answer l (paths_below answer room p xs))
+full_sending answer room p xs i n l a m b k c start w pending output e new s t sent =
+    let rest = front_by answer room p xs i n e new in
+    let front = paths_below answer room p (take i xs) ++ paths_by answer room p n in
+    let whole = lists_then answer (paths_below answer room p (take i xs)) (paths_by answer room p n) l a m b k c false s t in
+    subst (λ (ps : List PathNames). IsSending start w pending (output ++ lines_in answer l ps)) (sym rest.1)
+    (subst (λ (bs : Bytes). IsSending start w pending (output ++ bs)) (sym (lines_full answer front rest.0 l a k c whole))
+    (sending_then answer start w pending output l m (paths_below answer room p (take i xs)) (paths_by answer room p n) s.left_is sent))
+
+pub next_stopped : (answer : PathNames → Answer) (room : ℕ) (p : PathNames) (xs : List Bytes) (i : ℕ) (n : Bytes) (l m : ℕ) (start w : Option Bytes) (output : Bytes) → slice_get xs i ≡ Some n → list_any (λ m. same_name m n) (take i xs) ≡ false
+    → m ≡ l - length (paths_below answer room p (take i xs)) → HasStopped start w ((output ++ lines_in answer l (paths_below answer room p (take i xs))) ++ lines_in answer m (paths_by answer room p n))
+    → HasStopped start w (output ++ lines_in answer l (paths_below answer room p xs))
+next_stopped answer room p xs i n l m start w output e new left s =
+    let rest = front_by answer room p xs i n e new in
+    let front = paths_below answer room p (take i xs) ++ paths_by answer room p n in
+    subst (λ (ps : List PathNames). HasStopped start w (output ++ lines_in answer l ps)) (sym rest.1)
+    (stopped_front answer start w output l front rest.0 (stopped_then answer start w output l m (paths_below answer room p (take i xs)) (paths_by answer room p n) left s))
+
+-- ---- the whole listing, from the root on
+
+pub root_is : (root : PathNames) → path_of (47 ∷ []) ≡ Ok root → root ≡ []
+root_is root e = cc
+
+pub all_stopped : (answer : PathNames → Answer) (start w : Option Bytes) (root : PathNames) → root ≡ [] → HasStopped start w (lines_in answer 65536 (walk answer (16 - length root) root)) → HasStopped start w (list_text answer)
+all_stopped answer start w root e s =
+    stopped_more start w (lines_in answer 65536 (walk answer 16 [])) (more_unless (nat_le (length (walk answer 16 [])) 65536))
+    (subst (λ (r : PathNames). HasStopped start w (lines_in answer 65536 (walk answer (16 - length r) r))) e s)
+
+pub all_text : (answer : PathNames → Answer) (root : PathNames) (m : ℕ) (b whole : Bool) → root ≡ [] → Lists answer (walk answer (16 - length root) root) 65536 true m b whole → lines_in answer 65536 (walk answer (16 - length root) root) ++ more_unless whole ≡ list_text answer
+all_text answer root m b whole e s =
+    ap (λ (t : Bool). lines_in answer 65536 (walk answer (16 - length root) root) ++ more_unless t) s.whole_is
+    ∙ ap (λ (r : PathNames). lines_in answer 65536 (walk answer (16 - length r) r) ++ more_unless (nat_le (length (walk answer (16 - length r) r)) 65536)) e
+
+whole_at : (answer : PathNames → Answer) (root : PathNames) (m : ℕ) (b whole : Bool) → root ≡ [] → Lists answer (walk answer (16 - length root) root) 65536 true m b whole → whole ≡ nat_le (length (walk answer 16 [])) 65536
+whole_at answer root m b whole e s = s.whole_is ∙ ap (λ (r : PathNames). nat_le (length (walk answer (16 - length r) r)) 65536) e
+
+pub listed_when : (answer : PathNames → Answer) (root : PathNames) (m : ℕ) (b whole : Bool) → root ≡ [] → Lists answer (walk answer (16 - length root) root) 65536 true m b whole → whole ≡ true → b ≡ all_listed answer
+listed_when answer root m b whole e s is =
+    let fits : nat_le (length (walk answer 16 [])) 65536 ≡ true = sym (whole_at answer root m b whole e s) ∙ is in
+    let all : take 65536 (walk answer 16 []) ≡ walk answer 16 [] = take_all 65536 (walk answer 16 []) (leb-true (length (walk answer 16 [])) 65536 fits) in
+    s.all_is ∙ ap (λ (r : PathNames). are_found answer (take 65536 (walk answer (16 - length r) r))) e ∙ ap (are_found answer) all
+    ∙ ap (λ (t : Bool). t && are_found answer (walk answer 16 [])) (sym fits)
+
+pub listed_unless : (answer : PathNames → Answer) (root : PathNames) (m : ℕ) (b whole : Bool) → root ≡ [] → Lists answer (walk answer (16 - length root) root) 65536 true m b whole → whole ≡ false → false ≡ all_listed answer
+listed_unless answer root m b whole e s isnt = ap (λ (t : Bool). t && are_found answer (walk answer 16 [])) (sym isnt ∙ whole_at answer root m b whole e s)

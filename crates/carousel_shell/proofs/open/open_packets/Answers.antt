@@ -1,0 +1,49 @@
+use Rattle.std.proofs.Common.{◌≡◌, ◌++◌, Some, refl, sym, ap, subst, ◌∙◌, append-nil}
+use Rattle.std.specs.List.{list_all}
+use Rattle.std.proofs.lemmas.Option.{same_Some}
+use Rattle.path_tree.specs.Paths.{PathNames}
+use Rattle.path_resolver.specs.Resolving.{answer_of}
+use Rattle.path_resolver.specs.Shots.{held_of}
+use Rattle.path_resolver.specs.declared.shot.Shot.{Shot}
+use Rattle.path_resolver.specs.declared.answer.Answer.{Answer}
+use Rattle.carousel_shell.specs.Ends.{if_all}
+use Rattle.carousel_shell.specs.Owed.{IsDue, Writes}
+use Rattle.carousel_shell.specs.Texts.{open_text, is_found}
+use Rattle.carousel_shell.specs.Words as commands
+use Rattle.carousel_shell.proofs.Cutting.{told_here}
+use Rattle.carousel_shell.proofs.Joining.{due_stop, not_at_end, writes_nothing}
+use Rattle.carousel_shell.proofs.open.open_packets.Goals as goal
+
+pub returns-in-Ok-clause-due : goal.returns-in-Ok-clause-due
+returns-in-Ok-clause-due g c = λ input i.
+    let r = told_here _ _ input c.in-Ok.ensures.heard.told i in
+    rw (r.2.within, r.2.all)
+    (subst (λ (f : PathNames → Answer). IsDue c.answer_paths.result (if_all (list_all (λ p. is_found (f p)) c.args.paths.now))) (ap (λ (s : Shot). answer_of (held_of s)) c.deref.ensures ∙ ap answer_of c.in-Ok.ensures.heard.held)
+    c.answer_paths.ensures.due)
+
+pub returns-in-Ok-clause-owes : goal.returns-in-Ok-clause-owes
+returns-in-Ok-clause-owes g c = λ input left before after i l b a.
+    let r = c.in-Ok.ensures.heard.told.each input left i l in
+    record {
+      taken = input;
+      input_is = sym (ap (λ bs. input ++ bs) r.to_end ∙ append-nil input);
+      to_end = λ _. r.to_end;
+      writes = rw r.all
+          (subst (λ (f : PathNames → Answer). Writes c.answer_paths.result (open_text f c.args.paths.now) before after) (ap answer_of c.in-Ok.ensures.heard.held)
+          (rw c.deref.ensures at (c.answer_paths.ensures.writes.each before after b a)));
+    }
+
+pub returns-in-Err-clause-due : goal.returns-in-Err-clause-due
+returns-in-Err-clause-due g c = λ input i.
+    let r = told_here _ _ input c.in-Err.ensures.stopped i in
+    due_stop (commands.Open c.args.pid c.args.paths.now) input c.in-Err.status c.in-Err.ensures.stop r.2.too_long
+
+pub returns-in-Err-clause-owes : goal.returns-in-Err-clause-owes
+returns-in-Err-clause-owes g c = λ input left before after i l b a.
+    let r = c.in-Err.ensures.stopped.each input left i l in
+    record {
+      taken = r.rear.taken;
+      input_is = r.rear.whole;
+      to_end = λ e. absurd (not_at_end c.in-Err.status c.in-Err.ensures.stop e);
+      writes = writes_nothing c.in-Err.status _ before after c.in-Err.ensures.stop (same_Some after before (sym a ∙ b));
+    }

@@ -1,0 +1,10 @@
+pub mod Loops
+pub mod Places
+pub mod Headers
+pub mod Tags
+pub mod Parsing
+pub mod Lines
+pub mod Messages
+pub mod Laws
+pub mod Spelled
+pub mod ReadBack

@@ -1,0 +1,179 @@
+-- Bytes that are put one field after another.
+use Rattle.std.proofs.Common.{◌≡◌, ℕ, ◌+◌, ◌*◌, ◌<◌, ◌≤◌, false, List, [], ◌∷◌, ◌++◌, length, take, get_or, refl, sym, ap, subst, ◌∙◌, append_assoc, arith, length-append, inl, zero-add}
+use Rattle.std.proofs.lemmas.List.{take_more, append-nil}
+use Rattle.std.proofs.lemmas.List.Elements.{All-push, recursion_from_All}
+use Rattle.std.proofs.lemmas.List.Concat.{flat_map-cons}
+use Rattle.std.proofs.lemmas.Grind.{flat_map-append}
+use Rattle.std.specs.List.{flat_map, All, AllByRecursion}
+use Rattle.std.specs.Prelude.{replicate}
+use Rattle.ddb_block.specs.Message.{IsMessage, message}
+use Rattle.ior_tap.specs.Iors as iors
+use Rattle.ior_tap.specs.Iors.{TapFields, ReadsEach}
+use Rattle.oc_bytes.specs.Numbers.{two_bytes, four_bytes}
+use Rattle.dsi_dii.specs.declared.ModuleLine.{ModuleLine}
+use Rattle.dsi_dii.specs.Controls.{DiiFields, DsiFields, ReadsInfo, ReadsLine, ReadsDii, ReadsDsi, IsDsiFrame, IsWrittenDii, dsi_body, header_bytes, line_bytes, written_info, LineFits, dii_head, dii_spelling}
+
+-- one field more
+pub put_more : (w u v a b : List ℕ) → u ≡ w ++ a → v ≡ u ++ b → v ≡ w ++ (a ++ b)
+put_more w u v a b e f = f ∙ ap (λ (t : List ℕ). t ++ b) e ∙ append_assoc w a b
+
+pub header_put : (id transaction size : ℕ) (w0 w1 w2 w3 w4 w5 : List ℕ) → w1 ≡ w0 ++ (0x11 ∷ 0x03 ∷ []) → w2 ≡ w1 ++ two_bytes id → w3 ≡ w2 ++ four_bytes transaction → w4 ≡ w3 ++ (0xFF ∷ 0 ∷ []) → w5 ≡ w4 ++ two_bytes size
+    → w5 ≡ w0 ++ header_bytes id transaction size
+header_put id transaction size w0 w1 w2 w3 w4 w5 e1 e2 e3 e4 e5 =
+    let f2 = put_more w0 w1 w2 (0x11 ∷ 0x03 ∷ []) (two_bytes id) e1 e2 in
+    let f3 = put_more w0 w2 w3 ((0x11 ∷ 0x03 ∷ []) ++ two_bytes id) (four_bytes transaction) f2 e3 in
+    let f4 = put_more w0 w3 w4 ((0x11 ∷ 0x03 ∷ []) ++ two_bytes id ++ four_bytes transaction) (0xFF ∷ 0 ∷ []) f3 e4 in
+    put_more w0 w4 w5 ((0x11 ∷ 0x03 ∷ []) ++ two_bytes id ++ four_bytes transaction ++ (0xFF ∷ 0 ∷ [])) (two_bytes size) f4 e5
+
+pub line_put : (l : ModuleLine) (w0 w1 w2 w3 w4 : List ℕ) → w1 ≡ w0 ++ two_bytes l.id → w2 ≡ w1 ++ four_bytes l.size → w3 ≡ w2 ++ (l.version ∷ 21 ∷ []) → w4 ≡ w3 ++ written_info → w4 ≡ w0 ++ line_bytes l
+line_put l w0 w1 w2 w3 w4 e1 e2 e3 e4 =
+    let f2 = put_more w0 w1 w2 (two_bytes l.id) (four_bytes l.size) e1 e2 in
+    let f3 = put_more w0 w2 w3 (two_bytes l.id ++ four_bytes l.size) (l.version ∷ 21 ∷ []) f2 e3 in
+    put_more w0 w3 w4 (two_bytes l.id ++ four_bytes l.size ++ (l.version ∷ 21 ∷ [])) written_info f3 e4
+
+-- what a read past the end of the lines gives
+abbrev no_line : ModuleLine
+no_line = record { id = 0; size = 0; version = 0; compressed = false }
+
+pub lines_put : (ls : List ModuleLine) (i : ℕ) (w0 w1 w2 : List ℕ) → i < length ls → w1 ≡ w0 ++ flat_map line_bytes (take i ls) → w2 ≡ w1 ++ line_bytes (get_or ls i no_line) → w2 ≡ w0 ++ flat_map line_bytes (take (i + 1) ls)
+lines_put ls i w0 w1 w2 lt e f =
+    let l = get_or ls i no_line in
+    let front : take (i + 1) ls ≡ take i ls ++ l ∷ [] = take_more ls i no_line lt in
+    let last : flat_map line_bytes (l ∷ []) ≡ line_bytes l = flat_map-cons line_bytes l [] ∙ append-nil (line_bytes l) in
+    put_more w0 w1 w2 (flat_map line_bytes (take i ls)) (line_bytes l) e f ∙ ap (λ (t : List ℕ). w0 ++ t) (sym (ap (flat_map line_bytes) front ∙ flat_map-append line_bytes (take i ls) (l ∷ []) ∙ ap (λ (t : List ℕ). flat_map line_bytes (take i ls) ++ t) last))
+
+pub lines_fit : (ls : List ModuleLine) (i : ℕ) → i < length ls → All LineFits (take i ls) → LineFits (get_or ls i no_line) → All LineFits (take (i + 1) ls)
+lines_fit ls i lt h g =
+    let l = get_or ls i no_line in
+    let front : take (i + 1) ls ≡ take i ls ++ l ∷ [] = take_more ls i no_line lt in
+    rw front (All-push LineFits (take i ls) l h g)
+
+-- ---- a DII
+
+pub lines_length : (ls : List ModuleLine) → length (flat_map line_bytes ls) ≡ 29 * length ls
+lines_length [] = refl
+lines_length (l ∷ ls) = ap length (flat_map-cons line_bytes l ls) ∙ omega (arith, length-append (line_bytes l) (flat_map line_bytes ls), lines_length ls)
+
+abbrev pub dii_body : (download : ℕ) → List ModuleLine → List ℕ
+dii_body download ls = dii_head download (length ls) ++ flat_map line_bytes ls ++ two_bytes 0
+
+pub dii_body_length : (download : ℕ) (ls : List ModuleLine) → length (dii_body download ls) ≡ 22 + 29 * length ls
+dii_body_length download ls = omega (arith, length-append (dii_head download (length ls) ++ flat_map line_bytes ls) (two_bytes 0), length-append (dii_head download (length ls)) (flat_map line_bytes ls), lines_length ls)
+
+pub dii_put : (d : DiiFields) (size count : ℕ) (w0 w1 w2 w3 w4 : List ℕ) → count ≡ length d.modules → w0 ≡ [] → w1 ≡ w0 ++ header_bytes 0x1002 d.transaction size → w2 ≡ w1 ++ dii_head d.download count
+    → w3 ≡ w2 ++ flat_map line_bytes d.modules → w4 ≡ w3 ++ two_bytes 0 → size ≡ 22 + 29 * count → w4 ≡ dii_spelling d
+dii_put d size count w0 w1 w2 w3 w4 counted e0 e1 e2 e3 e4 sized =
+    let header = header_bytes 0x1002 d.transaction size in
+    let head = dii_head d.download (length d.modules) in
+    let lines = flat_map line_bytes d.modules in
+    let f1 : w2 ≡ w1 ++ head = e2 ∙ ap (λ (k : ℕ). w1 ++ dii_head d.download k) counted in
+    let f2 = put_more w1 w2 w3 head lines f1 e3 in
+    let f3 = put_more w1 w3 w4 (head ++ lines) (two_bytes 0) f2 e4 in
+    let f4 = put_more w0 w1 w4 header (dii_body d.download d.modules) e1 f3 in
+    let number : size ≡ length (dii_body d.download d.modules) = omega (arith, sized, counted, dii_body_length d.download d.modules) in
+    f4 ∙ ap (λ (w : List ℕ). w ++ (header ++ dii_body d.download d.modules)) e0 ∙ ap (λ (k : ℕ). header_bytes 0x1002 d.transaction k ++ dii_body d.download d.modules) number
+
+-- ---- what is written is read
+
+message_spelled : (id transaction : ℕ) (body : List ℕ) → id < 65536 → transaction < 4294967296 → length body < 65536 → IsMessage (message id transaction body) id transaction body
+message_spelled id transaction body id_fits transaction_fits body_fits = record {
+  adaptation = [];
+  trailing = [];
+  reserved = 0xFF;
+  ranges = (id_fits, transaction_fits, omega arith, omega arith, omega arith);
+  whole = ap (λ (k : ℕ). header_bytes id transaction k ++ body) (sym (zero-add (length body))) ∙ sym (append-nil (header_bytes id transaction (0 + length body) ++ body));
+}
+
+no_stamps : List ℕ
+no_stamps = four_bytes 0xFFFFFFFF ++ four_bytes 0xFFFFFFFF ++ four_bytes 0
+
+block_tap : TapFields
+block_tap = record { id = 0; use_code = 0x0017; assoc = 0x0001; selector = [] }
+
+info_read : ReadsInfo written_info []
+unfolding no_stamps block_tap
+info_read = record {
+  times = no_stamps;
+  taps = block_tap ∷ [];
+  tap_lines = two_bytes 0 ++ two_bytes 0x0017 ++ two_bytes 0x0001 ++ 0 ∷ [];
+  trailing = [];
+  ranges = (refl, omega arith, omega arith);
+  whole = refl;
+  each = (two_bytes 0 ++ two_bytes 0x0017 ++ two_bytes 0x0001 ++ 0 ∷ [], [], refl, record { ranges = (omega arith, omega arith, omega arith, omega arith); whole = refl }, refl);
+}
+
+line_read : (l : ModuleLine) → l.compressed ≡ false → LineFits l → ReadsLine (line_bytes l) l
+line_read l plain fits = record { info = written_info; ranges = (fits.id, fits.size, fits.version, omega arith); whole = refl; means = inl ([], info_read, plain) }
+
+lines_read : (ls : List ModuleLine) → AllByRecursion (λ l. l.compressed ≡ false) ls → AllByRecursion LineFits ls → ReadsEach ReadsLine (flat_map line_bytes ls) ls
+lines_read [] plain fit = refl
+lines_read (l ∷ ls) plain fit = (line_bytes l, flat_map line_bytes ls, flat_map-cons line_bytes l ls, line_read l plain.0 fit.0, lines_read ls plain.1 fit.1)
+
+pub dii_spelled : (d : DiiFields) → IsWrittenDii d → All LineFits d.modules → length d.modules ≤ 139 → d.download < 4294967296 → d.transaction < 4294967296 → ReadsDii (dii_spelling d) d
+dii_spelled d written fit few download transaction =
+    let body = dii_body d.download d.modules in
+    let short : length body < 65536 = omega (arith, dii_body_length d.download d.modules, few) in
+    let flat = four_bytes d.download ++ two_bytes d.block_size ++ replicate 10 0 ++ two_bytes 0 ++ [] ++ two_bytes (length d.modules) ++ flat_map line_bytes d.modules ++ two_bytes 0 ++ [] ++ [] in
+    let regrouped : body ≡ flat = sym (ap (λ (k : ℕ). four_bytes d.download ++ two_bytes k ++ replicate 10 0 ++ two_bytes 0 ++ [] ++ two_bytes (length d.modules) ++ flat_map line_bytes d.modules ++ two_bytes 0 ++ [] ++ []) written.blocks
+    ∙ append-nil (body ++ []) ∙ append-nil body) in
+    record {
+      windows = replicate 10 0;
+      compatibility = [];
+      lines = flat_map line_bytes d.modules;
+      private = [];
+      trailing = [];
+      ranges = (download, omega (arith, written.blocks), refl, omega arith, omega (arith, few), omega arith);
+      message = subst (λ (b : List ℕ). IsMessage (dii_spelling d) 0x1002 d.transaction b) regrouped (message_spelled 0x1002 d.transaction body (omega arith) transaction short);
+      each = lines_read d.modules (recursion_from_All (λ l. l.compressed ≡ false) d.modules written.plain) (recursion_from_All LineFits d.modules fit);
+    }
+
+-- ---- a DSI
+
+pub dsi_body_length : (reference : List ℕ) → length (dsi_body reference) ≡ 28 + length reference
+dsi_body_length reference = omega (
+  arith,
+  length-append (replicate 20 0xFF ++ two_bytes 0 ++ two_bytes (length reference + 4) ++ reference) (0 ∷ 0 ∷ two_bytes 0),
+  length-append (replicate 20 0xFF ++ two_bytes 0 ++ two_bytes (length reference + 4)) reference,
+)
+
+pub dsi_put : (transaction size count : ℕ) (reference w0 w1 w2 w3 w4 w5 w6 : List ℕ) → w0 ≡ [] → w1 ≡ w0 ++ header_bytes 0x1006 transaction size → w2 ≡ w1 ++ replicate 20 0xFF → w3 ≡ w2 ++ two_bytes 0 → w4 ≡ w3 ++ two_bytes count
+    → w5 ≡ w4 ++ reference → w6 ≡ w5 ++ four_bytes 0 → size ≡ 28 + length reference → count ≡ length reference + 4 → w6 ≡ message 0x1006 transaction (dsi_body reference)
+dsi_put transaction size count reference w0 w1 w2 w3 w4 w5 w6 e0 e1 e2 e3 e4 e5 e6 sized counted =
+    let header = header_bytes 0x1006 transaction size in
+    let length_bytes = two_bytes (length reference + 4) in
+    let f4 : w4 ≡ w3 ++ length_bytes = e4 ∙ ap (λ (k : ℕ). w3 ++ two_bytes k) counted in
+    let g3 = put_more w1 w2 w3 (replicate 20 0xFF) (two_bytes 0) e2 e3 in
+    let g4 = put_more w1 w3 w4 (replicate 20 0xFF ++ two_bytes 0) length_bytes g3 f4 in
+    let g5 = put_more w1 w4 w5 (replicate 20 0xFF ++ two_bytes 0 ++ length_bytes) reference g4 e5 in
+    let g6 = put_more w1 w5 w6 (replicate 20 0xFF ++ two_bytes 0 ++ length_bytes ++ reference) (four_bytes 0) g5 e6 in
+    let g7 = put_more w0 w1 w6 header (dsi_body reference) e1 g6 in
+    let number : size ≡ length (dsi_body reference) = sized ∙ sym (dsi_body_length reference) in
+    g7 ∙ ap (λ (w : List ℕ). w ++ (header ++ dsi_body reference)) e0 ∙ ap (λ (k : ℕ). header_bytes 0x1006 transaction k ++ dsi_body reference) number
+
+-- the private data of a written DSI
+abbrev pub written_private : List ℕ → List ℕ
+written_private reference = reference ++ (0 ∷ 0 ∷ two_bytes 0)
+
+pub dsi_frame : (transaction : ℕ) (reference bytes : List ℕ) → bytes ≡ message 0x1006 transaction (dsi_body reference) → length reference ≡ 63 → transaction < 4294967296 → IsDsiFrame bytes transaction (written_private reference)
+dsi_frame transaction reference bytes e size transaction_fits =
+    let private = written_private reference in
+    let body = dsi_body reference in
+    let short : length body < 65536 = omega (arith, dsi_body_length reference, size) in
+    let sized : length private ≡ length reference + 4 = length-append reference (0 ∷ 0 ∷ two_bytes 0) in
+    let flat = replicate 20 0xFF ++ two_bytes 0 ++ [] ++ two_bytes (length private) ++ private ++ [] in
+    let regrouped : body ≡ flat = append_assoc (replicate 20 0xFF ++ two_bytes 0 ++ two_bytes (length reference + 4)) reference (0 ∷ 0 ∷ two_bytes 0)
+    ∙ ap (λ (k : ℕ). replicate 20 0xFF ++ two_bytes 0 ++ two_bytes k ++ private) (sym sized) ∙ sym (append-nil (replicate 20 0xFF ++ two_bytes 0 ++ two_bytes (length private) ++ private)) in
+    record {
+      server = replicate 20 0xFF;
+      compatibility = [];
+      trailing = [];
+      ranges = (refl, omega arith, omega (arith, sized, size));
+      message = subst (λ (b : List ℕ). IsMessage bytes 0x1006 transaction b) regrouped (subst (λ (p : List ℕ). IsMessage p 0x1006 transaction body) (sym e) (message_spelled 0x1006 transaction body (omega arith) transaction_fits short));
+    }
+
+pub dsi_spelled : (d : DsiFields) (reference bytes : List ℕ) → bytes ≡ message 0x1006 d.transaction (dsi_body reference) → length reference ≡ 63 → d.transaction < 4294967296 → iors.Reads reference d.gateway → ReadsDsi bytes d
+dsi_spelled d reference bytes e size transaction reads = record {
+  private = written_private reference;
+  frame = dsi_frame d.transaction reference bytes e size transaction;
+  gateway = record { reference = reference; rest = 0 ∷ 0 ∷ two_bytes 0; whole = refl; reads = reads };
+}

@@ -1,0 +1,14 @@
+use Rattle.std.proofs.Common.{false, refl, arith}
+use Rattle.std.specs.Prelude.{IsTrue}
+use Rattle.dsi_dii.proofs.Laws.{dii_answer, dii_only, dsi_only}
+use Rattle.dsi_dii.proofs.reading.decode.Goals as goal
+
+pub returns-then-is_dsi-clause-only : goal.returns-then-is_dsi-clause-only
+returns-then-is_dsi-clause-only c = λ m h. dsi_only c.args.payload.now c.dsi_of.result m (c.if-is_dsi.ensures.0 refl) c.dsi_of.ensures.only h
+
+pub returns-else-is_dsi-clause-found : goal.returns-else-is_dsi-clause-found
+returns-else-is_dsi-clause-found c = dii_answer c.args.payload.now c.dii_of.result (λ i. omega (arith, c.type_inv.payload i)) c.dii_of.ensures
+
+pub returns-else-is_dsi-clause-only : goal.returns-else-is_dsi-clause-only
+returns-else-is_dsi-clause-only c = λ m h. dii_only c.args.payload.now c.dii_of.result m (λ i. omega (arith, c.type_inv.payload i))
+    (λ e. let t : IsTrue false = c.if-is_dsi.ensures.1 e in absurd cc) c.dii_of.ensures h

@@ -1,0 +1,166 @@
+-- Control messages: the DSI with the gateway, and the DII with the modules.
+use Rattle.std.specs.Prelude.{◌≡◌, ℕ, zero, suc, nat_le, ◌⊎◌, ◌+◌, ◌-◌, ◌*◌, ◌/◌, ◌%◌, ◌<◌, Bool, false, List, [], ◌∷◌, ◌++◌, length, replicate, drop, Option, Some, None, ◌==◌, if◌then◌else◌}
+use Rattle.std.specs.List.{flat_map, list_any, All}
+use Rattle.oc_bytes.specs.Numbers.{two_bytes, four_bytes}
+use Rattle.ddb_block.specs.Message.{IsMessage, message}
+use Rattle.ior_tap.specs.Iors as iors
+use Rattle.ior_tap.specs.declared.Location.{Location}
+use Rattle.dsi_dii.specs.declared.Dsi.{Dsi}
+use Rattle.dsi_dii.specs.declared.Dii.{Dii}
+use Rattle.dsi_dii.specs.declared.ModuleLine.{ModuleLine}
+use Rattle.dsi_dii.specs.declared.Control.{Control}
+use Rattle.dsi_dii.specs.declared.Control.TheVariants as code
+use Rattle.dsi_dii.specs.declared.ControlFault.{ControlFault}
+use Rattle.dsi_dii.specs.declared.ControlFault.TheVariants as faults
+
+pub record DsiFields : Type 0 where
+  pub transaction : ℕ
+  pub gateway : iors.Fields
+
+pub record DiiFields : Type 0 where
+  pub download : ℕ
+  pub block_size : ℕ
+  pub transaction : ℕ
+  pub modules : List ModuleLine
+
+pub data Message : Type 0 where
+  IsDsi : DsiFields → Message
+  IsDii : DiiFields → Message
+
+abbrev pub view_dsi : Dsi → DsiFields
+view_dsi d = record { transaction = d.transaction.0; gateway = iors.view d.gateway }
+
+abbrev pub view_dii : Dii → DiiFields
+view_dii d = record { download = d.download; block_size = d.block_size; transaction = d.transaction.0; modules = d.modules.items }
+
+abbrev pub view : Control → Message
+view (code.Dsi d) = IsDsi (view_dsi d)
+view (code.Dii d) = IsDii (view_dii d)
+
+-- the parts of a transactionId
+abbrev pub version_of : ℕ → ℕ
+version_of transaction = transaction / 65536 % 16384
+
+abbrev pub identification_of : ℕ → ℕ
+identification_of transaction = transaction / 2 % 32768
+
+-- the transactionId of a generation's DII
+abbrev pub dii_transaction : ℕ → ℕ
+dii_transaction g = 0x80000002 + g * 65536 + g % 2
+
+abbrev pub distance_of : ℕ → ℕ → ℕ
+distance_of old new = (new + 16384 - old) % 16384
+
+-- the tag of a descriptor that stands whole at the front, and what follows it: a tag, a length and that many bytes
+abbrev pub next_descriptor : List ℕ → Option (ℕ × List ℕ)
+next_descriptor (tag ∷ n ∷ bytes) = if nat_le n (length bytes) then Some (tag, drop n bytes) else None
+next_descriptor _ = None
+
+abbrev pub onto_tags : (List ℕ → List ℕ) → Option (ℕ × List ℕ) → List ℕ
+onto_tags others (Some d) = d.0 ∷ others d.1
+onto_tags others None = []
+
+-- the tags of a run of descriptors, as far as they stand whole; each has two bytes at least, so that the bytes bound the steps
+abbrev pub tags : ℕ → List ℕ → List ℕ
+tags zero bytes = []
+tags (suc steps) bytes = onto_tags (tags steps) (next_descriptor bytes)
+
+abbrev pub is_compressed : List ℕ → Bool
+is_compressed user_info = list_any (λ tag. tag == 0x09) (tags (length user_info) user_info)
+
+-- a moduleInfo that reads, and its user info; bytes behind that are passed over
+pub record ReadsInfo (bytes user_info : List ℕ) : Type 0 where
+  pub times : List ℕ
+  pub taps : List iors.TapFields
+  pub tap_lines : List ℕ
+  pub trailing : List ℕ
+  pub ranges : (length times ≡ 12) × (length taps < 256) × (length user_info < 256)
+  pub whole : bytes ≡ times ++ length taps ∷ tap_lines ++ length user_info ∷ user_info ++ trailing
+  pub each : iors.ReadsEach iors.ReadsTap tap_lines taps
+
+-- one that doesn't read is taken as one without user info
+abbrev pub IsInfo : List ℕ → Bool → Type 0
+IsInfo bytes compressed = ((user_info : List ℕ) × ReadsInfo bytes user_info × (compressed ≡ is_compressed user_info))
+    ⊎ (((user_info : List ℕ) → ReadsInfo bytes user_info → ⊥) × (compressed ≡ false))
+
+pub record ReadsLine (bytes : List ℕ) (l : ModuleLine) : Type 0 where
+  pub info : List ℕ
+  pub ranges : (l.id < 65536) × (l.size < 4294967296) × (l.version < 256) × (length info < 256)
+  pub whole : bytes ≡ two_bytes l.id ++ four_bytes l.size ++ l.version ∷ length info ∷ info
+  pub means : IsInfo info l.compressed
+
+pub record ReadsDii (payload : List ℕ) (d : DiiFields) : Type 0 where
+  pub windows : List ℕ
+  pub compatibility : List ℕ
+  pub lines : List ℕ
+  pub private : List ℕ
+  pub trailing : List ℕ
+  pub ranges : (d.download < 4294967296) × (d.block_size < 65536) × (length windows ≡ 10) × (length compatibility < 65536) × (length d.modules < 65536) × (length private < 65536)
+  pub message : IsMessage payload 0x1002 d.transaction (four_bytes d.download ++ two_bytes d.block_size ++ windows ++ two_bytes (length compatibility) ++ compatibility
+      ++ two_bytes (length d.modules) ++ lines ++ two_bytes (length private) ++ private ++ trailing)
+  pub each : iors.ReadsEach ReadsLine lines d.modules
+
+-- the gateway's IOR stands at the front of the private data; what follows it there is passed over
+pub record IsGateway (private : List ℕ) (gateway : iors.Fields) : Type 0 where
+  pub reference : List ℕ
+  pub rest : List ℕ
+  pub whole : private ≡ reference ++ rest
+  pub reads : iors.Reads reference gateway
+
+-- the fields of a DSI round its private data; what follows that in the message is passed over
+pub record IsDsiFrame (payload : List ℕ) (transaction : ℕ) (private : List ℕ) : Type 0 where
+  pub server : List ℕ
+  pub compatibility : List ℕ
+  pub trailing : List ℕ
+  pub ranges : (length server ≡ 20) × (length compatibility < 65536) × (length private < 65536)
+  pub message : IsMessage payload 0x1006 transaction (server ++ two_bytes (length compatibility) ++ compatibility
+      ++ two_bytes (length private) ++ private ++ trailing)
+
+pub record ReadsDsi (payload : List ℕ) (d : DsiFields) : Type 0 where
+  pub private : List ℕ
+  pub frame : IsDsiFrame payload d.transaction private
+  pub gateway : IsGateway private d.gateway
+
+abbrev pub Reads : List ℕ → Message → Type 0
+Reads payload (IsDsi d) = ReadsDsi payload d
+Reads payload (IsDii d) = ReadsDii payload d
+
+-- ---- what is written
+
+-- the header of a message without an adaptation
+abbrev pub header_bytes : (id transaction size : ℕ) → List ℕ
+header_bytes id transaction size = (0x11 ∷ 0x03 ∷ []) ++ two_bytes id ++ four_bytes transaction ++ (0xFF ∷ 0 ∷ []) ++ two_bytes size
+
+-- a line whose numbers have room in their fields
+pub record LineFits (l : ModuleLine) : Type 0 where
+  pub id : l.id < 65536
+  pub size : l.size < 4294967296
+  pub version : l.version < 256
+
+abbrev pub written_info : List ℕ
+written_info = four_bytes 0xFFFFFFFF ++ four_bytes 0xFFFFFFFF ++ four_bytes 0 ++ 1 ∷ two_bytes 0 ++ two_bytes 0x0017 ++ two_bytes 0x0001 ++ 0 ∷ 0 ∷ []
+
+abbrev pub line_bytes : ModuleLine → List ℕ
+line_bytes l = two_bytes l.id ++ four_bytes l.size ++ l.version ∷ length written_info ∷ written_info
+
+-- the fields of a DII before its modules, the windows and the compatibility descriptor being empty
+abbrev pub dii_head : (download modules : ℕ) → List ℕ
+dii_head download modules = four_bytes download ++ two_bytes 4066 ++ replicate 10 0 ++ two_bytes 0 ++ two_bytes modules
+
+abbrev pub dii_spelling : DiiFields → List ℕ
+dii_spelling d = message 0x1002 d.transaction (dii_head d.download (length d.modules) ++ flat_map line_bytes d.modules ++ two_bytes 0)
+
+-- the body of a DSI round the gateway's IOR: no compatibility descriptor, no taps, no contexts, no user info
+abbrev pub dsi_body : List ℕ → List ℕ
+dsi_body reference = replicate 20 0xFF ++ two_bytes 0 ++ two_bytes (length reference + 4) ++ reference ++ (0 ∷ 0 ∷ two_bytes 0)
+
+abbrev pub dsi_spelling : ℕ → List ℕ → Location → List ℕ
+dsi_spelling transaction kind l = message 0x1006 transaction (dsi_body (iors.spelling kind l))
+
+pub record IsWrittenDii (d : DiiFields) : Type 0 where
+  pub blocks : d.block_size ≡ 4066
+  pub plain : All (λ l. l.compressed ≡ false) d.modules
+
+abbrev pub cause : ControlFault → Option ℕ
+cause (faults.NotControl place) = Some place
+cause faults.NoMemory = None

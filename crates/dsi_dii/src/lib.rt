@@ -1,0 +1,156 @@
+//! The control messages of an object carousel: the DSI, which names the service gateway, and the DII, which lists
+//! the modules. They are read by their grammar and written in one spelling.
+//!
+//! The layouts are those of ISO/IEC 13818-6, clauses 7.2 and 7.3, in the profile of ETSI TR 101 202, clauses 4.6
+//! and 4.7.
+#![tactic(auto)]
+
+ghost use Rattle.std.specs.Prelude.{◌≡◌, ◌≤◌, ◌<◌};
+ghost use Rattle.dsi_dii.specs.Controls.{distance_of, dii_transaction, version_of, identification_of};
+ghost use Rattle.dsi_dii.specs.declared.ControlFault.TheVariants.{NoMemory as ControlNoMemory};
+ghost use Rattle.dsi_dii.specs.declared.DiiFault.TheVariants.{NoMemory as DiiNoMemory};
+
+mod reading;
+mod writing;
+
+use ior_tap::Ior;
+pub use reading::decode;
+use std::alloc::{AllocError, AllocFailed};
+pub use writing::{encode_dii, encode_dsi, spellings_read_back};
+
+/// The transactionId of a control message, 32 bits: who made it (bits 31 and 30), its version (29 to 16), its
+/// identification (15 to 1) and the updated flag (0). (ISO/IEC 13818-6, clause 11.4.1; ETSI TR 101 202, clause 4.6.5.)
+#[derive(Clone, Copy, Debug, PartialEq, Eq)]
+pub struct TransactionId(pub u32);
+
+impl TransactionId {
+    /// That of every DSI: made by the network, all else 0.
+    pub fn dsi() -> TransactionId
+        ensures { result.0 ≡ 0x80000000 }
+    {
+        TransactionId(0x8000_0000)
+    }
+
+    /// That of the DII of this generation, 0 to 16,383: the generation is its version, the identification is 1,
+    /// and the flag is the generation's last bit, so that it changes with each generation.
+    pub fn dii(generation: u64) -> TransactionId
+        requires { generation ≤ 16383 }
+        ensures { result.0 ≡ dii_transaction generation }
+    {
+        TransactionId(0x8000_0002 + generation as u32 * 65536 + (generation % 2) as u32)
+    }
+
+    /// The version, 0 to 16,383.
+    pub fn version(&self) -> u16
+        ensures { result ≡ version_of self.now.0 }
+    {
+        (self.0 / 65536 % 16384) as u16
+    }
+
+    /// The identification, 0 to 32,767: 0 is that of a DSI.
+    pub fn identification(&self) -> u16
+        ensures { result ≡ identification_of self.now.0 }
+    {
+        (self.0 / 2 % 32768) as u16
+    }
+}
+
+/// A DSI (DownloadServerInitiate): where the carousel's service gateway is.
+#[derive(Debug, Drop)]
+pub struct Dsi {
+    /// The message's transactionId.
+    pub transaction: TransactionId,
+    /// The IOR of the service gateway.
+    pub gateway: Ior,
+}
+
+/// A module as a DII lists it.
+#[derive(Clone, Copy, Debug, PartialEq, Eq)]
+pub struct ModuleLine {
+    /// The module's id.
+    pub id: u16,
+    /// How many bytes the module has.
+    pub size: u32,
+    /// The module's version: it changes with the module's bytes.
+    pub version: u8,
+    /// Whether the module is sent compressed: a compressed_module_descriptor stands in its user info.
+    pub compressed: bool,
+}
+
+/// A DII (DownloadInfoIndication): the modules of the carousel as they are now.
+#[derive(Debug, Drop)]
+pub struct Dii {
+    /// The downloadId, which the blocks of these modules carry.
+    pub download: u32,
+    /// How many bytes every block but a module's last has.
+    pub block_size: u16,
+    /// The message's transactionId.
+    pub transaction: TransactionId,
+    /// The modules in order.
+    pub modules: Vec<ModuleLine>,
+}
+
+/// A control message.
+#[derive(Debug, Drop)]
+pub enum Control {
+    /// A DSI.
+    Dsi(Dsi),
+    /// A DII.
+    Dii(Dii),
+}
+
+/// Why a control message wasn't read.
+#[derive(Clone, Copy, Debug, PartialEq, Eq)]
+pub enum ControlFault {
+    /// The place, in bytes from the front of the payload, of the first field that breaks its rule or is cut.
+    NotControl(usize),
+    /// Memory was wanting.
+    NoMemory,
+}
+
+/// Why a DII wasn't written.
+#[derive(Clone, Copy, Debug, PartialEq, Eq)]
+pub enum DiiFault {
+    /// It has more than 139 modules: one section has no room for more.
+    TooMany,
+    /// Memory was wanting.
+    NoMemory,
+}
+
+impl From<AllocError> for ControlFault {
+    ghost from_gives = { λ _ fault. fault ≡ ControlNoMemory };
+
+    fn from(_: AllocError) -> ControlFault {
+        ControlFault::NoMemory
+    }
+}
+
+impl<T: Drop> From<AllocFailed<T>> for ControlFault {
+    ghost from_gives = { λ _ fault. fault ≡ ControlNoMemory };
+
+    fn from(_: AllocFailed<T>) -> ControlFault {
+        ControlFault::NoMemory
+    }
+}
+
+impl From<AllocError> for DiiFault {
+    ghost from_gives = { λ _ fault. fault ≡ DiiNoMemory };
+
+    fn from(_: AllocError) -> DiiFault {
+        DiiFault::NoMemory
+    }
+}
+
+/// How far a version lies ahead of another: `new - old` modulo 16,384. Both are versions of transactionIds, 0 to
+/// 16,383; the sum of the distances of the DIIs that were heard counts the generations past the version's wrap
+/// (this project's own rule). Takes no memory.
+pub fn distance(old: u16, new: u16) -> u16
+    requires old { old < 16384 }
+    requires new { new < 16384 }
+    ensures { result ≡ distance_of old new }
+{
+    (new + 16384 - old) % 16384
+}
+
+#[cfg(test)]
+mod tests;

@@ -1,0 +1,8 @@
+use Rattle.std.proofs.Common.{◌≡◌, ◌-◌, map}
+use Rattle.ior_tap.specs.Iors.{view_tap}
+use Rattle.ior_tap.specs.IorReading.{tap_at, each_at}
+use Rattle.ior_tap.proofs.Loop.{with_front}
+use Rattle.ior_tap.proofs.reading.taps_of.Given as goal
+
+abbrev pub invariant-loop : goal.invariant-loop
+invariant-loop l = with_front (map view_tap l.taps.items) (each_at tap_at (l.count - l.counter) l.fields) ≡ each_at tap_at l.count l.fn.fields

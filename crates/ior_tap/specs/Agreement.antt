@@ -1,0 +1,35 @@
+-- When a reading function and a relation of bytes and values say the same.
+use Rattle.std.specs.Prelude.{◌≡◌, ℕ, ◌+◌, ◌≤◌, List, ◌++◌, length, Ok, Err}
+use Rattle.oc_bytes.specs.Numbers.{IsBytes}
+use Rattle.oc_bytes.specs.Cursor.{Cursor, Reading}
+
+abbrev pub at : ℕ → List ℕ → Cursor
+at place rest = record { place = place; rest = rest }
+
+-- a cursor, and a reading, with all places greater by p
+abbrev pub moved : ℕ → Cursor → Cursor
+moved p c = at (c.place + p) c.rest
+
+abbrev pub shifted : {A : Type 0} → ℕ → Reading A → Reading A
+shifted p (Ok x) = Ok (x.0, moved p x.1)
+shifted p (Err place) = Err (place + p)
+
+-- what was read stands in front
+pub record Taken {A : Type 0} (R : List ℕ → A → Type 0) (c : Cursor) (x : A × Cursor) : Type 0 where
+  pub front : List ℕ
+  pub reads : R front x.0
+  pub parts : c.rest ≡ front ++ x.1.rest
+  pub place : x.1.place ≡ c.place + length front
+
+-- What is read stands in front in this form, what stands in front in this form is read, places count from any start,
+-- and reading stops at a place of the bytes.
+pub record Agrees {A : Type 0} (read : Cursor → Reading A) (R : List ℕ → A → Type 0) : Type 0 where
+  pub takes : (c : Cursor) (x : A × Cursor) → IsBytes c.rest → read c ≡ Ok x → Taken R c x
+  pub again : (front rest : List ℕ) (place : ℕ) (a : A) → R front a → read (at place (front ++ rest)) ≡ Ok (a, at (place + length front) rest)
+  pub moves : (p : ℕ) (c : Cursor) → read (moved p c) ≡ shifted p (read c)
+  pub stops : (c : Cursor) (p : ℕ) → IsBytes c.rest → read c ≡ Err p → p ≤ c.place + length c.rest
+
+-- bytes, in this form
+pub record InBytes {A : Type 0} (R : List ℕ → A → Type 0) (bytes : List ℕ) (a : A) : Type 0 where
+  pub fit : IsBytes bytes
+  pub reads : R bytes a

@@ -1,0 +1,3 @@
+pub mod Iors
+pub mod IorReading
+pub mod Agreement

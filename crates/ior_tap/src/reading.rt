@@ -1,0 +1,335 @@
+ghost use Rattle.std.specs.Prelude.{◌≡◌, ◌≤◌, ◌+◌, ◌++◌, ◌==◌, List, ℕ, Ok, Some, None, length, take, map, IfOk, IfErr, IfSome, if◌then◌else◌};
+ghost use Rattle.std.specs.Option.{option_map, option_copied, option_or};
+ghost use Rattle.oc_bytes.specs.Outcome.{Gives};
+ghost use Rattle.oc_bytes.specs.Cursor.{from_start, number_at, bytes_at, this_at, read_from_start, value_read};
+ghost use Rattle.ior_tap.specs.Iors.{Fields as IorFields, view, view_tap, view_profile, Reads, IsWritten, IsLocation, written, spelling, cause};
+ghost use Rattle.ior_tap.specs.IorReading.{ior_at, tap_at, taps_at, location_at, component_at, components_at, chosen_at, parts_at, biop_in, profile_at, profile_of, each_at};
+ghost use Rattle.ior_tap.specs.Agreement.{Agrees, InBytes, at};
+ghost use Rattle.ior_tap.specs.declared.Location.{Location};
+
+use crate::{
+    BINDER_TAG, BIOP_TAG, Binder, Ior, IorFault, Key, LOCATION_TAG, Location, Profile, Tap,
+};
+use oc_bytes::{Fields, NoMemory};
+use std::alloc::{AllocError, Global};
+
+fn u8_of(fields: &mut Fields<'_>) -> Result<u8, IorFault>
+    ensures { Gives (λ n. (n, fields.new)) cause result (number_at 1 fields.old) }
+{
+    let at = fields.place();
+    fields.u8().map_err(|_| IorFault::BadIor(at))
+}
+
+fn u16_of(fields: &mut Fields<'_>) -> Result<u16, IorFault>
+    ensures { Gives (λ n. (n, fields.new)) cause result (number_at 2 fields.old) }
+{
+    let at = fields.place();
+    fields.u16().map_err(|_| IorFault::BadIor(at))
+}
+
+fn u32_of(fields: &mut Fields<'_>) -> Result<u32, IorFault>
+    ensures { Gives (λ n. (n, fields.new)) cause result (number_at 4 fields.old) }
+{
+    let at = fields.place();
+    fields.u32().map_err(|_| IorFault::BadIor(at))
+}
+
+fn bytes_of<'a>(fields: &mut Fields<'a>, count: usize) -> Result<&'a [u8], IorFault>
+    ensures { Gives (λ x. (x.now, fields.new)) cause result (bytes_at count fields.old) }
+{
+    let at = fields.place();
+    fields.take(count).map_err(|_| IorFault::BadIor(at))
+}
+
+#[tactic(auto, unfolding(crate::specs::IorReading::tap_at))]
+fn tap_of(alloc: Global, fields: &mut Fields<'_>) -> Result<Tap, IorFault>
+    ensures { Gives (λ t. (view_tap t, fields.new)) cause result (tap_at fields.old) }
+{
+    let id = u16_of(fields)?;
+    let use_code = u16_of(fields)?;
+    let assoc = u16_of(fields)?;
+    let selector_length = u8_of(fields)?;
+    let selector = bytes_of(fields, usize::from(selector_length))?;
+    let selector = Vec::from_slice(alloc, selector)?;
+    Ok(Tap {
+        id,
+        use_code,
+        assoc,
+        selector,
+    })
+}
+
+fn taps_of(alloc: Global, fields: &mut Fields<'_>, count: u8) -> Result<Vec<Tap>, IorFault>
+    ensures { Gives (λ v. (map view_tap v.items, fields.new)) cause result (each_at tap_at count fields.old) }
+{
+    let mut taps = Vec::new(alloc);
+    for _ in 0..count {
+        let tap = tap_of(alloc, fields)?;
+        taps.push(tap)?;
+    }
+    Ok(taps)
+}
+
+fn this_u8(fields: &mut Fields<'_>, value: u8) -> Result<(), IorFault>
+    ensures { Gives (λ _. (value, fields.new)) cause result (this_at 1 value fields.old) }
+{
+    let at = fields.place();
+    if u8_of(fields)? != value {
+        return Err(IorFault::BadIor(at));
+    }
+    Ok(())
+}
+
+fn this_u16(fields: &mut Fields<'_>, value: u16) -> Result<(), IorFault>
+    ensures { Gives (λ _. (value, fields.new)) cause result (this_at 2 value fields.old) }
+{
+    let at = fields.place();
+    if u16_of(fields)? != value {
+        return Err(IorFault::BadIor(at));
+    }
+    Ok(())
+}
+
+fn this_u32(fields: &mut Fields<'_>, value: u32) -> Result<(), IorFault>
+    ensures { Gives (λ _. (value, fields.new)) cause result (this_at 4 value fields.old) }
+{
+    let at = fields.place();
+    if u32_of(fields)? != value {
+        return Err(IorFault::BadIor(at));
+    }
+    Ok(())
+}
+
+#[tactic(auto, unfolding(crate::specs::IorReading::taps_at))]
+fn binder_of(alloc: Global, fields: &mut Fields<'_>) -> Result<Binder, IorFault>
+    ensures { Gives (λ b. (map view_tap b.taps.items, fields.new)) cause result (taps_at fields.old) }
+{
+    let count = u8_of(fields)?;
+    let taps = taps_of(alloc, fields, count)?;
+    Ok(Binder { taps })
+}
+
+#[tactic(auto, unfolding(crate::specs::IorReading::location_at))]
+fn location_of(alloc: Global, fields: &mut Fields<'_>) -> Result<Location, IorFault>
+    ensures { Gives (λ l. (l, fields.new)) cause result (location_at fields.old) }
+{
+    let carousel = u32_of(fields)?;
+    let module = u16_of(fields)?;
+    this_u16(fields, 0x0100)?;
+    let key_length = u8_of(fields)?;
+    let key = bytes_of(fields, usize::from(key_length))?;
+    let key = Key::new(Vec::from_slice(alloc, key)?);
+    Ok(Location {
+        carousel,
+        module,
+        key,
+    })
+}
+
+/// The location that a component's bytes hold, if they are read as one.
+fn location_in(alloc: Global, content: &[u8]) -> Result<Option<Location>, NoMemory>
+    ensures { IfOk result (λ l. l ≡ value_read (location_at (from_start content.now))) }
+{
+    let mut fields = Fields::new(content);
+    match location_of(alloc, &mut fields) {
+        Ok(location) => Ok(Some(location)),
+        Err(IorFault::BadIor(_)) => Ok(None),
+        Err(IorFault::NoMemory) => Err(AllocError),
+    }
+}
+
+/// The taps that a component's bytes hold, if they are read as a ConnBinder.
+fn binder_in(alloc: Global, content: &[u8]) -> Result<Option<Binder>, NoMemory>
+    ensures { IfOk result (λ b. option_map (λ x. map view_tap x.taps.items) b ≡ value_read (taps_at (from_start content.now))) }
+{
+    let mut fields = Fields::new(content);
+    match binder_of(alloc, &mut fields) {
+        Ok(binder) => Ok(Some(binder)),
+        Err(IorFault::BadIor(_)) => Ok(None),
+        Err(IorFault::NoMemory) => Err(AllocError),
+    }
+}
+
+/// A component of a profile: its tag and its bytes.
+#[derive(Clone, Copy)]
+struct Component<'a> {
+    tag: u32,
+    content: &'a [u8],
+}
+
+#[tactic(auto, unfolding(crate::specs::IorReading::component_at))]
+fn component_of<'a>(fields: &mut Fields<'a>) -> Result<Component<'a>, IorFault>
+    ensures { Gives (λ c. ((c.tag, c.content.now), fields.new)) cause result (component_at fields.old) }
+{
+    let tag = u32_of(fields)?;
+    let size = u8_of(fields)?;
+    let content = bytes_of(fields, usize::from(size))?;
+    Ok(Component { tag, content })
+}
+
+/// The bytes of the first ObjectLocation and of the first ConnBinder of a profile.
+#[derive(Clone, Copy)]
+struct Parts<'a> {
+    location: Option<&'a [u8]>,
+    binder: Option<&'a [u8]>,
+}
+
+impl<'a> Parts<'a> {
+    /// With one more component behind those seen so far.
+    fn with(self, component: Component<'a>) -> Parts<'a>
+        ensures location { option_copied result.location ≡ option_or (option_copied self.entry.location) (if component.entry.tag == 0x49534F50 then Some component.entry.content.now else None) }
+        ensures binder { option_copied result.binder ≡ option_or (option_copied self.entry.binder) (if component.entry.tag == 0x49534F40 then Some component.entry.content.now else None) }
+    {
+        let content = Some(component.content);
+        if component.tag == LOCATION_TAG && self.location.is_none() {
+            return Parts {
+                location: content,
+                binder: self.binder,
+            };
+        }
+        if component.tag == BINDER_TAG && self.binder.is_none() {
+            return Parts {
+                location: self.location,
+                binder: content,
+            };
+        }
+        self
+    }
+}
+
+fn parts_of<'a>(fields: &mut Fields<'a>, count: u8) -> Result<Parts<'a>, IorFault>
+    ensures { Gives (λ p. ((option_copied p.location, option_copied p.binder), fields.new)) cause result (parts_at count fields.old) }
+{
+    let mut parts = Parts {
+        location: None,
+        binder: None,
+    };
+    for _ in 0..count {
+        let component = component_of(fields)?;
+        parts = parts.with(component);
+    }
+    Ok(parts)
+}
+
+#[tactic(auto, unfolding(crate::specs::IorReading::components_at))]
+fn parts_in<'a>(fields: &mut Fields<'a>) -> Result<Parts<'a>, IorFault>
+    ensures { Gives (λ p. ((option_copied p.location, option_copied p.binder), fields.new)) cause result (chosen_at fields.old) }
+{
+    this_u8(fields, 0)?;
+    let count = u8_of(fields)?;
+    parts_of(fields, count)
+}
+
+/// The profile that the bytes of a BIOP profile hold, if both components are there in the right form.
+fn biop_in(alloc: Global, content: &[u8]) -> Result<Option<Profile>, NoMemory>
+    ensures { IfOk result (λ p. option_map view_profile p ≡ biop_in (value_read (components_at (from_start content.now)))) }
+{
+    let mut fields = Fields::new(content);
+    let parts = match parts_in(&mut fields) {
+        Ok(parts) => parts,
+        Err(IorFault::BadIor(_)) => return Ok(None),
+        Err(IorFault::NoMemory) => return Err(AllocError),
+    };
+    let (Some(location), Some(binder)) = (parts.location, parts.binder) else {
+        return Ok(None);
+    };
+    let Some(location) = location_in(alloc, location)? else {
+        return Ok(None);
+    };
+    let Some(binder) = binder_in(alloc, binder)? else {
+        return Ok(None);
+    };
+    Ok(Some(Profile::Biop(location, binder)))
+}
+
+/// What a profile's bytes stand for.
+fn profile_in(alloc: Global, tag: u32, content: &[u8]) -> Result<Profile, NoMemory>
+    ensures { IfOk result (λ p. view_profile p ≡ profile_of tag content.now) }
+{
+    if tag == BIOP_TAG
+        && let Some(profile) = biop_in(alloc, content)?
+    {
+        return Ok(profile);
+    }
+    let bytes = Vec::from_slice(alloc, content)?;
+    Ok(Profile::Other(tag, bytes))
+}
+
+#[tactic(auto, unfolding(crate::specs::IorReading::profile_at))]
+fn profile_of(alloc: Global, fields: &mut Fields<'_>) -> Result<Profile, IorFault>
+    ensures { Gives (λ p. (view_profile p, fields.new)) cause result (profile_at fields.old) }
+{
+    let tag = u32_of(fields)?;
+    let size = u32_of(fields)?;
+    let content = bytes_of(fields, size as usize)?;
+    let profile = profile_in(alloc, tag, content)?;
+    Ok(profile)
+}
+
+fn profiles_of(alloc: Global, fields: &mut Fields<'_>, count: u32) -> Result<Vec<Profile>, IorFault>
+    ensures { Gives (λ v. (map view_profile v.items, fields.new)) cause result (each_at profile_at count fields.old) }
+{
+    let mut profiles = Vec::new(alloc);
+    for _ in 0..count {
+        let profile = profile_of(alloc, fields)?;
+        profiles.push(profile)?;
+    }
+    Ok(profiles)
+}
+
+fn kind_of(fields: &mut Fields<'_>) -> Result<[u8; 4], IorFault>
+    ensures { Gives (λ k. (k, fields.new)) cause result (bytes_at 4 fields.old) }
+{
+    let kind = bytes_of(fields, 4)?;
+    Ok([kind[0], kind[1], kind[2], kind[3]])
+}
+
+#[tactic(auto, unfolding(crate::specs::IorReading::ior_at))]
+fn ior_of(alloc: Global, fields: &mut Fields<'_>) -> Result<Ior, IorFault>
+    ensures { Gives (λ i. (view i, fields.new)) cause result (ior_at fields.old) }
+{
+    this_u32(fields, 4)?;
+    let kind = kind_of(fields)?;
+    let count = u32_of(fields)?;
+    let profiles = profiles_of(alloc, fields, count)?;
+    Ok(Ior { kind, profiles })
+}
+
+fn read(alloc: Global, bytes: &[u8]) -> Result<(Ior, usize), IorFault>
+    ensures { Gives (λ x. (view x.0, x.1)) cause result (read_from_start (ior_at (from_start bytes.now))) }
+{
+    let mut fields = Fields::new(bytes);
+    let ior = ior_of(alloc, &mut fields)?;
+    Ok((ior, fields.place()))
+}
+
+/// Reads an IOR at the front of these bytes, and gives it with the number of bytes that it has. What stands behind
+/// it is passed over.
+///
+/// A profile of the BIOP tag that hasn't both an ObjectLocation and a ConnBinder, or in whose bytes a rule is broken,
+/// is `Other`, as one of any other tag is; the first component of each of the two tags counts. Bytes behind a
+/// profile's last component, behind a location's key and behind a binder's taps are passed over.
+///
+/// `BadIor(place)` comes exactly where a field outside the profiles' bytes is cut, or the type_id_length isn't 4; the
+/// place is the first byte of the first such field.
+/// (ISO/IEC 13818-6, clause 11.3; ETSI TR 101 202, clause 4.7.3.)
+pub fn decode(alloc: Global, bytes: &[u8]) -> Result<(Ior, usize), IorFault>
+    ensures found { IfOk result (λ x. (x.1 ≤ length bytes.now) × Reads (take x.1 bytes.now) (view x.0)) }
+    ensures only { (ior : IorFields) (n : ℕ) → n ≤ length bytes.now → Reads (take n bytes.now) ior → Gives {Y = IorFields × ℕ} (λ x. (view x.0, x.1)) cause result (Ok (ior, n)) }
+    // A spelling with any bytes behind it is read as its value.
+    ensures again { (kind rest : List ℕ) (l : Location) → IsWritten (written kind l) l → IsLocation l → bytes.now ≡ spelling kind l ++ rest
+        → Gives {Y = IorFields × ℕ} (λ x. (view x.0, x.1)) cause result (Ok (written kind l, length (spelling kind l))) }
+    ensures exact { Gives (λ x. (view x.0, x.1)) cause result (read_from_start (ior_at (from_start bytes.now))) }
+    ensures inside { IfErr result (λ e. IfSome (cause e) (λ place. place ≤ length bytes.now)) }
+{
+    read(alloc, bytes)
+}
+
+/// Reading an IOR from left to right and the grammar of IORs say the same, and places count from any start; what is
+/// written is in the grammar, and is read at any place whatever stands behind it. A law about the definitions alone,
+/// which the crates above call where an IOR stands inside a message of theirs.
+pub fn one_reading()
+    ensures agree { Agrees ior_at (InBytes Reads) }
+    ensures written { (kind : List ℕ) (l : Location) → IsWritten (written kind l) l → IsLocation l → Reads (spelling kind l) (written kind l) }
+    ensures again { (kind : List ℕ) (l : Location) → IsWritten (written kind l) l → IsLocation l → (place : ℕ) (rest : List ℕ) → ior_at (at place (spelling kind l ++ rest)) ≡ Ok (written kind l, at (place + 63) rest) }
+{}

@@ -1,0 +1,72 @@
+//! Which module each object of a generation goes to.
+//!
+//! A module that carries more than one object has at most 65,536 bytes; only an object that is larger by itself has a
+//! larger module, of its own. Which objects share a module is left to the broadcaster by ETSI TR 101 202; the rule
+//! here is this project's own.
+#![tactic(auto)]
+
+ghost use Rattle.std.specs.Prelude.{◌≡◌, ◌≤◌, ◌<◌, length, IfOk};
+ghost use Rattle.module_packer.specs.Placement.{fresh, needed, IsPlacement, FreshIsAPlacement};
+
+mod packing;
+
+use oc_bytes::NoMemory;
+use packing::Packing;
+use std::alloc::Global;
+
+/// How many modules a fresh placement of objects of these sizes opens. `sizes` has the objects' sizes in bytes, in
+/// object order, and isn't empty. Takes no memory.
+pub fn need(sizes: &[u32]) -> usize
+    requires { 0 < length sizes.now }
+    ensures { result ≡ needed sizes.now }
+{
+    let mut packing = Packing::new();
+    for size in sizes {
+        let _module = packing.place(*size);
+    }
+    packing.modules()
+}
+
+/// The module of each object, a number from 1 to 139, of a fresh placement.
+///
+/// The objects are taken in order. One of more than 65,536 bytes gets a module of its own. Any other goes into the
+/// module that was opened last for such objects while the sum of sizes stays at most 65,536 there, and else opens a new
+/// one. Modules are numbered from 1 in order of opening, so the first object is in module 1.
+///
+/// `sizes` isn't empty, and `need` of it is at most 139. Want of memory is the only refusal.
+pub fn place_fresh(alloc: Global, sizes: &[u32]) -> Result<Vec<u16>, NoMemory>
+    requires some { 0 < length sizes.now }
+    requires few { needed sizes.now ≤ 139 }
+    ensures fresh { IfOk result (λ ms. ms.items ≡ fresh sizes.now) }
+    ensures fits { IfOk result (λ ms. IsPlacement 139 sizes.now ms.items) }
+{
+    let mut packing = Packing::new();
+    let mut modules = Vec::with_capacity(alloc, sizes.len())?;
+    for size in sizes {
+        let module = packing.place(*size);
+        modules.push(module as u16)?;
+    }
+    Ok(modules)
+}
+
+/// The law behind `place_fresh`, for every limit: each object has a module from 1 to the limit, the first object is in
+/// module 1, and no module of more than one object has more than 65,536 bytes.
+pub fn fresh_is_a_placement()
+    ensures { FreshIsAPlacement }
+{}
+
+#[cfg(test)]
+mod tests {
+    use super::*;
+    use std::test::Fail;
+
+    #[test]
+    fn objects_share_modules(rt: HostRuntime) -> Result<(), Fail> {
+        let sizes = [117, 65_000, 500, 65_537, 400];
+        assert_eq!(rt; need(&sizes), 3);
+        assert_eq!(rt; need(&[16_777_300]), 1);
+        let modules = place_fresh(rt.alloc(), &sizes)?;
+        assert_eq!(rt; modules.as_slice(), [1, 1, 2, 3, 2].as_slice());
+        Ok(())
+    }
+}

@@ -1,0 +1,5 @@
+pub mod Resolving
+pub mod Shots
+pub mod Shared
+pub mod Names
+pub mod Targets

@@ -1,0 +1,102 @@
+-- The answer to a path on what a receiver holds.
+use Rattle.std.specs.Prelude.{◌≡◌, ℕ, ◌<◌, Bool, true, false, not, ◌&&◌, ◌||◌, List, [], ◌∷◌, length, map, take, drop, Option, Some, None, ◌==◌, if◌then◌else◌}
+use Rattle.std.specs.List.{find}
+use Rattle.oc_bytes.specs.Numbers.{number_of}
+use Rattle.path_tree.specs.Paths.{Bytes, PathNames, same_name}
+use Rattle.ior_tap.specs.Iors.{TapFields, biop_of_profiles, delivery_of_taps}
+use Rattle.ior_tap.specs.declared.Location.{Location}
+use Rattle.dsi_dii.specs.Controls.{identification_of}
+use Rattle.dsi_dii.specs.declared.ModuleLine.{ModuleLine}
+use Rattle.biop_object.specs.Objects.{BindingFields}
+use Rattle.biop_object.specs.ObjectReading.{found_of, bindings_of}
+use Rattle.biop_object.specs.declared.module.Found.{Found}
+use Rattle.biop_object.specs.declared.module.Found.TheVariants as found
+use Rattle.path_resolver.specs.Names.{names_of}
+use Rattle.path_resolver.specs.declared.answer.Answer.{Answer}
+use Rattle.path_resolver.specs.declared.answer.Answer.TheVariants as answers
+
+pub record HeldModule : Type 0 where
+  pub line : ModuleLine
+  pub bytes : Option Bytes
+
+pub record Root : Type 0 where
+  pub location : Location
+  pub delivery : Option ℕ
+
+-- what an answer depends on
+pub record Held : Type 0 where
+  pub label : Option ℕ
+  pub identification : ℕ
+  pub gateway : Option Root
+  pub table : List HeldModule
+
+-- a location and the transactionId of its delivery, where it is known
+abbrev pub Target : Type 0
+Target = Location × Option ℕ
+
+abbrev pub is_elsewhere : ℕ → ℕ → Target → Bool
+is_elsewhere carousel identification (l, None) = not (l.carousel == carousel)
+is_elsewhere carousel identification (l, Some t) = not (l.carousel == carousel) || not (identification_of t == identification)
+
+abbrev pub target_of : Option (Location × List TapFields) → Option Target
+target_of (Some (l, taps)) = Some (l, delivery_of_taps taps)
+target_of None = None
+
+abbrev pub or_elsewhere : (Target → Answer) → Option Target → Answer
+or_elsewhere rest (Some t) = rest t
+or_elsewhere rest None = answers.Elsewhere
+
+-- where the first binding of a name leads
+abbrev pub by_binding : (Target → Answer) → Option BindingFields → Answer
+by_binding rest (Some b) = or_elsewhere rest (target_of (biop_of_profiles b.target.profiles))
+by_binding rest None = answers.NoSuch
+
+abbrev pub in_folder : (Target → Answer) → Bytes → Option (List BindingFields) → Answer
+in_folder rest name (Some bindings) = by_binding rest (find (λ b. same_name name b.name) bindings)
+in_folder rest name None = answers.NoSuch
+
+-- at an object: no name is left
+abbrev pub ended : ℕ → Bytes → Found → Answer
+ended m bytes (found.File span) = answers.File (take span.length (drop span.first bytes))
+ended m bytes (found.Folder k) = answers.Folder (names_of (bindings_of bytes k))
+ended m bytes found.Other = answers.OtherKind m
+ended m bytes (found.Bad place) = answers.Bad m place
+ended m bytes found.Missing = answers.Dangling m
+
+-- at an object: a name is left
+abbrev pub goes_on : (Target → Answer) → Bytes → ℕ → Bytes → Found → Answer
+goes_on rest name m bytes (found.File span) = answers.NoSuch
+goes_on rest name m bytes (found.Folder k) = in_folder rest name (bindings_of bytes k)
+goes_on rest name m bytes found.Other = answers.OtherKind m
+goes_on rest name m bytes (found.Bad place) = answers.Bad m place
+goes_on rest name m bytes found.Missing = answers.Dangling m
+
+abbrev pub in_module : (Bytes → Answer) → ℕ → Option HeldModule → Answer
+in_module object m None = answers.Dangling m
+in_module object m (Some h) = if h.line.compressed then answers.Compressed m else go h.bytes where
+  go : Option Bytes → Answer
+  go (Some bytes) = object bytes
+  go None = answers.NotYet m
+
+abbrev pub at_target : ℕ → Held → (Bytes → Answer) → Target → Answer
+at_target carousel held object t =
+    if is_elsewhere carousel held.identification t then answers.Elsewhere
+    else in_module object t.0.module (find (λ h. h.line.id == t.0.module) held.table)
+
+-- at a location, where no name is left
+abbrev pub last : ℕ → Held → Target → Answer
+last carousel held t = at_target carousel held (λ bytes. ended t.0.module bytes (found_of bytes t.0.key)) t
+
+-- at a location, where a name is left: `rest` is the walk from the next location on
+abbrev pub turn : ℕ → Held → (Target → Answer) → Bytes → Target → Answer
+turn carousel held rest name t = at_target carousel held (λ bytes. goes_on rest name t.0.module bytes (found_of bytes t.0.key)) t
+
+abbrev pub walk : ℕ → Held → PathNames → Target → Answer
+walk carousel held [] t = last carousel held t
+walk carousel held (n ∷ ns) t = turn carousel held (walk carousel held ns) n t
+
+abbrev pub answer_of : Held → PathNames → Answer
+answer_of held path = go held.gateway held.label where
+  go : Option Root → Option ℕ → Answer
+  go (Some g) (Some label) = walk g.location.carousel held path (g.location, g.delivery)
+  go _ _ = answers.NoCarousel

@@ -1,0 +1,195 @@
+ghost use Rattle.std.specs.Prelude.{◌≡◌, ◌==◌, Option, map, IfOk, MatchResult};
+ghost use Rattle.std.specs.List.{find};
+ghost use Rattle.std.specs.Option.{option_map};
+ghost use Rattle.std.specs.Arc.{arc_value};
+ghost use Rattle.path_tree.specs.Paths.{Bytes, same_name};
+ghost use Rattle.biop_object.specs.Objects.{view_binding};
+ghost use Rattle.biop_object.specs.ObjectReading.{found_of};
+ghost use Rattle.path_resolver.specs.Resolving as resolving;
+ghost use Rattle.path_resolver.specs.Resolving.{answer_of, last, walk};
+ghost use Rattle.path_resolver.specs.Shots.{held_of, view_held};
+ghost use Rattle.path_resolver.specs.Targets.{view_target, BindingGoes, ObjectGoes, StepGoes, IsModuleAt, IsNoModule};
+
+use crate::answer::{Answer, FileRef, FolderRef};
+use crate::shot::{Gateway, Held, Shot};
+use biop_object::{Binding, Found, Module};
+use dsi_dii::TransactionId;
+use ior_tap::{Location, biop_of, delivery_of};
+use oc_bytes::NoMemory;
+use path_tree::Path;
+use std::sync::Arc;
+
+/// A location on the way, and the transactionId of its delivery, where it is known.
+#[derive(Drop)]
+struct Target<'a> {
+    location: &'a Location,
+    delivery: Option<u32>,
+}
+
+/// What a name leads to.
+#[derive(Drop)]
+enum Step<'a> {
+    On(Target<'a>),
+    Ends(Answer),
+}
+
+/// What the table holds of a module.
+fn held_in(table: &[Held], id: u16) -> Option<&Held>
+    ensures { option_map (λ h. view_held h.now) result ≡ find (λ h. h.line.id == id) (map view_held table.now) }
+{
+    for held in table {
+        if held.line.id == id {
+            return Some(held);
+        }
+    }
+    None
+}
+
+/// The first binding of a name.
+fn binding_of<'a>(bindings: &'a [Binding], name: &[u8]) -> Option<&'a Binding>
+    ensures { option_map (λ b. view_binding b.now) result ≡ find (λ b. same_name name.now b.name) (map view_binding bindings.now) }
+{
+    for binding in bindings {
+        if name == binding.name.bytes() {
+            return Some(binding);
+        }
+    }
+    None
+}
+
+/// Whether a location lies outside of the carousel as it is held.
+fn is_elsewhere(shot: &Shot, carousel: u32, target: &Target) -> bool
+    ensures { result ≡ resolving.is_elsewhere carousel shot.now.identification (view_target target.now) }
+{
+    let other = target.location.carousel != carousel;
+    match target.delivery {
+        None => other,
+        Some(transaction) => {
+            other || TransactionId(transaction).identification() != shot.identification
+        }
+    }
+}
+
+/// The module of a location, where it is whole; else the answer.
+fn module_at<'a>(shot: &'a Shot, carousel: u32, target: &Target) -> Result<&'a Arc<Module>, Answer>
+    ensures { MatchResult result (λ m. IsModuleAt carousel (held_of shot.now) (view_target target.now) (arc_value m.now))
+        (λ a. IsNoModule carousel (held_of shot.now) (view_target target.now) a) }
+{
+    let id = target.location.module;
+    if is_elsewhere(shot, carousel, target) {
+        return Err(Answer::Elsewhere);
+    }
+    match held_in(&shot.table, id) {
+        None => Err(Answer::Dangling(id)),
+        Some(held) => {
+            if held.line.compressed {
+                return Err(Answer::Compressed(id));
+            }
+            match &held.module {
+                None => Err(Answer::NotYet(id)),
+                Some(module) => Ok(module),
+            }
+        }
+    }
+}
+
+/// The answer at a location's object, where no name is left.
+fn object_answer(module: &Arc<Module>, location: &Location) -> Result<Answer, NoMemory>
+    ensures { IfOk result (λ a. a ≡ resolving.ended location.now.module (arc_value module.now) (found_of (arc_value module.now) location.now.key)) }
+{
+    let id = location.module;
+    match module.find(location.key.bytes()) {
+        Found::File(span) => Ok(Answer::File(FileRef::new(module, span)?)),
+        Found::Folder(folder) => Ok(Answer::Folder(FolderRef::new(module, folder)?)),
+        Found::Other => Ok(Answer::OtherKind(id)),
+        Found::Bad(place) => Ok(Answer::Bad(id, place)),
+        Found::Missing => Ok(Answer::Dangling(id)),
+    }
+}
+
+/// The answer at a location, where no name is left.
+fn end_of(shot: &Shot, carousel: u32, target: &Target) -> Result<Answer, NoMemory>
+    ensures { IfOk result (λ a. a ≡ last carousel (held_of shot.now) (view_target target.now)) }
+{
+    match module_at(shot, carousel, target) {
+        Ok(module) => object_answer(module, target.location),
+        Err(answer) => Ok(answer),
+    }
+}
+
+/// Where a binding leads.
+fn along(binding: Option<&Binding>) -> Step<'_>
+    ensures { BindingGoes (option_map (λ b. view_binding b.now) binding.entry) result }
+{
+    match binding {
+        None => Step::Ends(Answer::NoSuch),
+        Some(binding) => match biop_of(&binding.target) {
+            None => Step::Ends(Answer::Elsewhere),
+            Some((location, binder)) => Step::On(Target {
+                location,
+                delivery: delivery_of(binder),
+            }),
+        },
+    }
+}
+
+/// Where a name leads from a location's object.
+fn next_in<'a>(module: &'a Arc<Module>, location: &Location, name: &[u8]) -> Step<'a>
+    ensures { ObjectGoes name.now location.now.module (arc_value module.now) (found_of (arc_value module.now) location.now.key) result }
+{
+    let id = location.module;
+    match module.find(location.key.bytes()) {
+        Found::File(_) => Step::Ends(Answer::NoSuch),
+        Found::Folder(folder) => along(binding_of(module.bindings(folder), name)),
+        Found::Other => Step::Ends(Answer::OtherKind(id)),
+        Found::Bad(place) => Step::Ends(Answer::Bad(id, place)),
+        Found::Missing => Step::Ends(Answer::Dangling(id)),
+    }
+}
+
+/// Where a name leads from a location.
+fn leads<'a>(shot: &'a Shot, carousel: u32, target: &Target, name: &[u8]) -> Step<'a>
+    ensures { StepGoes carousel (held_of shot.now) name.now (view_target target.now) result }
+{
+    match module_at(shot, carousel, target) {
+        Ok(module) => next_in(module, target.location, name),
+        Err(answer) => Step::Ends(answer),
+    }
+}
+
+/// The walk from the gateway along all names.
+fn walk_from(shot: &Shot, gateway: &Gateway, path: &Path) -> Result<Answer, NoMemory>
+    ensures { IfOk result (λ a. a ≡ walk gateway.now.location.carousel (held_of shot.now) path.now (gateway.now.location, gateway.now.delivery)) }
+{
+    let carousel = gateway.location.carousel;
+    let mut target = Target {
+        location: &gateway.location,
+        delivery: gateway.delivery,
+    };
+    for i in 0..path.len() {
+        match leads(shot, carousel, &target, path.name(i)) {
+            Step::On(next) => target = next,
+            Step::Ends(answer) => return Ok(answer),
+        }
+    }
+    end_of(shot, carousel, &target)
+}
+
+/// The answer to the whole path on one shot: the walk from the gateway along all names. A file or a folder shares the
+/// module that holds it; the one refusal is want of memory, in sharing it.
+///
+/// Without a gateway or a label it is `NoCarousel`. At each location, in this order: `Elsewhere` where its carousel
+/// isn't the gateway's, or its delivery is known and of another identification than the DII that is held; `Dangling`
+/// where the table doesn't list its module; `Compressed`; `NotYet` where the module isn't whole; `Bad`, `Dangling` or
+/// `OtherKind` where the module has no file or folder of its key; a file is `File` where no name is left, and else
+/// `NoSuch`; a folder is `Folder` where no name is left, and else the first binding of the next name leads on:
+/// `NoSuch` where there is none, `Elsewhere` where its IOR has no location. (ETSI TR 101 202, clauses 4.7.4 and
+/// 4.7.5; the order is this project's own rule.)
+pub fn resolve(shot: &Shot, path: &Path) -> Result<Answer, NoMemory>
+    ensures { IfOk result (λ a. a ≡ answer_of (held_of shot.now) path.now) }
+{
+    match (&shot.gateway, shot.label) {
+        (Some(gateway), Some(_)) => walk_from(shot, gateway, path),
+        _ => Ok(Answer::NoCarousel),
+    }
+}

@@ -1,0 +1,10 @@
+pub mod Escapes
+pub mod Pieces
+pub mod Read
+pub mod Printed
+pub mod Order
+pub mod Places
+pub mod Listing
+pub mod Changes
+pub mod Names
+pub mod Named

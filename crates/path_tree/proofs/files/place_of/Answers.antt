@@ -1,0 +1,12 @@
+use Rattle.std.proofs.Common.{rules, sym, of_calls}
+use Rattle.std.proofs.lemmas.List.Sorted.{IsPartitionPoint-from_clause}
+use Rattle.path_tree.specs.Places.{is_before}
+use Rattle.path_tree.proofs.Places.{parted, prefix_len-point}
+use Rattle.path_tree.proofs.files.place_of.Goals as goal
+
+pub returns-clause-place : goal.returns-clause-place
+returns-clause-place c =
+    let files = c.args.files.now in
+    let path = c.args.path.now in
+    let point = IsPartitionPoint-from_clause (is_before path) files c.partition_point.result c.partition_point.ensures.partitioned (parted files path c.requires) (λ a r q k. search (rules, of_calls)) in
+    sym (prefix_len-point (is_before path) files c.partition_point.result c.partition_point.ensures.bound point.0 point.1)

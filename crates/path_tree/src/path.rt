@@ -1,0 +1,260 @@
+ghost use Rattle.path_tree.specs.Paths.{same_name};
+ghost use Rattle.std.specs.Prelude.{◌≡◌, ◌≤◌, ◌<◌, length, take, slice_get, option_map, Some, Ok, IfOk};
+
+use crate::text::{MOST_NAMES, is_path_name, push_name, read_names};
+use oc_bytes::NoMemory;
+use std::alloc::{AllocError, AllocFailed, Global};
+use std::cmp::Ordering;
+use std::marker::Model;
+use std::sync::Arc;
+
+/// A name as it stands in a folder's listing: 0 to 255 bytes of any value. The names of a `Path` are
+/// narrower.
+#[derive(Drop)]
+pub struct Name {
+    bytes: Vec<u8>,
+}
+
+impl Model for Name {
+    ghost use Rattle.std.specs.Prelude.{List, ℕ, length, ◌≤◌};
+
+    ghost Value = { List ℕ };
+
+    ghost view = { λ n. n.bytes.items };
+
+    ghost invariant = { λ n. length n.bytes.items ≤ 255 };
+}
+
+impl Name {
+    /// The name of these bytes, of which there are at most 255.
+    pub fn new(bytes: Vec<u8>) -> Name
+        requires { length bytes.items ≤ 255 }
+        ensures { result ≡ bytes.items }
+    {
+        Name { bytes }
+    }
+
+    /// The name's bytes, 0 to 255 of them.
+    pub fn bytes(&self) -> &[u8]
+        ensures { result.now ≡ self.now }
+    {
+        &self.bytes
+    }
+
+    /// A name of the same bytes.
+    pub fn copy(&self) -> Result<Name, NoMemory>
+        ensures { IfOk result (λ name. name ≡ self.now) }
+    {
+        Ok(Name {
+            bytes: Vec::from_slice(*self.bytes.allocator(), &self.bytes)?,
+        })
+    }
+}
+
+pub(crate) fn same_bytes(name: &[u8], other: &[u8]) -> bool
+    ensures { result ≡ same_name name.now other.now }
+{
+    name == other
+}
+
+/// Why a text is no path.
+#[derive(Debug, Drop)]
+pub enum PathFault {
+    /// The text doesn't begin with `/` (the place is 0), or one of its first sixteen names is empty, has
+    /// more than 254 bytes, has a `%` without two hexadecimal digits after it, or holds a byte zero or
+    /// `/` once its escapes are undone. The number is the place of the name's first byte in the text.
+    BadName(usize),
+    /// The text has a seventeenth name.
+    TooDeep,
+    /// Memory was wanting.
+    NoMemory,
+}
+
+impl From<AllocError> for PathFault {
+    ghost use Rattle.std.specs.Prelude.{◌≡◌};
+    ghost use Rattle.path_tree.specs.declared.path.PathFault.TheVariants.{NoMemory};
+
+    ghost from_gives = { λ _ e. e ≡ NoMemory };
+
+    fn from(_error: AllocError) -> PathFault {
+        PathFault::NoMemory
+    }
+}
+
+impl<T: Drop> From<AllocFailed<T>> for PathFault {
+    ghost use Rattle.std.specs.Prelude.{◌≡◌};
+    ghost use Rattle.path_tree.specs.declared.path.PathFault.TheVariants.{NoMemory};
+
+    ghost from_gives = { λ _ e. e ≡ NoMemory };
+
+    fn from(_error: AllocFailed<T>) -> PathFault {
+        PathFault::NoMemory
+    }
+}
+
+/// A path below the root of a carousel: 0 to 16 names, each of 1 to 254 bytes without zero and `/`. The
+/// path of no names is the root. Two paths that are shared hold the same names in memory once.
+#[derive(Drop)]
+pub struct Path {
+    names: Arc<Vec<Name>>,
+}
+
+impl Model for Path {
+    ghost use Rattle.std.specs.Arc.{arc_value};
+    ghost use Rattle.path_tree.specs.Paths.{PathNames, IsPath};
+
+    ghost Value = { PathNames };
+
+    ghost view = { λ p. (arc_value p.names).items };
+
+    ghost invariant = { λ p. IsPath (arc_value p.names).items };
+}
+
+impl Path {
+    ghost use Rattle.oc_bytes.specs.Outcome.{Gives};
+    ghost use Rattle.path_tree.specs.Paths.{IsPath, path_cmp, is_below, same_path, next_name};
+    ghost use Rattle.path_tree.specs.Texts.{path_of, text_of, text_cause, with_below};
+    ghost use Rattle.std.specs.String.{string_bytes};
+
+    /// Reads a path's text (this project's own rule): `/` alone is the root, and else `/` stands before
+    /// each name, in which `%` and two hexadecimal digits of either case stand for a byte and every other
+    /// byte for itself. The names are taken from the left, and the first fault counts.
+    pub fn parse(alloc: Global, text: &[u8]) -> Result<Path, PathFault>
+        ensures { Gives (λ p. p) text_cause result (path_of text.now) }
+    {
+        let names = match text {
+            b"/" => Vec::new(alloc),
+            [b'/', ..] => read_names(alloc, text)?,
+            _ => return Err(PathFault::BadName(0)),
+        };
+        Ok(Path {
+            names: Arc::new(alloc, names)?,
+        })
+    }
+
+    /// The number of names, 0 to 16.
+    pub fn len(&self) -> usize
+        ensures names { result ≡ length self.now }
+        ensures path { IsPath self.now }
+    {
+        self.names.len()
+    }
+
+    /// Name number `i`, counted from 0 at the root's side.
+    pub fn name(&self, i: usize) -> &[u8]
+        requires { i < length self.now }
+        ensures { slice_get self.now i ≡ Some result.now }
+    {
+        self.names[i].bytes()
+    }
+
+    /// The same path again, whose names are not copied.
+    pub fn share(&self) -> Result<Path, NoMemory>
+        ensures { IfOk result (λ p. p ≡ self.now) }
+    {
+        Ok(Path {
+            names: Arc::try_clone(&self.names)?,
+        })
+    }
+
+    /// The path of the first `names` names: this path itself, or a folder above it.
+    pub fn above(&self, names: usize) -> Result<Path, NoMemory>
+        requires { names ≤ length self.now }
+        ensures { IfOk result (λ p. p ≡ take names self.now) }
+    {
+        let alloc = *self.names.allocator();
+        let mut front = Vec::with_capacity(alloc, names)?;
+        for name in &self.names[..names] {
+            front.push(name.copy()?)?;
+        }
+        Ok(Path {
+            names: Arc::new(alloc, front)?,
+        })
+    }
+
+    /// The path of one name more, or none where the name is no name of a path (it is empty, has more than 254
+    /// bytes, or holds a byte zero or `/`) or where this path has sixteen names already. The one refusal is
+    /// want of memory.
+    pub fn below(&self, name: &[u8]) -> Result<Option<Path>, NoMemory>
+        ensures { IfOk result (λ below. below ≡ with_below self.now name.now) }
+    {
+        if !is_path_name(name) || self.names.len() >= MOST_NAMES {
+            return Ok(None);
+        }
+        let alloc = *self.names.allocator();
+        let mut names = Vec::with_capacity(alloc, self.names.len() + 1)?;
+        for own in self.names.iter() {
+            names.push(own.copy()?)?;
+        }
+        names.push(Name::new(Vec::from_slice(alloc, name)?))?;
+        Ok(Some(Path {
+            names: Arc::new(alloc, names)?,
+        }))
+    }
+
+    /// How this path stands to another in the order of paths: the first names that differ decide, by
+    /// their bytes, and else the path of fewer names stands first.
+    pub fn compare(&self, other: &Path) -> Ordering
+        ensures { result ≡ path_cmp self.now other.now }
+    {
+        let (own, others) = (self.names.as_slice(), other.names.as_slice());
+        for i in 0..own.len().min(others.len()) {
+            match own[i].bytes().cmp(&others[i].bytes()) {
+                Ordering::Equal => {}
+                decided => return decided,
+            }
+        }
+        own.len().cmp(&others.len())
+    }
+
+    /// Whether another path has the same names.
+    pub fn is_same(&self, other: &Path) -> bool
+        ensures { result ≡ same_path self.now other.now }
+    {
+        self.compare(other).is_eq()
+    }
+
+    /// Whether another path lies below this one: it has more names, of which the first are this path's.
+    pub fn is_above(&self, other: &Path) -> bool
+        ensures { result ≡ is_below self.now other.now }
+    {
+        let (own, others) = (self.names.as_slice(), other.names.as_slice());
+        if others.len() <= own.len() {
+            return false;
+        }
+        for i in 0..own.len() {
+            if !same_bytes(own[i].bytes(), others[i].bytes()) {
+                return false;
+            }
+        }
+        true
+    }
+
+    /// The name that leads from this path on to another below it.
+    pub fn next_below<'a>(&self, other: &'a Path) -> Option<&'a Name>
+        ensures { option_map (λ name. name.now) result ≡ next_name self.now other.now }
+    {
+        if self.is_above(other) {
+            Some(&other.names[self.names.len()])
+        } else {
+            None
+        }
+    }
+
+    /// The path's text, which `parse` reads as this path: bytes 0x21 to 0x7E other than `%` and `/` stand
+    /// as themselves, and all others as `%` with two upper case hexadecimal digits.
+    pub fn print(&self) -> Result<String, NoMemory>
+        ensures text { IfOk result (λ text. string_bytes text ≡ text_of self.now) }
+        ensures parses { IfOk result (λ text. path_of (string_bytes text) ≡ Ok self.now) }
+    {
+        let alloc = *self.names.allocator();
+        if self.names.is_empty() {
+            return String::from_str(alloc, "/");
+        }
+        let mut text = String::new(alloc);
+        for name in self.names.iter() {
+            push_name(&mut text, name.bytes())?;
+        }
+        Ok(text)
+    }
+}

@@ -1,0 +1,9 @@
+pub mod Cutting
+pub mod Outputs
+pub mod Short
+pub mod Feeding
+pub mod Pieces
+pub mod Opening
+pub mod Taking
+pub mod Packed
+pub mod Filling

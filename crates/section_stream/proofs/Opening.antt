@@ -1,0 +1,107 @@
+-- Sections opened one after another: as many steps as there are bytes are enough.
+use Rattle.std.proofs.Common.{◌≡◌, ℕ, zero, suc, ◌+◌, ◌-◌, ◌<◌, ◌≤◌, nat_lt, Bool, true, false, List, [], ◌∷◌, ◌++◌, length, take, drop, slice_index, Option, Some, None, refl, sym, ◌∙◌, ap, subst, arith, append_assoc, append-nil, add-one, length-drop}
+use Rattle.std.proofs.lemmas.Grind.{common_steps}
+use Rattle.std.proofs.lemmas.List.{take_all}
+use Rattle.section_stream.specs.Cuts.{Bytes}
+use Rattle.section_stream.specs.Rules.{After, Grown, Growing, Oversize, Whole, grown, with_out, open_on, closes, starts, up}
+use Rattle.section_stream.specs.Steps.{HasDone, no_section_in, open_all}
+use Rattle.section_stream.specs.declared.counts.Counts.{Counts}
+
+whole_bounds : (here : Bytes) (n : ℕ) → grown here ≡ Whole n → (3 ≤ n) × (n ≤ length here)
+whole_bounds here n e = (grind (arith, common_steps), grind (arith, common_steps))
+
+no_bytes_end : (here : Bytes) → length here ≤ 0 → no_section_in here ≡ true
+no_bytes_end here h = grind (arith, common_steps)
+
+enough : (a b : ℕ) (here : Bytes) (c : Counts) → length here ≤ a → length here ≤ b → open_on a here c ≡ open_on b here c
+enough zero zero here c h k = refl
+enough zero (suc b) here c h k = rw (no_bytes_end here h) refl
+enough (suc a) zero here c h k = rw (no_bytes_end here k) refl
+enough (suc a) (suc b) here c h k = go (λ rest x y. enough a b rest c x y) (no_section_in here) refl where
+  Next : Type 0
+  Next = (rest : Bytes) → length rest ≤ a → length rest ≤ b → open_on a rest c ≡ open_on b rest c
+
+  by : Next → no_section_in here ≡ false → (g : Grown) → grown here ≡ g → open_on (suc a) here c ≡ open_on (suc b) here c
+  by next e Growing g = rw (e, g) refl
+  by next e Oversize g = rw (e, g) refl
+  by next e (Whole n) g =
+      let bounds = whole_bounds here n g in
+      let shorter : length (drop n here) < length here = omega (arith, bounds.0, bounds.1, length-drop n here) in
+      rw (e, g) (ap (with_out (take n here ∷ [])) (next (drop n here) (omega (arith, shorter, h, add-one a)) (omega (arith, shorter, k, add-one b))))
+
+  go : Next → (t : Bool) → no_section_in here ≡ t → open_on (suc a) here c ≡ open_on (suc b) here c
+  go next true e = rw e refl
+  go next false e = by next e (grown here) refl
+
+nothing_done : (before : List Bytes) (opened : Option Bytes) (c : Counts) (a : After) → a ≡ record { opened = opened; out = []; counts = c } → HasDone a opened before before c
+nothing_done before opened c a e = record { opened = ap (λ x. x.opened) e; out = sym (append-nil before) ∙ ap (λ out. before ++ out) (sym (ap (λ x. x.out) e)); counted = ap (λ x. x.counts) e }
+
+pub open-ends : (here : Bytes) (c : Counts) (before : List Bytes) → no_section_in here ≡ true → HasDone (open_all here c) None before before c
+unfolding open_all
+open-ends here c before e = nothing_done before None c (open_on 188 here c) (rw e refl)
+
+pub open-growing : (here : Bytes) (c : Counts) (before : List Bytes) → no_section_in here ≡ false → grown here ≡ Growing → HasDone (open_all here c) (Some here) before before c
+unfolding open_all
+open-growing here c before e g = nothing_done before (Some here) c (open_on 188 here c) (rw (e, g) refl)
+
+pub open-oversize : (here : Bytes) (c : Counts) (before : List Bytes) → no_section_in here ≡ false → grown here ≡ Oversize → HasDone (open_all here c) None before before (record c { oversize = up c.oversize })
+unfolding open_all
+open-oversize here c before e g = nothing_done before None (record c { oversize = up c.oversize }) (open_on 188 here c) (rw (e, g) refl)
+
+whole_step : (here : Bytes) (c : Counts) (n : ℕ) → length here ≤ 188 → no_section_in here ≡ false → grown here ≡ Whole n → open_all here c ≡ with_out (take n here ∷ []) (open_all (drop n here) c)
+unfolding open_all
+whole_step here c n h e g = enough 188 (suc 188) here c h (omega (arith, h)) ∙ step_is where
+  step_is : open_on (suc 188) here c ≡ with_out (take n here ∷ []) (open_on 188 (drop n here) c)
+  step_is = rw (e, g) refl
+
+pub open-whole : (here : Bytes) (c : Counts) (n : ℕ) (rest : Bytes) (left : Option Bytes) (before more candidates : List Bytes) (counts : Counts)
+    → length here ≤ 188 → no_section_in here ≡ false → grown here ≡ Whole n → rest ≡ drop n here → more ≡ before ++ take n here ∷ []
+    → HasDone (open_all rest c) left more candidates counts → HasDone (open_all here c) left before candidates counts
+open-whole here c n rest left before more candidates counts h e g r m d =
+    let is : open_all here c ≡ with_out (take n here ∷ []) (open_all rest c) = whole_step here c n h e g ∙ ap (λ x. with_out (take n here ∷ []) (open_all x c)) (sym r) in
+    record {
+      opened = ap (λ x. x.opened) is ∙ d.opened;
+      out = d.out ∙ ap (λ x. x ++ (open_all rest c).out) m ∙ append_assoc before (take n here ∷ []) (open_all rest c).out ∙ ap (λ out. before ++ out) (sym (ap (λ x. x.out) is));
+      counted = ap (λ x. x.counts) is ∙ d.counted;
+    }
+
+-- the slice from a place on
+pub rest_is : (here : Bytes) (n : ℕ) → take (length here - n) (drop n here) ≡ drop n here
+rest_is here n = take_all (length here - n) (drop n here) (omega (arith, length-drop n here))
+
+-- what is left of a section stays below the longest
+pub growing_bound : (here : Bytes) → grown here ≡ Growing → length here ≤ 4096
+growing_bound here e = grind (arith, common_steps)
+
+starts_is : (o : Option Bytes) (payload : Bytes) (c : Counts) (p : ℕ) → p ≡ slice_index payload 0 → p < length payload
+    → starts o payload c ≡ with_out (closes o (take p (drop 1 payload)) c).out (open_all (drop (1 + p) payload) (closes o (take p (drop 1 payload)) c).counts)
+unfolding open_all
+starts_is o payload c p e h = subst Claim (sym e) at_pointer where
+  Claim : ℕ → Type 0
+  Claim q = starts o payload c ≡ with_out (closes o (take q (drop 1 payload)) c).out (open_on 188 (drop (1 + q) payload) (closes o (take q (drop 1 payload)) c).counts)
+
+  fits : nat_lt (slice_index payload 0) (length payload) ≡ true
+  fits = grind (arith, e, h)
+
+  at_pointer : Claim (slice_index payload 0)
+  at_pointer = rw fits refl
+
+-- a start packet: the part before its first section, then the sections that begin in it
+pub starts-done : (o : Option Bytes) (payload : Bytes) (c : Counts) (p : ℕ) (part here : Bytes) (left : Option Bytes) (before between candidates : List Bytes) (k counts : Counts)
+    → p ≡ slice_index payload 0 → p < length payload → part ≡ take p (drop 1 payload) → here ≡ drop (1 + p) payload
+    → HasDone (closes o part c) None before between k → HasDone (open_all here k) left between candidates counts
+    → HasDone (starts o payload c) left before candidates counts
+starts-done o payload c p part here left before between candidates k counts e h a b first second =
+    let is : starts o payload c ≡ with_out (closes o part c).out (open_all here k) =
+    starts_is o payload c p e h ∙ ap (λ x. with_out (closes o x c).out (open_all (drop (1 + p) payload) (closes o x c).counts)) (sym a)
+    ∙ ap (λ x. with_out (closes o part c).out (open_all x (closes o part c).counts)) (sym b)
+    ∙ ap (λ x. with_out (closes o part c).out (open_all here x)) first.counted in
+    record {
+      opened = ap (λ x. x.opened) is ∙ second.opened;
+      out = second.out ∙ ap (λ x. x ++ (open_all here k).out) first.out ∙ append_assoc before (closes o part c).out (open_all here k).out ∙ ap (λ out. before ++ out) (sym (ap (λ x. x.out) is));
+      counted = ap (λ x. x.counts) is ∙ second.counted;
+    }
+
+-- the slice between two places
+pub part_is : (payload : Bytes) (p : ℕ) → take (1 + p - 1) (drop 1 payload) ≡ take p (drop 1 payload)
+part_is payload p = ap (λ n. take n (drop 1 payload)) (omega arith)

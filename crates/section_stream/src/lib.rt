@@ -1,0 +1,17 @@
+//! Sections into transport packets, and out of them again.
+#![tactic(auto)]
+
+mod counts;
+mod demux;
+mod laws;
+mod mux;
+mod open_section;
+mod payload;
+
+pub use counts::Counts;
+pub use demux::Demux;
+pub use laws::{candidates_grow, packets_give_the_sections};
+pub use mux::Mux;
+
+#[cfg(test)]
+mod tests;

@@ -1,0 +1,122 @@
+//! Transport packets (ISO/IEC 13818-1, 2.4.3.2): 188 bytes with a header of four, an adaptation
+//! field that may be absent, and a payload that may be empty.
+#![tactic(auto)]
+
+ghost use Rattle.std.specs.Prelude.{◌≡◌, ◌<◌, ◌≤◌, Err, IfOk, MatchResult, Ok, length, slice_index};
+ghost use Rattle.ts_packet.specs.Packets.{view, control, parsed, packet_bytes};
+ghost use Rattle.ts_packet.specs.Packets as packets;
+
+/// The first byte of each packet.
+const SYNC: u8 = 0x47;
+
+/// The most bytes that an adaptation field has behind its length where a payload follows: one byte
+/// is left for that payload.
+const MOST_ADAPTATION: u8 = 182;
+
+/// What a packet says to a receiver of sections, with its payload borrowed from the packet's bytes.
+#[derive(Clone, Copy, Debug)]
+pub struct Packet<'a> {
+    /// The packet identifier, 0 to 8,191.
+    pub pid: u16,
+    /// The payload unit start indicator: a section begins in this payload, behind a pointer field.
+    pub start: bool,
+    /// The continuity counter, 0 to 15.
+    pub counter: u8,
+    /// The bytes behind the header and the adaptation field, 0 to 184 of them.
+    pub payload: &'a [u8],
+}
+
+/// Why 188 bytes are no packet that can be read. The faults are looked for in this order.
+#[derive(Clone, Copy, Debug, PartialEq, Eq)]
+pub enum PacketFault {
+    /// The first byte isn't 0x47.
+    NoSync,
+    /// The transport error indicator is set.
+    Errored,
+    /// The transport scrambling control isn't 00: the payload is scrambled.
+    Scrambled,
+    /// The adaptation field control is 00, which is reserved.
+    Reserved,
+    /// A payload is announced behind an adaptation field whose length is above 182 bytes.
+    BadField,
+}
+
+/// What happens to one packet on its way from the sender to the receiver.
+#[derive(Clone, Copy, Debug, PartialEq, Eq)]
+pub enum Fate {
+    /// It arrives unchanged.
+    Keep,
+    /// It doesn't arrive.
+    Lose,
+    /// It arrives with one bit inverted: this bit modulo 1,504, counted from the most significant bit
+    /// of the packet's first byte.
+    Flip(u16),
+}
+
+/// The fields of the packet in `bytes`, or its first fault in the order of `PacketFault`
+/// (ISO/IEC 13818-1, 2.4.3.2 to 2.4.3.5).
+///
+/// The payload is empty where the adaptation field control is 10, whatever the adaptation field's
+/// length is then. It takes no memory.
+pub fn parse(bytes: &[u8; 188]) -> Result<Packet<'_>, PacketFault>
+    ensures grammar { MatchResult result (λ p. parsed bytes.now ≡ Ok (view p)) (λ fault. parsed bytes.now ≡ Err fault) }
+    ensures ranges { IfOk result (λ p. (p.pid < 8192) × (p.counter < 16) × (length p.payload.now ≤ 184)) }
+{
+    if bytes[0] != SYNC {
+        return Err(PacketFault::NoSync);
+    }
+    if bytes[1] & 0x80 != 0 {
+        return Err(PacketFault::Errored);
+    }
+    if bytes[3] & 0xC0 != 0 {
+        return Err(PacketFault::Scrambled);
+    }
+    let control = bytes[3] >> 4 & 3;
+    if control == 0 {
+        return Err(PacketFault::Reserved);
+    }
+    if control == 3 && bytes[4] > MOST_ADAPTATION {
+        return Err(PacketFault::BadField);
+    }
+    Ok(Packet {
+        pid: u16::from(bytes[1] & 0x1F) << 8 | u16::from(bytes[2]),
+        start: bytes[1] & 0x40 != 0,
+        counter: bytes[3] & 0x0F,
+        payload: payload_of(bytes),
+    })
+}
+
+/// The bytes behind the header and the adaptation field of a packet without a fault.
+fn payload_of(bytes: &[u8]) -> &[u8]
+    requires whole { length bytes.now ≡ 188 }
+    requires field { control bytes.now ≡ 3 → slice_index bytes.now 4 ≤ 182 }
+    ensures { result.now ≡ packets.payload_of bytes.now }
+{
+    match bytes[3] >> 4 & 3 {
+        1 => &bytes[4..],
+        3 => &bytes[5 + usize::from(bytes[4])..],
+        _ => &[],
+    }
+}
+
+/// A packet without an adaptation field, with the error indicator, the priority and the scrambling
+/// control 0.
+///
+/// `pid` is 0 to 8,191 and `counter`, the continuity counter, 0 to 15. It takes no memory.
+pub fn build(pid: u16, start: bool, counter: u8, payload: &[u8; 184]) -> [u8; 188]
+    requires pid { pid < 8192 }
+    requires counter { counter < 16 }
+    ensures bytes { result ≡ packet_bytes pid start counter payload.now }
+    ensures parses { parsed result ≡ Ok (record { pid = pid; start = start; counter = counter; payload = payload.now }) }
+{
+    let mut bytes = [0; 188];
+    bytes[0] = SYNC;
+    bytes[1] = if start { 0x40 } else { 0 } | (pid >> 8) as u8;
+    bytes[2] = (pid & 0xFF) as u8;
+    bytes[3] = 0x10 | counter;
+    bytes[4..].copy_from_slice(payload);
+    bytes
+}
+
+#[cfg(test)]
+mod tests;

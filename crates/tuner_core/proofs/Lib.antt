@@ -1,0 +1,5 @@
+pub mod Offers
+pub mod Places
+pub mod Lists
+pub mod Contents
+pub mod Stepping

@@ -1,0 +1,58 @@
+//! What a candidate says.
+
+ghost use Rattle.std.specs.Prelude.{◌≡◌, IfOk};
+ghost use Rattle.ddb_block.specs.Blocks as ddb;
+ghost use Rattle.dsi_dii.specs.ControlReading as controls;
+ghost use Rattle.tuner_core.specs.Heard.{heard, heard_control, heard_block};
+ghost use Rattle.tuner_core.specs.Hearing.{view_told};
+
+use ddb_block::{Parts, parts_of};
+use dsi_dii::{Control, ControlFault, Dii, Dsi};
+use dsmcc_section::{Skip, Table, payload_of};
+use oc_bytes::NoMemory;
+use std::alloc::{AllocError, Global};
+
+/// What a candidate says. The bytes of a block are lent.
+#[derive(Drop)]
+pub enum Told<'a> {
+    /// It is no section.
+    Skipped(Skip),
+    /// A section of table 0x3B that holds no control message, with the place.
+    NoControl(usize),
+    /// A section of table 0x3C that holds no block message, with the place.
+    NoBlock(usize),
+    Dsi(Dsi),
+    Dii(Dii),
+    Block(Parts<'a>),
+}
+
+fn control_of(alloc: Global, payload: &[u8]) -> Result<Told<'_>, NoMemory>
+    ensures { IfOk result (λ t. view_told t ≡ heard_control (controls.read payload.now)) }
+{
+    match dsi_dii::decode(alloc, payload) {
+        Ok(Control::Dsi(d)) => Ok(Told::Dsi(d)),
+        Ok(Control::Dii(d)) => Ok(Told::Dii(d)),
+        Err(ControlFault::NotControl(place)) => Ok(Told::NoControl(place)),
+        Err(ControlFault::NoMemory) => Err(AllocError),
+    }
+}
+
+fn block_of(payload: &[u8]) -> Told<'_>
+    ensures { view_told result ≡ heard_block (ddb.read payload.now) }
+{
+    match parts_of(payload) {
+        Ok(parts) => Told::Block(parts),
+        Err(place) => Told::NoBlock(place),
+    }
+}
+
+/// What a candidate says. Only a control message takes memory.
+pub fn hear(alloc: Global, candidate: &[u8]) -> Result<Told<'_>, NoMemory>
+    ensures { IfOk result (λ t. view_told t ≡ heard candidate.now) }
+{
+    match payload_of(candidate) {
+        Ok((Table::Control, payload)) => control_of(alloc, payload),
+        Ok((Table::Blocks, payload)) => Ok(block_of(payload)),
+        Err(skip) => Ok(Told::Skipped(skip)),
+    }
+}
