@@ -1,0 +1,109 @@
+-- Every module reads to its end, and every binding leads into a listed module.
+use Rattle.std.proofs.Common.{◌≡◌, ◌≢◌, ℕ, zero, suc, ◌+◌, ◌-◌, ◌<◌, ◌≤◌, Bool, true, false, ◌==◌, List, [], ◌∷◌, ◌++◌, length, map, Option, Some, None, cond, refl, sym, ◌∙◌, ap, subst, arith, get_or, ◌⊎◌, inl, inr}
+use Rattle.std.specs.Prelude.{IsTrue}
+use Rattle.std.specs.Option.{is_none}
+use Rattle.std.specs.List.{All, Contains, list_any, range_with_len, filter, filter_map, cons_option}
+use Rattle.std.proofs.lemmas.Bool.Decides.{nat_tests}
+use Rattle.std.proofs.lemmas.Option.{same_Some}
+use Rattle.std.proofs.lemmas.List.Elements.{All-cons}
+use Rattle.path_tree.specs.Paths.{Bytes, PathNames}
+use Rattle.path_tree.specs.Trees.{Tree}
+use Rattle.ior_tap.specs.Iors as iors
+use Rattle.ior_tap.specs.declared.Location.{Location}
+use Rattle.dsi_dii.specs.Controls.{identification_of}
+use Rattle.biop_object.specs.Names.{Layout, module_in}
+use Rattle.biop_object.specs.Objects.{Object, IsFile, IsFolder, BindingFields, binding_of}
+use Rattle.biop_object.specs.ObjectReading.{index_of, objects_of, reads_to_end}
+use Rattle.biop_object.specs.Spelled.{spelled_object, spelled_objects, SpellingsReadBack}
+use Rattle.generation.specs.Publication.{child_name}
+use Rattle.generation.specs.Layouts.{Placed, location_of, bound_of, written_in, entries_of, is_in, module_bytes, listed, layout_of, greatest}
+use Rattle.generation.specs.Lawful.{IsInside, identification_for, Carries}
+use Rattle.generation.proofs.Carrying.{spelled, In, Sound, module_found, module_index, in_all}
+use Rattle.generation.proofs.Walking.{paths_named}
+
+from_range : (c : ℕ) (objects : List Placed) (a n m : ℕ) (bytes : Bytes) → module_in (filter_map (listed c objects) (range_with_len a n)) m ≡ Some bytes → bytes ≡ module_bytes c objects m
+from_range c objects a zero m bytes e = cc
+from_range c objects a (suc n) m bytes e = go (list_any (is_in a) objects) refl (λ h. from_range c objects (a + 1) n m bytes h) where
+  go : (t : Bool) → list_any (is_in a) objects ≡ t → (module_in (filter_map (listed c objects) (range_with_len (a + 1) n)) m ≡ Some bytes → bytes ≡ module_bytes c objects m) → bytes ≡ module_bytes c objects m
+  go false h rest = rest (rw h at e)
+  go true h rest = step (a == m) refl (rw h at e) where
+    step : (u : Bool) → (a == m) ≡ u → cond (a == m) (Some (module_bytes c objects a)) (module_in (filter_map (listed c objects) (range_with_len (a + 1) n)) m) ≡ Some bytes → bytes ≡ module_bytes c objects m
+    step true f g = let is : a ≡ m = grind (arith, nat_tests, f) in sym (same_Some (module_bytes c objects a) bytes (rw f at g)) ∙ ap (module_bytes c objects) is
+    step false f g = rest (rw f at g)
+
+pub listed_bytes : (c : ℕ) (objects : List Placed) (m : ℕ) (bytes : Bytes) → module_in (layout_of c objects) m ≡ Some bytes → bytes ≡ module_bytes c objects m
+listed_bytes c objects m bytes e = from_range c objects 1 (greatest (map (λ o. o.module_id) objects)) m bytes e
+
+to_end : SpellingsReadBack → (c : ℕ) (t : Tree) (objects : List Placed) → Sound c t objects → (m : ℕ) (bytes : Bytes) → module_in (layout_of c objects) m ≡ Some bytes → IsTrue (reads_to_end bytes)
+to_end law c t objects sound m bytes e =
+    subst (λ b. IsTrue (reads_to_end b)) (sym (listed_bytes c objects m bytes e)) (subst (λ i. IsTrue (is_none i.1)) (sym (module_index law c t objects sound m)) refl)
+
+-- ---- bindings
+
+pub all_in : (P : Placed → Type 0) (xs : List Placed) → ((o : Placed) → In o xs → P o) → All P xs
+all_in P [] h = λ k d lt. absurd (omega (arith, lt))
+all_in P (x ∷ xs) h = All-cons P x xs (h x (inl refl)) (all_in P xs (λ o has. h o (inr has)))
+
+target_is : (x y : Location × List iors.TapFields) → Some x ≡ Some y → x ≡ y
+target_is x y e = same_Some x y e
+
+binding_inside : (c : ℕ) (layout : Layout) (k : Bytes) (o : Placed) → module_in layout o.module_id ≢ None
+    → IsInside layout c identification_for (binding_of (record { name = k; bound = bound_of o.spot.content; location = location_of c o }))
+binding_inside c layout k o there = record {
+  inside = λ l taps e.
+      let h = target_is (location_of c o, iors.written_tap ∷ []) (l, taps) e in
+      let is : location_of c o ≡ l = ap (λ x. x.0) h in
+      (ap (λ z. z.carousel) (sym is), subst (λ z. module_in layout z.module ≢ None) is there);
+  delivered = λ l taps t e d.
+      let h = target_is (location_of c o, iors.written_tap ∷ []) (l, taps) e in
+      let is : iors.written_tap ∷ [] ≡ taps = ap (λ x. x.1) h in
+      let one : iors.delivery_of_taps (iors.written_tap ∷ []) ≡ Some t = ap iors.delivery_of_taps is ∙ d in
+      let number : 0x80000002 ≡ t = same_Some 0x80000002 t one in
+      ap identification_of (sym number);
+}
+
+entries_inside : (c : ℕ) (layout : Layout) (os : List Placed) → All (λ q. module_in layout q.module_id ≢ None) os → (p : PathNames)
+    → All (IsInside layout c identification_for) (map binding_of (entries_of c os p))
+entries_inside c layout [] there p = λ k d lt. absurd (omega (arith, lt))
+entries_inside c layout (o ∷ os) there p = go (child_name p o.spot.path) refl (entries_inside c layout os (λ i d lt. there (suc i) d (omega (arith, lt))) p) where
+  go : (k : Option Bytes) → child_name p o.spot.path ≡ k → All (IsInside layout c identification_for) (map binding_of (entries_of c os p)) → All (IsInside layout c identification_for) (map binding_of (entries_of c (o ∷ os) p))
+  go None e rest = rw e rest
+  go (Some k) e rest = rw e (All-cons (IsInside layout c identification_for) (binding_of (record { name = k; bound = bound_of o.spot.content; location = location_of c o })) (map binding_of (entries_of c os p))
+      (binding_inside c layout k o (there 0 o (omega arith))) rest)
+
+-- what an object's bindings say
+abbrev pub BindsInside : Layout → ℕ → Object → Type 0
+BindsInside layout c x = (key : Bytes) (bindings : List BindingFields) → x ≡ record { key = key; shape = IsFolder bindings } → All (IsInside layout c identification_for) bindings
+
+object_inside : (c : ℕ) (layout : Layout) (objects : List Placed) → All (λ q. module_in layout q.module_id ≢ None) objects → (o : Placed) (at : ℕ) → BindsInside layout c (spelled_object at (spelled c objects o))
+object_inside c layout objects there o at = go o.spot.content refl where
+  go : (b : Option Bytes) → o.spot.content ≡ b → BindsInside layout c (spelled_object at (spelled c objects o))
+  go (Some b) h = rw h (λ key bindings e. let s : IsFile (at + 44) (length b) ≡ IsFolder bindings = ap (λ x. x.shape) e in cc)
+  go None h = rw h (λ key bindings e.
+      let s : IsFolder (map binding_of (entries_of c objects o.spot.path)) ≡ IsFolder bindings = ap (λ x. x.shape) e in
+      subst (All (IsInside layout c identification_for)) (same (map binding_of (entries_of c objects o.spot.path)) bindings s) (entries_inside c layout objects there o.spot.path)) where
+        same : (a b : List BindingFields) → IsFolder a ≡ IsFolder b → a ≡ b
+        same a b e = cc
+
+objects_inside : (c : ℕ) (layout : Layout) (objects os : List Placed) → All (λ q. module_in layout q.module_id ≢ None) objects → (at : ℕ) → All (BindsInside layout c) (spelled_objects at (map (spelled c objects) os))
+objects_inside c layout objects [] there at = λ k d lt. absurd (omega (arith, lt))
+objects_inside c layout objects (o ∷ os) there at = All-cons (BindsInside layout c) (spelled_object at (spelled c objects o)) (spelled_objects _ (map (spelled c objects) os))
+    (object_inside c layout objects there o at) (objects_inside c layout objects os there _)
+
+all_listed : (c : ℕ) (t : Tree) (objects : List Placed) → Sound c t objects → All (λ q. module_in (layout_of c objects) q.module_id ≢ None) objects
+all_listed c t objects sound = all_in (λ q. module_in (layout_of c objects) q.module_id ≢ None) objects (λ o has h.
+    let f = module_found c objects o has (in_all (λ q. (1 ≤ q.module_id) × (q.module_id ≤ 139)) objects o sound.modules has).0 in
+    let bad : None ≡ Some (module_bytes c objects o.module_id) = sym h ∙ f in cc)
+
+pub carries : SpellingsReadBack → (c : ℕ) (t : Tree) (objects : List Placed) → Sound c t objects → Carries c (layout_of c objects) t
+carries law c t objects sound = record {
+  paths = paths_named law c t objects sound;
+  to_end = to_end law c t objects sound;
+  inside = λ m bytes key bindings e has.
+      let is = listed_bytes c objects m bytes e in
+      let all : All (BindsInside (layout_of c objects) c) (objects_of bytes) =
+      subst (λ b. All (BindsInside (layout_of c objects) c) (objects_of b)) (sym is)
+      (subst (λ i. All (BindsInside (layout_of c objects) c) i.0) (sym (module_index law c t objects sound m))
+      (objects_inside c (layout_of c objects) objects (filter (is_in m) objects) (all_listed c t objects sound) 0)) in
+      all has.0 (record { key = key; shape = IsFolder bindings }) has.1 key bindings has.2;
+}

@@ -1,0 +1,190 @@
+-- The keys of a generation's objects are apart and small.
+use Rattle.std.proofs.Common.{◌≡◌, ◌≢◌, ℕ, zero, suc, ◌+◌, ◌-◌, ◌*◌, ◌/◌, ◌%◌, ◌<◌, ◌≤◌, Bool, true, false, not, ◌&&◌, ◌||◌, ◌==◌, List, [], ◌∷◌, ◌++◌, length, map, take, Option, Some, None, cond, refl, sym, ◌∙◌, ap, subst, arith, get_or, ◌⊎◌, inl, inr}
+use Rattle.std.specs.List.{All, list_any, range_with_len, filter, filter_map, find, cons_option}
+use Rattle.std.specs.declared.cmp.Ordering.TheVariants.{Less, Equal}
+use Rattle.std.proofs.lemmas.Bool.Decides.{nat_tests}
+use Rattle.std.proofs.lemmas.Option.{same_Some}
+use Rattle.std.proofs.lemmas.List.Elements.{All-cons, All-map}
+use Rattle.path_tree.specs.Paths.{Bytes, PathNames, path_cmp, same_name, same_path}
+use Rattle.generation.specs.Publication.{Spot}
+use Rattle.generation.specs.Layouts.{Placed, placed_at, key_in, old_keys, taken_in, free_keys, filled, keys_of, is_same_spot, same_kind, key_bytes}
+use Rattle.generation.proofs.Law.{same_name_is}
+use Rattle.generation.proofs.Treeing.{same_self, paths_self}
+use Rattle.generation.proofs.Rising.{Rising, same_paths}
+
+-- each number once
+abbrev pub Distinct : List ℕ → Type 0
+Distinct [] = Unit {0}
+Distinct (k ∷ ks) = (list_any (λ j. j == k) ks ≡ false) × Distinct ks
+
+or_parts : (a b : Bool) → (a || b) ≡ false → (a ≡ false) × (b ≡ false)
+or_parts true b e = cc
+or_parts false b e = (refl, e)
+
+or_none : (a b : Bool) → a ≡ false → b ≡ false → (a || b) ≡ false
+or_none true b e f = cc
+or_none false b e f = f
+
+turn : (a b : ℕ) → (a == b) ≡ false → (b == a) ≡ false
+turn a b e = grind (arith, nat_tests, e)
+
+-- ---- filling
+
+filled_any : (keys : List (Option ℕ)) (free : List ℕ) (k : ℕ) → list_any (λ j. j == k) (taken_in keys) ≡ false → list_any (λ j. j == k) free ≡ false → list_any (λ j. j == k) (filled keys free) ≡ false
+filled_any [] free k et ef = refl
+filled_any (Some j ∷ keys) free k et ef = let h = or_parts (j == k) _ et in or_none (j == k) _ h.0 (filled_any keys free k h.1 ef)
+filled_any (None ∷ keys) [] k et ef = refl
+filled_any (None ∷ keys) (j ∷ free) k et ef = let h = or_parts (j == k) _ ef in or_none (j == k) _ h.0 (filled_any keys free k et h.1)
+
+not_among : (k : ℕ) (rest free : List ℕ) → All (λ f. ((k == f) || list_any (λ j. j == f) rest) ≡ false) free → list_any (λ j. j == k) free ≡ false
+not_among k rest [] all = refl
+not_among k rest (f ∷ free) all =
+    let h = or_parts (k == f) _ (all 0 f (omega arith)) in
+    or_none (f == k) _ (turn k f h.0) (not_among k rest free (λ i d lt. all (suc i) d (omega (arith, lt))))
+
+filled_distinct : (keys : List (Option ℕ)) (free : List ℕ) → Distinct (taken_in keys) → Distinct free → All (λ f. list_any (λ j. j == f) (taken_in keys) ≡ false) free → Distinct (filled keys free)
+filled_distinct [] free dk df apart = tt
+filled_distinct (Some k ∷ keys) free dk df apart = (
+  filled_any keys free k dk.0 (not_among k (taken_in keys) free apart),
+  filled_distinct keys free dk.1 df (λ i d lt. (or_parts (k == get_or free i d) _ (apart i d lt)).1),
+)
+filled_distinct (None ∷ keys) [] dk df apart = tt
+filled_distinct (None ∷ keys) (f ∷ free) dk df apart = (
+  filled_any keys free f (apart 0 f (omega arith)) df.0,
+  filled_distinct keys free dk df.1 (λ i d lt. apart (suc i) d (omega (arith, lt))),
+)
+
+filled_all : (P : ℕ → Type 0) (keys : List (Option ℕ)) (free : List ℕ) → All P (taken_in keys) → All P free → All P (filled keys free)
+filled_all P [] free ak af = λ i d lt. absurd (omega (arith, lt))
+filled_all P (Some k ∷ keys) free ak af = All-cons P k (filled keys free) (ak 0 k (omega arith)) (filled_all P keys free (λ i d lt. ak (suc i) d (omega (arith, lt))) af)
+filled_all P (None ∷ keys) [] ak af = λ i d lt. absurd (omega (arith, lt))
+filled_all P (None ∷ keys) (f ∷ free) ak af = All-cons P f (filled keys free) (af 0 f (omega arith)) (filled_all P keys free ak (λ i d lt. af (suc i) d (omega (arith, lt))))
+
+-- ---- free numbers
+
+free_high : (test : ℕ → Bool) (a n k : ℕ) → k < a → list_any (λ j. j == k) (filter test (range_with_len a n)) ≡ false
+free_high test a zero k lt = refl
+free_high test a (suc n) k lt = go (test a) (free_high test (a + 1) n k (omega (arith, lt))) where
+  go : (b : Bool) → list_any (λ j. j == k) (filter test (range_with_len (a + 1) n)) ≡ false → list_any (λ j. j == k) (cond b (a ∷ filter test (range_with_len (a + 1) n)) (filter test (range_with_len (a + 1) n))) ≡ false
+  go true h = or_none (a == k) _ (grind (arith, nat_tests, lt)) h
+  go false h = h
+
+free_distinct : (test : ℕ → Bool) (a n : ℕ) → Distinct (filter test (range_with_len a n))
+free_distinct test a zero = tt
+free_distinct test a (suc n) = go (test a) (free_distinct test (a + 1) n) (free_high test (a + 1) n a (omega arith)) where
+  go : (b : Bool) → Distinct (filter test (range_with_len (a + 1) n)) → list_any (λ j. j == a) (filter test (range_with_len (a + 1) n)) ≡ false → Distinct (cond b (a ∷ filter test (range_with_len (a + 1) n)) (filter test (range_with_len (a + 1) n)))
+  go true d h = (h, d)
+  go false d h = d
+
+free_all : (P : ℕ → Type 0) (test : ℕ → Bool) (a n : ℕ) → ((k : ℕ) → a ≤ k → k < a + n → test k ≡ true → P k) → All P (filter test (range_with_len a n))
+free_all P test a zero h = λ i d lt. absurd (omega (arith, lt))
+free_all P test a (suc n) h = go (test a) refl (free_all P test (a + 1) n (λ k l m t. h k (omega (arith, l)) (omega (arith, m)) t)) where
+  go : (b : Bool) → test a ≡ b → All P (filter test (range_with_len (a + 1) n)) → All P (cond b (a ∷ filter test (range_with_len (a + 1) n)) (filter test (range_with_len (a + 1) n)))
+  go true e all = All-cons P a (filter test (range_with_len (a + 1) n)) (h a (omega arith) (omega arith) e) all
+  go false e all = all
+
+not_true : (b : Bool) → not b ≡ true → b ≡ false
+not_true true e = cc
+not_true false e = refl
+
+-- ---- kept keys
+
+found_passes : (p : Placed → Bool) (xs : List Placed) (o : Placed) → find p xs ≡ Some o → p o ≡ true
+found_passes p [] o e = cc
+found_passes p (x ∷ xs) o e = go (p x) refl (λ h. found_passes p xs o h) where
+  go : (b : Bool) → p x ≡ b → (find p xs ≡ Some o → p o ≡ true) → p o ≡ true
+  go true h rest = subst (λ z. p z ≡ true) (same_Some x o (rw h at e)) h
+  go false h rest = rest (rw h at e)
+
+found_key : (q : Placed → Bool) (xs : List Placed) (o : Placed) (k : ℕ) → find q xs ≡ Some o → list_any (λ j. j == k) (map (λ x. x.key) xs) ≡ false → (o.key == k) ≡ false
+found_key q [] o k e none = cc
+found_key q (x ∷ xs) o k e none = go (q x) refl (λ h. found_key q xs o k h (or_parts (x.key == k) _ none).1) where
+  go : (b : Bool) → q x ≡ b → (find q xs ≡ Some o → (o.key == k) ≡ false) → (o.key == k) ≡ false
+  go true h rest = subst (λ z. (z.key == k) ≡ false) (same_Some x o (rw h at e)) (or_parts (x.key == k) _ none).0
+  go false h rest = rest (rw h at e)
+
+-- objects with one key are one object
+one_object : (old : List Placed) → Distinct (map (λ x. x.key) old) → (p q : Placed → Bool) (o r : Placed) → find p old ≡ Some o → find q old ≡ Some r → (r.key == o.key) ≡ true → q o ≡ true
+one_object [] d p q o r ep eq same = cc
+one_object (x ∷ xs) d p q o r ep eq same = go (p x) (q x) refl refl (λ hp hq. one_object xs d.1 p q o r hp hq same) where
+  go : (a b : Bool) → p x ≡ a → q x ≡ b → (find p xs ≡ Some o → find q xs ≡ Some r → q o ≡ true) → q o ≡ true
+  go true true hp hq rest = subst (λ z. q z ≡ true) (same_Some x o (rw hp at ep)) hq
+  go true false hp hq rest =
+      let is : x ≡ o = same_Some x o (rw hp at ep) in
+      let k : (r.key == x.key) ≡ false = found_key q xs r x.key (rw hq at eq) d.0 in
+      let bad : (r.key == o.key) ≡ false = subst (λ z. (r.key == z.key) ≡ false) is k in cc
+  go false true hp hq rest =
+      let is : x ≡ r = same_Some x r (rw hq at eq) in
+      let k : (o.key == x.key) ≡ false = found_key p xs o x.key (rw hp at ep) d.0 in
+      let bad : (r.key == o.key) ≡ false = turn o.key r.key (subst (λ z. (o.key == z.key) ≡ false) is k) in cc
+  go false false hp hq rest = rest (rw hp at ep) (rw hq at eq)
+
+and_first : (a b : Bool) → (a && b) ≡ true → a ≡ true
+and_first true b e = refl
+and_first false b e = cc
+
+kept_apart : (old : List Placed) → Distinct (map (λ x. x.key) old) → (s : Spot) (o : Placed) → placed_at old s ≡ Some o → (ss : List Spot) → All (λ r. path_cmp s.path r.path ≡ Less) ss
+    → list_any (λ j. j == o.key) (taken_in (old_keys old ss)) ≡ false
+kept_apart old d s o e [] less = refl
+kept_apart old d s o e (r ∷ ss) less = go (placed_at old r) refl (kept_apart old d s o e ss (λ i x lt. less (suc i) x (omega (arith, lt)))) where
+  go : (f : Option Placed) → placed_at old r ≡ f → list_any (λ j. j == o.key) (taken_in (old_keys old ss)) ≡ false → list_any (λ j. j == o.key) (taken_in (key_in f ∷ old_keys old ss)) ≡ false
+  go None h rest = rest
+  go (Some q) h rest = or_none (q.key == o.key) _ (differs (q.key == o.key) refl) rest where
+    differs : (b : Bool) → (q.key == o.key) ≡ b → (q.key == o.key) ≡ false
+    differs false same = same
+    differs true same =
+        let left : o.spot.path ≡ s.path = same_paths o.spot.path s.path (and_first _ _ (found_passes (λ x. is_same_spot x.spot s) old o e)) in
+        let right : o.spot.path ≡ r.path = same_paths o.spot.path r.path (and_first _ _ (one_object old d (λ x. is_same_spot x.spot s) (λ x. is_same_spot x.spot r) o q e h same)) in
+        let here : path_cmp s.path r.path ≡ Less = less 0 r (omega arith) in
+        let self : path_cmp r.path r.path ≡ Less = subst (λ z. path_cmp z r.path ≡ Less) (sym left ∙ right) here in
+        let bad : Equal ≡ Less = sym (paths_self r.path) ∙ self in cc
+
+kept_distinct : (old : List Placed) → Distinct (map (λ x. x.key) old) → (spots : List Spot) → Rising spots → Distinct (taken_in (old_keys old spots))
+kept_distinct old d [] rising = tt
+kept_distinct old d (s ∷ ss) rising = go (placed_at old s) refl (kept_distinct old d ss rising.1) where
+  go : (f : Option Placed) → placed_at old s ≡ f → Distinct (taken_in (old_keys old ss)) → Distinct (taken_in (key_in f ∷ old_keys old ss))
+  go None h rest = rest
+  go (Some o) h rest = (kept_apart old d s o h ss rising.0, rest)
+
+kept_all : (P : ℕ → Type 0) (old : List Placed) → All (λ o. P o.key) old → (spots : List Spot) → All P (taken_in (old_keys old spots))
+kept_all P old all [] = λ i d lt. absurd (omega (arith, lt))
+kept_all P old all (s ∷ ss) = go (placed_at old s) refl (kept_all P old all ss) where
+  found : (q : Placed → Bool) (xs : List Placed) → All (λ o. P o.key) xs → (o : Placed) → find q xs ≡ Some o → P o.key
+  found q [] ax o e = cc
+  found q (x ∷ xs) ax o e = step (q x) refl (λ h. found q xs (λ i d lt. ax (suc i) d (omega (arith, lt))) o h) where
+    step : (b : Bool) → q x ≡ b → (find q xs ≡ Some o → P o.key) → P o.key
+    step true h rest = subst (λ z. P z.key) (same_Some x o (rw h at e)) (ax 0 x (omega arith))
+    step false h rest = rest (rw h at e)
+
+  go : (f : Option Placed) → placed_at old s ≡ f → All P (taken_in (old_keys old ss)) → All P (taken_in (key_in f ∷ old_keys old ss))
+  go None h rest = rest
+  go (Some o) h rest = All-cons P o.key (taken_in (old_keys old ss)) (found (λ x. is_same_spot x.spot s) old all o h) rest
+
+-- ---- the keys
+
+pub keys_distinct : (old : List Placed) (spots : List Spot) → Distinct (map (λ x. x.key) old) → Rising spots → Distinct (keys_of old spots)
+keys_distinct old spots d rising =
+    let taken = taken_in (old_keys old spots) in
+    filled_distinct (old_keys old spots) (free_keys taken (length spots)) (kept_distinct old d spots rising)
+    (free_distinct (λ k. not (list_any (λ j. j == k) taken)) 2 (length spots))
+    (free_all (λ f. list_any (λ j. j == f) taken ≡ false) (λ k. not (list_any (λ j. j == k) taken)) 2 (length spots) (λ k l m t. not_true (list_any (λ j. j == k) taken) t))
+
+pub keys_small : (old : List Placed) (spots : List Spot) → All (λ o. o.key < 8194) old → length spots ≤ 8192 → All (λ k. k < 8194) (keys_of old spots)
+keys_small old spots small few =
+    let taken = taken_in (old_keys old spots) in
+    filled_all (λ k. k < 8194) (old_keys old spots) (free_keys taken (length spots)) (kept_all (λ k. k < 8194) old small spots)
+    (free_all (λ k. k < 8194) (λ k. not (list_any (λ j. j == k) taken)) 2 (length spots) (λ k l m t. omega (arith, m, few)))
+
+pub same_keys : (a b : ℕ) → a < 8194 → b < 8194 → same_name (key_bytes a) (key_bytes b) ≡ (a == b)
+same_keys a b la lb = go (a == b) refl where
+  go : (t : Bool) → (a == b) ≡ t → same_name (key_bytes a) (key_bytes b) ≡ t
+  go true e = let is : a ≡ b = grind (arith, nat_tests, e) in subst (λ z. same_name (key_bytes a) (key_bytes z) ≡ true) is (same_self (key_bytes a))
+  go false e = step (same_name (key_bytes a) (key_bytes b)) refl where
+    step : (t : Bool) → same_name (key_bytes a) (key_bytes b) ≡ t → same_name (key_bytes a) (key_bytes b) ≡ false
+    step false h = h
+    step true h =
+        let lists = same_name_is (key_bytes a) (key_bytes b) h in
+        let low : a % 256 ≡ b % 256 = ap (λ l. get_or l 3 0) lists in
+        let high : a / 256 % 256 ≡ b / 256 % 256 = ap (λ l. get_or l 2 0) lists in
+        let is : a ≡ b = omega (arith, low, high, la, lb) in
+        absurd (grind (arith, nat_tests, e, is))

@@ -1,0 +1,282 @@
+-- A generation is the one that the lists of trees and layouts give.
+use Rattle.std.proofs.Common.{◌≡◌, ◌≢◌, ℕ, zero, suc, ◌+◌, ◌-◌, ◌%◌, ◌<◌, ◌≤◌, Bool, true, false, not, ◌==◌, List, [], ◌∷◌, ◌++◌, length, take, drop, map, Option, Some, None, cond, refl, sym, ◌∙◌, ap, subst, add-one, arith, get_or, length-append, ◌⊎◌, inl, inr}
+use Rattle.std.proofs.lemmas.Bool.{cases_lt}
+use Rattle.std.proofs.lemmas.List.{get_or-map}
+use Rattle.std.proofs.lemmas.List.FromFn.{length-map-range_with_len, get_or-map-range_with_len}
+use Rattle.biop_object.specs.Objects.{gateway_kind}
+use Rattle.dsi_dii.specs.declared.ModuleLine.{ModuleLine}
+use Rattle.generation.proofs.Limiting.{len_map}
+use Rattle.std.specs.List.{All, Contains, filter, filter_map, flat_map, fold, range_with_len, list_any, cons_option}
+use Rattle.std.specs.Option.{is_none, unwrap_or}
+use Rattle.std.proofs.lemmas.Bool.Decides.{nat_tests}
+use Rattle.std.proofs.lemmas.Option.{same_Some}
+use Rattle.std.proofs.lemmas.List.Elements.{All-cons}
+use Rattle.path_tree.specs.Paths.{Bytes}
+use Rattle.path_tree.specs.Trees.{Tree}
+use Rattle.biop_object.specs.Names.{Layout, module_in}
+use Rattle.cycle_planner.specs.Cycle.{Line}
+use Rattle.cycle_planner.specs.declared.Item.{Item}
+use Rattle.cycle_planner.specs.declared.Item.TheVariants.{Dsi, Dii, Block}
+use Rattle.ddb_block.specs.Blocks.{block_count_of}
+use Rattle.dsi_dii.specs.Controls.{DiiFields, dii_spelling, dsi_spelling, dii_transaction}
+use Rattle.dsmcc_section.specs.Sections.{spelling}
+use Rattle.generation.specs.Layouts.{GenerationState, Placed, first_of, next_of, generation_of, counts_after, count_after, count_in, same_module, listed, layout_of, is_in, module_bytes, items_of, lines_of, lines_in, section_of, dii_of, dii_lines, control_section, block_section, greatest, gateway_location}
+use Rattle.generation.specs.Lawful.{layout_at, tree_at, one_if_changed, count_of, version_in, dii_in, section_in, IsItem}
+use Rattle.generation.specs.Kept.{states_from, layouts_of, IsGenerationOf, GenerationsAreOfTheLists}
+
+-- ---- counts
+
+one_case : (b : Bool) (n : ℕ) → cond b n (n + 1) ≡ n + cond b 0 1
+one_case true n = omega arith
+one_case false n = omega arith
+
+-- among the listed ones
+counted_some : (old new : Layout) (counts rest : List (ℕ × ℕ)) (m : ℕ) (b : Bytes) → module_in new m ≡ Some b
+    → count_in (map (count_after old counts) new ++ rest) m ≡ count_in counts m + one_if_changed (module_in old m) (Some b)
+counted_some old [] counts rest m b e = cc
+counted_some old (n ∷ ns) counts rest m b e = go (n.0 == m) refl (λ h. counted_some old ns counts rest m b h) where
+  go : (t : Bool) → (n.0 == m) ≡ t → (module_in ns m ≡ Some b → count_in (map (count_after old counts) ns ++ rest) m ≡ count_in counts m + one_if_changed (module_in old m) (Some b))
+      → count_in (map (count_after old counts) (n ∷ ns) ++ rest) m ≡ count_in counts m + one_if_changed (module_in old m) (Some b)
+  go true t later =
+      let is : n.0 ≡ m = grind (arith, nat_tests, t) in
+      let bytes : n.1 ≡ b = same_Some n.1 b (rw t at e) in
+      rw t (ap (λ k. cond (same_module (module_in old k) (Some n.1)) (count_in counts k) (count_in counts k + 1)) is
+      ∙ (ap (λ c. cond (same_module (module_in old m) (Some c)) (count_in counts m) (count_in counts m + 1)) bytes ∙ one_case (same_module (module_in old m) (Some b)) (count_in counts m)))
+  go false t later = rw t (later (rw t at e))
+
+counted_past : (old new : Layout) (counts rest : List (ℕ × ℕ)) (m : ℕ) → module_in new m ≡ None → count_in (map (count_after old counts) new ++ rest) m ≡ count_in rest m
+counted_past old [] counts rest m e = refl
+counted_past old (n ∷ ns) counts rest m e = go (n.0 == m) refl (λ h. counted_past old ns counts rest m h) where
+  go : (t : Bool) → (n.0 == m) ≡ t → (module_in ns m ≡ None → count_in (map (count_after old counts) ns ++ rest) m ≡ count_in rest m)
+      → count_in (map (count_after old counts) (n ∷ ns) ++ rest) m ≡ count_in rest m
+  go true t later = let h = rw t at e in cc
+  go false t later = rw t (later (rw t at e))
+
+kept_count : (new : Layout) (m : ℕ) → module_in new m ≡ None → (counts : List (ℕ × ℕ)) → count_in (filter (λ c. is_none (module_in new c.0)) counts) m ≡ count_in counts m
+kept_count new m e [] = refl
+kept_count new m e (c ∷ cs) = go (c.0 == m) (is_none (module_in new c.0)) refl refl (kept_count new m e cs) where
+  rest : List (ℕ × ℕ)
+  rest = filter (λ c. is_none (module_in new c.0)) cs
+
+  go : (s t : Bool) → (c.0 == m) ≡ s → is_none (module_in new c.0) ≡ t → count_in rest m ≡ count_in cs m → count_in (cond t (c ∷ rest) rest) m ≡ cond s c.1 (count_in cs m)
+  go s true es et h = bit s es h where
+    bit : (s : Bool) → (c.0 == m) ≡ s → count_in rest m ≡ count_in cs m → cond (c.0 == m) c.1 (count_in rest m) ≡ cond s c.1 (count_in cs m)
+    bit true es h = rw es refl
+    bit false es h = rw es h
+  go true false es et h = let is : c.0 ≡ m = grind (arith, nat_tests, es) in let none : is_none (module_in new c.0) ≡ true = ap (λ k. is_none (module_in new k)) is ∙ ap is_none e in cc
+  go false false es et h = h
+
+count_step : (old new : Layout) (counts : List (ℕ × ℕ)) (m : ℕ) → count_in (counts_after old new counts) m ≡ count_in counts m + one_if_changed (module_in old m) (module_in new m)
+count_step old new counts m = go (module_in new m) refl where
+  go : (b : Option Bytes) → module_in new m ≡ b → count_in (counts_after old new counts) m ≡ count_in counts m + one_if_changed (module_in old m) b
+  go (Some b) e = counted_some old new counts (filter (λ c. is_none (module_in new c.0)) counts) m b e
+  go None e = counted_past old new counts (filter (λ c. is_none (module_in new c.0)) counts) m e ∙ (kept_count new m e counts ∙ omega arith)
+
+-- ---- the states on the way
+
+unfoldable pub state_at : GenerationState → List Tree → ℕ → GenerationState
+state_at s ts zero = s
+state_at s [] (suc g) = s
+state_at s (t ∷ ts) (suc g) = state_at (next_of s t) ts g
+
+state_is : (s : GenerationState) (ts : List Tree) (g : ℕ) → g ≤ length ts → fold next_of s (take g ts) ≡ state_at s ts g
+unfolding state_at
+state_is s ts zero le = refl
+state_is s [] (suc g) le = absurd (omega (arith, le))
+state_is s (t ∷ ts) (suc g) le = state_is (next_of s t) ts g (omega (arith, le))
+
+state_number : (s : GenerationState) (ts : List Tree) (g : ℕ) → g ≤ length ts → (state_at s ts g).number ≡ s.number + g
+unfolding state_at
+state_number s ts zero le = omega arith
+state_number s [] (suc g) le = absurd (omega (arith, le))
+state_number s (t ∷ ts) (suc g) le = omega (arith, state_number (next_of s t) ts g (omega (arith, le)))
+
+state_carousel : (s : GenerationState) (ts : List Tree) (g : ℕ) → (state_at s ts g).carousel ≡ s.carousel
+unfolding state_at
+state_carousel s ts zero = refl
+state_carousel s [] (suc g) = refl
+state_carousel s (t ∷ ts) (suc g) = state_carousel (next_of s t) ts g
+
+pub state_tree : (s : GenerationState) (ts : List Tree) (g : ℕ) → g ≤ length ts → (state_at s ts g).tree ≡ tree_at (s.tree ∷ ts) g
+unfolding state_at
+state_tree s ts zero le = refl
+state_tree s [] (suc g) le = absurd (omega (arith, le))
+state_tree s (t ∷ ts) (suc g) le = state_tree (next_of s t) ts g (omega (arith, le))
+
+pub state_layout : (s : GenerationState) (ts : List Tree) (g : ℕ) → g ≤ length ts → (state_at s ts g).layout ≡ layout_at (map (λ x. x.layout) (states_from s ts)) g
+unfolding state_at
+state_layout s [] zero le = refl
+state_layout s (t ∷ ts) zero le = refl
+state_layout s [] (suc g) le = absurd (omega (arith, le))
+state_layout s (t ∷ ts) (suc g) le = state_layout (next_of s t) ts g (omega (arith, le))
+
+pub length_states : (s : GenerationState) (ts : List Tree) → length (map (λ x. x.layout) (states_from s ts)) ≡ length ts + 1
+length_states s [] = refl
+length_states s (t ∷ ts) = omega (arith, length_states (next_of s t) ts)
+
+state_next : (s : GenerationState) (ts : List Tree) (g : ℕ) → suc g ≤ length ts → state_at s ts (suc g) ≡ next_of (state_at s ts g) (tree_at ts g)
+unfolding state_at
+state_next s [] g le = absurd (omega (arith, le))
+state_next s (t ∷ []) zero le = refl
+state_next s (t ∷ t' ∷ ts) zero le = refl
+state_next s (t ∷ ts) (suc g) le = state_next (next_of s t) ts g (omega (arith, le))
+
+state_counts : (c : ℕ) (ts : List Tree) (g : ℕ) → g ≤ length ts → (m : ℕ) → count_in (state_at (first_of c) ts g).counts m ≡ count_of (layouts_of c ts) g m
+state_counts c ts zero le m = unfold state_at in refl
+state_counts c ts (suc g) le m =
+    let before = state_at (first_of c) ts g in
+    let next = state_next (first_of c) ts g le in
+    let here : before.layout ≡ layout_at (layouts_of c ts) g = state_layout (first_of c) ts g (omega (arith, le)) in
+    let there : (next_of before (tree_at ts g)).layout ≡ layout_at (layouts_of c ts) (suc g) = ap (λ s. s.layout) (sym next) ∙ state_layout (first_of c) ts (suc g) le in
+    ap (λ s. count_in s.counts m) next
+    ∙ (count_step before.layout (next_of before (tree_at ts g)).layout before.counts m
+    ∙ (ap (λ l. count_in before.counts m + one_if_changed (module_in l m) (module_in (next_of before (tree_at ts g)).layout m)) here
+    ∙ (ap (λ l. count_in before.counts m + one_if_changed (module_in (layout_at (layouts_of c ts) g) m) (module_in l m)) there
+    ∙ ap (λ n. n + one_if_changed (module_in (layout_at (layouts_of c ts) g) m) (module_in (layout_at (layouts_of c ts) (suc g)) m)) (state_counts c ts g (omega (arith, le)) m))))
+
+-- ---- sections
+
+map_ext : {A B : Type 0} (f g : A → B) → ((x : A) → f x ≡ g x) → (xs : List A) → map f xs ≡ map g xs
+map_ext f g e [] = refl
+map_ext f g e (x ∷ xs) = ap (λ y. y ∷ map f xs) (e x) ∙ ap (λ ys. g x ∷ ys) (map_ext f g e xs)
+
+-- ---- a layout lists each id once
+
+pub ids_from : (c : ℕ) (objects : List Placed) (a n : ℕ) → All (λ m. a ≤ m.0) (filter_map (listed c objects) (range_with_len a n))
+ids_from c objects a zero = λ k d lt. absurd (omega (arith, lt))
+ids_from c objects a (suc n) = go (list_any (is_in a) objects) refl (ids_from c objects (a + 1) n) where
+  weaker : All (λ m. a + 1 ≤ m.0) (filter_map (listed c objects) (range_with_len (a + 1) n)) → All (λ m. a ≤ m.0) (filter_map (listed c objects) (range_with_len (a + 1) n))
+  weaker all = λ k d lt. let h = all k d lt in omega (arith, h)
+
+  go : (b : Bool) → list_any (is_in a) objects ≡ b → All (λ m. a + 1 ≤ m.0) (filter_map (listed c objects) (range_with_len (a + 1) n)) → All (λ m. a ≤ m.0) (filter_map (listed c objects) (range_with_len a (suc n)))
+  go true e all = rw e (All-cons (λ m. a ≤ m.0) (a, module_bytes c objects a) (filter_map (listed c objects) (range_with_len (a + 1) n)) (omega arith) (weaker all))
+  go false e all = rw e (weaker all)
+
+once : (c : ℕ) (objects : List Placed) (a n : ℕ) (k : ℕ) (d : ℕ × Bytes) → k < length (filter_map (listed c objects) (range_with_len a n))
+    → module_in (filter_map (listed c objects) (range_with_len a n)) (get_or (filter_map (listed c objects) (range_with_len a n)) k d).0 ≡ Some (get_or (filter_map (listed c objects) (range_with_len a n)) k d).1
+once c objects a zero k d lt = absurd (omega (arith, lt))
+once c objects a (suc n) k d lt = go (list_any (is_in a) objects) refl k lt (λ i l. once c objects (a + 1) n i d l) (ids_from c objects (a + 1) n) where
+  later : List (ℕ × Bytes)
+  later = filter_map (listed c objects) (range_with_len (a + 1) n)
+
+  all : List (ℕ × Bytes)
+  all = filter_map (listed c objects) (range_with_len a (suc n))
+
+  first : (i : ℕ) → ((i : ℕ) → i < length later → module_in later (get_or later i d).0 ≡ Some (get_or later i d).1) → All (λ m. a + 1 ≤ m.0) later → i < suc (length later)
+      → module_in ((a, module_bytes c objects a) ∷ later) (get_or ((a, module_bytes c objects a) ∷ later) i d).0 ≡ Some (get_or ((a, module_bytes c objects a) ∷ later) i d).1
+  first zero rest above l = let same : (a == a) ≡ true = grind (arith, nat_tests) in rw same refl
+  first (suc i) rest above l =
+      let more : a + 1 ≤ (get_or later i d).0 = above i d (omega (arith, l)) in
+      let differs : (a == (get_or later i d).0) ≡ false = grind (arith, nat_tests, more) in
+      rw differs (rest i (omega (arith, l)))
+
+  go : (b : Bool) → list_any (is_in a) objects ≡ b → (i : ℕ) → i < length all → ((i : ℕ) → i < length later → module_in later (get_or later i d).0 ≡ Some (get_or later i d).1) → All (λ m. a + 1 ≤ m.0) later
+      → module_in all (get_or all i d).0 ≡ Some (get_or all i d).1
+  go true e i l rest above = rw e (first i rest above (rw e at l))
+  go false e i l rest above = rw e (rest i (rw e at l))
+
+-- ---- items
+
+get_left : {A : Type 0} (xs ys : List A) (k : ℕ) (d : A) → k < length xs → get_or (xs ++ ys) k d ≡ get_or xs k d
+get_left [] ys k d lt = absurd (omega (arith, lt))
+get_left (x ∷ xs) ys zero d lt = refl
+get_left (x ∷ xs) ys (suc k) d lt = get_left xs ys k d (omega (arith, lt))
+
+get_right : {A : Type 0} (xs ys : List A) (k : ℕ) (d : A) → length xs ≤ k → get_or (xs ++ ys) k d ≡ get_or ys (k - length xs) d
+get_right [] ys k d le = ap (λ n. get_or ys n d) (omega arith)
+get_right (x ∷ xs) ys zero d le = absurd (omega (arith, le))
+get_right (x ∷ xs) ys (suc k) d le = get_right xs ys k d (omega (arith, le)) ∙ ap (λ n. get_or ys n d) (omega (arith, le))
+
+same_block : (m n b k : ℕ) → Block m b ≡ Block n k → (m ≡ n) × (b ≡ k)
+same_block m n b k e = (cc, cc)
+
+abbrev blocks_in : Line → List Item
+blocks_in l = map (λ b. Block l.0 b) (range_with_len 0 l.1)
+
+length-blocks_in : (l : Line) → length (blocks_in l) ≡ l.1
+length-blocks_in l = length-map-range_with_len (λ b. Block l.0 b) 0 l.1
+
+-- a block among those of lines is one of a line
+block_in : (lines : List Line) (k m b : ℕ) → k < length (flat_map blocks_in lines) → get_or (flat_map blocks_in lines) k (Block m b) ≡ Block m b
+    → (i : ℕ) × (i < length lines) × ((get_or lines i (0, 0)).0 ≡ m) × (b < (get_or lines i (0, 0)).1)
+block_in [] k m b lt e = absurd (omega (arith, lt))
+block_in (l ∷ ls) k m b lt e = elim (cases_lt k l.1) [
+  | inl here ↦
+      let n = length-blocks_in l in
+      let at : Block l.0 k ≡ Block m b = sym (get_or-map-range_with_len (λ j. Block l.0 j) 0 l.1 k k (Block m b) here (omega arith))
+      ∙ (sym (get_left (blocks_in l) (flat_map blocks_in ls) k (Block m b) (omega (arith, n, here))) ∙ e) in
+      let h = same_block l.0 m k b at in
+      (0, omega arith, h.0, omega (arith, here, h.1))
+  | inr later ↦
+      let n = length-blocks_in l in
+      let r = block_in ls (k - length (blocks_in l)) m b (omega (arith, n, later, lt, length-append (blocks_in l) (flat_map blocks_in ls)))
+      (sym (get_right (blocks_in l) (flat_map blocks_in ls) k (Block m b) (omega (arith, n, later))) ∙ e) in
+      (suc r.0, omega (arith, r.1), r.2, r.3)
+]
+
+item_is : (ls : List Layout) (g : ℕ) (s : GenerationState) → g < length ls → s.layout ≡ layout_at ls g → s.layout ≡ layout_of s.carousel s.objects
+    → (item : Item) → Contains (items_of s) item → IsItem ls g item
+item_is ls g s within el made Dsi has = within
+item_is ls g s within el made Dii has = within
+item_is ls g s within el made (Block m b) (zero, lt, e) = cc
+item_is ls g s within el made (Block m b) (suc zero, lt, e) = cc
+item_is ls g s within el made (Block m b) (suc (suc k), lt, e) =
+    let r = block_in (lines_of s) k m b (omega (arith, lt)) (e) in
+    let x = get_or s.layout r.0 (0, []) in
+    let n : length (lines_of s) ≡ length s.layout = len_map _ s.layout in
+    let line : get_or (lines_of s) r.0 (0, 0) ≡ (x.0, block_count_of (length x.1) 4066) = get_or-map (λ l. (l.0, block_count_of (length l.1) 4066)) s.layout r.0 (0, []) (0, 0) (omega (arith, r.1, n)) in
+    let id : x.0 ≡ m = ap (λ l. l.0) (sym line) ∙ r.2 in
+    let below : b < block_count_of (length x.1) 4066 = rw line at r.3 in
+    let found : module_in s.layout x.0 ≡ Some x.1 = in_layout s.layout made r.0 (omega (arith, r.1, n)) in
+    (within, (x.1, ap (λ l. module_in l m) (sym el) ∙ (ap (λ k. module_in s.layout k) (sym id) ∙ found), below)) where
+      in_layout : (layout : Layout) → layout ≡ layout_of s.carousel s.objects → (i : ℕ) → i < length layout → module_in layout (get_or layout i (0, [])).0 ≡ Some (get_or layout i (0, [])).1
+      in_layout layout e i lt = subst (λ l. i < length l → module_in l (get_or l i (0, [])).0 ≡ Some (get_or l i (0, [])).1) (sym e)
+          (once s.carousel s.objects 1 (greatest (map (λ o. o.module_id) s.objects)) i (0, [])) lt
+
+layout_made : (s : GenerationState) → s.layout ≡ layout_of s.carousel s.objects → (ts : List Tree) (g : ℕ) → (state_at s ts g).layout ≡ layout_of (state_at s ts g).carousel (state_at s ts g).objects
+unfolding state_at
+layout_made s e ts zero = e
+layout_made s e [] (suc g) = e
+layout_made s e (t ∷ ts) (suc g) = layout_made (next_of s t) refl ts g
+
+-- ---- sections
+
+dii_same : (c g : ℕ) (ls : List Layout) (s : GenerationState) → s.carousel ≡ c → s.number ≡ g → s.layout ≡ layout_at ls g → ((m : ℕ) → count_in s.counts m ≡ count_of ls g m) → dii_of s ≡ dii_in c ls g
+dii_same c g ls s ec en el ek =
+    ap (λ k. let d : DiiFields = record { download = k; block_size = 4066; transaction = dii_transaction s.number; modules = dii_lines s.counts s.layout } in d) ec
+    ∙ (ap (λ n. let d : DiiFields = record { download = c; block_size = 4066; transaction = dii_transaction n; modules = dii_lines s.counts s.layout } in d) en
+    ∙ ap (λ ms. let d : DiiFields = record { download = c; block_size = 4066; transaction = dii_transaction g; modules = ms } in d)
+    (map_ext (λ m. record { id = m.0; size = length m.1; version = count_in s.counts m.0 % 256; compressed = false }) (λ m. record { id = m.0; size = length m.1; version = version_in ls g m.0; compressed = false })
+    (λ m. ap (λ k. let l : ModuleLine = record { id = m.0; size = length m.1; version = k % 256; compressed = false } in l) (ek m.0)) s.layout
+    ∙ ap (λ l. map (λ m. let x : ModuleLine = record { id = m.0; size = length m.1; version = version_in ls g m.0; compressed = false } in x) l) el))
+
+section_same : (c g : ℕ) (ls : List Layout) (s : GenerationState) → s.carousel ≡ c → s.number ≡ g → s.layout ≡ layout_at ls g → ((m : ℕ) → count_in s.counts m ≡ count_of ls g m)
+    → (item : Item) → section_of s item ≡ section_in c ls g item
+section_same c g ls s ec en el ek Dsi = ap (λ k. spelling (control_section 0 (dsi_spelling 0x80000000 gateway_kind (gateway_location k)))) ec
+section_same c g ls s ec en el ek Dii =
+    ap (λ n. spelling (control_section (dii_transaction n % 65536) (dii_spelling (dii_of s)))) en
+    ∙ ap (λ d. spelling (control_section (dii_transaction g % 65536) (dii_spelling d))) (dii_same c g ls s ec en el ek)
+section_same c g ls s ec en el ek (Block m b) =
+    ap (λ k. spelling (block_section k m (count_in s.counts m % 256) b (unwrap_or (module_in s.layout m) []))) ec
+    ∙ (ap (λ n. spelling (block_section c m (n % 256) b (unwrap_or (module_in s.layout m) []))) (ek m)
+    ∙ ap (λ l. spelling (block_section c m (count_of ls g m % 256) b (unwrap_or (module_in l m) []))) el)
+
+-- ---- all of it
+
+pub of_the_lists : GenerationsAreOfTheLists
+of_the_lists c ts g le =
+    let s = state_at (first_of c) ts g in
+    let is = state_is (first_of c) ts g le in
+    let number : s.number ≡ g = omega (arith, state_number (first_of c) ts g le) in
+    let layout = state_layout (first_of c) ts g le in
+    let counts = state_counts c ts g le in
+    let carousel = state_carousel (first_of c) ts g in
+    let states = length_states (first_of c) ts in
+    subst (IsGenerationOf c ts g) (sym is) (record {
+      number = number;
+      tree = state_tree (first_of c) ts g le;
+      layout = layout;
+      counts = counts;
+      items = item_is (layouts_of c ts) g s (omega (arith, states, le)) layout (layout_made (first_of c) refl ts g);
+      sections = λ item has. section_same c g (layouts_of c ts) s carousel number layout counts item;
+    })

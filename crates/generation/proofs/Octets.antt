@@ -1,0 +1,133 @@
+-- What is written of objects are bytes.
+use Rattle.std.proofs.Common.{◌≡◌, ℕ, zero, suc, ◌+◌, ◌-◌, ◌*◌, ◌/◌, ◌%◌, ◌<◌, ◌≤◌, Bool, true, false, ◌&&◌, ◌==◌, List, [], ◌∷◌, ◌++◌, length, map, take, Option, Some, None, cond, refl, sym, ◌∙◌, ap, subst, arith, get_or, nat_lt, lit<}
+use Rattle.std.specs.List.{All, filter, filter_map, flat_map, list_all, cons_option}
+use Rattle.std.proofs.lemmas.Bool.Decides.{nat_tests}
+use Rattle.std.proofs.lemmas.Option.{same_Some}
+use Rattle.std.proofs.lemmas.List.Elements.{All-cons, All-append}
+use Rattle.oc_bytes.specs.Numbers.{IsBytes, two_bytes, four_bytes, eight_bytes}
+use Rattle.path_tree.specs.Paths.{Bytes, PathNames, same_name}
+use Rattle.path_tree.specs.Trees.{Tree}
+use Rattle.ior_tap.specs.Iors as iors
+use Rattle.ior_tap.specs.declared.Location.{Location}
+use Rattle.biop_object.specs.Objects.{biop, file_kind, directory_kind, kind_of, file_spelling, folder_spelling, binding_spelling, bound_tail, bound_kind}
+use Rattle.biop_object.specs.declared.written.Written.{Written}
+use Rattle.biop_object.specs.declared.written.Bound.{Bound}
+use Rattle.biop_object.specs.declared.written.Bound.TheVariants as bounds
+use Rattle.biop_object.specs.declared.written.FolderKind.{FolderKind}
+use Rattle.biop_object.specs.declared.written.FolderKind.TheVariants.{Directory, Gateway}
+use Rattle.generation.specs.Publication.{Spot, gateway_spot, spots_of, spots_after, child_name, folder_of, folders_after, shared_folders}
+use Rattle.generation.specs.Layouts.{Placed, location_of, key_bytes, bound_of, written_in, entries_of, folder_kind_of, object_bytes, is_in, module_bytes}
+use Rattle.generation.specs.Lawful.{HasBytes}
+use Rattle.generation.proofs.Rising.{each_folder}
+use Rattle.generation.proofs.Soundness.{all_take}
+
+pub record Octets (xs : List ℕ) : Type 0 where
+  pub all : IsBytes xs
+
+both : {xs ys : List ℕ} → Octets xs → Octets ys → Octets (xs ++ ys)
+both {xs} {ys} a b = record { all = All-append (λ b. b < 256) xs ys a.all b.all }
+
+more : {x : ℕ} {xs : List ℕ} → x < 256 → Octets xs → Octets (x ∷ xs)
+more {x} {xs} lt a = record { all = All-cons (λ b. b < 256) x xs lt a.all }
+
+none : Octets []
+none = record { all = λ i d lt. absurd (omega (arith, lt)) }
+
+tested : (xs : List ℕ) → list_all (λ b. nat_lt b 256) xs ≡ true → Octets xs
+tested [] e = none
+tested (x ∷ xs) e = let p = and_both (nat_lt x 256) (list_all (λ b. nat_lt b 256) xs) e in more (grind (arith, nat_tests, p.0)) (tested xs p.1) where
+  and_both : (a b : Bool) → (a && b) ≡ true → (a ≡ true) × (b ≡ true)
+  and_both true b e = (refl, e)
+  and_both false b e = cc
+
+two : (n : ℕ) → Octets (two_bytes n)
+two n = more (omega arith) (more (omega arith) none)
+
+four : (n : ℕ) → Octets (four_bytes n)
+four n = more (omega arith) (more (omega arith) (more (omega arith) (more (omega arith) none)))
+
+eight : (n : ℕ) → Octets (eight_bytes n)
+eight n = more (omega arith) (more (omega arith) (more (omega arith) (more (omega arith) (more (omega arith) (more (omega arith) (more (omega arith) (more (omega arith) none)))))))
+
+message : (key kind info body : List ℕ) → Octets key → length key < 256 → Octets kind → Octets info → Octets body → Octets (biop key kind info body)
+message key kind info body ok_key small ok_kind ok_info ok_body =
+    both (both (tested (66 ∷ 73 ∷ 79 ∷ 80 ∷ 1 ∷ 0 ∷ 0 ∷ 0 ∷ []) refl) (four _))
+    (both (both (both (both (both (both (more small ok_key) (four (length kind))) ok_kind) (two (length info))) ok_info) (more (lit< tt) (four (length body)))) ok_body)
+
+file : (k : ℕ) (b : Bytes) → IsBytes b → Octets (file_spelling (key_bytes k) b)
+file k b ok = message (key_bytes k) file_kind (eight_bytes (length b)) (four_bytes (length b) ++ b) (four k) (lit< tt) (tested file_kind refl) (eight (length b)) (both (four (length b)) (record { all = ok }))
+
+location : (kind : List ℕ) (c m k : ℕ) → Octets kind → Octets (iors.spelling kind (record { carousel = c; «module» = m; key = key_bytes k }))
+location kind c m k ok =
+    let l : Location = record { carousel = c; «module» = m; key = key_bytes k } in
+    let place : Octets (four_bytes c ++ two_bytes m ++ 1 ∷ 0 ∷ 4 ∷ key_bytes k) = both (both (four c) (two m)) (more {x = 1} (lit< tt) (more {x = 0} (lit< tt) (more {x = 4} (lit< tt) (four k)))) in
+    let first : Octets (iors.component_bytes iors.location_tag (four_bytes c ++ two_bytes m ++ 1 ∷ 0 ∷ 4 ∷ key_bytes k)) = both (four iors.location_tag) (more {x = 13} (lit< tt) place) in
+    let second : Octets (iors.component_bytes iors.binder_tag (1 ∷ flat_map iors.tap_bytes (iors.written_tap ∷ []))) = tested (iors.component_bytes iors.binder_tag (1 ∷ flat_map iors.tap_bytes (iors.written_tap ∷ []))) refl in
+    let profile : Octets (iors.biop_bytes l (iors.written_tap ∷ [])) = both (more {x = 0} (lit< tt) (more {x = 2} (lit< tt) first)) second in
+    both (both (both (both (both (four 4) ok) (four 1)) (four iors.biop_tag)) (four (length (iors.biop_bytes l (iors.written_tap ∷ []))))) profile
+
+kind_ok : (b : Option Bytes) → Octets (bound_kind (bound_of b))
+kind_ok (Some b) = tested file_kind refl
+kind_ok None = tested directory_kind refl
+
+tail : (b : Option Bytes) (c m k : ℕ) → Octets (bound_tail (bound_of b) (record { carousel = c; «module» = m; key = key_bytes k }))
+tail (Some b) c m k = both (both (more (lit< tt) (location file_kind c m k (tested file_kind refl))) (two 8)) (eight (length b))
+tail None c m k = both (more (lit< tt) (location directory_kind c m k (tested directory_kind refl))) (two 0)
+
+binding : (n : Bytes) (b : Option Bytes) (c m k : ℕ) → IsBytes n → length n ≤ 254 → Octets (binding_spelling (record { name = n; bound = bound_of b; location = record { carousel = c; «module» = m; key = key_bytes k } }))
+binding n b c m k ok small = both (both (more (lit< tt) (more (omega (arith, small)) (record { all = ok }))) (more (lit< tt) (more (lit< tt) (kind_ok b)))) (tail b c m k)
+
+child_bytes : (p r : PathNames) (k : Bytes) → All (λ n. IsBytes n × (length n ≤ 254)) r → child_name p r ≡ Some k → IsBytes k × (length k ≤ 254)
+child_bytes [] [] k all e = cc
+child_bytes [] (n ∷ []) k all e = subst (λ z. IsBytes z × (length z ≤ 254)) (same_Some n k e) (all 0 n (omega arith))
+child_bytes [] (n ∷ n' ∷ ns) k all e = cc
+child_bytes (m ∷ ms) [] k all e = cc
+child_bytes (m ∷ ms) (n ∷ ns) k all e = go (same_name m n) refl (λ h. child_bytes ms ns k (λ i d lt. all (suc i) d (omega (arith, lt))) h) where
+  go : (t : Bool) → same_name m n ≡ t → (child_name ms ns ≡ Some k → IsBytes k × (length k ≤ 254)) → IsBytes k × (length k ≤ 254)
+  go true h rest = rest (rw h at e)
+  go false h rest = let bad = rw h at e in cc
+
+-- an object whose names and content are bytes
+pub record IsByteSpot (s : Spot) : Type 0 where
+  pub names : All (λ n. IsBytes n × (length n ≤ 254)) s.path
+  pub content : (b : Bytes) → s.content ≡ Some b → IsBytes b
+
+entries : (c : ℕ) (p : PathNames) (os : List Placed) → All (λ o. IsByteSpot o.spot) os → Octets (flat_map binding_spelling (entries_of c os p))
+entries c p [] ok = none
+entries c p (o ∷ os) ok = go (child_name p o.spot.path) refl (entries c p os (λ i d lt. ok (suc i) d (omega (arith, lt)))) where
+  go : (k : Option Bytes) → child_name p o.spot.path ≡ k → Octets (flat_map binding_spelling (entries_of c os p)) → Octets (flat_map binding_spelling (entries_of c (o ∷ os) p))
+  go None e rest = rw e rest
+  go (Some k) e rest = let h = child_bytes p o.spot.path k (ok 0 o (omega arith)).names e in rw e (both (binding k o.spot.content c o.module_id o.key h.0 h.1) rest)
+
+folder_kind_ok : (kind : FolderKind) → Octets (kind_of kind)
+folder_kind_ok Directory = tested (kind_of Directory) refl
+folder_kind_ok Gateway = tested (kind_of Gateway) refl
+
+object : (c : ℕ) (objects : List Placed) → All (λ o. IsByteSpot o.spot) objects → (o : Placed) → IsByteSpot o.spot → Octets (object_bytes c objects o)
+object c objects all o ok = go o.spot.content refl where
+  go : (b : Option Bytes) → o.spot.content ≡ b → Octets (object_bytes c objects o)
+  go (Some b) e = rw e (file o.key b (ok.content b e))
+  go None e = rw e (message (key_bytes o.key) (kind_of (folder_kind_of o.spot.path)) [] (two_bytes (length (entries_of c objects o.spot.path)) ++ flat_map binding_spelling (entries_of c objects o.spot.path))
+      (four o.key) (lit< tt) (folder_kind_ok (folder_kind_of o.spot.path)) none (both (two _) (entries c o.spot.path objects all)))
+
+pub module_octets : (c : ℕ) (objects : List Placed) → All (λ o. IsByteSpot o.spot) objects → (m : ℕ) → IsBytes (module_bytes c objects m)
+module_octets c objects all m = (go objects all).all where
+  go : (os : List Placed) → All (λ o. IsByteSpot o.spot) os → Octets (flat_map (object_bytes c objects) (filter (is_in m) os))
+  go [] ok = none
+  go (o ∷ os) ok = step (is_in m o) (object c objects all o (ok 0 o (omega arith))) (go os (λ i d lt. ok (suc i) d (omega (arith, lt)))) where
+    step : (t : Bool) → Octets (object_bytes c objects o) → Octets (flat_map (object_bytes c objects) (filter (is_in m) os)) → Octets (flat_map (object_bytes c objects) (cond t (o ∷ filter (is_in m) os) (filter (is_in m) os)))
+    step true here rest = both here rest
+    step false here rest = rest
+
+byte_spots : (before : PathNames) (es : Tree) → All (λ e. All (λ n. IsBytes n × (length n ≤ 254)) e.0) es → All (λ e. IsBytes e.1) es → All IsByteSpot (spots_after before es)
+byte_spots before [] names contents = λ i d lt. absurd (omega (arith, lt))
+byte_spots before (e ∷ es) names contents =
+    let here = names 0 e (omega arith) in
+    let bytes = contents 0 e (omega arith) in
+    All-append IsByteSpot (folders_after before e.0) (record { path = e.0; content = Some e.1 } ∷ spots_after e.0 es)
+    (each_folder IsByteSpot e.0 (shared_folders before e.0 + 1) (length e.0 - 1 - shared_folders before e.0) (λ k l m. record { names = all_take (λ n. IsBytes n × (length n ≤ 254)) k e.0 here; content = λ b h. cc }))
+    (All-cons IsByteSpot (record { path = e.0; content = Some e.1 }) (spots_after e.0 es) (record { names = here; content = λ b h. subst IsBytes (same_Some e.1 b h) bytes })
+    (byte_spots e.0 es (λ i d lt. names (suc i) d (omega (arith, lt))) (λ i d lt. contents (suc i) d (omega (arith, lt)))))
+
+pub tree_octets : (t : Tree) → All (λ e. All (λ n. IsBytes n × (length n ≤ 254)) e.0) t → All (λ e. IsBytes e.1) t → All IsByteSpot (spots_of t)
+tree_octets t names contents = All-cons IsByteSpot gateway_spot (spots_after [] t) (record { names = λ i d lt. absurd (omega (arith, lt)); content = λ b h. cc }) (byte_spots [] t names contents)

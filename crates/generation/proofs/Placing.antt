@@ -1,0 +1,343 @@
+-- The objects of a generation: as many keys and modules as objects, and the sizes of their bytes.
+use Rattle.std.proofs.Common.{◌≡◌, ◌≢◌, ℕ, zero, suc, ◌+◌, ◌-◌, ◌*◌, ◌<◌, ◌≤◌, max, Bool, true, false, not, ◌||◌, List, [], ◌∷◌, ◌++◌, length, take, drop, map, Option, Some, None, cond, refl, sym, ◌∙◌, ap, subst, add-one, arith, get_or, length-append, append-nil, ◌==◌, nat_lt, nat_le, sum, inl, inr, ◌⊎◌, Result, Ok, Err, Vec, Global}
+use Rattle.std.specs.Prelude.{IfOk}
+use Rattle.std.specs.List.{All, find, sum_by, filter, filter_map, flat_map, list_any, range_with_len, zip, fold, cons_option}
+use Rattle.std.proofs.lemmas.Grind.{common_steps}
+use Rattle.std.proofs.lemmas.Bool.Decides.{nat_tests}
+use Rattle.std.proofs.lemmas.List.Sums.{sum_by-cons, sum-map}
+use Rattle.std.proofs.lemmas.List.Elements.{All-map, All-cons, filter_map-append}
+use Rattle.std.proofs.lemmas.List.{map-append}
+use Rattle.generation.proofs.Keying.{range_more}
+use Rattle.path_tree.specs.Paths.{Bytes, PathNames}
+use Rattle.path_tree.specs.Trees.{Tree, IsTree}
+use Rattle.ior_tap.specs.Iors as iors
+use Rattle.ior_tap.specs.declared.Location.{Location}
+use Rattle.biop_object.specs.Objects.{file_spelling, folder_spelling, binding_spelling, bound_tail, bound_kind, kind_of}
+use Rattle.biop_object.specs.declared.written.Written.{Written}
+use Rattle.biop_object.specs.declared.written.FolderKind.{FolderKind}
+use Rattle.biop_object.specs.declared.written.FolderKind.TheVariants.{Directory, Gateway}
+use Rattle.std.proofs.lemmas.List.FromFn.{length-range_with_len}
+use Rattle.oc_bytes.specs.Outcome.{capped, capped32}
+use Rattle.module_packer.specs.Placement.{fresh, needed}
+use Rattle.generation.specs.declared.spots.Spot.{Spot as CodeSpot}
+use Rattle.generation.specs.declared.objects.Placed.{Placed as CodePlaced}
+use Rattle.generation.specs.Publication.{Spot, size_of, spots_of, sizes_of, binding_size, binding_rest, child_name, is_large_folder, large_folder, limit_of, or_else, over, Passed, Objects, Total, Modules}
+use Rattle.generation.specs.Layouts.{Placed, placed_all, filled, free_keys, taken_in, old_keys, keys_of, written_in, entries_of, object_bytes, key_bytes, location_of, bound_of, folder_kind_of, is_in, module_bytes, listed, layout_of, greatest}
+use Rattle.generation.specs.View.{view_spot, view_placed, placed_from, IsSpotIn, AreReady}
+use Rattle.generation.proofs.Limiting.{len_map}
+
+-- ---- keys
+
+above : ℕ → List ℕ → ℕ
+above a [] = 0
+above a (j ∷ js) = cond (nat_le a j) 1 0 + above a js
+
+above_less : (a : ℕ) (js : List ℕ) → above (a + 1) js ≤ above a js
+unfolding above
+above_less a [] = omega arith
+above_less a (j ∷ js) = go (nat_le (a + 1) j) (nat_le a j) refl refl (above_less a js) where
+  go : (x y : Bool) → nat_le (a + 1) j ≡ x → nat_le a j ≡ y → above (a + 1) js ≤ above a js → cond x 1 0 + above (a + 1) js ≤ cond y 1 0 + above a js
+  go x true ex ey h = bit x h where
+    bit : (x : Bool) → above (a + 1) js ≤ above a js → cond x 1 0 + above (a + 1) js ≤ 1 + above a js
+    bit true h = omega (arith, h)
+    bit false h = omega (arith, h)
+  go true false ex ey h = absurd (grind (arith, nat_tests, ex, ey))
+  go false false ex ey h = omega (arith, h)
+
+any_cases : (p : ℕ → Bool) (x : ℕ) (xs : List ℕ) → list_any p (x ∷ xs) ≡ true → (p x ≡ true) ⊎ (list_any p xs ≡ true)
+any_cases p x xs e = go (p x) refl where
+  go : (b : Bool) → p x ≡ b → (p x ≡ true) ⊎ (list_any p xs ≡ true)
+  go true h = inl h
+  go false h = inr (rw h at e)
+
+above_taken : (a : ℕ) (js : List ℕ) → list_any (λ j. j == a) js ≡ true → above (a + 1) js + 1 ≤ above a js
+unfolding above
+above_taken a [] e = cc
+above_taken a (j ∷ js) e = elim (any_cases (λ j. j == a) j js e) [
+  | inl here ↦ let is : j ≡ a = grind (arith, nat_tests, here) in first j is (above_less a js)
+  | inr later ↦ rest (above_taken a js later) (above_less a (j ∷ []))
+] where
+  first : (j : ℕ) → j ≡ a → above (a + 1) js ≤ above a js → cond (nat_le (a + 1) j) 1 0 + above (a + 1) js + 1 ≤ cond (nat_le a j) 1 0 + above a js
+  first j is h = go (nat_le (a + 1) j) (nat_le a j) refl refl where
+    go : (x y : Bool) → nat_le (a + 1) j ≡ x → nat_le a j ≡ y → cond x 1 0 + above (a + 1) js + 1 ≤ cond y 1 0 + above a js
+    go true y ex ey = absurd (grind (arith, nat_tests, ex, is))
+    go false true ex ey = omega (arith, h)
+    go false false ex ey = absurd (grind (arith, nat_tests, ey, is))
+
+  rest : above (a + 1) js + 1 ≤ above a js → cond (nat_le (a + 1) j) 1 0 + 0 ≤ cond (nat_le a j) 1 0 + 0 → cond (nat_le (a + 1) j) 1 0 + above (a + 1) js + 1 ≤ cond (nat_le a j) 1 0 + above a js
+  rest h bits = omega (arith, h, bits)
+
+above_all : (a : ℕ) (js : List ℕ) → above a js ≤ length js
+unfolding above
+above_all a [] = omega arith
+above_all a (j ∷ js) = bit (nat_le a j) (above_all a js) where
+  bit : (x : Bool) → above a js ≤ length js → cond x 1 0 + above a js ≤ suc (length js)
+  bit true h = omega (arith, h)
+  bit false h = omega (arith, h)
+
+many_free : (taken : List ℕ) (a n : ℕ) → n ≤ length (filter (λ k. not (list_any (λ j. j == k) taken)) (range_with_len a n)) + above a taken
+many_free taken a zero = omega arith
+many_free taken a (suc n) = go (list_any (λ j. j == a) taken) refl (many_free taken (a + 1) n) (above_less a taken) (λ e. above_taken a taken e) where
+  rest : List ℕ
+  rest = filter (λ k. not (list_any (λ j. j == k) taken)) (range_with_len (a + 1) n)
+
+  go : (b : Bool) → list_any (λ j. j == a) taken ≡ b → n ≤ length rest + above (a + 1) taken → above (a + 1) taken ≤ above a taken → (list_any (λ j. j == a) taken ≡ true → above (a + 1) taken + 1 ≤ above a taken)
+      → suc n ≤ length (cond (not b) (a ∷ rest) rest) + above a taken
+  go true e h less taken_more = omega (arith, h, taken_more e)
+  go false e h less taken_more = omega (arith, h, less)
+
+nones : List (Option ℕ) → ℕ
+nones [] = 0
+nones (Some k ∷ keys) = nones keys
+nones (None ∷ keys) = suc (nones keys)
+
+nones_rest : (keys : List (Option ℕ)) → nones keys + length (taken_in keys) ≡ length keys
+unfolding nones
+nones_rest [] = refl
+nones_rest (Some k ∷ keys) = omega (arith, nones_rest keys)
+nones_rest (None ∷ keys) = omega (arith, nones_rest keys)
+
+length-filled : (keys : List (Option ℕ)) (free : List ℕ) → nones keys ≤ length free → length (filled keys free) ≡ length keys
+unfolding nones
+length-filled [] free le = refl
+length-filled (Some k ∷ keys) free le = ap suc (length-filled keys free le)
+length-filled (None ∷ keys) [] le = absurd (omega (arith, le))
+length-filled (None ∷ keys) (k ∷ free) le = ap suc (length-filled keys free (omega (arith, le)))
+
+pub length-keys_of : (old : List Placed) (spots : List Spot) → length (keys_of old spots) ≡ length spots
+length-keys_of old spots =
+    let keys = old_keys old spots in
+    let n : length keys ≡ length spots = len_map _ spots in
+    let many = many_free (taken_in keys) 2 (length spots) in
+    let most = above_all 2 (taken_in keys) in
+    length-filled keys (free_keys (taken_in keys) (length spots)) (omega (arith, many, most, n, nones_rest keys)) ∙ n
+
+-- ---- objects
+
+pub placed_spots : (spots : List Spot) (keys ms : List ℕ) → length keys ≡ length spots → length ms ≡ length spots → map (λ o. o.spot) (placed_all spots keys ms) ≡ spots
+placed_spots [] keys ms ek em = refl
+placed_spots (s ∷ ss) [] ms ek em = absurd (omega (arith, ek))
+placed_spots (s ∷ ss) (k ∷ ks) [] ek em = absurd (omega (arith, em))
+placed_spots (s ∷ ss) (k ∷ ks) (m ∷ ms) ek em = ap (λ xs. s ∷ xs) (placed_spots ss ks ms (omega (arith, ek)) (omega (arith, em)))
+
+pub placed_modules : (spots : List Spot) (keys ms : List ℕ) → length keys ≡ length spots → length ms ≡ length spots → map (λ o. o.module_id) (placed_all spots keys ms) ≡ ms
+placed_modules [] keys [] ek em = refl
+placed_modules [] keys (m ∷ ms) ek em = absurd (omega (arith, em))
+placed_modules (s ∷ ss) [] ms ek em = absurd (omega (arith, ek))
+placed_modules (s ∷ ss) (k ∷ ks) [] ek em = absurd (omega (arith, em))
+placed_modules (s ∷ ss) (k ∷ ks) (m ∷ ms) ek em = ap (λ xs. m ∷ xs) (placed_modules ss ks ms (omega (arith, ek)) (omega (arith, em)))
+
+pub placed_keys : (spots : List Spot) (keys ms : List ℕ) → length keys ≡ length spots → length ms ≡ length spots → map (λ o. o.key) (placed_all spots keys ms) ≡ keys
+placed_keys [] [] ms ek em = refl
+placed_keys [] (k ∷ ks) ms ek em = absurd (omega (arith, ek))
+placed_keys (s ∷ ss) [] ms ek em = absurd (omega (arith, ek))
+placed_keys (s ∷ ss) (k ∷ ks) [] ek em = absurd (omega (arith, em))
+placed_keys (s ∷ ss) (k ∷ ks) (m ∷ ms) ek em = ap (λ xs. k ∷ xs) (placed_keys ss ks ms (omega (arith, ek)) (omega (arith, em)))
+
+pub placed_view : (t : Tree) (spots : List CodeSpot) (keys ms : List ℕ) → map (view_placed t) (placed_from spots keys ms) ≡ placed_all (map (view_spot t) spots) keys ms
+placed_view t [] keys ms = refl
+placed_view t (s ∷ ss) [] ms = refl
+placed_view t (s ∷ ss) (k ∷ ks) [] = refl
+placed_view t (s ∷ ss) (k ∷ ks) (m ∷ ms) = ap (λ xs. record { spot = view_spot t s; key = k; module_id = m } ∷ xs) (placed_view t ss ks ms)
+
+pub placed_valid : (t : Tree) (spots : List CodeSpot) (keys ms : List ℕ) → All (IsSpotIn t) spots → All (λ o. IsSpotIn t o.spot) (placed_from spots keys ms)
+placed_valid t [] keys ms all = λ k d lt. absurd (omega (arith, lt))
+placed_valid t (s ∷ ss) [] ms all = λ k d lt. absurd (omega (arith, lt))
+placed_valid t (s ∷ ss) (k ∷ ks) [] all = λ k d lt. absurd (omega (arith, lt))
+placed_valid t (s ∷ ss) (k ∷ ks) (m ∷ ms) all = All-cons (λ o. IsSpotIn t o.spot) (record { spot = s; key = k; «module» = m }) (placed_from ss ks ms) (all 0 s (omega arith)) (placed_valid t ss ks ms (λ i d lt. all (suc i) d (omega (arith, lt))))
+
+-- ---- sizes
+
+binding_length : (c : ℕ) (p : PathNames) (o : Placed) (n : Bytes) → child_name p o.spot.path ≡ Some n
+    → length (binding_spelling (record { name = n; bound = bound_of o.spot.content; location = location_of c o })) ≡ length n + binding_rest o.spot.content
+binding_length c p o n e = go o.spot.content where
+  go : (content : Option Bytes) → length (binding_spelling (record { name = n; bound = bound_of content; location = location_of c o })) ≡ length n + binding_rest content
+  go (Some b) = omega (arith, length-append (n ++ (0 ∷ 4 ∷ bound_kind (bound_of (Some b)))) (bound_tail (bound_of (Some b)) (location_of c o)), length-append n (0 ∷ 4 ∷ bound_kind (bound_of (Some b))))
+  go None = omega (arith, length-append (n ++ (0 ∷ 4 ∷ bound_kind (bound_of None))) (bound_tail (bound_of None) (location_of c o)), length-append n (0 ∷ 4 ∷ bound_kind (bound_of None)))
+
+entries_length : (c : ℕ) (p : PathNames) (objects : List Placed) → length (flat_map binding_spelling (entries_of c objects p)) ≡ sum_by (binding_size p) (map (λ o. o.spot) objects)
+entries_length c p [] = refl
+entries_length c p (o ∷ os) = go (child_name p o.spot.path) refl (entries_length c p os) ∙ sym (sum_by-cons (binding_size p) o.spot (map (λ o. o.spot) os)) where
+  go : (n : Option Bytes) → child_name p o.spot.path ≡ n → length (flat_map binding_spelling (entries_of c os p)) ≡ sum_by (binding_size p) (map (λ o. o.spot) os)
+      → length (flat_map binding_spelling (filter_map (written_in c p) (o ∷ os))) ≡ binding_size p o.spot + sum_by (binding_size p) (map (λ o. o.spot) os)
+  go (Some n) e h = rw e (length-append (binding_spelling (record { name = n; bound = bound_of o.spot.content; location = location_of c o })) (flat_map binding_spelling (entries_of c os p))
+      ∙ omega (arith, h, binding_length c p o n e))
+  go None e h = rw e (omega (arith, h))
+
+pub length-object_bytes : (c : ℕ) (objects : List Placed) (o : Placed) → length (object_bytes c objects o) ≡ size_of (map (λ o. o.spot) objects) o.spot
+length-object_bytes c objects o = go o.spot.content refl where
+  go : (content : Option Bytes) → o.spot.content ≡ content → length (object_bytes c objects o) ≡ size_of (map (λ o. o.spot) objects) o.spot
+  go (Some b) e = rw e (omega arith)
+  go None e = rw e (folder_length (folder_kind_of o.spot.path) ∙ ap (λ n. 34 + n) (entries_length c o.spot.path objects)) where
+    folder_length : (kind : FolderKind) → length (folder_spelling kind (key_bytes o.key) (entries_of c objects o.spot.path)) ≡ 34 + length (flat_map binding_spelling (entries_of c objects o.spot.path))
+    folder_length Directory = omega arith
+    folder_length Gateway = omega arith
+
+-- ---- limits
+
+pub record Within (t : Tree) : Type 0 where
+  pub few : length (spots_of t) ≤ 8192
+  pub folders : find (is_large_folder (spots_of t)) (spots_of t) ≡ None
+  pub total : sum (sizes_of t) ≤ 268435456
+  pub modules : needed (sizes_of t) ≤ 139
+
+passed_none : (a b : Option Passed) → or_else a b ≡ None → (a ≡ None) × (b ≡ None)
+passed_none (Some p) b e = cc
+passed_none None b e = (refl, e)
+
+over_none : (b : Bool) (p : Passed) → over b p ≡ None → b ≡ false
+over_none true p e = cc
+over_none false p e = refl
+
+no_folder : (f : Option Spot) → large_folder f ≡ None → f ≡ None
+no_folder (Some s) e = cc
+no_folder None e = refl
+
+at_most : (n x : ℕ) → nat_lt n x ≡ false → x ≤ n
+at_most n x e = grind (arith, nat_tests, e)
+
+pub within_limits : (t : Tree) → limit_of t ≡ None → Within t
+within_limits t e =
+    let all = spots_of t in
+    let a = passed_none (over (nat_lt 8192 (length all)) (Objects (capped32 (length all)))) _ e in
+    let b = passed_none (large_folder (find (is_large_folder all) all)) _ a.1 in
+    let c = passed_none (over (nat_lt 268435456 (sum (sizes_of t))) (Total (capped (sum (sizes_of t))))) _ b.1 in
+    record {
+      few = at_most 8192 (length all) (over_none (nat_lt 8192 (length all)) (Objects (capped32 (length all))) a.0);
+      folders = no_folder (find (is_large_folder all) all) b.0;
+      total = at_most 268435456 (sum (sizes_of t)) (over_none _ (Total (capped (sum (sizes_of t)))) c.0);
+      modules = at_most 139 (needed (sizes_of t)) (over_none _ (Modules (capped (needed (sizes_of t)))) c.1);
+    }
+
+pub find_none : {A : Type 0} (p : A → Bool) (xs : List A) → find p xs ≡ None → All (λ x. p x ≡ false) xs
+find_none p [] e = λ k d lt. absurd (omega (arith, lt))
+find_none p (x ∷ xs) e = go (p x) refl (λ h. find_none p xs h) where
+  go : (b : Bool) → p x ≡ b → (find p xs ≡ None → All (λ x. p x ≡ false) xs) → All (λ x. p x ≡ false) (x ∷ xs)
+  go true h rest = let k = rw h at e in cc
+  go false h rest = All-cons (λ x. p x ≡ false) x xs h (rest (rw h at e))
+
+pub all_unmap : {A B : Type 0} (P : B → Type 0) (f : A → B) (xs : List A) → All P (map f xs) → All (λ x. P (f x)) xs
+all_unmap P f [] all = λ k d lt. absurd (omega (arith, lt))
+all_unmap P f (x ∷ xs) all = All-cons (λ x. P (f x)) x xs (all 0 (f x) (omega arith)) (all_unmap P f xs (λ k d lt. all (suc k) d (omega (arith, lt))))
+
+pub folder_small : (spots : List Spot) (s : Spot) → s.content ≡ None → is_large_folder spots s ≡ false → size_of spots s ≤ 1048576
+folder_small spots s e small = go s.content e small where
+  go : (c : Option Bytes) → c ≡ None → is_large_folder spots (record { path = s.path; content = c }) ≡ false → size_of spots (record { path = s.path; content = c }) ≤ 1048576
+  go (Some b) e small = cc
+  go None e small = at_most 1048576 _ small
+
+-- ---- modules
+
+pub greatest_most : (ms : List ℕ) (n : ℕ) → All (λ m. (1 ≤ m) × (m ≤ n)) ms → greatest ms ≤ n
+greatest_most ms n all = go ms 0 n (omega arith) all where
+  go : (ms : List ℕ) (a n : ℕ) → a ≤ n → All (λ m. (1 ≤ m) × (m ≤ n)) ms → fold max a ms ≤ n
+  go [] a n le all = le
+  go (m ∷ ms) a n le all = let h = all 0 m (omega arith) in go ms (max a m) n (omega (arith, le, h.1)) (λ k d lt. all (suc k) d (omega (arith, lt)))
+
+pub listed_length : (c : ℕ) (objects : List Placed) (ids : List ℕ) → length (filter_map (listed c objects) ids) ≤ length ids
+listed_length c objects [] = omega arith
+listed_length c objects (m ∷ ms) = go (list_any (is_in m) objects) refl (listed_length c objects ms) where
+  go : (b : Bool) → list_any (is_in m) objects ≡ b → length (filter_map (listed c objects) ms) ≤ length ms → length (filter_map (listed c objects) (m ∷ ms)) ≤ suc (length ms)
+  go true e h = rw e (omega (arith, h))
+  go false e h = rw e (omega (arith, h))
+
+pub piece_length : (f : Placed → Bytes) (p : Placed → Bool) (os : List Placed) → length (flat_map f (filter p os)) ≤ sum_by (λ o. length (f o)) os
+piece_length f p [] = omega arith
+piece_length f p (o ∷ os) = go (p o) refl (piece_length f p os) (sum_by-cons (λ o. length (f o)) o os) where
+  go : (b : Bool) → p o ≡ b → length (flat_map f (filter p os)) ≤ sum_by (λ o. length (f o)) os → sum_by (λ o. length (f o)) (o ∷ os) ≡ length (f o) + sum_by (λ o. length (f o)) os
+      → length (flat_map f (filter p (o ∷ os))) ≤ sum_by (λ o. length (f o)) (o ∷ os)
+  go true e h more = rw (e, more) (omega (arith, h, length-append (f o) (flat_map f (filter p os))))
+  go false e h more = rw (e, more) (omega (arith, h))
+
+pub total_length : (c : ℕ) (objects os : List Placed) → sum_by (λ o. length (object_bytes c objects o)) os ≡ sum (map (size_of (map (λ o. o.spot) objects)) (map (λ o. o.spot) os))
+total_length c objects [] = refl
+total_length c objects (o ∷ os) = sum_by-cons _ o os ∙ (omega (arith, length-object_bytes c objects o, total_length c objects os, sum_by-cons {X = ℕ} (λ n. n) (size_of (map (λ o. o.spot) objects) o.spot) (map (size_of (map (λ o. o.spot) objects)) (map (λ o. o.spot) os))))
+
+pub listed_small : (c : ℕ) (objects : List Placed) (most : ℕ) → sum_by (λ o. length (object_bytes c objects o)) objects ≤ most → (ids : List ℕ) → All (λ m. length m.1 ≤ most) (filter_map (listed c objects) ids)
+listed_small c objects most total [] = λ k d lt. absurd (omega (arith, lt))
+listed_small c objects most total (m ∷ ms) = go (list_any (is_in m) objects) refl (listed_small c objects most total ms) where
+  go : (b : Bool) → list_any (is_in m) objects ≡ b → All (λ m. length m.1 ≤ most) (filter_map (listed c objects) ms) → All (λ m. length m.1 ≤ most) (filter_map (listed c objects) (m ∷ ms))
+  go true e h = rw e (All-cons (λ m. length m.1 ≤ most) (m, module_bytes c objects m) (filter_map (listed c objects) ms) (omega (arith, piece_length (object_bytes c objects) (is_in m) objects, total)) h)
+  go false e h = rw e h
+
+-- ---- what `next` needs of its objects
+
+pub modules_seen : (t : Tree) (objects : List CodePlaced) → map (λ o. o.«module») objects ≡ map (λ o. o.module_id) (map (view_placed t) objects)
+modules_seen t [] = refl
+modules_seen t (o ∷ os) = ap (λ ms. o.«module» ∷ ms) (modules_seen t os)
+
+pub used_seen : (t : Tree) (objects : List CodePlaced) (id : ℕ) → list_any (λ o. o.«module» == id) objects ≡ list_any (is_in id) (map (view_placed t) objects)
+used_seen t [] id = refl
+used_seen t (o ∷ os) id = rw (used_seen t os id) refl
+
+ids_before : (f : ℕ → Option (ℕ × Bytes)) (k : ℕ) → 1 ≤ k → filter_map f (range_with_len 1 (k + 1 - 1)) ≡ filter_map f (range_with_len 1 (k - 1)) ++ cons_option (f k) []
+ids_before f k le =
+    let n : k + 1 - 1 ≡ suc (k - 1) = omega (arith, le) in
+    let at : 1 + (k - 1) ≡ k = omega (arith, le) in
+    ap (λ m. filter_map f (range_with_len 1 m)) n ∙ (ap (λ ids. filter_map f ids) (range_more 1 (k - 1)) ∙ (filter_map-append f (range_with_len 1 (k - 1)) ((1 + (k - 1)) ∷ []) ∙ ap (λ j. filter_map f (range_with_len 1 (k - 1)) ++ cons_option (f j) []) at))
+
+pub ids_more : {A : Type 0} (f : ℕ → Option (ℕ × Bytes)) (v : A → ℕ × Bytes) (k : ℕ) (xs : List A) (x : A) → 1 ≤ k → map v xs ≡ filter_map f (range_with_len 1 (k - 1))
+    → Some (v x) ≡ f k → map v (xs ++ x ∷ []) ≡ filter_map f (range_with_len 1 (k + 1 - 1))
+ids_more f v k xs x le so_far is = map-append v xs (x ∷ []) ∙ sym (ids_before f k le ∙ rw (← is, ← so_far) refl)
+
+pub ids_same : {A : Type 0} (f : ℕ → Option (ℕ × Bytes)) (v : A → ℕ × Bytes) (k : ℕ) (xs : List A) → 1 ≤ k → map v xs ≡ filter_map f (range_with_len 1 (k - 1))
+    → None ≡ f k → map v xs ≡ filter_map f (range_with_len 1 (k + 1 - 1))
+ids_same f v k xs le so_far is = sym (ids_before f k le ∙ rw (← is, ← so_far) (append-nil (map v xs)))
+
+pub are_ready : (c : ℕ) (t : Tree) (objects : List CodePlaced) → IsTree t → limit_of t ≡ None → All (λ o. IsSpotIn t o.spot) objects
+    → map (λ o. o.spot) (map (view_placed t) objects) ≡ spots_of t → map (λ o. o.module_id) (map (view_placed t) objects) ≡ fresh (sizes_of t)
+    → All (λ m. (1 ≤ m) × (m ≤ 139)) (fresh (sizes_of t)) → AreReady c t objects
+are_ready c t objects tree limit valid spots modules numbers =
+    let w = within_limits t limit in
+    let objs = map (view_placed t) objects in
+    let most : greatest (map (λ o. o.module_id) objs) ≤ 139 = rw modules (greatest_most (fresh (sizes_of t)) 139 numbers) in
+    let total : sum_by (λ o. length (object_bytes c objs o)) objs ≤ 268435456 = rw (total_length c objs objs, spots) w.total in
+    let folders : All (λ s. is_large_folder (spots_of t) s ≡ false) (spots_of t) = find_none (is_large_folder (spots_of t)) (spots_of t) w.folders in
+    record {
+      tree = tree;
+      spots = valid;
+      folders = λ k d lt whole.
+          let o = get_or objects k d in
+          let small : is_large_folder (spots_of t) (view_placed t o).spot ≡ false =
+          all_unmap (λ q. is_large_folder (spots_of t) q.spot ≡ false) (view_placed t) objects (all_unmap (λ s. is_large_folder (spots_of t) s ≡ false) (λ q. q.spot) objs (rw spots folders)) k d lt in
+          let is : length (object_bytes c objs (view_placed t o)) ≡ size_of (spots_of t) (view_placed t o).spot = length-object_bytes c objs (view_placed t o) ∙ ap (λ all. size_of all (view_placed t o).spot) spots in
+          rw is (folder_small (spots_of t) (view_placed t o).spot (rw whole refl) small);
+      numbers = rw (modules_seen t objects) most;
+      modules = omega (arith, listed_length c objs (range_with_len 1 (greatest (map (λ o. o.module_id) objs))), length-range_with_len 1 (greatest (map (λ o. o.module_id) objs)), most);
+      sizes = listed_small c objs 268435456 total (range_with_len 1 (greatest (map (λ o. o.module_id) objs)));
+    }
+
+pub objects_arm : {E : Type 0} (r : Result (Vec CodePlaced Global) E) (t : Tree) (old : List Placed) (spots : List CodeSpot) (keys ms : List ℕ)
+    → map (view_spot t) spots ≡ spots_of t → keys ≡ keys_of old (spots_of t) → ms ≡ fresh (sizes_of t)
+    → IfOk r (λ v. v.items ≡ placed_from spots keys ms)
+    → IfOk r (λ v. map (view_placed t) v.items ≡ placed_all (spots_of t) (keys_of old (spots_of t)) (fresh (sizes_of t)))
+objects_arm (Ok v) t old spots keys ms es ek em is = ap (λ os. map (view_placed t) os) is ∙ (placed_view t spots keys ms ∙ (ap (λ s. placed_all s keys ms) es ∙ (ap (λ k. placed_all (spots_of t) k ms) ek ∙ ap (λ m. placed_all (spots_of t) (keys_of old (spots_of t)) m) em)))
+objects_arm (Err e) t old spots keys ms es ek em is = is
+
+pub ready_arm : {E : Type 0} (r : Result (Vec CodePlaced Global) E) (t : Tree) (old : List Placed) (spots : List CodeSpot) (keys ms : List ℕ)
+    → IsTree t → limit_of t ≡ None → All (IsSpotIn t) spots → All (λ m. (1 ≤ m) × (m ≤ 139)) ms → length ms ≡ length (spots_of t)
+    → map (view_spot t) spots ≡ spots_of t → keys ≡ keys_of old (spots_of t) → ms ≡ fresh (sizes_of t)
+    → IfOk r (λ v. v.items ≡ placed_from spots keys ms)
+    → IfOk r (λ v. (c : ℕ) → AreReady c t v.items)
+ready_arm (Ok v) t old spots keys ms tree limit valid numbers each es ek em is =
+    let made : map (view_placed t) v.items ≡ placed_all (spots_of t) (keys_of old (spots_of t)) (fresh (sizes_of t)) =
+    ap (λ os. map (view_placed t) os) is ∙ (placed_view t spots keys ms ∙ (ap (λ s. placed_all s keys ms) es ∙ (ap (λ k. placed_all (spots_of t) k ms) ek ∙ ap (λ m. placed_all (spots_of t) (keys_of old (spots_of t)) m) em))) in
+    let nk = length-keys_of old (spots_of t) in
+    let nm : length (fresh (sizes_of t)) ≡ length (spots_of t) = ap length (sym em) ∙ each in
+    λ c. are_ready c t v.items tree limit (rw is (placed_valid t spots keys ms valid))
+    (rw made (placed_spots (spots_of t) (keys_of old (spots_of t)) (fresh (sizes_of t)) nk nm))
+    (rw made (placed_modules (spots_of t) (keys_of old (spots_of t)) (fresh (sizes_of t)) nk nm))
+    (subst (λ l. All (λ m. (1 ≤ m) × (m ≤ 139)) l) em numbers)
+ready_arm (Err e) t old spots keys ms tree limit valid numbers each es ek em is = is
+
+pub listed_some : (c : ℕ) (objects : List Placed) (id : ℕ) (b : Bytes) → list_any (is_in id) objects ≡ true → b ≡ module_bytes c objects id → Some (id, b) ≡ listed c objects id
+listed_some c objects id b used is = rw (used, is) refl
+
+pub listed_none : (c : ℕ) (objects : List Placed) (id : ℕ) → list_any (is_in id) objects ≡ false → None ≡ listed c objects id
+listed_none c objects id unused = rw unused refl
+
+pub all_ids : (c : ℕ) (t : Tree) (objects : List CodePlaced) (k last : ℕ) (layout : List (ℕ × Bytes)) → last ≡ greatest (map (λ o. o.«module») objects) → k ≡ last + 1
+    → layout ≡ filter_map (listed c (map (view_placed t) objects)) (range_with_len 1 (k - 1)) → layout ≡ layout_of c (map (view_placed t) objects)
+all_ids c t objects k last layout el ek is =
+    let n : k - 1 ≡ greatest (map (λ o. o.module_id) (map (view_placed t) objects)) = rw ek (omega (arith, el, ap greatest (modules_seen t objects))) in
+    is ∙ ap (λ m. filter_map (listed c (map (view_placed t) objects)) (range_with_len 1 m)) n

@@ -1,0 +1,172 @@
+-- The objects that a tree gives after those of another are sound.
+use Rattle.std.proofs.Common.{◌≡◌, ◌≢◌, ℕ, zero, suc, ◌+◌, ◌-◌, ◌<◌, ◌≤◌, Bool, true, false, ◌&&◌, ◌==◌, List, [], ◌∷◌, ◌++◌, length, map, take, Option, Some, None, cond, refl, sym, ◌∙◌, ap, subst, arith, get_or, ◌⊎◌, inl, inr}
+use Rattle.std.specs.Prelude.{slice_get}
+use Rattle.std.specs.List.{All, list_any, range_with_len, filter_map, find, cons_option}
+use Rattle.std.proofs.lemmas.Option.{same_Some}
+use Rattle.std.proofs.lemmas.List.Elements.{All-cons, All-append}
+use Rattle.path_tree.specs.Paths.{Bytes, PathNames, same_name, same_path, IsName, IsPath}
+use Rattle.path_tree.specs.Trees.{Tree, IsTree}
+use Rattle.biop_object.specs.Objects.{folder_spelling}
+use Rattle.biop_object.specs.Spelled.{IsSpellable, IsSpellableEntry}
+use Rattle.module_packer.specs.Placement.{fresh, needed, IsPlacement, FreshIsAPlacement}
+use Rattle.generation.specs.Publication.{Spot, gateway_spot, spots_of, spots_after, sizes_of, size_of, child_name, folder_of, folders_after, shared_folders, limit_of, is_large_folder}
+use Rattle.generation.specs.Layouts.{Placed, placed_all, placed_at, key_in, old_keys, taken_in, free_keys, filled, keys_of, location_of, key_bytes, written_in, entries_of, folder_kind_of, object_bytes, is_same_spot}
+use Rattle.generation.proofs.Limiting.{len_map}
+use Rattle.generation.proofs.Placing.{Within, within_limits, length-keys_of, placed_spots, placed_modules, placed_keys, length-object_bytes, all_unmap, folder_small, find_none}
+use Rattle.generation.proofs.Rising.{rising_all, each_folder, Rising}
+use Rattle.generation.proofs.Keyed.{Distinct, keys_distinct, keys_small}
+use Rattle.generation.proofs.Carrying.{spelled, In, Sound, AreSmall}
+use Rattle.generation.proofs.Inside.{all_in}
+
+-- ---- names and sizes of objects
+
+pub all_take : {A : Type 0} (P : A → Type 0) (k : ℕ) (xs : List A) → All P xs → All P (take k xs)
+all_take P zero xs all = λ i d lt. absurd (omega (arith, lt))
+all_take P (suc k) [] all = λ i d lt. absurd (omega (arith, lt))
+all_take P (suc k) (x ∷ xs) all = All-cons P x (take k xs) (all 0 x (omega arith)) (all_take P k xs (λ i d lt. all (suc i) d (omega (arith, lt))))
+
+names_valid : (before : PathNames) (es : Tree) → All (λ e. All IsName e.0) es → All (λ s. All IsName s.path) (spots_after before es)
+names_valid before [] all = λ i d lt. absurd (omega (arith, lt))
+names_valid before (e ∷ es) all =
+    let here = all 0 e (omega arith) in
+    All-append (λ s. All IsName s.path) (folders_after before e.0) (record { path = e.0; content = Some e.1 } ∷ spots_after e.0 es)
+    (each_folder (λ s. All IsName s.path) e.0 (shared_folders before e.0 + 1) (length e.0 - 1 - shared_folders before e.0) (λ k l m. all_take IsName k e.0 here))
+    (All-cons (λ s. All IsName s.path) (record { path = e.0; content = Some e.1 }) (spots_after e.0 es) here (names_valid e.0 es (λ i d lt. all (suc i) d (omega (arith, lt)))))
+
+abbrev pub IsSized : Spot → Type 0
+IsSized s = (b : Bytes) → s.content ≡ Some b → length b ≤ 16777216
+
+sizes_valid : (before : PathNames) (es : Tree) → All (λ e. length e.1 ≤ 16777216) es → All IsSized (spots_after before es)
+sizes_valid before [] all = λ i d lt. absurd (omega (arith, lt))
+sizes_valid before (e ∷ es) all =
+    let here : length e.1 ≤ 16777216 = all 0 e (omega arith) in
+    All-append IsSized (folders_after before e.0) (record { path = e.0; content = Some e.1 } ∷ spots_after e.0 es)
+    (each_folder IsSized e.0 (shared_folders before e.0 + 1) (length e.0 - 1 - shared_folders before e.0) (λ k l m b h. cc))
+    (All-cons IsSized (record { path = e.0; content = Some e.1 }) (spots_after e.0 es) (λ b h. subst (λ z. length z ≤ 16777216) (same_Some e.1 b h) here) (sizes_valid e.0 es (λ i d lt. all (suc i) d (omega (arith, lt)))))
+
+all_names : (t : Tree) → IsTree t → All (λ s. All IsName s.path) (spots_of t)
+all_names t tree = All-cons (λ s. All IsName s.path) gateway_spot (spots_after [] t) (λ i d lt. absurd (omega (arith, lt))) (names_valid [] t (λ i d lt. (tree.paths i d lt).0.names))
+
+pub all_sizes : (t : Tree) → IsTree t → All IsSized (spots_of t)
+all_sizes t tree = All-cons IsSized gateway_spot (spots_after [] t) (λ b h. cc) (sizes_valid [] t tree.sizes)
+
+-- ---- entries
+
+child_valid : (p r : PathNames) (k : Bytes) → All IsName r → child_name p r ≡ Some k → (1 ≤ length k) × (length k ≤ 254)
+child_valid [] [] k all e = cc
+child_valid [] (n ∷ []) k all e = let h = all 0 n (omega arith) in let is = same_Some n k e in (subst (λ z. 1 ≤ length z) is h.at_least, subst (λ z. length z ≤ 254) is h.at_most)
+child_valid [] (n ∷ n' ∷ ns) k all e = cc
+child_valid (m ∷ ms) [] k all e = cc
+child_valid (m ∷ ms) (n ∷ ns) k all e = go (same_name m n) refl (λ h. child_valid ms ns k (λ i d lt. all (suc i) d (omega (arith, lt))) h) where
+  go : (t : Bool) → same_name m n ≡ t → (child_name ms ns ≡ Some k → (1 ≤ length k) × (length k ≤ 254)) → (1 ≤ length k) × (length k ≤ 254)
+  go true h rest = rest (rw h at e)
+  go false h rest = let bad = rw h at e in cc
+
+entries_valid : (c : ℕ) (p : PathNames) (os : List Placed) → c < 4294967296 → All (λ o. All IsName o.spot.path) os → All (λ o. (1 ≤ o.module_id) × (o.module_id ≤ 139)) os → All IsSpellableEntry (entries_of c os p)
+entries_valid c p [] small names ids = λ i d lt. absurd (omega (arith, lt))
+entries_valid c p (o ∷ os) small names ids =
+    go (child_name p o.spot.path) refl (entries_valid c p os small (λ i d lt. names (suc i) d (omega (arith, lt))) (λ i d lt. ids (suc i) d (omega (arith, lt)))) where
+      id : o.module_id ≤ 139
+      id = (ids 0 o (omega arith)).1
+
+      go : (k : Option Bytes) → child_name p o.spot.path ≡ k → All IsSpellableEntry (entries_of c os p) → All IsSpellableEntry (entries_of c (o ∷ os) p)
+      go None e rest = rw e rest
+      go (Some k) e rest = rw e (All-cons IsSpellableEntry _ (entries_of c os p)
+          (record { name = child_valid p o.spot.path k (names 0 o (omega arith)) e; location = (refl, small, omega (arith, id)) }) rest)
+
+entries_few : (c : ℕ) (p : PathNames) (os : List Placed) → length (entries_of c os p) ≤ length os
+entries_few c p [] = omega arith
+entries_few c p (o ∷ os) = go (child_name p o.spot.path) refl (entries_few c p os) where
+  go : (k : Option Bytes) → child_name p o.spot.path ≡ k → length (entries_of c os p) ≤ length os → length (entries_of c (o ∷ os) p) ≤ suc (length os)
+  go None e h = rw e (omega (arith, h))
+  go (Some k) e h = rw e (omega (arith, h))
+
+-- ---- an object can be spelled
+
+spellable : (c : ℕ) (t : Tree) (objects : List Placed) → c < 4294967296 → Within t → map (λ o. o.spot) objects ≡ spots_of t
+    → All (λ o. All IsName o.spot.path) objects → All (λ o. (1 ≤ o.module_id) × (o.module_id ≤ 139)) objects
+    → (o : Placed) → IsSized o.spot → is_large_folder (spots_of t) o.spot ≡ false → IsSpellable (spelled c objects o)
+spellable c t objects small within spots names ids o sized fits = go o.spot.content refl where
+  count : length objects ≤ 8192
+  count = omega (arith, within.few, ap length spots, len_map (λ o. o.spot) objects)
+
+  go : (b : Option Bytes) → o.spot.content ≡ b → IsSpellable (spelled c objects o)
+  go (Some b) e = rw e (refl, sized b e)
+  go None e =
+      let size : length (object_bytes c objects o) ≤ 1048576 = rw (length-object_bytes c objects o, spots) (folder_small (spots_of t) o.spot e fits) in
+      let bytes : length (folder_spelling (folder_kind_of o.spot.path) (key_bytes o.key) (entries_of c objects o.spot.path)) ≤ 1048576 = rw e at size in
+      rw e (refl, omega (arith, entries_few c o.spot.path objects, count), bytes, entries_valid c o.spot.path objects small names ids)
+
+-- ---- the objects of a tree after others
+
+-- objects that begin with the gateway, with keys that are apart
+pub record Before (old : List Placed) : Type 0 where
+  pub keys : Distinct (map (λ o. o.key) old)
+  pub small : AreSmall old
+  pub gateway : Placed
+  pub rest : List Placed
+  pub first : old ≡ gateway ∷ rest
+  pub is : (gateway.spot ≡ gateway_spot) × (gateway.key ≡ 1) × (gateway.module_id ≡ 1)
+
+gateway_key : (old : List Placed) → Before old → (spots : List Spot) (free : List ℕ) → (ks : List ℕ) × (filled (old_keys old (gateway_spot ∷ spots)) free ≡ 1 ∷ ks)
+gateway_key old b spots free =
+    let test : is_same_spot b.gateway.spot gateway_spot ≡ true = subst (λ s. is_same_spot s gateway_spot ≡ true) (sym b.is.0) refl in
+    let found : placed_at old gateway_spot ≡ Some b.gateway = ap (λ os. placed_at os gateway_spot) b.first ∙ rw test refl in
+    let key : key_in (placed_at old gateway_spot) ≡ Some 1 = ap key_in found ∙ ap Some b.is.1 in
+    (filled (old_keys old spots) free, ap (λ k. filled (k ∷ old_keys old spots) free) key)
+
+first_one : (ms : List ℕ) → slice_get ms 0 ≡ Some 1 → (rest : List ℕ) × (ms ≡ 1 ∷ rest)
+first_one [] e = cc
+first_one (m ∷ ms) e = (ms, ap (λ k. k ∷ ms) (same_Some m 1 e))
+
+pub record Made (c : ℕ) (t : Tree) (objects : List Placed) : Type 0 where
+  pub sound : Sound c t objects
+  pub before : Before objects
+  pub modules : map (λ o. o.module_id) objects ≡ fresh (sizes_of t)
+  pub placement : IsPlacement 139 (sizes_of t) (fresh (sizes_of t))
+  pub within : Within t
+
+pub made_of : FreshIsAPlacement → (c : ℕ) (t : Tree) (old : List Placed) → c < 4294967296 → IsTree t → limit_of t ≡ None → Before old
+    → Made c t (placed_all (spots_of t) (keys_of old (spots_of t)) (fresh (sizes_of t)))
+made_of law c t old small tree limit b =
+    let within = within_limits t limit in
+    let spots = spots_of t in
+    let keys = keys_of old spots in
+    let ms = fresh (sizes_of t) in
+    let objects = placed_all spots keys ms in
+    let nsizes : length (sizes_of t) ≡ length spots = len_map (size_of spots) spots in
+    let placement = law 139 (sizes_of t) (omega (arith, nsizes)) within.modules in
+    let nk = length-keys_of old spots in
+    let nm : length ms ≡ length spots = placement.each ∙ nsizes in
+    let es = placed_spots spots keys ms nk nm in
+    let ek = placed_keys spots keys ms nk nm in
+    let em = placed_modules spots keys ms nk nm in
+    let dk : Distinct (map (λ o. o.key) objects) = subst Distinct (sym ek) (keys_distinct old spots b.keys (rising_all t tree)) in
+    let sk : AreSmall objects = all_unmap (λ k. k < 8194) (λ o. o.key) objects (subst (All (λ k. k < 8194)) (sym ek) (keys_small old spots b.small within.few)) in
+    let ids : All (λ o. (1 ≤ o.module_id) × (o.module_id ≤ 139)) objects = all_unmap (λ m. (1 ≤ m) × (m ≤ 139)) (λ o. o.module_id) objects (subst (All (λ m. (1 ≤ m) × (m ≤ 139))) (sym em) placement.numbers) in
+    let names : All (λ o. All IsName o.spot.path) objects = all_unmap (λ s. All IsName s.path) (λ o. o.spot) objects (subst (All (λ s. All IsName s.path)) (sym es) (all_names t tree)) in
+    let sized : All (λ o. IsSized o.spot) objects = all_unmap IsSized (λ o. o.spot) objects (subst (All IsSized) (sym es) (all_sizes t tree)) in
+    let fits : All (λ o. is_large_folder spots o.spot ≡ false) objects = all_unmap (λ s. is_large_folder spots s ≡ false) (λ o. o.spot) objects (subst (All (λ s. is_large_folder spots s ≡ false)) (sym es) (find_none (is_large_folder spots) spots within.folders)) in
+    let k1 = gateway_key old b (spots_after [] t) (free_keys (taken_in (old_keys old spots)) (length spots)) in
+    let m1 = first_one ms placement.first in
+    let g : Placed = record { spot = gateway_spot; key = 1; module_id = 1 } in
+    let rest = placed_all (spots_after [] t) k1.0 m1.0 in
+    let first : objects ≡ g ∷ rest = ap (λ k. placed_all spots k ms) k1.1 ∙ ap (λ m. placed_all spots (1 ∷ k1.0) m) m1.1 in
+    record {
+      sound = record {
+        tree = tree;
+        carousel = small;
+        spots = es;
+        keys = dk;
+        small = sk;
+        modules = ids;
+        spellable = λ i d lt. spellable c t objects small within es names ids (get_or objects i d) (sized i d lt) (fits i d lt);
+        gateway = g;
+        has_gateway = subst (In g) (sym first) (inl refl);
+        is_gateway = (refl, refl, refl);
+      };
+      before = record { keys = dk; small = sk; gateway = g; rest = rest; first = first; is = (refl, refl, refl) };
+      modules = em;
+      placement = placement;
+      within = within;
+    }

@@ -1,0 +1,173 @@
+-- What is written of a generation: bindings, modules, messages.
+use Rattle.std.proofs.Common.{◌≡◌, ◌≢◌, ℕ, zero, suc, ◌+◌, ◌-◌, ◌*◌, ◌%◌, ◌<◌, ◌≤◌, min, Bool, true, false, not, List, [], ◌∷◌, ◌++◌, length, take, drop, map, Option, Some, None, cond, ◌==◌, refl, sym, subst, ◌∙◌, ap, add-one, arith, get_or, append-nil, append_assoc, length-append, length-drop, length-take, Vec, Global, Ok, Err, Result, inl, inr, lit≤}
+use Rattle.std.specs.List.{All, find, sum_by, filter, filter_map, flat_map, list_any}
+use Rattle.std.specs.Arc.{arc_value}
+use Rattle.std.specs.Prelude.{IfOk}
+use Rattle.std.proofs.lemmas.Bool.{cases_lt}
+use Rattle.std.proofs.lemmas.List.Elements.{filter_map-append, All-map}
+use Rattle.std.proofs.lemmas.List.{map_more}
+use Rattle.oc_bytes.specs.Numbers.{two_bytes, four_bytes}
+use Rattle.path_tree.specs.Paths.{Bytes, PathNames}
+use Rattle.path_tree.specs.Trees.{Tree}
+use Rattle.biop_object.specs.Objects.{gateway_kind}
+use Rattle.ior_tap.specs.Iors as iors
+use Rattle.ior_tap.specs.declared.Location.{Location}
+use Rattle.ddb_block.specs.Blocks as blocks
+use Rattle.dsi_dii.specs.Controls.{DiiFields, dii_transaction, dsi_spelling, dii_spelling, line_bytes}
+use Rattle.dsi_dii.specs.declared.ModuleLine.{ModuleLine}
+use Rattle.dsmcc_section.specs.Sections as sections
+use Rattle.dsmcc_section.specs.declared.Table.TheVariants as tables
+use Rattle.generation.specs.declared.made.Listed.{Listed}
+use Rattle.generation.specs.Publication.{Spot as SpotFields}
+use Rattle.generation.specs.Layouts.{Placed, old_keys, taken_in, free_keys, filled, keys_of, count_in, dii_lines, gateway_location, control_section, block_section, GenerationState, section_of}
+use Rattle.biop_object.specs.Names.{module_in}
+use Rattle.std.specs.Option.{unwrap_or}
+use Rattle.cycle_planner.specs.declared.Item.{Item}
+use Rattle.generation.specs.View.{view_listed}
+use Rattle.generation.proofs.Limiting.{len_map}
+
+pub keys_are : (old : List Placed) (spots : List SpotFields) (k : List (Option ℕ)) (t f : List ℕ) (n : ℕ)
+    → k ≡ old_keys old spots → t ≡ taken_in k → f ≡ free_keys t n → n ≡ length spots → filled k f ≡ keys_of old spots
+keys_are old spots k t f n ek et ef en =
+    ap (λ g. filled k g) (ef ∙ (ap (λ s. free_keys s n) et ∙ ap (λ m. free_keys (taken_in k) m) en))
+    ∙ ap (λ j. filled j (free_keys (taken_in j) (length spots))) ek
+
+-- ---- bindings
+
+pub entries_same : {A B C : Type 0} (f : B → Option C) (v : A → B) (xs : List A) (i : ℕ) (d : A) (e : List C) → i < length xs
+    → e ≡ filter_map f (map v (take i xs)) → f (v (get_or xs i d)) ≡ None → e ≡ filter_map f (map v (take (i + 1) xs))
+entries_same f v xs i d e lt so_far none =
+    so_far ∙ sym (ap (λ ys. filter_map f ys) (map_more v xs i d lt) ∙ (filter_map-append f (map v (take i xs)) (v (get_or xs i d) ∷ []) ∙ rw none (append-nil (filter_map f (map v (take i xs))))))
+
+pub entries_more : {A B C : Type 0} (f : B → Option C) (v : A → B) (xs : List A) (i : ℕ) (d : A) (e : List C) (w : C) → i < length xs
+    → e ≡ filter_map f (map v (take i xs)) → f (v (get_or xs i d)) ≡ Some w → e ++ w ∷ [] ≡ filter_map f (map v (take (i + 1) xs))
+entries_more f v xs i d e w lt so_far some =
+    sym (ap (λ ys. filter_map f ys) (map_more v xs i d lt) ∙ (filter_map-append f (map v (take i xs)) (v (get_or xs i d) ∷ []) ∙ rw (some, so_far) refl))
+
+-- ---- modules
+
+pub small_module : (modules : List Listed) (i : ℕ) (d : Listed) → All (λ m. length m.1 ≤ 268435456) (map view_listed modules) → i < length modules
+    → length (arc_value (get_or modules i d).module) ≤ 268435456
+small_module [] i d all lt = absurd (omega (arith, lt))
+small_module (m ∷ ms) zero d all lt = all 0 (view_listed d) (omega arith)
+small_module (m ∷ ms) (suc i) d all lt = small_module ms i d (λ k e l. all (suc k) e (omega (arith, l))) (omega (arith, lt))
+
+pub small_count : (counts : List (ℕ × ℕ)) (id most : ℕ) → All (λ c. c.1 < most + 1) counts → count_in counts id ≤ most
+small_count [] id most all = omega arith
+small_count (c ∷ cs) id most all =
+    let here : c.1 < most + 1 = all 0 (0, 0) (omega arith) in
+    go (c.0 == id) (omega (arith, here)) (small_count cs id most (λ k e l. all (suc k) e (omega (arith, l)))) where
+      go : (b : Bool) → c.1 ≤ most → count_in cs id ≤ most → cond b c.1 (count_in cs id) ≤ most
+      go true here rest = here
+      go false here rest = rest
+
+-- ---- blocks
+
+take_none : {A : Type 0} (n : ℕ) → take {A = A} n [] ≡ []
+take_none zero = refl
+take_none (suc n) = refl
+
+take_min : {A : Type 0} (n : ℕ) (xs : List A) → take (min n (length xs)) xs ≡ take n xs
+take_min zero xs = let z : min 0 (length xs) ≡ 0 = omega arith in ap (λ n. take n xs) z
+take_min (suc n) [] = take_none (min (suc n) 0) ∙ sym (take_none (suc n))
+take_min (suc n) (x ∷ xs) = let z : min (suc n) (suc (length xs)) ≡ suc (min n (length xs)) = omega arith in ap (λ k. take k (x ∷ xs)) z ∙ ap (λ ys. x ∷ ys) (take_min n xs)
+
+drop_over : {A : Type 0} (n : ℕ) (xs : List A) → length xs ≤ n → drop n xs ≡ []
+drop_over zero [] le = refl
+drop_over zero (x ∷ xs) le = absurd (omega (arith, le))
+drop_over (suc n) [] le = refl
+drop_over (suc n) (x ∷ xs) le = drop_over n xs (omega (arith, le))
+
+pub block_cut : (bytes : List ℕ) (n a e : ℕ) → a ≡ min (n * 4066) (length bytes) → e ≡ min (a + 4066) (length bytes)
+    → take (e - a) (drop a bytes) ≡ blocks.block_of bytes 4066 n
+block_cut bytes n a e ea ee = elim (cases_lt (length bytes) (n * 4066)) [
+  | inl past ↦ let none : drop (n * 4066) bytes ≡ [] = drop_over (n * 4066) bytes (omega (arith, past)) in
+      let all : drop a bytes ≡ [] = drop_over a bytes (omega (arith, past, ea)) in
+      ap (λ d. take (e - a) d) all ∙ (take_none (e - a) ∙ sym (ap (λ d. take 4066 d) none))
+  | inr here ↦ let at : a ≡ n * 4066 = omega (arith, here, ea) in
+      let left : length (drop a bytes) ≡ length bytes - a = length-drop a bytes in
+      let span : e - a ≡ min 4066 (length (drop a bytes)) = omega (arith, here, ea, ee, left) in
+      ap (λ k. take k (drop a bytes)) span ∙ (take_min 4066 (drop a bytes) ∙ ap (λ k. take 4066 (drop k bytes)) at)
+]
+
+pub section_is : (c m v b last : ℕ) (bytes payload : List ℕ) → payload ≡ blocks.spelling (record { download = c; module_id = m; version = v; number = b; bytes = blocks.block_of bytes 4066 b })
+    → last ≡ min 255 (blocks.block_count_of (length bytes) 4066 - 1)
+    → record { table = tables.Blocks; extension = m; version = v % 32; number = b % 256; last = last; payload = payload } ≡ block_section c m v b bytes
+section_is c m v b last bytes payload e f = rw (e, f) refl
+
+-- ---- control messages
+
+pub dsi_short : (c : ℕ) → length (dsi_spelling 0x80000000 gateway_kind (gateway_location c)) ≤ 4084
+dsi_short c = lit≤ tt
+
+lines_length : (ms : List ModuleLine) → length (flat_map line_bytes ms) ≡ 29 * length ms
+lines_length [] = refl
+lines_length (m ∷ ms) = omega (arith, lines_length ms)
+
+pub dii_short : (d : DiiFields) → length d.modules ≤ 139 → length (dii_spelling d) ≤ 4084
+dii_short d few = let n : length (flat_map line_bytes d.modules ++ 0 ∷ 0 ∷ []) ≡ length (flat_map line_bytes d.modules) + 2 = length-append (flat_map line_bytes d.modules) (0 ∷ 0 ∷ []) in omega (arith, n, lines_length d.modules, few)
+
+pub plain_lines : (counts : List (ℕ × ℕ)) (layout : List (ℕ × Bytes)) → All (λ l. l.compressed ≡ false) (dii_lines counts layout)
+plain_lines counts layout = All-map (λ l. l.compressed ≡ false) (λ m. record { id = m.0; size = length m.1; version = count_in counts m.0 % 256; compressed = false }) layout (λ k d lt. refl)
+
+pub gateway_written : (c : ℕ) (ior : iors.Fields) → ior ≡ iors.written gateway_kind (gateway_location c) → iors.IsWritten ior (gateway_location c)
+gateway_written c ior e = subst (λ v. iors.IsWritten v (gateway_location c)) (sym e) (record { form = refl; four = refl; key = refl })
+
+pub dsi_is : (c : ℕ) (payload : List ℕ) (ior : iors.Fields) (t : ℕ) → ior ≡ iors.written gateway_kind (gateway_location c) → t ≡ 0x80000000
+    → payload ≡ dsi_spelling t ior.kind (gateway_location c) → payload ≡ dsi_spelling 0x80000000 gateway_kind (gateway_location c)
+dsi_is c payload ior t ei et e = e ∙ (ap (λ k. dsi_spelling t k (gateway_location c)) (ap (λ v. v.kind) ei) ∙ ap (λ u. dsi_spelling u gateway_kind (gateway_location c)) et)
+
+pub dii_is : (c g t : ℕ) (counts : List (ℕ × ℕ)) (layout : List (ℕ × Bytes)) (ms : List ModuleLine) (payload : List ℕ) → t ≡ dii_transaction g → ms ≡ dii_lines counts layout
+    → payload ≡ dii_spelling (record { download = c; block_size = 4066; transaction = t; modules = ms })
+    → payload ≡ dii_spelling (record { download = c; block_size = 4066; transaction = dii_transaction g; modules = dii_lines counts layout })
+dii_is c g t counts layout ms payload et em e =
+    e ∙ (ap (λ u. dii_spelling (record { download = c; block_size = 4066; transaction = u; modules = ms })) et
+    ∙ ap (λ ns. dii_spelling (record { download = c; block_size = 4066; transaction = dii_transaction g; modules = ns })) em)
+
+pub dii_fits : (c g : ℕ) (counts : List (ℕ × ℕ)) (layout : List (ℕ × Bytes)) (payload : List ℕ) → length layout ≤ 139
+    → payload ≡ dii_spelling (record { download = c; block_size = 4066; transaction = dii_transaction g; modules = dii_lines counts layout }) → length payload ≤ 4084
+dii_fits c g counts layout payload few e =
+    let n : length (dii_lines counts layout) ≡ length layout = len_map _ layout in
+    let short = dii_short (record { download = c; block_size = 4066; transaction = dii_transaction g; modules = dii_lines counts layout }) (omega (arith, n, few)) in
+    omega (arith, short, ap length e)
+
+pub block_short : {E : Type 0} (bytes : List ℕ) (a e : ℕ) (r : Result (Vec ℕ Global) E) → e ≤ a + 4066
+    → IfOk r (λ v. v.items ≡ take (e - a) (drop a bytes)) → IfOk r (λ v. length v.items ≤ 4066)
+block_short bytes a e (Ok v) le is = let n : length (take (e - a) (drop a bytes)) ≤ e - a = omega (arith, length-take (e - a) (drop a bytes)) in omega (arith, n, le, ap length is)
+block_short bytes a e (Err f) le is = is
+
+pub small_bytes : (layout : List (ℕ × Bytes)) (id : ℕ) → All (λ m. length m.1 ≤ 268435456) layout → length (unwrap_or (module_in layout id) []) ≤ 268435456
+small_bytes [] id all = omega arith
+small_bytes (m ∷ ms) id all =
+    let here : length m.1 ≤ 268435456 = all 0 (0, []) (omega arith) in
+    go (m.0 == id) here (small_bytes ms id (λ k e l. all (suc k) e (omega (arith, l)))) where
+      go : (b : Bool) → length m.1 ≤ 268435456 → length (unwrap_or (module_in ms id) []) ≤ 268435456 → length (unwrap_or (cond b (Some m.1) (module_in ms id)) []) ≤ 268435456
+      go true here rest = here
+      go false here rest = rest
+
+-- an item's section, seen through the fields
+pub section_arm : {E : Type 0} (r : Result (Vec ℕ Global) E) (inside g : GenerationState) (item known : Item) → inside ≡ g → item ≡ known
+    → IfOk r (λ v. v.items ≡ section_of inside known) → IfOk r (λ v. v.items ≡ section_of g item)
+section_arm r inside g item known eg ei is = subst (λ x. IfOk r (λ v. v.items ≡ section_of x item)) eg (subst (λ i. IfOk r (λ v. v.items ≡ section_of inside i)) (sym ei) is)
+
+pub block_arm : {E : Type 0} (r : Result (Vec ℕ Global) E) (c id block : ℕ) (n n' : ℕ) (bytes bytes' : List ℕ) → n' ≡ n → bytes' ≡ bytes
+    → IfOk r (λ v. v.items ≡ sections.spelling (block_section c id (n' % 256) block bytes')) → IfOk r (λ v. v.items ≡ sections.spelling (block_section c id (n % 256) block bytes))
+block_arm r c id block n n' bytes bytes' en eb is =
+    subst (λ k. IfOk r (λ v. v.items ≡ sections.spelling (block_section c id (k % 256) block bytes))) en
+    (subst (λ b. IfOk r (λ v. v.items ≡ sections.spelling (block_section c id (n' % 256) block b))) eb is)
+
+-- what is sent of listed modules, where they stand behind a reference
+abbrev pub DiiSection : {E : Type 0} → Result (Vec ℕ Global) E → (carousel number : ℕ) → List (ℕ × ℕ) → List Listed → Type 0
+DiiSection r c g counts modules = IfOk r (λ v. v.items ≡ sections.spelling (control_section (dii_transaction g % 65536)
+    (dii_spelling (record { download = c; block_size = 4066; transaction = dii_transaction g; modules = dii_lines counts (map view_listed modules) }))))
+
+pub dii_arm : {E : Type 0} (r : Result (Vec ℕ Global) E) (c g : ℕ) (counts counts' : List (ℕ × ℕ)) (modules modules' : List Listed) → counts' ≡ counts → modules' ≡ modules
+    → DiiSection r c g counts' modules' → DiiSection r c g counts modules
+dii_arm r c g counts counts' modules modules' ec em is = subst (λ k. DiiSection r c g k modules) ec (subst (λ m. DiiSection r c g counts' m) em is)
+
+abbrev pub BlockSection : {E : Type 0} → Result (Vec ℕ Global) E → (carousel id block : ℕ) → List (ℕ × ℕ) → List Listed → Type 0
+BlockSection r c id block counts modules = IfOk r (λ v. v.items ≡ sections.spelling (block_section c id (count_in counts id % 256) block (unwrap_or (module_in (map view_listed modules) id) [])))
+
+pub listed_arm : {E : Type 0} (r : Result (Vec ℕ Global) E) (c id block : ℕ) (counts counts' : List (ℕ × ℕ)) (modules modules' : List Listed) → counts' ≡ counts → modules' ≡ modules
+    → BlockSection r c id block counts' modules' → BlockSection r c id block counts modules
+listed_arm r c id block counts counts' modules modules' ec em is = subst (λ k. BlockSection r c id block k modules) ec (subst (λ m. BlockSection r c id block counts' m) em is)

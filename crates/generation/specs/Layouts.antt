@@ -1,0 +1,217 @@
+-- How a tree becomes modules, one generation after another.
+use Rattle.std.specs.Prelude.{◌≡◌, ℕ, zero, suc, ◌+◌, ◌*◌, ◌-◌, ◌%◌, ◌<◌, Bool, true, false, not, ◌&&◌, ◌||◌, List, [], ◌∷◌, ◌++◌, length, map, take, Option, Some, None, is_some, is_none, nat_lt, nat_le, ◌==◌, min, max, if◌then◌else◌}
+use Rattle.std.specs.Option.{unwrap_or}
+use Rattle.std.specs.List.{flat_map, filter, filter_map, find, fold, zip, list_any, range_with_len, concat}
+use Rattle.oc_bytes.specs.Numbers.{four_bytes}
+use Rattle.path_tree.specs.Paths.{Bytes, PathNames, same_path, same_name}
+use Rattle.path_tree.specs.Trees.{Tree}
+use Rattle.ior_tap.specs.declared.Location.{Location}
+use Rattle.ior_tap.specs.Iors as iors
+use Rattle.biop_object.specs.Names.{Layout, module_in}
+use Rattle.biop_object.specs.Objects.{file_spelling, folder_spelling, gateway_kind}
+use Rattle.biop_object.specs.declared.written.Written.{Written}
+use Rattle.biop_object.specs.declared.written.Bound.{Bound}
+use Rattle.biop_object.specs.declared.written.Bound.TheVariants as bounds
+use Rattle.biop_object.specs.declared.written.FolderKind.{FolderKind}
+use Rattle.biop_object.specs.declared.written.FolderKind.TheVariants.{Directory, Gateway}
+use Rattle.ddb_block.specs.Blocks as blocks
+use Rattle.dsi_dii.specs.Controls as controls
+use Rattle.dsi_dii.specs.declared.ModuleLine.{ModuleLine}
+use Rattle.dsmcc_section.specs.Sections as sections
+use Rattle.dsmcc_section.specs.declared.Table.TheVariants as tables
+use Rattle.module_packer.specs.Placement.{fresh}
+use Rattle.cycle_planner.specs.Cycle.{Line, cycle_of}
+use Rattle.cycle_planner.specs.declared.Item.{Item}
+use Rattle.cycle_planner.specs.declared.Item.TheVariants.{Dsi, Dii, Block}
+use Rattle.generation.specs.Publication.{Spot, gateway_spot, spots_of, sizes_of, child_name}
+
+-- an object with its key and its module
+pub record Placed : Type 0 where
+  pub spot : Spot
+  pub key : ℕ
+  pub module_id : ℕ
+
+-- one generation: its tree, its objects, its modules, and how often each module has changed
+pub record GenerationState : Type 0 where
+  pub carousel : ℕ
+  pub number : ℕ
+  pub tree : Tree
+  pub objects : List Placed
+  pub layout : Layout
+  pub counts : List (ℕ × ℕ)
+
+abbrev pub same_kind : Option Bytes → Option Bytes → Bool
+same_kind (Some a) (Some b) = true
+same_kind None None = true
+same_kind _ _ = false
+
+-- the same path and kind
+abbrev pub is_same_spot : Spot → Spot → Bool
+is_same_spot a b = same_path a.path b.path && same_kind a.content b.content
+
+abbrev pub placed_at : List Placed → Spot → Option Placed
+placed_at objects s = find (λ o. is_same_spot o.spot s) objects
+
+abbrev pub key_in : Option Placed → Option ℕ
+key_in (Some o) = Some o.key
+key_in None = None
+
+abbrev pub module_of : Option Placed → Option ℕ
+module_of (Some o) = Some o.module_id
+module_of None = None
+
+-- the numbers from 2 on that aren't taken, as many as are looked at
+abbrev pub free_keys : List ℕ → ℕ → List ℕ
+free_keys taken count = filter (λ k. not (list_any (λ j. j == k) taken)) (range_with_len 2 count)
+
+-- each key, with the free ones in order for those that have none
+abbrev pub filled : List (Option ℕ) → List ℕ → List ℕ
+filled (Some k ∷ keys) free = k ∷ filled keys free
+filled (None ∷ keys) (k ∷ free) = k ∷ filled keys free
+filled _ _ = []
+
+abbrev pub taken_in : List (Option ℕ) → List ℕ
+taken_in keys = filter_map (λ k. k) keys
+
+-- An object whose path and kind were there before keeps its key; the others take the least numbers from 2 on that no
+-- object has. As many numbers are looked at as there are objects, so that one is free for each.
+abbrev pub old_keys : List Placed → List Spot → List (Option ℕ)
+old_keys old spots = map (λ s. key_in (placed_at old s)) spots
+
+abbrev pub keys_of : List Placed → List Spot → List ℕ
+keys_of old spots = filled (old_keys old spots) (free_keys (taken_in (old_keys old spots)) (length spots))
+
+abbrev pub placed_all : List Spot → List ℕ → List ℕ → List Placed
+placed_all (s ∷ spots) (k ∷ keys) (m ∷ ms) = record { spot = s; key = k; module_id = m } ∷ placed_all spots keys ms
+placed_all _ _ _ = []
+
+abbrev pub key_bytes : ℕ → Bytes
+key_bytes k = four_bytes k
+
+-- where an object lies
+abbrev pub location_of : ℕ → Placed → Location
+location_of carousel o = record { carousel = carousel; «module» = o.module_id; key = key_bytes o.key }
+
+abbrev pub bound_of : Option Bytes → Bound
+bound_of (Some b) = bounds.File (length b)
+bound_of None = bounds.Folder
+
+-- an object's binding in a folder, where it lies right in it
+abbrev pub written_in : ℕ → PathNames → Placed → Option Written
+written_in carousel p o = go (child_name p o.spot.path) where
+  go : Option Bytes → Option Written
+  go (Some n) = Some (record { name = n; bound = bound_of o.spot.content; location = location_of carousel o })
+  go None = None
+
+-- the bindings of a folder, in name order, since objects stand by path
+abbrev pub entries_of : ℕ → List Placed → PathNames → List Written
+entries_of carousel objects p = filter_map (written_in carousel p) objects
+
+abbrev pub folder_kind_of : PathNames → FolderKind
+folder_kind_of [] = Gateway
+folder_kind_of (n ∷ ns) = Directory
+
+abbrev pub object_bytes : ℕ → List Placed → Placed → Bytes
+object_bytes carousel objects o = go o.spot.content where
+  go : Option Bytes → Bytes
+  go (Some b) = file_spelling (key_bytes o.key) b
+  go None = folder_spelling (folder_kind_of o.spot.path) (key_bytes o.key) (entries_of carousel objects o.spot.path)
+
+abbrev pub greatest : List ℕ → ℕ
+greatest ns = fold max 0 ns
+
+abbrev pub is_in : ℕ → Placed → Bool
+is_in m o = o.module_id == m
+
+-- a module's bytes are those of its objects, in object order
+abbrev pub module_bytes : ℕ → List Placed → ℕ → Bytes
+module_bytes carousel objects m = flat_map (object_bytes carousel objects) (filter (is_in m) objects)
+
+-- a module where it has an object
+abbrev pub listed : ℕ → List Placed → ℕ → Option (ℕ × Bytes)
+listed carousel objects m = if list_any (is_in m) objects then Some (m, module_bytes carousel objects m) else None
+
+-- the modules by rising id
+abbrev pub layout_of : ℕ → List Placed → Layout
+layout_of carousel objects = filter_map (listed carousel objects) (range_with_len 1 (greatest (map (λ o. o.module_id) objects)))
+
+abbrev pub count_in : List (ℕ × ℕ) → ℕ → ℕ
+count_in [] m = 0
+count_in (c ∷ cs) m = if c.0 == m then c.1 else count_in cs m
+
+abbrev pub same_module : Option Bytes → Option Bytes → Bool
+same_module (Some a) (Some b) = same_name a b
+same_module _ _ = false
+
+-- a listed module's count: one more where it is new or has other bytes
+abbrev pub count_after : Layout → List (ℕ × ℕ) → ℕ × Bytes → ℕ × ℕ
+count_after old counts m = (m.0, if same_module (module_in old m.0) (Some m.1) then count_in counts m.0 else count_in counts m.0 + 1)
+
+-- each listed module's count, and the counts of those that aren't listed
+abbrev pub counts_after : Layout → Layout → List (ℕ × ℕ) → List (ℕ × ℕ)
+counts_after old new counts = map (count_after old counts) new ++ filter (λ c. is_none (module_in new c.0)) counts
+
+-- the module of each object, by the placement rule, which is always the fresh one
+abbrev pub modules_for : List Placed → Tree → List ℕ
+modules_for old t = fresh (sizes_of t)
+
+abbrev pub made : ℕ → ℕ → Tree → List Placed → Layout → List (ℕ × ℕ) → GenerationState
+made carousel number t old before counts =
+    let spots = spots_of t in
+    let objects = placed_all spots (keys_of old spots) (modules_for old t) in
+    let layout = layout_of carousel objects in
+    record { carousel = carousel; number = number; tree = t; objects = objects; layout = layout; counts = counts_after before layout counts }
+
+abbrev pub gateway_before : List Placed
+gateway_before = record { spot = gateway_spot; key = 1; module_id = 1 } ∷ []
+
+-- generation 0 has the empty tree, and its counts are 0
+abbrev pub first_of : ℕ → GenerationState
+first_of carousel = record (made carousel 0 [] gateway_before [] []) { counts = [] }
+
+abbrev pub next_of : GenerationState → Tree → GenerationState
+next_of g t = made g.carousel (g.number + 1) t g.objects g.layout g.counts
+
+-- the generation after these trees
+abbrev pub generation_of : ℕ → List Tree → GenerationState
+generation_of carousel trees = fold next_of (first_of carousel) trees
+
+-- ---- what a generation sends
+
+abbrev pub lines_in : Layout → List Line
+lines_in layout = map (λ m. (m.0, blocks.block_count_of (length m.1) 4066)) layout
+
+abbrev pub lines_of : GenerationState → List Line
+lines_of g = lines_in g.layout
+
+-- the modules as the DII lists them
+abbrev pub dii_lines : List (ℕ × ℕ) → Layout → List ModuleLine
+dii_lines counts layout = map (λ m. record { id = m.0; size = length m.1; version = count_in counts m.0 % 256; compressed = false }) layout
+
+abbrev pub dii_of : GenerationState → controls.DiiFields
+dii_of g = record { download = g.carousel; block_size = 4066; transaction = controls.dii_transaction g.number; modules = dii_lines g.counts g.layout }
+
+abbrev pub gateway_location : ℕ → Location
+gateway_location carousel = record { carousel = carousel; «module» = 1; key = key_bytes 1 }
+
+abbrev pub control_section : ℕ → Bytes → sections.Fields
+control_section extension payload = record { table = tables.Control; extension = extension; version = 0; number = 0; last = 0; payload = payload }
+
+abbrev pub block_section : ℕ → ℕ → ℕ → ℕ → Bytes → sections.Fields
+block_section carousel m version b bytes = record {
+  table = tables.Blocks;
+  extension = m;
+  version = version % 32;
+  number = b % 256;
+  last = min 255 (blocks.block_count_of (length bytes) 4066 - 1);
+  payload = blocks.spelling (record { download = carousel; module_id = m; version = version; number = b; bytes = blocks.block_of bytes 4066 b });
+}
+
+-- the section of an item
+abbrev pub section_of : GenerationState → Item → Bytes
+section_of g Dsi = sections.spelling (control_section 0 (controls.dsi_spelling 0x80000000 gateway_kind (gateway_location g.carousel)))
+section_of g Dii = sections.spelling (control_section (controls.dii_transaction g.number % 65536) (controls.dii_spelling (dii_of g)))
+section_of g (Block m b) = sections.spelling (block_section g.carousel m (count_in g.counts m % 256) b (unwrap_or (module_in g.layout m) []))
+
+abbrev pub items_of : GenerationState → List Item
+items_of g = Dsi ∷ Dii ∷ flat_map (λ l. map (λ b. Block l.0 b) (range_with_len 0 l.1)) (lines_of g)

@@ -1,0 +1,101 @@
+-- The objects of a tree, their sizes, and the first limit that a tree passes. These are this project's own rules,
+-- but for the sizes, which follow from the form of the objects (ISO/IEC 13818-6, in the profile of ETSI TR 101 202).
+use Rattle.std.specs.Prelude.{◌≡◌, ℕ, zero, suc, ◌+◌, ◌-◌, ◌*◌, ◌<◌, Bool, true, false, not, List, [], ◌∷◌, ◌++◌, length, map, take, Option, Some, None, is_some, nat_lt, cond, if◌then◌else◌}
+use Rattle.std.specs.List.{flat_map, filter, sum, sum_by, find, range_with_len}
+use Rattle.oc_bytes.specs.Outcome.{capped, capped32}
+use Rattle.path_tree.specs.Paths.{Bytes, PathNames, is_below, same_path, same_name}
+use Rattle.path_tree.specs.Trees.{Tree, content_at}
+use Rattle.module_packer.specs.Placement.{needed}
+
+-- an object's path, and its bytes where it is a file
+pub record Spot : Type 0 where
+  pub path : PathNames
+  pub content : Option Bytes
+
+-- how many folders other than the root lie above both of two files
+abbrev pub shared_folders : PathNames → PathNames → ℕ
+shared_folders (m ∷ m' ∷ ms) (n ∷ ns) = cond (same_name m n) (suc (shared_folders (m' ∷ ms) ns)) 0
+shared_folders _ _ = 0
+
+-- the folder of the first names of a path
+abbrev pub folder_of : PathNames → ℕ → Spot
+folder_of p names = record { path = take names p; content = None }
+
+-- the folders above a path, but for the root and for those that are shared with the file before it
+abbrev pub folders_after : PathNames → PathNames → List Spot
+folders_after before p = map (folder_of p) (range_with_len (shared_folders before p + 1) (length p - 1 - shared_folders before p))
+
+-- by path: before each file the folders above it that weren't above the file before it
+abbrev pub spots_after : PathNames → Tree → List Spot
+spots_after before [] = []
+spots_after before (e ∷ es) = folders_after before e.0 ++ record { path = e.0; content = Some e.1 } ∷ spots_after e.0 es
+
+abbrev pub gateway_spot : Spot
+gateway_spot = record { path = []; content = None }
+
+-- the gateway first
+abbrev pub spots_of : Tree → List Spot
+spots_of t = gateway_spot ∷ spots_after [] t
+
+-- the name of a path in the folder that lies right above it
+abbrev pub child_name : PathNames → PathNames → Option Bytes
+child_name [] (n ∷ []) = Some n
+child_name (m ∷ ms) (n ∷ ns) = cond (same_name m n) (child_name ms ns) None
+child_name _ _ = None
+
+-- what a binding takes beside the name
+abbrev pub binding_rest : Option Bytes → ℕ
+binding_rest (Some b) = 82
+binding_rest None = 74
+
+-- what an object's binding takes in a folder: nothing where it lies elsewhere
+abbrev pub binding_size : PathNames → Spot → ℕ
+binding_size p s = go (child_name p s.path) where
+  go : Option Bytes → ℕ
+  go (Some n) = length n + binding_rest s.content
+  go None = 0
+
+abbrev pub size_of : List Spot → Spot → ℕ
+size_of spots s = go s.content where
+  go : Option Bytes → ℕ
+  go (Some b) = 44 + length b
+  go None = 34 + sum_by (binding_size s.path) spots
+
+abbrev pub sizes_of : Tree → List ℕ
+sizes_of t = map (size_of (spots_of t)) (spots_of t)
+
+-- the first limit that the tree passes; a number stays at its type's greatest value
+pub data Passed : Type 0 where
+  Objects : ℕ → Passed
+  Folder : PathNames → Passed
+  Total : ℕ → Passed
+  Modules : ℕ → Passed
+
+abbrev pub is_large_folder : List Spot → Spot → Bool
+is_large_folder spots s = go s.content where
+  go : Option Bytes → Bool
+  go (Some b) = false
+  go None = nat_lt 1048576 (size_of spots s)
+
+abbrev pub or_else : Option Passed → Option Passed → Option Passed
+or_else (Some p) rest = Some p
+or_else None rest = rest
+
+abbrev pub large_folder : Option Spot → Option Passed
+large_folder (Some s) = Some (Folder s.path)
+large_folder None = None
+
+abbrev pub over : Bool → Passed → Option Passed
+over true p = Some p
+over false p = None
+
+-- the modules that a generation may have
+abbrev pub most_modules : ℕ
+most_modules = 139
+
+abbrev pub limit_of : Tree → Option Passed
+limit_of t =
+    or_else (over (nat_lt 8192 (length (spots_of t))) (Objects (capped32 (length (spots_of t)))))
+    (or_else (large_folder (find (is_large_folder (spots_of t)) (spots_of t)))
+    (or_else (over (nat_lt 268435456 (sum (sizes_of t))) (Total (capped (sum (sizes_of t)))))
+    (over (nat_lt most_modules (needed (sizes_of t))) (Modules (capped (needed (sizes_of t)))))))

@@ -1,0 +1,87 @@
+-- What a generation keeps, as one value.
+use Rattle.std.specs.Prelude.{◌≡◌, ◌≤◌, ◌<◌, ℕ, Bool, true, false, List, [], ◌∷◌, zero, suc, length, map, take, Option, Some, None, cond}
+use Rattle.std.specs.List.{All, zip}
+use Rattle.std.specs.Arc.{arc_value}
+use Rattle.path_tree.specs.Paths.{Bytes, PathNames}
+use Rattle.path_tree.specs.Trees.{Tree, IsTree}
+use Rattle.biop_object.specs.declared.written.FolderKind.{FolderKind}
+use Rattle.biop_object.specs.declared.written.FolderKind.TheVariants.{Directory, Gateway}
+use Rattle.generation.specs.Publication.{Spot as SpotFields, spots_of}
+use Rattle.generation.specs.Layouts.{GenerationState, Placed as PlacedState, lines_of, object_bytes, layout_of, greatest}
+use Rattle.generation.specs.declared.spots.Spot.{Spot}
+use Rattle.generation.specs.declared.objects.Placed.{Placed}
+use Rattle.generation.specs.declared.made.Listed.{Listed}
+use Rattle.generation.specs.declared.made.Generation.TheInside.{Inside}
+
+-- the path and the bytes of an entry by its number
+abbrev pub path_at : Tree → ℕ → PathNames
+path_at [] i = []
+path_at (e ∷ es) zero = e.0
+path_at (e ∷ es) (suc i) = path_at es i
+
+abbrev pub bytes_at : Tree → ℕ → Bytes
+bytes_at [] i = []
+bytes_at (e ∷ es) zero = e.1
+bytes_at (e ∷ es) (suc i) = bytes_at es i
+
+-- the path of the entry before
+abbrev pub before_of : Tree → ℕ → PathNames
+before_of t zero = []
+before_of t (suc i) = path_at t i
+
+-- an object's path is so many names of an entry's path, all of them where it is the file
+abbrev pub view_spot : Tree → Spot → SpotFields
+view_spot t s = record { path = take s.names (path_at t s.file); content = cond s.whole (Some (bytes_at t s.file)) None }
+
+pub record IsSpotIn (t : Tree) (s : Spot) : Type 0 where
+  pub names : s.names ≤ length (path_at t s.file)
+  pub whole : s.whole ≡ true → (s.file < length t) × (s.names ≡ length (path_at t s.file))
+
+-- these are the tree's objects in order
+pub record AreSpotsOf (t : Tree) (spots : List Spot) : Type 0 where
+  pub tree : IsTree t
+  pub each : map (view_spot t) spots ≡ spots_of t
+  pub valid : All (IsSpotIn t) spots
+
+abbrev pub view_placed : Tree → Placed → PlacedState
+view_placed t o = record { spot = view_spot t o.spot; key = o.key; module_id = o.module }
+
+abbrev pub view_listed : Listed → ℕ × Bytes
+view_listed l = (l.id, arc_value l.module)
+
+abbrev pub view_generation : Inside → GenerationState
+view_generation g = record {
+  carousel = g.carousel;
+  number = g.number;
+  tree = g.tree;
+  objects = map (view_placed g.tree) g.objects.items;
+  layout = map view_listed g.modules.items;
+  counts = g.counts.items;
+}
+
+-- what holds of what is kept: the lines are those of the layout, and numbers have room in their fields
+pub record IsMade (g : Inside) : Type 0 where
+  pub lines : g.lines.items ≡ lines_of (view_generation g)
+  pub number : g.number ≤ 16383
+  pub counts : All (λ c. c.1 ≤ g.number) g.counts.items
+  pub modules : length g.modules.items ≤ 139
+  pub sizes : All (λ m. length m.1 ≤ 268435456) (map view_listed g.modules.items)
+  pub spots : All (λ o. IsSpotIn g.tree o.spot) g.objects.items
+
+-- objects that have bytes: each lies in the tree, no folder is too large, and the modules have room in their fields
+pub record AreReady (carousel : ℕ) (t : Tree) (objects : List Placed) : Type 0 where
+  pub tree : IsTree t
+  pub spots : All (λ o. IsSpotIn t o.spot) objects
+  pub folders : All (λ o. o.spot.whole ≡ false → length (object_bytes carousel (map (view_placed t) objects) (view_placed t o)) ≤ 1048576) objects
+  pub numbers : greatest (map (λ o. o.module) objects) ≤ 139
+  pub modules : length (layout_of carousel (map (view_placed t) objects)) ≤ 139
+  pub sizes : All (λ m. length m.1 ≤ 268435456) (layout_of carousel (map (view_placed t) objects))
+
+-- the gateway is the folder of no names
+abbrev pub kind_in : ℕ → FolderKind
+kind_in zero = Gateway
+kind_in (suc n) = Directory
+
+-- objects with their keys and modules
+abbrev pub placed_from : List Spot → List ℕ → List ℕ → List Placed
+placed_from spots keys ms = map (λ x. record { spot = x.0.0; key = x.0.1; «module» = x.1 }) (zip (zip spots keys) ms)

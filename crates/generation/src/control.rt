@@ -1,0 +1,213 @@
+//! The sections of a generation's items.
+ghost use Rattle.std.specs.Prelude.{◌≡◌, ◌≤◌, ◌<◌, ◌+◌, ◌%◌, List, ℕ, [], length, map, IfOk};
+ghost use Rattle.std.specs.List.{All};
+ghost use Rattle.std.specs.Option.{unwrap_or};
+ghost use Rattle.biop_object.specs.Names.{module_in};
+ghost use Rattle.generation.specs.Layouts.{dii_lines, control_section, block_section as section_of_block, gateway_location, count_in};
+ghost use Rattle.generation.specs.View.{view_listed};
+ghost use Rattle.biop_object.specs.Objects.{gateway_kind};
+ghost use Rattle.dsmcc_section.specs.Sections.{spelling, view as view_section};
+ghost use Rattle.ior_tap.specs.Iors.{view, written};
+ghost use Rattle.ddb_block.specs.Blocks.{block_of};
+ghost use Rattle.dsi_dii.specs.Controls.{dsi_spelling, dii_spelling, dii_transaction, DiiFields};
+ghost use Rattle.dsi_dii.specs.declared.ModuleLine.{ModuleLine};
+
+use crate::made::{Listed, count_in as count_of, find_module};
+use ddb_block::{Ddb, block_count};
+use dsi_dii::{Dii, DiiFault, Dsi, ModuleLine, TransactionId, encode_dii, encode_dsi};
+use dsmcc_section::{EncodeFault, Section, Table};
+use ior_tap::{Binder, Ior, Key, Location, Profile, Tap};
+use oc_bytes::NoMemory;
+use std::alloc::{AllocError, Global};
+
+/// The section of the DSI: it names the gateway, which is the object of key 1 in module 1.
+pub(crate) fn dsi_section(alloc: Global, carousel: u32) -> Result<Vec<u8>, NoMemory>
+    ensures { IfOk result (λ v. v.items ≡ spelling (control_section 0 (dsi_spelling 0x80000000 gateway_kind (gateway_location carousel)))) }
+{
+    let dsi = Dsi {
+        transaction: TransactionId::dsi(),
+        gateway: gateway(alloc, carousel)?,
+    };
+    let payload = encode_dsi(alloc, &dsi)?;
+    control(alloc, 0, payload)
+}
+
+/// The reference to the gateway.
+fn gateway(alloc: Global, carousel: u32) -> Result<Ior, NoMemory>
+    ensures { IfOk result (λ ior. view ior ≡ written gateway_kind (gateway_location carousel)) }
+{
+    let key = Key::new(vec![in alloc; 0, 0, 0, 1]?);
+    let selector = vec![in alloc; 0, 1, 0x80, 0, 0, 2, 0xFF, 0xFF, 0xFF, 0xFF]?;
+    let tap = Tap {
+        id: 0,
+        use_code: 0x0016,
+        assoc: 1,
+        selector,
+    };
+    let location = Location {
+        carousel,
+        module: 1,
+        key,
+    };
+    let taps = vec![in alloc; tap]?;
+    let profiles = vec![in alloc; Profile::Biop(location, Binder { taps })]?;
+    Ok(Ior {
+        kind: *b"srg\0",
+        profiles,
+    })
+}
+
+/// The section of the DII: it lists each module with its size and its version.
+pub(crate) fn dii_section(
+    alloc: Global,
+    carousel: u32,
+    number: u64,
+    modules: &[Listed],
+    counts: &[(u16, u64)],
+) -> Result<Vec<u8>, NoMemory>
+    requires number { number ≤ 16383 }
+    requires modules { length modules.now ≤ 139 }
+    requires sizes { All (λ m. length m.1 ≤ 268435456) (map view_listed modules.now) }
+    ensures { IfOk result (λ v. v.items ≡ spelling (control_section (dii_transaction number % 65536) (dii_spelling (record { download = carousel; block_size = 4066; transaction = dii_transaction number; modules = dii_lines counts.now (map view_listed modules.now) })))) }
+{
+    let transaction = TransactionId::dii(number);
+    let extension = (transaction.0 % 65536) as u16;
+    let dii = Dii {
+        download: carousel,
+        block_size: 4066,
+        transaction,
+        modules: module_lines(alloc, modules, counts)?,
+    };
+    match encode_dii(alloc, &dii) {
+        Ok(payload) => control(alloc, extension, payload),
+        Err(DiiFault::NoMemory) => Err(AllocError),
+        Err(DiiFault::TooMany) => unreachable!(),
+    }
+}
+
+fn module_lines(
+    alloc: Global,
+    modules: &[Listed],
+    counts: &[(u16, u64)],
+) -> Result<Vec<ModuleLine>, NoMemory>
+    requires { All (λ m. length m.1 ≤ 268435456) (map view_listed modules.now) }
+    ensures { IfOk result (λ v. v.items ≡ dii_lines counts.now (map view_listed modules.now)) }
+{
+    let mut lines = Vec::new(alloc);
+    for listed in modules {
+        lines.push(ModuleLine {
+            id: listed.id,
+            size: listed.module.bytes().len() as u32,
+            version: (count_of(counts, listed.id) % 256) as u8,
+            compressed: false,
+        })?;
+    }
+    Ok(lines)
+}
+
+/// A section of a control message.
+fn control(alloc: Global, extension: u16, payload: Vec<u8>) -> Result<Vec<u8>, NoMemory>
+    requires { length payload.items ≤ 4084 }
+    ensures { IfOk result (λ v. v.items ≡ spelling (control_section extension payload.items)) }
+{
+    section(
+        alloc,
+        &Section {
+            table: Table::Control,
+            extension,
+            version: 0,
+            number: 0,
+            last: 0,
+            payload,
+        },
+    )
+}
+
+fn section(alloc: Global, section: &Section) -> Result<Vec<u8>, NoMemory>
+    requires version { section.now.version < 32 }
+    requires room { length section.now.payload.items ≤ 4084 }
+    ensures { IfOk result (λ v. v.items ≡ spelling (view_section section.now)) }
+{
+    match dsmcc_section::encode(alloc, section) {
+        Ok(bytes) => Ok(bytes),
+        Err(EncodeFault::NoMemory) => Err(AllocError),
+        Err(EncodeFault::TooLong) => unreachable!(),
+    }
+}
+
+/// The section of a block of a listed module.
+pub(crate) fn block_of_module(
+    alloc: Global,
+    carousel: u32,
+    modules: &[Listed],
+    counts: &[(u16, u64)],
+    id: u16,
+    block: u16,
+) -> Result<Vec<u8>, NoMemory>
+    requires { All (λ m. length m.1 ≤ 268435456) (map view_listed modules.now) }
+    ensures { IfOk result (λ v. v.items ≡ spelling (section_of_block carousel id (count_in counts.now id % 256) block (unwrap_or (module_in (map view_listed modules.now) id) []))) }
+{
+    let version = (count_of(counts, id) % 256) as u8;
+    block_section(alloc, carousel, id, version, block, bytes_of(modules, id))
+}
+
+/// The bytes of the module of an id, or none where it isn't listed.
+fn bytes_of(modules: &[Listed], id: u16) -> &[u8]
+    ensures { result.now ≡ unwrap_or (module_in (map view_listed modules.now) id) [] }
+{
+    match find_module(modules, id) {
+        Some(module) => module.bytes(),
+        None => &[],
+    }
+}
+
+/// The section of a block of a module's bytes.
+fn block_section(
+    alloc: Global,
+    carousel: u32,
+    id: u16,
+    version: u8,
+    block: u16,
+    bytes: &[u8],
+) -> Result<Vec<u8>, NoMemory>
+    requires { length bytes.now ≤ 268435456 }
+    ensures { IfOk result (λ v. v.items ≡ spelling (section_of_block carousel id version block bytes.now)) }
+{
+    let ddb = Ddb {
+        download: carousel,
+        module: id,
+        version,
+        block,
+        bytes: block_bytes(alloc, bytes, block)?,
+    };
+    let payload = ddb_block::encode(alloc, &ddb)?;
+    let blocks = block_count(bytes.len() as u32, 4066);
+    section(
+        alloc,
+        &Section {
+            table: Table::Blocks,
+            extension: id,
+            version: version % 32,
+            number: (block % 256) as u8,
+            last: blocks.saturating_sub(1).min(255) as u8,
+            payload,
+        },
+    )
+}
+
+/// The bytes of a block: 4,066, or what is left.
+fn block_bytes(alloc: Global, bytes: &[u8], block: u16) -> Result<Vec<u8>, NoMemory>
+    requires { length bytes.now ≤ 268435456 }
+    ensures block { IfOk result (λ v. v.items ≡ block_of bytes.now 4066 block) }
+    ensures short { IfOk result (λ v. length v.items ≤ 4066) }
+{
+    let first = (usize::from(block) * 4066).min(bytes.len());
+    let end = (first + 4066).min(bytes.len());
+    copied(alloc, &bytes[first..end])
+}
+
+fn copied(alloc: Global, bytes: &[u8]) -> Result<Vec<u8>, NoMemory>
+    ensures { IfOk result (λ v. v.items ≡ bytes.now) }
+{
+    bytes.to_vec(alloc)
+}

@@ -1,0 +1,27 @@
+//! What holds of every list of trees and layouts, as functions that do nothing.
+ghost use Rattle.std.specs.Prelude.{List};
+ghost use Rattle.biop_object.specs.Names.{Layout};
+ghost use Rattle.generation.specs.Kept.{GenerationsAreOfTheLists, LayoutsAreLawful};
+ghost use Rattle.generation.specs.Lawful.{EqualVersionsMeanEqualBytes};
+
+/// The layouts of a list of trees that can be published are lawful for these trees, generation 0 having the empty tree:
+/// in each of them every path names, from the gateway on, just what stands there in the tree, each module reads to its
+/// end, every binding leads into a listed module, and the limits of this project hold. It stands on two laws of the
+/// crates below: spellings are read back as their objects, and a fresh placement within the limit is a placement.
+pub fn layouts_are_lawful()
+    ensures { LayoutsAreLawful }
+{
+    biop_object::spellings_read_back();
+    module_packer::fresh_is_a_placement();
+}
+
+/// A generation has the number, the tree, the layout, the counts and the sections that the lists of trees and layouts give.
+pub fn generations_are_of_the_lists()
+    ensures { GenerationsAreOfTheLists }
+{}
+
+/// Over every list of layouts: two generations fewer than 256 apart that list a module with the same version list it with
+/// the same bytes.
+pub fn equal_versions_mean_equal_bytes()
+    ensures { (layouts : List Layout) → EqualVersionsMeanEqualBytes layouts }
+{}

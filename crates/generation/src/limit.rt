@@ -1,0 +1,164 @@
+//! The sizes of objects, and the limits of a generation.
+ghost use Rattle.std.specs.Prelude.{◌≡◌, ◌≤◌, ◌<◌, ◌+◌, ◌^◌, List, ℕ, None, Some, Option, length, map, sum, IfOk, Ok, Err};
+ghost use Rattle.std.specs.List.{All, sum_by, find};
+ghost use Rattle.oc_bytes.specs.Outcome.{Gives};
+ghost use Rattle.generation.specs.Limits.{check_of, limit_cause, unless_passed};
+ghost use Rattle.generation.specs.Publication.{Spot as SpotFields, spots_of, size_of as size_in, sizes_of, is_large_folder, large_folder, binding_size as binding_in, binding_rest as rest_of};
+ghost use Rattle.path_tree.specs.Trees.{Tree, IsTree};
+ghost use Rattle.generation.specs.View.{view_spot, IsSpotIn, AreSpotsOf};
+
+use crate::spots::{Spot, child_name, content_of, path_of, spots};
+use module_packer::need;
+use oc_bytes::NoMemory;
+use path_tree::{Path, Tree};
+use std::alloc::{AllocError, Global};
+
+/// The first limit that a tree passes. These limits are this project's own.
+#[derive(Drop)]
+pub enum Limit {
+    /// More than 8,192 objects (the gateway, folders and files): how many, or the greatest `u32`.
+    TooManyObjects(u32),
+    /// A folder whose object has more than 1,048,576 bytes: the first such folder in the order of objects.
+    FolderTooLarge(Path),
+    /// More than 268,435,456 bytes in all objects: how many.
+    TooManyBytes(u64),
+    /// More than 139 modules: how many the fresh placement takes.
+    TooManyModules(usize),
+    /// Want of memory.
+    NoMemory,
+}
+
+impl From<AllocError> for Limit {
+    ghost use Rattle.generation.specs.declared.limit.Limit.TheVariants.{NoMemory};
+
+    ghost from_gives = { λ _ l. l ≡ NoMemory };
+
+    fn from(_: AllocError) -> Limit {
+        Limit::NoMemory
+    }
+}
+
+/// Whether a tree can be a generation, or the first limit that it passes, in the order in which `Limit` lists them.
+pub fn check(alloc: Global, tree: &Tree) -> Result<(), Limit>
+    ensures { Gives (λ _. 0) limit_cause result (check_of tree.now) }
+{
+    let spots = spots(alloc, tree)?;
+    if spots.len() > 8192 {
+        return Err(Limit::TooManyObjects(u32::try_from(spots.len()).unwrap_or(u32::MAX)));
+    }
+    let sizes = sizes(alloc, tree, &spots)?;
+    check_folders(tree, &spots, &sizes)?;
+    let total = total(&sizes);
+    if total > 268_435_456 {
+        return Err(Limit::TooManyBytes(total));
+    }
+    let modules = need(&sizes);
+    if modules > 139 {
+        return Err(Limit::TooManyModules(modules));
+    }
+    Ok(())
+}
+
+/// Refuses the first folder that is too large.
+fn check_folders(tree: &Tree, spots: &[Spot], sizes: &[u32]) -> Result<(), Limit>
+    requires spots { AreSpotsOf tree.now spots.now }
+    requires sizes { sizes.now ≡ map (size_in (map (view_spot tree.now) spots.now)) (map (view_spot tree.now) spots.now) }
+    ensures { Gives (λ _. 0) limit_cause result (unless_passed (large_folder (find (is_large_folder (map (view_spot tree.now) spots.now)) (map (view_spot tree.now) spots.now)))) }
+{
+    for (index, size) in sizes.iter().enumerate() {
+        let spot = spots[index];
+        if is_large(spot, *size) {
+            let path = front_of(tree, spot)?;
+            return Err(Limit::FolderTooLarge(path));
+        }
+    }
+    Ok(())
+}
+
+/// Whether an object of a size is a folder that is too large.
+fn is_large(spot: Spot, size: u32) -> bool
+    ensures { (t : Tree) (spots : List SpotFields) → size ≡ size_in spots (view_spot t spot) → result ≡ is_large_folder spots (view_spot t spot) }
+{
+    !spot.whole && size > 1_048_576
+}
+
+/// The path of an object. That of the gateway is the front of any file's path.
+fn front_of(tree: &Tree, spot: Spot) -> Result<Path, NoMemory>
+    requires some { 0 < length tree.now }
+    requires valid { IsSpotIn tree.now spot }
+    ensures { IfOk result (λ p. p ≡ (view_spot tree.now spot).path) }
+{
+    let file = if spot.names == 0 { 0 } else { spot.file };
+    path_of(tree, file).above(spot.names)
+}
+
+/// The sizes of a tree's objects, in their order.
+pub(crate) fn sizes(alloc: Global, tree: &Tree, spots: &[Spot]) -> Result<Vec<u32>, NoMemory>
+    requires spots { AreSpotsOf tree.now spots.now }
+    requires few { length spots.now ≤ 8192 }
+    ensures { IfOk result (λ v. v.items ≡ map (size_in (map (view_spot tree.now) spots.now)) (map (view_spot tree.now) spots.now)) }
+{
+    let mut sizes = Vec::new(alloc);
+    for spot in spots {
+        sizes.push(size_of(tree, spots, *spot))?;
+    }
+    Ok(sizes)
+}
+
+/// How many bytes an object has.
+fn size_of(tree: &Tree, spots: &[Spot], spot: Spot) -> u32
+    requires tree { IsTree tree.now }
+    requires spots { All (IsSpotIn tree.now) spots.now }
+    requires spot { IsSpotIn tree.now spot }
+    requires few { length spots.now ≤ 8192 }
+    ensures { result ≡ size_in (map (view_spot tree.now) spots.now) (view_spot tree.now spot) }
+{
+    if spot.whole {
+        44 + content_of(tree, spot.file).len() as u32
+    } else {
+        folder_size(tree, spots, spot)
+    }
+}
+
+fn folder_size(tree: &Tree, spots: &[Spot], folder: Spot) -> u32
+    requires tree { IsTree tree.now }
+    requires spots { All (IsSpotIn tree.now) spots.now }
+    requires folder { IsSpotIn tree.now folder }
+    requires few { length spots.now ≤ 8192 }
+    ensures { result ≡ 34 + sum_by (binding_in (view_spot tree.now folder).path) (map (view_spot tree.now) spots.now) }
+{
+    let mut size = 34;
+    for spot in spots {
+        size += binding_size(tree, folder, *spot);
+    }
+    size
+}
+
+/// What an object's binding takes in a folder: nothing where the object doesn't lie right in it.
+fn binding_size(tree: &Tree, folder: Spot, spot: Spot) -> u32
+    requires tree { IsTree tree.now }
+    requires folder { IsSpotIn tree.now folder }
+    requires spot { IsSpotIn tree.now spot }
+    ensures size { result ≡ binding_in (view_spot tree.now folder).path (view_spot tree.now spot) }
+    ensures small { result ≤ 336 }
+{
+    match child_name(tree, folder, spot) {
+        None => 0,
+        Some(name) => name.len() as u32 + binding_rest(spot),
+    }
+}
+
+/// What a binding takes beside the name.
+fn binding_rest(spot: Spot) -> u32
+    ensures rest { (t : Tree) → result ≡ rest_of (view_spot t spot).content }
+    ensures small { result ≤ 82 }
+{
+    if spot.whole { 82 } else { 74 }
+}
+
+fn total(sizes: &[u32]) -> u64
+    requires { length sizes.now ≤ 8192 }
+    ensures { result ≡ sum sizes.now }
+{
+    sizes.iter().map(|size| u64::from(*size)).sum()
+}

@@ -1,0 +1,365 @@
+ghost use Rattle.std.specs.Prelude.{◌≡◌, ◌≢◌, ◌==◌, ◌<◌, ◌≤◌, ◌+◌, ◌++◌, ◌∷◌, [], List, ℕ, None, Some, map, length, slice_get, IfOk, MatchOption};
+ghost use Rattle.std.specs.List.{All, Contains, filter, list_any};
+ghost use Rattle.std.specs.Arc.{arc_value};
+ghost use Rattle.std.specs.Option.{option_map};
+ghost use Rattle.path_tree.specs.Trees.{Tree};
+ghost use Rattle.biop_object.specs.Names.{Layout, module_in};
+ghost use Rattle.generation.specs.Layouts.{GenerationState, first_of, next_of, generation_of, lines_of, lines_in, items_of, section_of, count_in as count_at, count_after as count_next, counts_after, same_module, layout_of, listed, greatest, placed_all, keys_of};
+ghost use Rattle.generation.specs.Kept.{StandsFor, layouts_of};
+ghost use Rattle.generation.specs.Publication.{limit_of, spots_of, sizes_of};
+ghost use Rattle.module_packer.specs.Placement.{fresh};
+ghost use Rattle.generation.specs.View.{view_listed, view_placed, AreReady, IsSpotIn};
+
+use crate::control::{block_of_module, dii_section, dsi_section};
+use crate::keys::keys;
+use crate::limit::sizes;
+use crate::objects::{Placed, module_bytes, place_all};
+use crate::spots::{Spot, is_equal, spots};
+use biop_object::Module;
+use cycle_planner::Item;
+use ddb_block::block_count;
+use module_packer::place_fresh;
+use oc_bytes::NoMemory;
+use path_tree::Tree;
+use std::alloc::Global;
+use std::marker::Model;
+use std::sync::Arc;
+
+/// A module under its id.
+#[derive(Drop)]
+pub(crate) struct Listed {
+    pub(crate) id: u16,
+    pub(crate) module: Arc<Module>,
+}
+
+/// One published tree: its objects in modules, and what is sent of them.
+///
+/// A generation is seen by contracts as its carousel, number, tree, objects, layout (module ids with the bytes of each,
+/// by rising id) and counts. Each later generation is made of the one before by `next`.
+#[derive(Drop)]
+pub struct Generation {
+    alloc: Global,
+    carousel: u32,
+    number: u64,
+    tree: Tree,
+    objects: Vec<Placed>,
+    modules: Vec<Listed>,
+    lines: Vec<(u16, u32)>,
+    counts: Vec<(u16, u64)>,
+}
+
+impl Model for Generation {
+    ghost use Rattle.generation.specs.Layouts.{GenerationState};
+
+    ghost Value = { GenerationState };
+
+    ghost use Rattle.generation.specs.View.{view_generation, IsMade};
+
+    ghost view = { view_generation };
+
+    ghost invariant = { IsMade };
+}
+
+impl Generation {
+    /// Generation 0 of a carousel, with the empty tree: the gateway alone, in module 1, and no module counted yet.
+    ///
+    /// `carousel` is the carousel's id, any 32-bit number. The only refusal is want of memory.
+    pub fn first(alloc: Global, carousel: u32) -> Result<Generation, NoMemory>
+        ensures first { IfOk result (λ g. g ≡ first_of carousel) }
+        ensures stands { IfOk result (λ g. StandsFor g []) }
+    {
+        let tree = Tree::empty(alloc);
+        let gateway = Placed {
+            spot: Spot {
+                file: 0,
+                names: 0,
+                whole: false,
+            },
+            key: 1,
+            module: 1,
+        };
+        let objects = objects_after(alloc, &[gateway], &tree, &tree)?;
+        let modules = modules_of(alloc, carousel, &tree, &objects, &[])?;
+        let lines = lines_of_modules(alloc, &modules)?;
+        Ok(Generation {
+            alloc,
+            carousel,
+            number: 0,
+            tree,
+            objects,
+            modules,
+            lines,
+            counts: Vec::new(alloc),
+        })
+    }
+
+    /// The generation after this one, with another tree.
+    ///
+    /// An object whose path and kind are in this generation keeps its key. A module whose bytes are as before is shared
+    /// with this generation. The tree has to pass `check`, and this generation's number has to be below 16,383. The
+    /// only refusal is want of memory.
+    pub fn next(&self, tree: Tree) -> Result<Generation, NoMemory>
+        requires tree { limit_of tree ≡ None }
+        requires number { self.now.number < 16383 }
+        ensures stands { IfOk result (λ g. (trees : List Tree) → StandsFor self.now trees → StandsFor g (trees ++ tree ∷ [])) }
+        ensures exact { IfOk result (λ g. g ≡ next_of self.now tree) }
+    {
+        let objects = objects_after(self.alloc, &self.objects, &self.tree, &tree)?;
+        let modules = modules_of(self.alloc, self.carousel, &tree, &objects, &self.modules)?;
+        let counts = counts_next(self.alloc, &self.modules, &modules, &self.counts)?;
+        let lines = lines_of_modules(self.alloc, &modules)?;
+        Ok(Generation {
+            alloc: self.alloc,
+            carousel: self.carousel,
+            number: self.number + 1,
+            tree,
+            objects,
+            modules,
+            lines,
+            counts,
+        })
+    }
+
+    /// The generation's number, from 0 to 16,383.
+    pub fn number(&self) -> u64
+        ensures { result ≡ self.now.number }
+    {
+        self.number
+    }
+
+    /// The tree that the generation publishes.
+    pub fn tree(&self) -> &Tree
+        ensures { result.now ≡ self.now.tree }
+    {
+        &self.tree
+    }
+
+    /// The modules' ids, from 1 to 139 and rising, each with its number of blocks of 4,066 bytes.
+    pub fn lines(&self) -> &[(u16, u32)]
+        ensures { result.now ≡ lines_of self.now }
+    {
+        &self.lines
+    }
+
+    /// The module of an id, or none where the generation doesn't list the id.
+    pub fn module(&self, id: u16) -> Option<&Arc<Module>>
+        ensures { option_map (λ a. arc_value a.now) result ≡ module_in self.now.layout id }
+    {
+        find_module(&self.modules, id)
+    }
+
+    /// How often the module of an id was new or had other bytes, up to this generation. The module's version in the DII
+    /// is this count modulo 256.
+    pub fn count(&self, id: u16) -> u64
+        ensures { result ≡ count_at self.now.counts id }
+    {
+        count_in(&self.counts, id)
+    }
+
+    /// The section of one of the generation's items: the DSI, the DII, or a block of a listed module whose number is
+    /// below the module's number of blocks. The only refusal is want of memory.
+    pub fn section(&self, item: Item) -> Result<Vec<u8>, NoMemory>
+        requires { Contains (items_of self.now) item }
+        ensures { IfOk result (λ bytes. bytes.items ≡ section_of self.now item) }
+    {
+        match item {
+            Item::Dsi => dsi_section(self.alloc, self.carousel),
+            Item::Dii => dii_section(
+                self.alloc,
+                self.carousel,
+                self.number,
+                &self.modules,
+                &self.counts,
+            ),
+            Item::Block(id, block) => block_of_module(
+                self.alloc,
+                self.carousel,
+                &self.modules,
+                &self.counts,
+                id,
+                block,
+            ),
+        }
+    }
+}
+
+/// The objects of a tree, with their keys after those of another tree, and with their modules.
+fn objects_after(
+    alloc: Global,
+    old: &[Placed],
+    old_tree: &Tree,
+    tree: &Tree,
+) -> Result<Vec<Placed>, NoMemory>
+    requires tree { limit_of tree.now ≡ None }
+    requires old { All (λ o. IsSpotIn old_tree.now o.spot) old.now }
+    ensures objects { IfOk result (λ v. map (view_placed tree.now) v.items
+        ≡ placed_all (spots_of tree.now) (keys_of (map (view_placed old_tree.now) old.now) (spots_of tree.now)) (fresh (sizes_of tree.now))) }
+    ensures ready { IfOk result (λ v. (carousel : ℕ) → AreReady carousel tree.now v.items) }
+{
+    let spots = spots(alloc, tree)?;
+    let sizes = sizes(alloc, tree, &spots)?;
+    let modules = place_fresh(alloc, &sizes)?;
+    let keys = keys(alloc, old, old_tree, &spots, tree)?;
+    place_all(alloc, &spots, &keys, &modules)
+}
+
+/// The modules of objects, each shared with the one of its id before where that has the same bytes.
+fn modules_of(
+    alloc: Global,
+    carousel: u32,
+    tree: &Tree,
+    objects: &[Placed],
+    before: &[Listed],
+) -> Result<Vec<Listed>, NoMemory>
+    requires { AreReady carousel tree.now objects.now }
+    ensures { IfOk result (λ v. map view_listed v.items ≡ layout_of carousel (map (view_placed tree.now) objects.now)) }
+{
+    let mut modules = Vec::new(alloc);
+    for id in 1..last_module(objects) + 1 {
+        if let Some(listed) = listed_at(alloc, carousel, tree, objects, before, id)? {
+            modules.push(listed)?;
+        }
+    }
+    Ok(modules)
+}
+
+/// The greatest id of a module in which an object lies.
+fn last_module(objects: &[Placed]) -> u16
+    ensures { result ≡ greatest (map (λ o. o.module) objects.now) }
+{
+    let mut last = 0;
+    for object in objects {
+        last = object.module.max(last);
+    }
+    last
+}
+
+/// Whether an object lies in the module.
+fn is_used(objects: &[Placed], id: u16) -> bool
+    ensures { result ≡ list_any (λ o. o.module == id) objects.now }
+{
+    objects.iter().any(|object| object.module == id)
+}
+
+/// The module of an id, where an object lies in it.
+fn listed_at(
+    alloc: Global,
+    carousel: u32,
+    tree: &Tree,
+    objects: &[Placed],
+    before: &[Listed],
+    id: u16,
+) -> Result<Option<Listed>, NoMemory>
+    requires { AreReady carousel tree.now objects.now }
+    ensures { IfOk result (λ l. option_map view_listed l ≡ listed carousel (map (view_placed tree.now) objects.now) id) }
+{
+    if !is_used(objects, id) {
+        return Ok(None);
+    }
+    let bytes = module_bytes(alloc, carousel, tree, objects, id)?;
+    let module = module_after(alloc, before, id, bytes)?;
+    Ok(Some(Listed { id, module }))
+}
+
+/// The module of these bytes: the one before, where it has them, and else a new one.
+fn module_after(
+    alloc: Global,
+    before: &[Listed],
+    id: u16,
+    bytes: Vec<u8>,
+) -> Result<Arc<Module>, NoMemory>
+    ensures { IfOk result (λ m. arc_value m ≡ bytes.items) }
+{
+    if let Some(module) = find_module(before, id) {
+        if module.bytes() == bytes.as_slice() {
+            return Arc::try_clone(module);
+        }
+    }
+    match Module::read(alloc, bytes) {
+        Ok(module) => Ok(Arc::new(alloc, module)?),
+        Err((fault, _)) => Err(fault),
+    }
+}
+
+/// The module of an id among these.
+pub(crate) fn find_module(modules: &[Listed], id: u16) -> Option<&Arc<Module>>
+    ensures { option_map (λ a. arc_value a.now) result ≡ module_in (map view_listed modules.now) id }
+{
+    for listed in modules {
+        if listed.id == id {
+            return Some(&listed.module);
+        }
+    }
+    None
+}
+
+/// How often each module has changed: of the listed ones, and then of those that aren't listed any more.
+fn counts_next(
+    alloc: Global,
+    before: &[Listed],
+    modules: &[Listed],
+    counts: &[(u16, u64)],
+) -> Result<Vec<(u16, u64)>, NoMemory>
+    requires { All (λ c. c.1 < 16383) counts.now }
+    ensures { IfOk result (λ v. v.items ≡ counts_after (map view_listed before.now) (map view_listed modules.now) counts.now) }
+{
+    let mut after = Vec::new(alloc);
+    for listed in modules {
+        after.push((listed.id, count_after(before, listed, counts)))?;
+    }
+    for count in counts {
+        if find_module(modules, count.0).is_none() {
+            after.push(*count)?;
+        }
+    }
+    Ok(after)
+}
+
+/// How often a listed module has changed: once more where it is new or has other bytes.
+fn count_after(before: &[Listed], listed: &Listed, counts: &[(u16, u64)]) -> u64
+    requires { All (λ c. c.1 < 16383) counts.now }
+    ensures { (listed.now.id, result) ≡ count_next (map view_listed before.now) counts.now (view_listed listed.now) }
+{
+    let count = count_in(counts, listed.id);
+    if is_as_before(before, listed) {
+        count
+    } else {
+        count + 1
+    }
+}
+
+/// Whether a module was listed before with the same bytes.
+fn is_as_before(before: &[Listed], listed: &Listed) -> bool
+    ensures { result ≡ same_module (module_in (map view_listed before.now) listed.now.id) (Some (view_listed listed.now).1) }
+{
+    match find_module(before, listed.id) {
+        Some(module) => is_equal(module.bytes(), listed.module.bytes()),
+        None => false,
+    }
+}
+
+pub(crate) fn count_in(counts: &[(u16, u64)], id: u16) -> u64
+    ensures { result ≡ count_at counts.now id }
+{
+    for (module, count) in counts {
+        if *module == id {
+            return *count;
+        }
+    }
+    0
+}
+
+/// Each module with its number of blocks.
+fn lines_of_modules(alloc: Global, modules: &[Listed]) -> Result<Vec<(u16, u32)>, NoMemory>
+    requires { All (λ m. length m.1 ≤ 268435456) (map view_listed modules.now) }
+    ensures { IfOk result (λ v. v.items ≡ lines_in (map view_listed modules.now)) }
+{
+    let mut lines = Vec::new(alloc);
+    for listed in modules {
+        lines.push((
+            listed.id,
+            block_count(listed.module.bytes().len() as u32, 4066),
+        ))?;
+    }
+    Ok(lines)
+}

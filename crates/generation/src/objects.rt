@@ -1,0 +1,210 @@
+//! The objects with their keys and modules, and their bytes.
+ghost use Rattle.std.specs.Prelude.{◌≡◌, ◌≤◌, ◌<◌, ◌+◌, ◌∷◌, ◌++◌, List, ℕ, [], None, Some, Option, length, map, IfOk, IfSome, OnOk, false};
+ghost use Rattle.std.specs.List.{All};
+ghost use Rattle.std.specs.Option.{option_map};
+ghost use Rattle.path_tree.specs.Trees.{IsTree};
+ghost use Rattle.generation.specs.Publication.{size_of as size_in, spots_of, sizes_of};
+ghost use Rattle.generation.specs.Layouts.{placed_all, location_of, written_in, entries_of, object_bytes as bytes_of, module_bytes as bytes_in, is_in, key_bytes, bound_of};
+ghost use Rattle.generation.specs.View.{view_spot, view_placed, IsSpotIn, placed_from, AreReady, kind_in};
+ghost use Rattle.biop_object.specs.Objects.{folder_spelling, IsEntry};
+
+use crate::spots::{Spot, child_name, content_of};
+use biop_object::{Bound, FolderKind, ObjectFault, Written, encode_file, encode_folder};
+use ior_tap::{Key, Location};
+use oc_bytes::NoMemory;
+use path_tree::{Name, Tree};
+use std::alloc::{AllocError, Global};
+
+/// An object with its key and the module that it lies in.
+#[derive(Clone, Copy, Debug, PartialEq, Eq)]
+pub(crate) struct Placed {
+    pub(crate) spot: Spot,
+    pub(crate) key: u32,
+    pub(crate) module: u16,
+}
+
+/// Puts each object together with its key and its module.
+pub(crate) fn place_all(
+    alloc: Global,
+    spots: &[Spot],
+    keys: &[u32],
+    modules: &[u16],
+) -> Result<Vec<Placed>, NoMemory>
+    ensures { IfOk result (λ v. v.items ≡ placed_from spots.now keys.now modules.now) }
+{
+    spots
+        .iter()
+        .zip(keys)
+        .zip(modules)
+        .map(|((spot, key), module)| Placed {
+            spot: *spot,
+            key: *key,
+            module: *module,
+        })
+        .collect(alloc)
+}
+
+/// The four bytes of a key.
+fn key_of(alloc: Global, key: u32) -> Result<Key, NoMemory>
+    ensures bytes { IfOk result (λ k. k ≡ key_bytes key) }
+    ensures four { IfOk result (λ k. length k ≡ 4) }
+{
+    let bytes = key.to_be_bytes().to_vec(alloc)?;
+    Ok(Key::new(bytes))
+}
+
+/// The bindings of a folder: the objects that lie right in it.
+fn entries(
+    alloc: Global,
+    carousel: u32,
+    tree: &Tree,
+    objects: &[Placed],
+    folder: Spot,
+) -> Result<Vec<Written>, NoMemory>
+    requires tree { IsTree tree.now }
+    requires objects { All (λ o. IsSpotIn tree.now o.spot) objects.now }
+    requires folder { IsSpotIn tree.now folder }
+    ensures valid { IfOk result (λ v. All IsEntry v.items) }
+    ensures entries { IfOk result (λ v. v.items ≡ entries_of carousel (map (view_placed tree.now) objects.now) (view_spot tree.now folder).path) }
+{
+    let mut entries = Vec::new(alloc);
+    for object in objects {
+        if let Some(entry) = entry(alloc, carousel, tree, folder, *object)? {
+            entries.push(entry)?;
+        }
+    }
+    Ok(entries)
+}
+
+/// The binding of an object in a folder, where it lies right in it.
+fn entry(
+    alloc: Global,
+    carousel: u32,
+    tree: &Tree,
+    folder: Spot,
+    object: Placed,
+) -> Result<Option<Written>, NoMemory>
+    requires tree { IsTree tree.now }
+    requires folder { IsSpotIn tree.now folder }
+    requires object { IsSpotIn tree.now object.spot }
+    ensures valid { IfOk result (λ w. IfSome w IsEntry) }
+    ensures entry { IfOk result (λ w. w ≡ written_in carousel (view_spot tree.now folder).path (view_placed tree.now object)) }
+{
+    match child_name(tree, folder, object.spot) {
+        Some(name) => Ok(Some(written(alloc, carousel, tree, object, name)?)),
+        None => Ok(None),
+    }
+}
+
+/// The binding of an object under a name.
+fn written(
+    alloc: Global,
+    carousel: u32,
+    tree: &Tree,
+    object: Placed,
+    name: &[u8],
+) -> Result<Written, NoMemory>
+    requires tree { IsTree tree.now }
+    requires object { IsSpotIn tree.now object.spot }
+    requires name { (1 ≤ length name.now) × (length name.now ≤ 254) }
+    ensures valid { IfOk result IsEntry }
+    ensures written { IfOk result (λ w. w ≡ record { name = name.now; bound = bound_of (view_spot tree.now object.spot).content; location = location_of carousel (view_placed tree.now object) }) }
+{
+    let bound = if object.spot.whole {
+        Bound::File(content_of(tree, object.spot.file).len() as u64)
+    } else {
+        Bound::Folder
+    };
+    let key = key_of(alloc, object.key)?;
+    let location = Location {
+        carousel,
+        module: object.module,
+        key,
+    };
+    let name = Name::new(name.to_vec(alloc)?);
+    Ok(Written {
+        name,
+        bound,
+        location,
+    })
+}
+
+/// The bytes of an object.
+fn object_bytes(
+    alloc: Global,
+    carousel: u32,
+    tree: &Tree,
+    objects: &[Placed],
+    object: Placed,
+) -> Result<Vec<u8>, NoMemory>
+    requires tree { IsTree tree.now }
+    requires objects { All (λ o. IsSpotIn tree.now o.spot) objects.now }
+    requires object { IsSpotIn tree.now object.spot }
+    requires small { object.spot.whole ≡ false → length (bytes_of carousel (map (view_placed tree.now) objects.now) (view_placed tree.now object)) ≤ 1048576 }
+    ensures { IfOk result (λ v. v.items ≡ bytes_of carousel (map (view_placed tree.now) objects.now) (view_placed tree.now object)) }
+{
+    let key = key_of(alloc, object.key)?;
+    if object.spot.whole {
+        return encode_file(alloc, &key, content_of(tree, object.spot.file));
+    }
+    let entries = entries(alloc, carousel, tree, objects, object.spot)?;
+    folder_bytes(alloc, object.spot.names, &key, &entries)
+}
+
+/// The bytes of a folder; the gateway is the folder of no names.
+fn folder_bytes(
+    alloc: Global,
+    names: usize,
+    key: &Key,
+    entries: &[Written],
+) -> Result<Vec<u8>, NoMemory>
+    requires key { length key.now ≡ 4 }
+    requires entries { All IsEntry entries.now }
+    requires small { length (folder_spelling (kind_in names) key.now entries.now) ≤ 1048576 }
+    ensures { IfOk result (λ v. v.items ≡ folder_spelling (kind_in names) key.now entries.now) }
+{
+    let kind = if names == 0 {
+        FolderKind::Gateway
+    } else {
+        FolderKind::Directory
+    };
+    match encode_folder(alloc, kind, key, entries) {
+        Ok(bytes) => Ok(bytes),
+        Err(ObjectFault::NoMemory) => Err(AllocError),
+        Err(ObjectFault::TooLarge) => unreachable!(),
+    }
+}
+
+/// The bytes of a module: those of its objects, one after another.
+pub(crate) fn module_bytes(
+    alloc: Global,
+    carousel: u32,
+    tree: &Tree,
+    objects: &[Placed],
+    id: u16,
+) -> Result<Vec<u8>, NoMemory>
+    requires { AreReady carousel tree.now objects.now }
+    ensures { IfOk result (λ v. v.items ≡ bytes_in carousel (map (view_placed tree.now) objects.now) id) }
+{
+    let mut bytes = Vec::new(alloc);
+    for object in objects {
+        if object.module == id {
+            append(
+                &mut bytes,
+                object_bytes(alloc, carousel, tree, objects, *object)?,
+            )?;
+        }
+    }
+    Ok(bytes)
+}
+
+/// Puts bytes behind others; the first bytes become the whole, without a copy.
+fn append(bytes: &mut Vec<u8>, more: Vec<u8>) -> Result<(), NoMemory>
+    ensures { OnOk result (bytes.new.items ≡ bytes.old.items ++ more.items) }
+{
+    if bytes.is_empty() {
+        *bytes = more;
+        return Ok(());
+    }
+    bytes.extend_from_slice(&more)
+}

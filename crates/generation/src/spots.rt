@@ -1,0 +1,175 @@
+//! The objects of a tree, in order, without a copy of their paths.
+ghost use Rattle.std.specs.Prelude.{◌≡◌, ◌≤◌, ◌<◌, ◌+◌, ◌-◌, ◌∷◌, ◌++◌, List, ℕ, [], None, Some, Option, length, map, take, true, IfOk, OnOk, IfSome, IsTrue};
+ghost use Rattle.std.specs.List.{All, sum_by};
+ghost use Rattle.std.specs.Option.{option_map};
+ghost use Rattle.path_tree.specs.Paths.{same_name, same_path, Bytes};
+ghost use Rattle.path_tree.specs.Trees.{IsTree};
+ghost use Rattle.generation.specs.Publication.{spots_of, shared_folders, folders_after, child_name as name_in, binding_size, size_of as size_in};
+ghost use Rattle.generation.specs.Layouts.{is_same_spot};
+ghost use Rattle.generation.specs.View.{view_spot, path_at, bytes_at, before_of, IsSpotIn};
+
+use oc_bytes::NoMemory;
+use path_tree::{Path, Tree};
+use std::alloc::Global;
+
+/// An object of a tree: the first names of the path of one of the tree's files, and whether it is that file itself.
+/// The gateway is no names of any path.
+#[derive(Clone, Copy, Debug, PartialEq, Eq)]
+pub(crate) struct Spot {
+    pub(crate) file: usize,
+    pub(crate) names: usize,
+    pub(crate) whole: bool,
+}
+
+/// The objects of a tree: the gateway first, and then by path.
+pub(crate) fn spots(alloc: Global, tree: &Tree) -> Result<Vec<Spot>, NoMemory>
+    ensures spots { IfOk result (λ v. map (view_spot tree.now) v.items ≡ spots_of tree.now) }
+    ensures valid { IfOk result (λ v. All (IsSpotIn tree.now) v.items) }
+    ensures tree { IfOk result (λ _. IsTree tree.now) }
+{
+    let mut spots = Vec::new(alloc);
+    spots.push(Spot {
+        file: 0,
+        names: 0,
+        whole: false,
+    })?;
+    for file in 0..tree.len() {
+        push_spots(tree, file, &mut spots)?;
+    }
+    Ok(spots)
+}
+
+/// The path of a tree's file.
+pub(crate) fn path_of(tree: &Tree, file: usize) -> &Path
+    requires { file < length tree.now }
+    ensures { result.now ≡ path_at tree.now file }
+{
+    let (path, _) = tree.file(file);
+    path
+}
+
+/// The bytes of a tree's file.
+pub(crate) fn content_of(tree: &Tree, file: usize) -> &[u8]
+    requires file { file < length tree.now }
+    requires tree { IsTree tree.now }
+    ensures bytes { result.now ≡ bytes_at tree.now file }
+    ensures small { length result.now ≤ 16777216 }
+{
+    let (_, content) = tree.file(file);
+    content.bytes()
+}
+
+/// Appends a file, and before it the folders above it that weren't above the file before it.
+fn push_spots(tree: &Tree, file: usize, spots: &mut Vec<Spot>) -> Result<(), NoMemory>
+    requires file { file < length tree.now }
+    requires valid { All (IsSpotIn tree.now) spots.old.items }
+    ensures spots { OnOk result (map (view_spot tree.now) spots.new.items ≡ map (view_spot tree.now) spots.old.items
+        ++ (folders_after (before_of tree.now file) (path_at tree.now file) ++ record { path = path_at tree.now file; content = Some (bytes_at tree.now file) } ∷ [])) }
+    ensures valid { OnOk result (All (IsSpotIn tree.now) spots.new.items) }
+{
+    let path = path_of(tree, file);
+    let shared = shared_before(tree, file);
+    for above in shared..path.len().saturating_sub(1) {
+        spots.push(Spot {
+            file,
+            names: above + 1,
+            whole: false,
+        })?;
+    }
+    spots.push(Spot {
+        file,
+        names: path.len(),
+        whole: true,
+    })?;
+    Ok(())
+}
+
+/// How many folders other than the root lie above both a file and the one before it.
+fn shared_before(tree: &Tree, file: usize) -> usize
+    requires { file < length tree.now }
+    ensures { result ≡ shared_folders (before_of tree.now file) (path_at tree.now file) }
+{
+    if file == 0 {
+        return 0;
+    }
+    shared(path_of(tree, file - 1), path_of(tree, file))
+}
+
+fn shared(before: &Path, path: &Path) -> usize
+    ensures { result ≡ shared_folders before.now path.now }
+{
+    let most = before.len().saturating_sub(1).min(path.len());
+    for i in 0..most {
+        if !is_equal(before.name(i), path.name(i)) {
+            return i;
+        }
+    }
+    most
+}
+
+/// Whether two texts of bytes are the same.
+pub(crate) fn is_equal(a: &[u8], b: &[u8]) -> bool
+    ensures { result ≡ same_name a.now b.now }
+{
+    a == b
+}
+
+/// Whether two paths begin with the same names.
+fn is_same_front(a: &Path, b: &Path, names: usize) -> bool
+    requires left { names ≤ length a.now }
+    requires right { names ≤ length b.now }
+    ensures { result ≡ same_path (take names a.now) (take names b.now) }
+{
+    for i in 0..names {
+        if !is_equal(a.name(i), b.name(i)) {
+            return false;
+        }
+    }
+    true
+}
+
+/// Whether a file's path begins with an object's names, each of its own tree.
+fn begins_with(tree: &Tree, file: usize, above_tree: &Tree, above: Spot) -> bool
+    requires above { above.names ≤ length (path_at above_tree.now above.file) }
+    requires below { above.names ≤ length (path_at tree.now file) }
+    ensures { result ≡ same_path (take above.names (path_at above_tree.now above.file)) (take above.names (path_at tree.now file)) }
+{
+    if above.names == 0 {
+        return true;
+    }
+    is_same_front(
+        path_of(above_tree, above.file),
+        path_of(tree, file),
+        above.names,
+    )
+}
+
+/// The name of an object in a folder, where it lies right in it.
+pub(crate) fn child_name<'a>(tree: &'a Tree, folder: Spot, spot: Spot) -> Option<&'a [u8]>
+    requires tree { IsTree tree.now }
+    requires folder { IsSpotIn tree.now folder }
+    requires spot { IsSpotIn tree.now spot }
+    ensures name { option_map (λ n. n.now) result ≡ name_in (view_spot tree.now folder).path (view_spot tree.now spot).path }
+    ensures range { IfSome result (λ n. (1 ≤ length n.now) × (length n.now ≤ 254)) }
+{
+    if spot.names == 0 || folder.names != spot.names - 1 {
+        return None;
+    }
+    if !begins_with(tree, spot.file, tree, folder) {
+        return None;
+    }
+    let path = path_of(tree, spot.file);
+    Some(path.name(folder.names))
+}
+
+/// Whether two objects, each of its own tree, have the same path and kind.
+pub(crate) fn is_same_object(a_tree: &Tree, a: Spot, b_tree: &Tree, b: Spot) -> bool
+    requires left { IsSpotIn a_tree.now a }
+    requires right { IsSpotIn b_tree.now b }
+    ensures { result ≡ is_same_spot (view_spot a_tree.now a) (view_spot b_tree.now b) }
+{
+    if a.whole != b.whole || a.names != b.names {
+        return false;
+    }
+    begins_with(b_tree, b.file, a_tree, a)
+}

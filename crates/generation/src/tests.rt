@@ -1,0 +1,117 @@
+ghost use Rattle.std.specs.Prelude.{◌≡◌, None, OnOk};
+ghost use Rattle.generation.specs.Publication.{limit_of};
+
+use crate::{Generation, Limit, check};
+use cycle_planner::Item;
+use oc_bytes::Blob;
+use path_tree::{Edit, Path, Tree, apply};
+use std::alloc::Global;
+use std::test::Fail;
+
+// The bytes of generation 0 of carousel 1, with their cyclic redundancy checks, were made by an independent program.
+static DSI: [u8; 115] = [
+    0x3B, 0xB0, 0x70, 0x00, 0x00, 0xC1, 0x00, 0x00, 0x11, 0x03, 0x10, 0x06, 0x80, 0x00, 0x00, 0x00,
+    0xFF, 0x00, 0x00, 0x5B, 0xFF, 0xFF, 0xFF, 0xFF, 0xFF, 0xFF, 0xFF, 0xFF, 0xFF, 0xFF, 0xFF, 0xFF,
+    0xFF, 0xFF, 0xFF, 0xFF, 0xFF, 0xFF, 0xFF, 0xFF, 0x00, 0x00, 0x00, 0x43, 0x00, 0x00, 0x00, 0x04,
+    0x73, 0x72, 0x67, 0x00, 0x00, 0x00, 0x00, 0x01, 0x49, 0x53, 0x4F, 0x06, 0x00, 0x00, 0x00, 0x2B,
+    0x00, 0x02, 0x49, 0x53, 0x4F, 0x50, 0x0D, 0x00, 0x00, 0x00, 0x01, 0x00, 0x01, 0x01, 0x00, 0x04,
+    0x00, 0x00, 0x00, 0x01, 0x49, 0x53, 0x4F, 0x40, 0x12, 0x01, 0x00, 0x00, 0x00, 0x16, 0x00, 0x01,
+    0x0A, 0x00, 0x01, 0x80, 0x00, 0x00, 0x02, 0xFF, 0xFF, 0xFF, 0xFF, 0x00, 0x00, 0x00, 0x00, 0xE2,
+    0x23, 0xB2, 0x69,
+];
+
+static DII: [u8; 75] = [
+    0x3B, 0xB0, 0x48, 0x00, 0x02, 0xC1, 0x00, 0x00, 0x11, 0x03, 0x10, 0x02, 0x80, 0x00, 0x00, 0x02,
+    0xFF, 0x00, 0x00, 0x33, 0x00, 0x00, 0x00, 0x01, 0x0F, 0xE2, 0x00, 0x00, 0x00, 0x00, 0x00, 0x00,
+    0x00, 0x00, 0x00, 0x00, 0x00, 0x00, 0x00, 0x01, 0x00, 0x01, 0x00, 0x00, 0x00, 0x22, 0x00, 0x15,
+    0xFF, 0xFF, 0xFF, 0xFF, 0xFF, 0xFF, 0xFF, 0xFF, 0x00, 0x00, 0x00, 0x00, 0x01, 0x00, 0x00, 0x00,
+    0x17, 0x00, 0x01, 0x00, 0x00, 0x00, 0x00, 0xA9, 0xD4, 0xF0, 0xEE,
+];
+
+static BLOCK: [u8; 64] = [
+    0x3C, 0xB0, 0x3D, 0x00, 0x01, 0xC1, 0x00, 0x00, 0x11, 0x03, 0x10, 0x03, 0x00, 0x00, 0x00, 0x01,
+    0xFF, 0x00, 0x00, 0x28, 0x00, 0x01, 0x00, 0xFF, 0x00, 0x00, 0x42, 0x49, 0x4F, 0x50, 0x01, 0x00,
+    0x00, 0x00, 0x00, 0x00, 0x00, 0x16, 0x04, 0x00, 0x00, 0x00, 0x01, 0x00, 0x00, 0x00, 0x04, 0x73,
+    0x72, 0x67, 0x00, 0x00, 0x00, 0x00, 0x00, 0x00, 0x00, 0x02, 0x00, 0x00, 0x38, 0x0E, 0xC4, 0x19,
+];
+
+/// A tree of files with the same zero bytes, their names ending in five digits.
+fn files(alloc: Global, front: &str, count: u32, size: usize) -> Result<Tree, Fail> {
+    let mut edits = Vec::new(alloc);
+    let content = Blob::new(alloc, vec![in alloc; 0u8; size]?)?;
+    for number in 0..count {
+        let name = format!(in alloc; "{front}{number:05}")?;
+        edits.push(Edit::Put(Path::parse(alloc, name.as_bytes())?, content.share()?))?;
+    }
+    Ok(apply(alloc, &Tree::empty(alloc), &edits)?)
+}
+
+fn passes(alloc: Global, tree: &Tree) -> Result<(), Fail>
+    ensures { OnOk result (limit_of tree.now ≡ None) }
+{
+    match check(alloc, tree) {
+        Ok(()) => Ok(()),
+        Err(_) => Err(Fail::new("a limit is passed")),
+    }
+}
+
+#[test]
+fn first_generation(rt: HostRuntime) -> Result<(), Fail> {
+    let first = Generation::first(rt.alloc(), 1)?;
+    assert_eq!(rt; first.number(), 0);
+    assert_eq!(rt; first.lines(), [(1, 1)].as_slice());
+    assert_eq!(rt; first.section(Item::Dsi)?.as_slice(), DSI.as_slice());
+    assert_eq!(rt; first.section(Item::Dii)?.as_slice(), DII.as_slice());
+    assert_eq!(rt;
+        first.section(Item::Block(1, 0))?.as_slice(),
+        BLOCK.as_slice()
+    );
+    Ok(())
+}
+
+// The gateway with one binding of a name of five bytes has 121 bytes, and a file has 44 and its content.
+#[test]
+fn next_generations(rt: HostRuntime) -> Result<(), Fail> {
+    let alloc = rt.alloc();
+    let first = Generation::first(alloc, 1)?;
+    let tree = files(alloc, "/", 1, 3901)?;
+    passes(alloc, &tree)?;
+    let one = first.next(tree)?;
+    assert_eq!(rt; one.lines(), [(1, 1)].as_slice());
+    assert_eq!(rt;
+        one.module(1).map(|module| module.bytes().len()),
+        Some(4066)
+    );
+    let tree = files(alloc, "/", 1, 3902)?;
+    passes(alloc, &tree)?;
+    let two = first.next(tree)?;
+    assert_eq!(rt; two.lines(), [(1, 2)].as_slice());
+    assert_eq!(rt;
+        two.module(1).map(|module| module.bytes().len()),
+        Some(4067)
+    );
+    assert_eq!(rt; two.count(1), 1);
+    Ok(())
+}
+
+#[test]
+fn limits(rt: HostRuntime) -> Result<(), Fail> {
+    let alloc = rt.alloc();
+    let most = files(alloc, "/", 138, 65_493)?;
+    passes(alloc, &most)?;
+    let full = Generation::first(alloc, 1)?.next(most)?;
+    assert_eq!(rt; full.lines().len(), 139);
+    let more = files(alloc, "/", 139, 65_493)?;
+    assert!(rt; matches!(check(alloc, &more), Err(Limit::TooManyModules(140))));
+    let many = files(alloc, "/", 8192, 0)?;
+    assert!(rt; matches!(check(alloc, &many), Err(Limit::TooManyObjects(8193))));
+    let name =
+        "xxxxxxxxxxxxxxxxxxxxxxxxxxxxxxxxxxxxxxxxxxxxxxxxxxxxxxxxxxxxxxxxxxxxxxxxxxxxxxxxxxx";
+    let front = format!(in alloc; "/d/{name}{name}{name}")?;
+    let wide = files(alloc, front.as_str(), 4096, 0)?;
+    match check(alloc, &wide) {
+        Err(Limit::FolderTooLarge(path)) => assert_eq!(rt; path.print()?.as_str(), "/d"),
+        _ => return Err(Fail::new("no folder is too large")),
+    }
+    Ok(())
+}
