@@ -57,18 +57,33 @@ impl From<usize> for DdbFault {
     }
 }
 
-/// The fields before the block's bytes, behind the header: 6 bytes.
-fn front(ddb: &Ddb) -> [u8; 6]
-    ensures front { two_bytes ddb.now.module ++ (ddb.now.version ∷ 0xFF ∷ []) ++ two_bytes ddb.now.block ≡ result }
-    ensures fits { Fits (view ddb.now) }
+/// A block message that is lent its bytes: those of a payload that was read, or those that are to be written.
+#[derive(Clone, Copy, Debug)]
+pub struct Parts<'a> {
+    /// downloadId.
+    pub download: u32,
+    /// moduleId.
+    pub module: u16,
+    /// moduleVersion.
+    pub version: u8,
+    /// blockNumber, from 0.
+    pub block: u16,
+    /// The block's bytes.
+    pub bytes: &'a [u8],
+}
+
+/// The fields between the header and the block's bytes: 6 bytes.
+fn block_fields(parts: &Parts<'_>) -> [u8; 6]
+    ensures fields { two_bytes parts.now.module ++ (parts.now.version ∷ 0xFF ∷ []) ++ two_bytes parts.now.block ≡ result }
+    ensures fits { Fits (parts_view parts.now) }
 {
-    let Ddb {
+    let Parts {
         download,
         module,
         version,
         block,
         bytes: _,
-    } = ddb;
+    } = parts;
     let _download = *download;
     [
         (*module / 256) as u8,
@@ -80,16 +95,37 @@ fn front(ddb: &Ddb) -> [u8; 6]
     ]
 }
 
+/// What a block message has before the block's bytes: its header and the fields behind that, 18 bytes (ISO/IEC 13818-6,
+/// clause 7.3.7). With the block's bytes behind them they are what `encode` writes, so that a writer that is lent the block's
+/// bytes copies them only once.
+///
+/// `parts.bytes` has at most 4,066 bytes, so that the message fits in one section.
+pub fn block_front(parts: &Parts<'_>) -> [u8; 18]
+    requires { length parts.now.bytes.now ≤ 4066 }
+    ensures spells { spelling (parts_view parts.now) ≡ result ++ parts.now.bytes.now }
+    ensures fits { Fits (parts_view parts.now) }
+{
+    let size = parts.bytes.len() + 6;
+    let mut front = [0; 18];
+    front[..12].copy_from_slice(&header_bytes(0x1003, parts.download, size as u16));
+    front[12..].copy_from_slice(&block_fields(parts));
+    front
+}
+
 /// The bytes of a block message.
 fn written(alloc: Global, ddb: &Ddb) -> Result<Vec<u8>, NoMemory>
     requires { length ddb.now.bytes.items ≤ 4066 }
     ensures spells { IfOk result (λ bytes. bytes.items ≡ spelling (view ddb.now)) }
     ensures fits { IfOk result (λ _. Fits (view ddb.now)) }
 {
-    let size = ddb.bytes.len() + 6;
-    let mut bytes = Vec::with_capacity(alloc, size + 12)?;
-    bytes.extend_from_slice(&header_bytes(0x1003, ddb.download, size as u16))?;
-    bytes.extend_from_slice(&front(ddb))?;
+    let mut bytes = Vec::with_capacity(alloc, ddb.bytes.len() + 18)?;
+    bytes.extend_from_slice(&block_front(&Parts {
+        download: ddb.download,
+        module: ddb.module,
+        version: ddb.version,
+        block: ddb.block,
+        bytes: &ddb.bytes,
+    }))?;
     bytes.extend_from_slice(&ddb.bytes)?;
     Ok(bytes)
 }
@@ -108,26 +144,13 @@ pub fn encode(alloc: Global, ddb: &Ddb) -> Result<Vec<u8>, NoMemory>
     Ok(bytes)
 }
 
-/// What holds of each spelling, whoever wrote it: it reads as its block, and is 18 bytes longer.
+/// What holds of each spelling, whoever wrote it: it reads as its block, by the relation and by the reading function, and is
+/// 18 bytes longer.
 pub fn spellings_read()
     ensures reads { (b : Block) → Fits b → length b.bytes ≤ 4066 → Reads (spelling b) b }
+    ensures is_read { (b : Block) → Fits b → length b.bytes ≤ 4066 → read (spelling b) ≡ Ok b }
     ensures length { (b : Block) → length (spelling b) ≡ length b.bytes + 18 }
 {}
-
-/// A block message whose bytes aren't copied out of the payload.
-#[derive(Clone, Copy, Debug)]
-pub struct Parts<'a> {
-    /// downloadId.
-    pub download: u32,
-    /// moduleId.
-    pub module: u16,
-    /// moduleVersion.
-    pub version: u8,
-    /// blockNumber, from 0.
-    pub block: u16,
-    /// The block's bytes.
-    pub bytes: &'a [u8],
-}
 
 /// Reads a block message as `decode` does, copying nothing. An `Err` is the place that `decode` gives.
 #[tactic(auto, unfolding(crate::specs::Blocks::block_at))]

@@ -5,6 +5,7 @@ use Rattle.section_crc.specs.Crc.{crc_of}
 use Rattle.dsmcc_section.specs.declared.Table.{Table}
 use Rattle.dsmcc_section.specs.declared.Table.TheVariants.{Control, Blocks}
 use Rattle.dsmcc_section.specs.declared.Section.{Section}
+use Rattle.dsmcc_section.specs.declared.Header.{Header}
 use Rattle.dsmcc_section.specs.declared.Skip.{Skip}
 use Rattle.dsmcc_section.specs.declared.Skip.TheVariants as skips
 use Rattle.dsmcc_section.specs.declared.SectionFault.{SectionFault}
@@ -21,6 +22,10 @@ pub record Fields : Type 0 where
 
 abbrev pub view : Section → Fields
 view s = record { table = s.table; extension = s.extension; version = s.version; number = s.number; last = s.last; payload = s.payload.items }
+
+-- the fields of a section with this payload
+abbrev pub fields_with : Header → List ℕ → Fields
+fields_with h payload = record { table = h.table; extension = h.extension; version = h.version; number = h.number; last = h.last; payload = payload }
 
 abbrev pub table_id : Table → ℕ
 table_id Control = 0x3B

@@ -2,9 +2,9 @@
 //! its fields and the CRC over all of it. The message inside is a payload of bytes here.
 #![tactic(auto)]
 
-ghost use Rattle.std.specs.Prelude.{◌≡◌, ◌<◌, ◌≤◌, ◌++◌, ◌↔◌, Ok, Err, length, IfErr, IfOk, IsErrOf, MatchResult};
+ghost use Rattle.std.specs.Prelude.{◌≡◌, ◌+◌, ◌<◌, ◌≤◌, ◌++◌, ◌↔◌, Ok, Err, length, IfErr, IfOk, IsErrOf, MatchResult};
 ghost use Rattle.oc_bytes.specs.Outcome.{Gives};
-ghost use Rattle.dsmcc_section.specs.Sections.{Fields, Fits, view, Reads, read, spelling, cause, fields_of, front_with, IsFramed};
+ghost use Rattle.dsmcc_section.specs.Sections.{Fields, Fits, view, Reads, read, spelling, cause, fields_of, fields_with, front_with, IsFramed};
 
 use section_crc::crc;
 use std::alloc::{AllocError, Global};
@@ -34,6 +34,21 @@ pub struct Section {
     pub last: u8,
     /// The message: at most 4,084 bytes.
     pub payload: Vec<u8>,
+}
+
+/// The fields of a section but its payload: for a writer that is lent the payload's bytes. Each field is as in [`Section`].
+#[derive(Clone, Copy, Debug)]
+pub struct Header {
+    /// The table.
+    pub table: Table,
+    /// table_id_extension, any number of 16 bits.
+    pub extension: u16,
+    /// version_number, 0 to 31.
+    pub version: u8,
+    /// section_number.
+    pub number: u8,
+    /// last_section_number.
+    pub last: u8,
 }
 
 /// Why a section isn't written.
@@ -104,22 +119,21 @@ impl From<Skip> for SectionFault {
 /// The payload of the longest section, in bytes.
 const MOST_PAYLOAD: usize = 4084;
 
-/// The fields before the payload: 8 bytes.
-fn header(section: &Section) -> [u8; 8]
-    requires version { section.now.version < 32 }
-    requires room { length section.now.payload.items ≤ 4084 }
-    ensures front { front_with 0 3 3 (view section.now) ≡ result ++ section.now.payload.items }
-    ensures fits { Fits (view section.now) }
+/// The fields before the payload, which is both parts: 8 bytes.
+fn header_bytes(header: &Header, front: &[u8], rest: &[u8]) -> [u8; 8]
+    requires version { header.now.version < 32 }
+    requires room { length front.now + length rest.now ≤ 4084 }
+    ensures front { front_with 0 3 3 (fields_with header.now (front.now ++ rest.now)) ≡ result ++ front.now ++ rest.now }
+    ensures fits { Fits (fields_with header.now (front.now ++ rest.now)) }
 {
-    let Section {
+    let Header {
         table,
         extension,
         version,
         number,
         last,
-        payload,
-    } = section;
-    let length = payload.len() + 9;
+    } = header;
+    let length = front.len() + rest.len() + 9;
     let table = match table {
         Table::Control => 0x3B,
         Table::Blocks => 0x3C,
@@ -136,19 +150,44 @@ fn header(section: &Section) -> [u8; 8]
     ]
 }
 
-/// The bytes of a section.
-fn written(alloc: Global, section: &Section) -> Result<Vec<u8>, AllocError>
-    requires version { section.now.version < 32 }
-    requires room { length section.now.payload.items ≤ 4084 }
-    ensures spells { IfOk result (λ bytes. bytes.items ≡ spelling (view section.now)) }
-    ensures fits { Fits (view section.now) }
+/// The bytes of a section whose payload is both parts, one behind the other.
+fn written(alloc: Global, header: &Header, front: &[u8], rest: &[u8]) -> Result<Vec<u8>, AllocError>
+    requires version { header.now.version < 32 }
+    requires room { length front.now + length rest.now ≤ 4084 }
+    ensures spells { IfOk result (λ bytes. bytes.items ≡ spelling (fields_with header.now (front.now ++ rest.now))) }
+    ensures fits { Fits (fields_with header.now (front.now ++ rest.now)) }
 {
-    let mut bytes = Vec::with_capacity(alloc, section.payload.len() + 12)?;
-    bytes.extend_from_slice(&header(section))?;
-    bytes.extend_from_slice(&section.payload)?;
+    let mut bytes = Vec::with_capacity(alloc, front.len() + rest.len() + 12)?;
+    bytes.extend_from_slice(&header_bytes(header, front, rest))?;
+    bytes.extend_from_slice(front)?;
+    bytes.extend_from_slice(rest)?;
     let check = crc(&bytes);
     bytes.extend_from_slice(&check.to_be_bytes())?;
     Ok(bytes)
+}
+
+/// Writes a section whose payload is `front` and then `rest`, both lent, so that each is copied once. What it writes is what
+/// [`encode`] writes of the section with that payload.
+///
+/// `header.version` is 0 to 31. `TooLong` comes exactly where `front` and `rest` together have more than 4,084 bytes, and
+/// `NoMemory` where the bytes find no memory.
+pub fn encode_parts(
+    alloc: Global,
+    header: &Header,
+    front: &[u8],
+    rest: &[u8],
+) -> Result<Vec<u8>, EncodeFault>
+    requires { header.now.version < 32 }
+    ensures spells { IfOk result (λ bytes. bytes.items ≡ spelling (fields_with header.now (front.now ++ rest.now))) }
+    ensures reads { IfOk result (λ bytes. Reads bytes.items (fields_with header.now (front.now ++ rest.now))) }
+    ensures framed { IfOk result (λ bytes. IsFramed bytes.items) }
+    ensures room { IfOk result (λ _. length front.now + length rest.now ≤ 4084) }
+    ensures too_long { IsErrOf result EncodeFault.TooLong ↔ (4084 < length front.now + length rest.now) }
+{
+    if front.len() > MOST_PAYLOAD || rest.len() > MOST_PAYLOAD - front.len() {
+        return Err(EncodeFault::TooLong);
+    }
+    Ok(written(alloc, header, front, rest)?)
 }
 
 /// Writes a section: its one spelling, with private_indicator 0, every reserved bit 1 and the CRC in the last four bytes
@@ -165,15 +204,21 @@ pub fn encode(alloc: Global, section: &Section) -> Result<Vec<u8>, EncodeFault>
     ensures room { IfOk result (λ _. length section.now.payload.items ≤ 4084) }
     ensures too_long { IsErrOf result EncodeFault.TooLong ↔ (4084 < length section.now.payload.items) }
 {
-    if section.payload.len() > MOST_PAYLOAD {
-        return Err(EncodeFault::TooLong);
-    }
-    Ok(written(alloc, section)?)
+    let header = Header {
+        table: section.table,
+        extension: section.extension,
+        version: section.version,
+        number: section.number,
+        last: section.last,
+    };
+    encode_parts(alloc, &header, &[], &section.payload)
 }
 
-/// What holds of each spelling, whoever wrote it: it reads as its section, and a stream of sections can be cut by it.
+/// What holds of each spelling, whoever wrote it: it reads as its section, by the relation and by the reading function, and a
+/// stream of sections can be cut by it.
 pub fn spellings_read()
     ensures reads { (s : Fields) → Fits s → Reads (spelling s) s }
+    ensures is_read { (s : Fields) → Fits s → read (spelling s) ≡ Ok s }
     ensures framed { (s : Fields) → Fits s → IsFramed (spelling s) }
 {}
 

@@ -1,46 +1,27 @@
 -- The layouts of a list of trees are lawful.
-use Rattle.std.proofs.Common.{◌≡◌, ◌≢◌, ℕ, zero, suc, ◌+◌, ◌-◌, ◌<◌, ◌≤◌, Bool, true, false, ◌&&◌, ◌==◌, List, [], ◌∷◌, ◌++◌, length, map, Option, Some, None, cond, refl, sym, ◌∙◌, ap, subst, arith, get_or, length-append, nat_le, sum, ◌⊎◌, inl, inr, lit<}
-use Rattle.std.specs.List.{All, AllPairs, list_any, range_with_len, filter, filter_map, flat_map, sum_by, count_by, zip, cons_option}
+use Rattle.std.proofs.Common.{◌≡◌, ℕ, zero, suc, ◌+◌, ◌<◌, ◌≤◌, Bool, true, false, List, [], ◌∷◌, length, map, Some, cond, refl, sym, ◌∙◌, ap, subst, arith, get_or, length-append, nat_le, lit<}
+use Rattle.std.specs.List.{All, list_any, range_with_len, filter, filter_map, flat_map, sum_by}
 use Rattle.std.proofs.lemmas.Bool.Decides.{nat_tests}
-use Rattle.std.proofs.lemmas.Bool.{cases_lt}
 use Rattle.std.proofs.lemmas.List.Elements.{All-cons}
-use Rattle.std.proofs.lemmas.List.Kept.{AllPairs-cons}
 use Rattle.std.proofs.lemmas.List.Sums.{sum_by-cons}
 use Rattle.std.proofs.lemmas.List.FromFn.{length-range_with_len}
 use Rattle.oc_bytes.specs.Numbers.{IsBytes}
-use Rattle.path_tree.specs.Paths.{Bytes, IsName}
+use Rattle.path_tree.specs.Paths.{Bytes}
 use Rattle.path_tree.specs.Trees.{Tree, IsTree}
 use Rattle.biop_object.specs.Names.{Layout, module_in}
 use Rattle.biop_object.specs.Spelled.{SpellingsReadBack}
-use Rattle.module_packer.specs.Placement.{fresh, IsPlacement, FreshIsAPlacement, sum_in}
-use Rattle.generation.specs.Publication.{Spot, spots_of, sizes_of, size_of, limit_of, gateway_spot, is_large_folder}
+use Rattle.module_packer.specs.Placement.{fresh, FreshIsAPlacement}
+use Rattle.generation.specs.Publication.{sizes_of, gateway_spot}
 use Rattle.generation.specs.Layouts.{GenerationState, Placed, object_bytes, is_in, module_bytes, listed, layout_of, greatest, first_of, next_of, gateway_before}
-use Rattle.generation.specs.Lawful.{IsLayout, Lawful, Carries, HasBytes, IsPublishable, ArePublishable, layout_at, tree_at}
+use Rattle.generation.specs.Lawful.{IsLayout, Carries, HasBytes, IsPublishable, layout_at, tree_at}
 use Rattle.generation.specs.Kept.{states_from, layouts_of, LayoutsAreLawful}
-use Rattle.generation.proofs.Limiting.{len_map}
-use Rattle.generation.proofs.Placing.{Within, total_length, listed_length, greatest_most, length-object_bytes, all_unmap, folder_small, find_none}
-use Rattle.generation.proofs.Lists.{ids_from, state_at, state_tree, state_layout, length_states}
-use Rattle.generation.proofs.Carrying.{In, Sound, module_found, AreSmall}
+use Rattle.generation.proofs.Placing.{total_length, listed_length, greatest_most, all_unmap}
+use Rattle.generation.proofs.Lists.{state_at, state_tree, state_layout, length_states}
+use Rattle.generation.proofs.Carrying.{module_found}
 use Rattle.generation.proofs.Inside.{carries}
-use Rattle.generation.proofs.Soundness.{Made, Before, made_of, IsSized, all_sizes}
+use Rattle.generation.proofs.Soundness.{Made, Before, made_of}
+use Rattle.generation.proofs.Filling.{Filled, rising, each_listed, module_size}
 use Rattle.generation.proofs.Octets.{IsByteSpot, module_octets, tree_octets}
-
--- ---- ids
-
-rising : (c : ℕ) (objects : List Placed) (a n : ℕ) → AllPairs (λ m n. m.0 < n.0) (filter_map (listed c objects) (range_with_len a n))
-rising c objects a zero = λ i j d lt l. absurd (omega (arith, l))
-rising c objects a (suc n) = go (list_any (is_in a) objects) refl (rising c objects (a + 1) n) (ids_from c objects (a + 1) n) where
-  go : (t : Bool) → list_any (is_in a) objects ≡ t → AllPairs (λ m n. m.0 < n.0) (filter_map (listed c objects) (range_with_len (a + 1) n)) → All (λ m. a + 1 ≤ m.0) (filter_map (listed c objects) (range_with_len (a + 1) n))
-      → AllPairs (λ m n. m.0 < n.0) (filter_map (listed c objects) (range_with_len a (suc n)))
-  go true e rest above = rw e (AllPairs-cons (λ m n. m.0 < n.0) (a, module_bytes c objects a) (filter_map (listed c objects) (range_with_len (a + 1) n)) (λ k d lt. let h = above k d lt in omega (arith, h)) rest)
-  go false e rest above = rw e rest
-
-each_listed : (P : ℕ × Bytes → Type 0) (c : ℕ) (objects : List Placed) (a n : ℕ) → ((m : ℕ) → m < a + n → list_any (is_in m) objects ≡ true → P (m, module_bytes c objects m)) → All P (filter_map (listed c objects) (range_with_len a n))
-each_listed P c objects a zero h = λ k d lt. absurd (omega (arith, lt))
-each_listed P c objects a (suc n) h = go (list_any (is_in a) objects) refl (each_listed P c objects (a + 1) n (λ m lt used. h m (omega (arith, lt)) used)) where
-  go : (t : Bool) → list_any (is_in a) objects ≡ t → All P (filter_map (listed c objects) (range_with_len (a + 1) n)) → All P (filter_map (listed c objects) (range_with_len a (suc n)))
-  go true e rest = rw e (All-cons P (a, module_bytes c objects a) (filter_map (listed c objects) (range_with_len (a + 1) n)) (h a (omega arith) e) rest)
-  go false e rest = rw e rest
 
 -- ---- sizes
 
@@ -83,48 +64,6 @@ total_high c objects a (suc n) = go (list_any (is_in a) objects) refl (total_hig
   go true e h piece = rw e (omega (arith, h, piece, sum_by-cons (λ m. length m.1) (a, module_bytes c objects a) (filter_map (listed c objects) (range_with_len (a + 1) n))))
   go false e h piece = rw e (omega (arith, h, piece))
 
--- what lies in a module, against its sum
-piece_sum : (c : ℕ) (objects os : List Placed) (m : ℕ) → length (flat_map (object_bytes c objects) (filter (is_in m) os))
-    ≡ sum_in (zip (map (λ o. o.module_id) os) (map (size_of (map (λ o. o.spot) objects)) (map (λ o. o.spot) os))) m
-piece_sum c objects [] m = refl
-piece_sum c objects (o ∷ os) m = go (is_in m o) (piece_sum c objects os m) (length-object_bytes c objects o)
-    ∙ sym (sum_by-cons (λ e. cond (e.0 == m) e.1 0) (o.module_id, size_of (map (λ o. o.spot) objects) o.spot) (zip (map (λ o. o.module_id) os) (map (size_of (map (λ o. o.spot) objects)) (map (λ o. o.spot) os)))) where
-      rest : ℕ
-      rest = sum_in (zip (map (λ o. o.module_id) os) (map (size_of (map (λ o. o.spot) objects)) (map (λ o. o.spot) os))) m
-
-      go : (t : Bool) → length (flat_map (object_bytes c objects) (filter (is_in m) os)) ≡ rest → length (object_bytes c objects o) ≡ size_of (map (λ o. o.spot) objects) o.spot
-          → length (flat_map (object_bytes c objects) (cond t (o ∷ filter (is_in m) os) (filter (is_in m) os))) ≡ cond t (size_of (map (λ o. o.spot) objects) o.spot) 0 + rest
-      go true h size = omega (arith, h, size, length-append (object_bytes c objects o) (flat_map (object_bytes c objects) (filter (is_in m) os)))
-      go false h size = omega (arith, h)
-
-count_more : (m n : ℕ) (ns : List ℕ) → count_by (λ k. k == m) (n ∷ ns) ≡ cond (n == m) 1 0 + count_by (λ k. k == m) ns
-count_more m n ns = sum_by-cons (λ k. cond (k == m) 1 0) n ns
-
-piece_none : (g : Placed → Bytes) (m : ℕ) (os : List Placed) → count_by (λ k. k == m) (map (λ o. o.module_id) os) ≤ 0 → length (flat_map g (filter (is_in m) os)) ≤ 0
-piece_none g m [] few = omega arith
-piece_none g m (o ∷ os) few = go (o.module_id == m) refl (λ h. piece_none g m os h) (count_more m o.module_id (map (λ o. o.module_id) os)) where
-  go : (t : Bool) → (o.module_id == m) ≡ t → (count_by (λ k. k == m) (map (λ o. o.module_id) os) ≤ 0 → length (flat_map g (filter (is_in m) os)) ≤ 0)
-      → count_by (λ k. k == m) (o.module_id ∷ map (λ o. o.module_id) os) ≡ cond (o.module_id == m) 1 0 + count_by (λ k. k == m) (map (λ o. o.module_id) os)
-      → length (flat_map g (filter (is_in m) (o ∷ os))) ≤ 0
-  go true e rest more = let n : cond {A = ℕ} (o.module_id == m) 1 0 ≡ 1 = rw e refl in absurd (omega (arith, few, more, n))
-  go false e rest more = rw e (rest (omega (arith, few, more)))
-
-piece_one : (g : Placed → Bytes) (m most : ℕ) (os : List Placed) → All (λ o. length (g o) ≤ most) os → count_by (λ k. k == m) (map (λ o. o.module_id) os) ≤ 1 → length (flat_map g (filter (is_in m) os)) ≤ most
-piece_one g m most [] all few = omega arith
-piece_one g m most (o ∷ os) all few =
-    go (o.module_id == m) refl (λ h. piece_one g m most os (λ i d lt. all (suc i) d (omega (arith, lt))) h) (count_more m o.module_id (map (λ o. o.module_id) os)) where
-      here : length (g o) ≤ most
-      here = all 0 o (omega arith)
-
-      go : (t : Bool) → (o.module_id == m) ≡ t → (count_by (λ k. k == m) (map (λ o. o.module_id) os) ≤ 1 → length (flat_map g (filter (is_in m) os)) ≤ most)
-          → count_by (λ k. k == m) (o.module_id ∷ map (λ o. o.module_id) os) ≡ cond (o.module_id == m) 1 0 + count_by (λ k. k == m) (map (λ o. o.module_id) os)
-          → length (flat_map g (filter (is_in m) (o ∷ os))) ≤ most
-      go true e rest more =
-          let n : cond {A = ℕ} (o.module_id == m) 1 0 ≡ 1 = rw e refl in
-          let none = piece_none g m os (omega (arith, few, more, n)) in
-          rw e (omega (arith, here, none, length-append (g o) (flat_map g (filter (is_in m) os))))
-      go false e rest more = rw e (rest (omega (arith, few, more)))
-
 -- ---- one generation's layout
 
 pub record IsFine (layout : Layout) : Type 0 where
@@ -133,40 +72,14 @@ pub record IsFine (layout : Layout) : Type 0 where
   pub total : sum_by (λ m. length m.1) layout ≤ 268435456
   pub sizes : All (λ m. length m.1 ≤ 16842752) layout
 
-object_small : (c : ℕ) (t : Tree) (objects : List Placed) → Made c t objects → (o : Placed) → IsSized o.spot → is_large_folder (spots_of t) o.spot ≡ false → length (object_bytes c objects o) ≤ 16777260
-object_small c t objects made o sized fits = go o.spot.content refl where
-  is : length (object_bytes c objects o) ≡ size_of (spots_of t) o.spot
-  is = length-object_bytes c objects o ∙ ap (λ all. size_of all o.spot) made.sound.spots
-
-  go : (b : Option Bytes) → o.spot.content ≡ b → length (object_bytes c objects o) ≤ 16777260
-  go (Some b) e = let n : size_of (spots_of t) o.spot ≡ 44 + length b = rw e refl in omega (arith, is, n, sized b e)
-  go None e = omega (arith, is, folder_small (spots_of t) o.spot e fits)
-
-each_small : (c : ℕ) (t : Tree) (objects : List Placed) → Made c t objects → All (λ o. length (object_bytes c objects o) ≤ 16777260) objects
-each_small c t objects made =
-    let sized : All (λ o. IsSized o.spot) objects = all_unmap IsSized (λ o. o.spot) objects (subst (All IsSized) (sym made.sound.spots) (all_sizes t made.sound.tree)) in
-    let fits : All (λ o. is_large_folder (spots_of t) o.spot ≡ false) objects =
-    all_unmap (λ s. is_large_folder (spots_of t) s ≡ false) (λ o. o.spot) objects (subst (All (λ s. is_large_folder (spots_of t) s ≡ false)) (sym made.sound.spots) (find_none (is_large_folder (spots_of t)) (spots_of t) made.within.folders)) in
-    λ i d lt. object_small c t objects made (get_or objects i d) (sized i d lt) (fits i d lt)
-
-module_size : (c : ℕ) (t : Tree) (objects : List Placed) → Made c t objects → (m : ℕ) → length (module_bytes c objects m) ≤ 16842752
-module_size c t objects made m = elim (cases_lt 1 (count_by (λ k. k == m) (map (λ o. o.module_id) objects))) [
-  | inl many ↦
-      let sum : sum_in (zip (map (λ o. o.module_id) objects) (map (size_of (map (λ o. o.spot) objects)) (map (λ o. o.spot) objects))) m ≤ 65536 =
-      subst (λ ms. sum_in (zip ms (map (size_of (map (λ o. o.spot) objects)) (map (λ o. o.spot) objects))) m ≤ 65536) (sym made.modules)
-      (subst (λ s. sum_in (zip (fresh (sizes_of t)) (map (size_of s) s)) m ≤ 65536) (sym made.sound.spots)
-      (made.placement.sums m (subst (λ ms. 1 < count_by (λ k. k == m) ms) made.modules many))) in
-      omega (arith, sum, piece_sum c objects objects m)
-  | inr few ↦
-      let one = piece_one (object_bytes c objects) m 16777260 objects (each_small c t objects made) few in
-      omega (arith, one)
-]
-
 byte_spots : (c : ℕ) (t : Tree) (objects : List Placed) → Made c t objects → HasBytes t → All (λ o. IsByteSpot o.spot) objects
 byte_spots c t objects made has =
     let tree = made.sound.tree in
     let names : All (λ e. All (λ n. IsBytes n × (length n ≤ 254)) e.0) t = λ i d lt. (λ j n l. (has.names i d lt j n l, ((tree.paths i d lt).0.names j n l).at_most)) in
     all_unmap IsByteSpot (λ o. o.spot) objects (subst (All IsByteSpot) (sym made.sound.spots) (tree_octets t names has.contents))
+
+filled_of : (c : ℕ) (t : Tree) (objects : List Placed) → Made c t objects → Filled t objects
+filled_of c t objects made = record { tree = made.sound.tree; within = made.within; spots = made.sound.spots; modules = made.modules; placement = made.placement }
 
 fine : (c : ℕ) (t : Tree) (objects : List Placed) → Made c t objects → HasBytes t → IsFine (layout_of c objects)
 fine c t objects made has =
@@ -187,7 +100,7 @@ fine c t objects made has =
         omega (arith, listed_length c objects (range_with_len 1 top), length-range_with_len 1 top, most),
       );
       total = omega (arith, total_high c objects 1 top, high_all (λ o. length (object_bytes c objects o)) 1 objects, sum);
-      sizes = each_listed (λ m. length m.1 ≤ 16842752) c objects 1 top (λ m lt used. module_size c t objects made m);
+      sizes = each_listed (λ m. length m.1 ≤ 16842752) c objects 1 top (λ m lt used. module_size c t objects (filled_of c t objects made) m);
     } where
       some : (layout : Layout) (m : ℕ) (b : Bytes) → module_in layout m ≡ Some b → 1 ≤ length layout
       some [] m b e = cc

@@ -1,28 +1,18 @@
 -- The modules carry the tree.
-use Rattle.std.proofs.Common.{◌≡◌, ◌≢◌, ℕ, zero, suc, ◌+◌, ◌-◌, ◌*◌, ◌<◌, ◌≤◌, Bool, true, false, not, ◌&&◌, ◌||◌, ◌==◌, List, [], ◌∷◌, ◌++◌, length, map, take, drop, Option, Some, None, cond, refl, sym, ◌∙◌, ap, subst, arith, get_or, append_assoc, append-nil, length-append, ◌⊎◌, inl, inr, max}
-use Rattle.std.specs.List.{All, list_any, range_with_len, filter, filter_map, flat_map, find, cons_option, dedup, dedup_from, fold}
+use Rattle.std.proofs.Common.{◌≡◌, ℕ, zero, suc, ◌+◌, ◌<◌, ◌≤◌, Bool, true, false, ◌||◌, ◌==◌, List, [], ◌∷◌, ◌++◌, length, map, take, drop, Option, Some, None, cond, refl, sym, ◌∙◌, ap, subst, arith, append_assoc, length-append, ◌⊎◌, inl, inr, max}
+use Rattle.std.specs.List.{All, list_any, range_with_len, filter, filter_map, flat_map, find, fold}
 use Rattle.std.specs.Option.{option_map}
-use Rattle.std.specs.Map.{lookup}
-use Rattle.std.specs.declared.cmp.Ordering.TheVariants.{Less, Equal}
 use Rattle.std.proofs.lemmas.Bool.Decides.{nat_tests}
 use Rattle.std.proofs.lemmas.Option.{same_Some}
 use Rattle.std.proofs.lemmas.List.Elements.{All-cons, All-map}
-use Rattle.path_tree.specs.Paths.{Bytes, PathNames, path_cmp, same_name, same_path, is_below, next_name}
-use Rattle.path_tree.specs.Trees.{Tree, IsTree, Node, File, Folder, NoSuch, node_at, content_at, is_folder, names_below}
-use Rattle.ior_tap.specs.Iors as iors
-use Rattle.ior_tap.specs.declared.Location.{Location}
-use Rattle.biop_object.specs.Names.{Layout, module_in, Thing, AFile, AFolder, AnOther, named, location_in, thing_at, thing_in, thing_of, first_of_key, location_of as leads_to}
-use Rattle.biop_object.specs.Objects.{Object, IsFile, IsFolder, BindingFields, binding_of, file_spelling, folder_spelling}
-use Rattle.biop_object.specs.ObjectReading.{index_of, objects_of, stop_of, reads_to_end}
-use Rattle.biop_object.specs.Spelled.{Spelled, AFile as SpelledFile, AFolder as SpelledFolder, spelled_bytes, spelled_object, spelled_objects, IsSpellable, IsSpellableEntry, SpellingsReadBack}
-use Rattle.biop_object.specs.declared.written.Written.{Written}
-use Rattle.generation.specs.Publication.{Spot, spots_of, spots_after, child_name, gateway_spot}
-use Rattle.generation.specs.Layouts.{Placed, key_bytes, location_of, bound_of, written_in, entries_of, folder_kind_of, object_bytes, is_in, module_bytes, listed, layout_of, greatest, gateway_location}
-use Rattle.generation.specs.Lawful.{IsNode}
-use Rattle.generation.proofs.Law.{same_name_is}
-use Rattle.generation.proofs.Treeing.{same_self, not_both, below_later, paths_self}
-use Rattle.generation.proofs.Children.{kids, kids_are, Later, Ordered, ordered_from}
-use Rattle.generation.proofs.Rising.{Tells, tells_all, same_paths, path_self, paths_differ}
+use Rattle.path_tree.specs.Paths.{Bytes, same_name}
+use Rattle.path_tree.specs.Trees.{Tree, IsTree}
+use Rattle.biop_object.specs.Names.{module_in, Thing, AFile, AFolder, thing_at, thing_in, thing_of, first_of_key}
+use Rattle.biop_object.specs.Objects.{Object, binding_of, file_spelling}
+use Rattle.biop_object.specs.ObjectReading.{index_of}
+use Rattle.biop_object.specs.Spelled.{Spelled, AFile as SpelledFile, AFolder as SpelledFolder, spelled_bytes, spelled_object, spelled_objects, IsSpellable, SpellingsReadBack}
+use Rattle.generation.specs.Publication.{spots_of, gateway_spot}
+use Rattle.generation.specs.Layouts.{Placed, key_bytes, location_of, entries_of, folder_kind_of, object_bytes, is_in, module_bytes, listed, layout_of, greatest}
 use Rattle.generation.proofs.Keyed.{Distinct, same_keys}
 
 -- ---- what an object is to a reader

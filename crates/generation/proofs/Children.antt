@@ -1,16 +1,15 @@
 -- The objects right below a folder are its next names, once each.
-use Rattle.std.proofs.Common.{◌≡◌, ◌≢◌, ℕ, zero, suc, ◌+◌, ◌-◌, ◌<◌, ◌≤◌, Bool, true, false, not, ◌&&◌, ◌==◌, List, [], ◌∷◌, ◌++◌, length, map, take, Option, Some, None, cond, refl, sym, ◌∙◌, ap, subst, arith, get_or, ◌⊎◌, inl, inr, nat_le}
+use Rattle.std.proofs.Common.{◌≡◌, ◌≢◌, ℕ, zero, suc, ◌+◌, ◌-◌, ◌<◌, ◌≤◌, Bool, true, false, ◌==◌, List, [], ◌∷◌, ◌++◌, length, map, take, Option, Some, None, cond, refl, sym, ◌∙◌, ap, subst, arith, get_or, ◌⊎◌, inl, inr}
 use Rattle.std.specs.List.{All, AllPairs, filter_map, cons_option, dedup, range_with_len, dedup_from}
 use Rattle.std.specs.declared.cmp.Ordering.TheVariants.{Less}
 use Rattle.std.proofs.lemmas.Bool.Decides.{nat_tests}
 use Rattle.std.proofs.lemmas.Bool.{cases_lt}
-use Rattle.std.proofs.lemmas.Option.{same_Some}
 use Rattle.std.proofs.lemmas.List.Elements.{filter_map-append, All-cons}
-use Rattle.path_tree.specs.Paths.{Bytes, PathNames, path_cmp, same_name, is_below, next_name, IsPath}
+use Rattle.path_tree.specs.Paths.{Bytes, PathNames, path_cmp, same_name, is_below, next_name}
 use Rattle.path_tree.specs.Trees.{Tree, IsTree, names_below}
 use Rattle.generation.specs.Publication.{Spot, shared_folders, folder_of, folders_after, spots_after, spots_of, child_name}
 use Rattle.generation.proofs.Law.{same_name_is}
-use Rattle.generation.proofs.Treeing.{next_below, between, shared_less, shared_next, shared_outside, below_later, not_both, same_self}
+use Rattle.generation.proofs.Treeing.{next_below, between, shared_less, shared_next, shared_outside, not_both, same_self}
 
 -- the names of the objects right below a folder
 abbrev pub kids : PathNames → List Spot → List Bytes

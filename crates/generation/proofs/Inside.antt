@@ -1,8 +1,8 @@
 -- Every module reads to its end, and every binding leads into a listed module.
-use Rattle.std.proofs.Common.{◌≡◌, ◌≢◌, ℕ, zero, suc, ◌+◌, ◌-◌, ◌<◌, ◌≤◌, Bool, true, false, ◌==◌, List, [], ◌∷◌, ◌++◌, length, map, Option, Some, None, cond, refl, sym, ◌∙◌, ap, subst, arith, get_or, ◌⊎◌, inl, inr}
+use Rattle.std.proofs.Common.{◌≡◌, ◌≢◌, ℕ, zero, suc, ◌+◌, ◌≤◌, Bool, true, false, ◌==◌, List, [], ◌∷◌, length, map, Option, Some, None, cond, refl, sym, ◌∙◌, ap, subst, arith, inl, inr}
 use Rattle.std.specs.Prelude.{IsTrue}
 use Rattle.std.specs.Option.{is_none}
-use Rattle.std.specs.List.{All, Contains, list_any, range_with_len, filter, filter_map, cons_option}
+use Rattle.std.specs.List.{All, list_any, range_with_len, filter, filter_map}
 use Rattle.std.proofs.lemmas.Bool.Decides.{nat_tests}
 use Rattle.std.proofs.lemmas.Option.{same_Some}
 use Rattle.std.proofs.lemmas.List.Elements.{All-cons}
@@ -13,10 +13,10 @@ use Rattle.ior_tap.specs.declared.Location.{Location}
 use Rattle.dsi_dii.specs.Controls.{identification_of}
 use Rattle.biop_object.specs.Names.{Layout, module_in}
 use Rattle.biop_object.specs.Objects.{Object, IsFile, IsFolder, BindingFields, binding_of}
-use Rattle.biop_object.specs.ObjectReading.{index_of, objects_of, reads_to_end}
+use Rattle.biop_object.specs.ObjectReading.{objects_of, reads_to_end}
 use Rattle.biop_object.specs.Spelled.{spelled_object, spelled_objects, SpellingsReadBack}
 use Rattle.generation.specs.Publication.{child_name}
-use Rattle.generation.specs.Layouts.{Placed, location_of, bound_of, written_in, entries_of, is_in, module_bytes, listed, layout_of, greatest}
+use Rattle.generation.specs.Layouts.{Placed, location_of, bound_of, entries_of, is_in, module_bytes, listed, layout_of, greatest}
 use Rattle.generation.specs.Lawful.{IsInside, identification_for, Carries}
 use Rattle.generation.proofs.Carrying.{spelled, In, Sound, module_found, module_index, in_all}
 use Rattle.generation.proofs.Walking.{paths_named}

@@ -1,13 +1,13 @@
 -- The keys of a generation's objects are apart and small.
-use Rattle.std.proofs.Common.{◌≡◌, ◌≢◌, ℕ, zero, suc, ◌+◌, ◌-◌, ◌*◌, ◌/◌, ◌%◌, ◌<◌, ◌≤◌, Bool, true, false, not, ◌&&◌, ◌||◌, ◌==◌, List, [], ◌∷◌, ◌++◌, length, map, take, Option, Some, None, cond, refl, sym, ◌∙◌, ap, subst, arith, get_or, ◌⊎◌, inl, inr}
-use Rattle.std.specs.List.{All, list_any, range_with_len, filter, filter_map, find, cons_option}
+use Rattle.std.proofs.Common.{◌≡◌, ℕ, zero, suc, ◌+◌, ◌/◌, ◌%◌, ◌<◌, ◌≤◌, Bool, true, false, not, ◌&&◌, ◌||◌, ◌==◌, List, [], ◌∷◌, length, map, Option, Some, None, cond, refl, sym, ◌∙◌, ap, subst, arith, get_or}
+use Rattle.std.specs.List.{All, list_any, range_with_len, filter, find}
 use Rattle.std.specs.declared.cmp.Ordering.TheVariants.{Less, Equal}
 use Rattle.std.proofs.lemmas.Bool.Decides.{nat_tests}
 use Rattle.std.proofs.lemmas.Option.{same_Some}
-use Rattle.std.proofs.lemmas.List.Elements.{All-cons, All-map}
-use Rattle.path_tree.specs.Paths.{Bytes, PathNames, path_cmp, same_name, same_path}
+use Rattle.std.proofs.lemmas.List.Elements.{All-cons}
+use Rattle.path_tree.specs.Paths.{path_cmp, same_name}
 use Rattle.generation.specs.Publication.{Spot}
-use Rattle.generation.specs.Layouts.{Placed, placed_at, key_in, old_keys, taken_in, free_keys, filled, keys_of, is_same_spot, same_kind, key_bytes}
+use Rattle.generation.specs.Layouts.{Placed, placed_at, key_in, old_keys, taken_in, free_keys, filled, keys_of, is_same_spot, key_bytes}
 use Rattle.generation.proofs.Law.{same_name_is}
 use Rattle.generation.proofs.Treeing.{same_self, paths_self}
 use Rattle.generation.proofs.Rising.{Rising, same_paths}

@@ -1,7 +1,7 @@
 -- Keys: those that are kept, and those that are free.
-use Rattle.std.proofs.Common.{◌≡◌, ◌≢◌, ℕ, zero, suc, ◌+◌, ◌-◌, ◌<◌, ◌≤◌, Bool, true, false, not, List, [], ◌∷◌, ◌++◌, length, take, drop, map, Option, Some, None, cond, refl, sym, ◌∙◌, ap, add-one, add-zero, arith, append-nil, eqb}
-use Rattle.std.specs.List.{range_with_len, All, filter, list_any}
-use Rattle.generation.specs.Layouts.{free_keys, filled}
+use Rattle.std.proofs.Common.{◌≡◌, ℕ, zero, suc, ◌+◌, ◌-◌, ◌≤◌, Bool, true, false, not, List, [], ◌∷◌, ◌++◌, cond, refl, sym, ◌∙◌, ap, add-zero, arith, append-nil, eqb}
+use Rattle.std.specs.List.{range_with_len, filter, list_any}
+use Rattle.generation.specs.Layouts.{free_keys}
 
 pub range_more : (a n : ℕ) → range_with_len a (suc n) ≡ range_with_len a n ++ (a + n) ∷ []
 range_more a zero = ap (λ k. k ∷ []) (sym (add-zero a))

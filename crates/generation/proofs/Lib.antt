@@ -15,5 +15,6 @@ pub mod Carrying
 pub mod Walking
 pub mod Inside
 pub mod Soundness
+pub mod Filling
 pub mod Octets
 pub mod Assembly

@@ -1,11 +1,11 @@
 -- Sizes of objects, and the first folder that is too large.
-use Rattle.std.proofs.Common.{◌≡◌, ◌≢◌, ℕ, zero, suc, ◌+◌, ◌-◌, ◌<◌, ◌≤◌, Bool, true, false, not, List, [], ◌∷◌, ◌++◌, length, take, drop, map, Option, Some, None, cond, refl, sym, ◌∙◌, ap, add-one, arith, get_or}
-use Rattle.std.specs.List.{All, find, sum_by}
+use Rattle.std.proofs.Common.{◌≡◌, ℕ, zero, suc, ◌+◌, ◌<◌, Bool, true, false, List, [], ◌∷◌, length, drop, map, Option, Some, None, refl, sym, ◌∙◌, ap, add-one, arith, get_or}
+use Rattle.std.specs.List.{find}
 use Rattle.std.proofs.lemmas.List.{get_or-map}
 use Rattle.path_tree.specs.Paths.{Bytes, PathNames}
 use Rattle.path_tree.specs.Trees.{Tree}
 use Rattle.generation.specs.declared.spots.Spot.{Spot}
-use Rattle.generation.specs.Publication.{Spot as SpotFields, size_of, spots_of, gateway_spot, binding_size, is_large_folder, child_name}
+use Rattle.generation.specs.Publication.{Spot as SpotFields, size_of, gateway_spot, is_large_folder}
 use Rattle.generation.specs.View.{view_spot, AreSpotsOf}
 
 pub len_map : {A B : Type 0} (f : A → B) (xs : List A) → length (map f xs) ≡ length xs

@@ -1,12 +1,12 @@
 -- A generation is the one that the lists of trees and layouts give.
-use Rattle.std.proofs.Common.{◌≡◌, ◌≢◌, ℕ, zero, suc, ◌+◌, ◌-◌, ◌%◌, ◌<◌, ◌≤◌, Bool, true, false, not, ◌==◌, List, [], ◌∷◌, ◌++◌, length, take, drop, map, Option, Some, None, cond, refl, sym, ◌∙◌, ap, subst, add-one, arith, get_or, length-append, ◌⊎◌, inl, inr}
+use Rattle.std.proofs.Common.{◌≡◌, ℕ, zero, suc, ◌+◌, ◌-◌, ◌%◌, ◌<◌, ◌≤◌, Bool, true, false, ◌==◌, List, [], ◌∷◌, ◌++◌, length, take, map, Option, Some, None, cond, refl, sym, ◌∙◌, ap, subst, arith, get_or, length-append, inl, inr}
 use Rattle.std.proofs.lemmas.Bool.{cases_lt}
 use Rattle.std.proofs.lemmas.List.{get_or-map}
 use Rattle.std.proofs.lemmas.List.FromFn.{length-map-range_with_len, get_or-map-range_with_len}
 use Rattle.biop_object.specs.Objects.{gateway_kind}
 use Rattle.dsi_dii.specs.declared.ModuleLine.{ModuleLine}
 use Rattle.generation.proofs.Limiting.{len_map}
-use Rattle.std.specs.List.{All, Contains, filter, filter_map, flat_map, fold, range_with_len, list_any, cons_option}
+use Rattle.std.specs.List.{All, Contains, filter, filter_map, flat_map, fold, range_with_len, list_any}
 use Rattle.std.specs.Option.{is_none, unwrap_or}
 use Rattle.std.proofs.lemmas.Bool.Decides.{nat_tests}
 use Rattle.std.proofs.lemmas.Option.{same_Some}
@@ -20,7 +20,7 @@ use Rattle.cycle_planner.specs.declared.Item.TheVariants.{Dsi, Dii, Block}
 use Rattle.ddb_block.specs.Blocks.{block_count_of}
 use Rattle.dsi_dii.specs.Controls.{DiiFields, dii_spelling, dsi_spelling, dii_transaction}
 use Rattle.dsmcc_section.specs.Sections.{spelling}
-use Rattle.generation.specs.Layouts.{GenerationState, Placed, first_of, next_of, generation_of, counts_after, count_after, count_in, same_module, listed, layout_of, is_in, module_bytes, items_of, lines_of, lines_in, section_of, dii_of, dii_lines, control_section, block_section, greatest, gateway_location}
+use Rattle.generation.specs.Layouts.{GenerationState, Placed, first_of, next_of, counts_after, count_after, count_in, same_module, listed, layout_of, is_in, module_bytes, items_of, lines_of, section_of, dii_of, dii_lines, control_section, block_section, greatest, gateway_location}
 use Rattle.generation.specs.Lawful.{layout_at, tree_at, one_if_changed, count_of, version_in, dii_in, section_in, IsItem}
 use Rattle.generation.specs.Kept.{states_from, layouts_of, IsGenerationOf, GenerationsAreOfTheLists}
 

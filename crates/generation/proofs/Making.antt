@@ -1,9 +1,8 @@
 -- The generation after another.
-use Rattle.std.proofs.Common.{◌≡◌, ℕ, zero, suc, ◌+◌, ◌<◌, ◌≤◌, Bool, true, false, List, [], ◌∷◌, ◌++◌, length, map, Option, Some, None, cond, refl, sym, ◌∙◌, ap, subst, arith, get_or}
+use Rattle.std.proofs.Common.{◌≡◌, ℕ, ◌+◌, ◌≤◌, Bool, true, false, List, [], ◌∷◌, ◌++◌, map, Some, cond, refl, sym, ◌∙◌, ap, arith, get_or}
 use Rattle.std.specs.List.{All, filter, fold}
 use Rattle.std.specs.Option.{is_none}
 use Rattle.std.proofs.lemmas.List.Elements.{All-map, All-append, All-filter}
-use Rattle.path_tree.specs.Paths.{Bytes}
 use Rattle.path_tree.specs.Trees.{Tree}
 use Rattle.biop_object.specs.Names.{Layout, module_in}
 use Rattle.module_packer.specs.Placement.{fresh}

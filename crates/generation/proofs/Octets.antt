@@ -1,6 +1,6 @@
 -- What is written of objects are bytes.
-use Rattle.std.proofs.Common.{◌≡◌, ℕ, zero, suc, ◌+◌, ◌-◌, ◌*◌, ◌/◌, ◌%◌, ◌<◌, ◌≤◌, Bool, true, false, ◌&&◌, ◌==◌, List, [], ◌∷◌, ◌++◌, length, map, take, Option, Some, None, cond, refl, sym, ◌∙◌, ap, subst, arith, get_or, nat_lt, lit<}
-use Rattle.std.specs.List.{All, filter, filter_map, flat_map, list_all, cons_option}
+use Rattle.std.proofs.Common.{◌≡◌, ℕ, suc, ◌+◌, ◌-◌, ◌<◌, ◌≤◌, Bool, true, false, ◌&&◌, List, [], ◌∷◌, ◌++◌, length, Option, Some, None, cond, refl, subst, arith, nat_lt, lit<}
+use Rattle.std.specs.List.{All, filter, flat_map, list_all}
 use Rattle.std.proofs.lemmas.Bool.Decides.{nat_tests}
 use Rattle.std.proofs.lemmas.Option.{same_Some}
 use Rattle.std.proofs.lemmas.List.Elements.{All-cons, All-append}
@@ -9,15 +9,11 @@ use Rattle.path_tree.specs.Paths.{Bytes, PathNames, same_name}
 use Rattle.path_tree.specs.Trees.{Tree}
 use Rattle.ior_tap.specs.Iors as iors
 use Rattle.ior_tap.specs.declared.Location.{Location}
-use Rattle.biop_object.specs.Objects.{biop, file_kind, directory_kind, kind_of, file_spelling, folder_spelling, binding_spelling, bound_tail, bound_kind}
-use Rattle.biop_object.specs.declared.written.Written.{Written}
-use Rattle.biop_object.specs.declared.written.Bound.{Bound}
-use Rattle.biop_object.specs.declared.written.Bound.TheVariants as bounds
+use Rattle.biop_object.specs.Objects.{biop, file_kind, directory_kind, kind_of, file_spelling, binding_spelling, bound_tail, bound_kind}
 use Rattle.biop_object.specs.declared.written.FolderKind.{FolderKind}
 use Rattle.biop_object.specs.declared.written.FolderKind.TheVariants.{Directory, Gateway}
-use Rattle.generation.specs.Publication.{Spot, gateway_spot, spots_of, spots_after, child_name, folder_of, folders_after, shared_folders}
-use Rattle.generation.specs.Layouts.{Placed, location_of, key_bytes, bound_of, written_in, entries_of, folder_kind_of, object_bytes, is_in, module_bytes}
-use Rattle.generation.specs.Lawful.{HasBytes}
+use Rattle.generation.specs.Publication.{Spot, gateway_spot, spots_of, spots_after, child_name, folders_after, shared_folders}
+use Rattle.generation.specs.Layouts.{Placed, key_bytes, bound_of, entries_of, folder_kind_of, object_bytes, is_in, module_bytes}
 use Rattle.generation.proofs.Rising.{each_folder}
 use Rattle.generation.proofs.Soundness.{all_take}
 

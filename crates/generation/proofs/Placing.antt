@@ -1,19 +1,15 @@
 -- The objects of a generation: as many keys and modules as objects, and the sizes of their bytes.
-use Rattle.std.proofs.Common.{◌≡◌, ◌≢◌, ℕ, zero, suc, ◌+◌, ◌-◌, ◌*◌, ◌<◌, ◌≤◌, max, Bool, true, false, not, ◌||◌, List, [], ◌∷◌, ◌++◌, length, take, drop, map, Option, Some, None, cond, refl, sym, ◌∙◌, ap, subst, add-one, arith, get_or, length-append, append-nil, ◌==◌, nat_lt, nat_le, sum, inl, inr, ◌⊎◌, Result, Ok, Err, Vec, Global}
+use Rattle.std.proofs.Common.{◌≡◌, ℕ, zero, suc, ◌+◌, ◌-◌, ◌≤◌, max, Bool, true, false, not, List, [], ◌∷◌, ◌++◌, length, map, Option, Some, None, cond, refl, sym, ◌∙◌, ap, subst, arith, get_or, length-append, append-nil, ◌==◌, nat_lt, nat_le, sum, inl, inr, ◌⊎◌, Result, Ok, Err, Vec, Global}
 use Rattle.std.specs.Prelude.{IfOk}
-use Rattle.std.specs.List.{All, find, sum_by, filter, filter_map, flat_map, list_any, range_with_len, zip, fold, cons_option}
-use Rattle.std.proofs.lemmas.Grind.{common_steps}
+use Rattle.std.specs.List.{All, find, sum_by, filter, filter_map, flat_map, list_any, range_with_len, fold, cons_option}
 use Rattle.std.proofs.lemmas.Bool.Decides.{nat_tests}
-use Rattle.std.proofs.lemmas.List.Sums.{sum_by-cons, sum-map}
-use Rattle.std.proofs.lemmas.List.Elements.{All-map, All-cons, filter_map-append}
+use Rattle.std.proofs.lemmas.List.Sums.{sum_by-cons}
+use Rattle.std.proofs.lemmas.List.Elements.{All-cons, filter_map-append}
 use Rattle.std.proofs.lemmas.List.{map-append}
 use Rattle.generation.proofs.Keying.{range_more}
 use Rattle.path_tree.specs.Paths.{Bytes, PathNames}
 use Rattle.path_tree.specs.Trees.{Tree, IsTree}
-use Rattle.ior_tap.specs.Iors as iors
-use Rattle.ior_tap.specs.declared.Location.{Location}
-use Rattle.biop_object.specs.Objects.{file_spelling, folder_spelling, binding_spelling, bound_tail, bound_kind, kind_of}
-use Rattle.biop_object.specs.declared.written.Written.{Written}
+use Rattle.biop_object.specs.Objects.{folder_spelling, binding_spelling, bound_tail, bound_kind}
 use Rattle.biop_object.specs.declared.written.FolderKind.{FolderKind}
 use Rattle.biop_object.specs.declared.written.FolderKind.TheVariants.{Directory, Gateway}
 use Rattle.std.proofs.lemmas.List.FromFn.{length-range_with_len}

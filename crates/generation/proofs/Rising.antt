@@ -1,19 +1,16 @@
 -- The objects of a tree stand by path, and their contents are those of the tree.
-use Rattle.std.proofs.Common.{◌≡◌, ◌≢◌, ℕ, zero, suc, ◌+◌, ◌-◌, ◌<◌, ◌≤◌, Bool, true, false, not, ◌&&◌, ◌||◌, ◌==◌, List, [], ◌∷◌, ◌++◌, length, map, take, Option, Some, None, cond, refl, sym, ◌∙◌, ap, subst, arith, get_or, ◌⊎◌, inl, inr}
+use Rattle.std.proofs.Common.{◌≡◌, ◌≢◌, ℕ, zero, suc, ◌+◌, ◌-◌, ◌<◌, ◌≤◌, Bool, true, false, ◌&&◌, ◌||◌, List, [], ◌∷◌, ◌++◌, length, map, take, Some, None, refl, sym, ◌∙◌, ap, subst, arith, get_or, ◌⊎◌, inl, inr}
 use Rattle.std.specs.List.{All, list_any, range_with_len}
-use Rattle.std.specs.Map.{lookup}
-use Rattle.std.specs.Ordering.{nat_cmp, ordering_then}
-use Rattle.std.specs.declared.cmp.Ordering.{Ordering}
-use Rattle.std.specs.declared.cmp.Ordering.TheVariants.{Less, Equal, Greater}
+use Rattle.std.specs.Ordering.{nat_cmp}
+use Rattle.std.specs.declared.cmp.Ordering.TheVariants.{Less, Equal}
 use Rattle.std.proofs.lemmas.Bool.Decides.{nat_tests}
-use Rattle.std.proofs.lemmas.Bool.{cases_lt}
 use Rattle.std.proofs.Common.{length-take}
-use Rattle.std.proofs.lemmas.List.Elements.{All-cons, All-append, All-map}
-use Rattle.path_tree.specs.Paths.{Bytes, PathNames, name_cmp, path_cmp, same_name, same_path, is_below, next_name, IsPath}
-use Rattle.path_tree.specs.Trees.{Tree, IsTree, content_at, is_folder}
-use Rattle.generation.specs.Publication.{Spot, shared_folders, folder_of, folders_after, spots_after, spots_of, gateway_spot}
+use Rattle.std.proofs.lemmas.List.Elements.{All-cons, All-append}
+use Rattle.path_tree.specs.Paths.{Bytes, PathNames, name_cmp, path_cmp, same_name, same_path, is_below}
+use Rattle.path_tree.specs.Trees.{Tree, IsTree, content_at}
+use Rattle.generation.specs.Publication.{Spot, shared_folders, folder_of, folders_after, spots_after, spots_of}
 use Rattle.generation.proofs.Law.{same_name_is}
-use Rattle.generation.proofs.Treeing.{same_self, then_less, names_equal, names_self, names_less, paths_self, paths_less, not_both, below_later, shared_less, cmp_equal, cmp_less}
+use Rattle.generation.proofs.Treeing.{same_self, then_less, names_equal, names_self, paths_self, not_both, below_later, shared_less, cmp_equal}
 use Rattle.generation.proofs.Children.{Later, Ordered, ordered_from}
 
 -- ---- order is passed on

@@ -1,22 +1,21 @@
 -- The objects that a tree gives after those of another are sound.
-use Rattle.std.proofs.Common.{◌≡◌, ◌≢◌, ℕ, zero, suc, ◌+◌, ◌-◌, ◌<◌, ◌≤◌, Bool, true, false, ◌&&◌, ◌==◌, List, [], ◌∷◌, ◌++◌, length, map, take, Option, Some, None, cond, refl, sym, ◌∙◌, ap, subst, arith, get_or, ◌⊎◌, inl, inr}
+use Rattle.std.proofs.Common.{◌≡◌, ℕ, zero, suc, ◌+◌, ◌-◌, ◌<◌, ◌≤◌, Bool, true, false, List, [], ◌∷◌, length, map, take, Option, Some, None, refl, sym, ◌∙◌, ap, subst, arith, get_or, inl}
 use Rattle.std.specs.Prelude.{slice_get}
-use Rattle.std.specs.List.{All, list_any, range_with_len, filter_map, find, cons_option}
+use Rattle.std.specs.List.{All}
 use Rattle.std.proofs.lemmas.Option.{same_Some}
 use Rattle.std.proofs.lemmas.List.Elements.{All-cons, All-append}
-use Rattle.path_tree.specs.Paths.{Bytes, PathNames, same_name, same_path, IsName, IsPath}
+use Rattle.path_tree.specs.Paths.{Bytes, PathNames, same_name, IsName}
 use Rattle.path_tree.specs.Trees.{Tree, IsTree}
 use Rattle.biop_object.specs.Objects.{folder_spelling}
 use Rattle.biop_object.specs.Spelled.{IsSpellable, IsSpellableEntry}
-use Rattle.module_packer.specs.Placement.{fresh, needed, IsPlacement, FreshIsAPlacement}
-use Rattle.generation.specs.Publication.{Spot, gateway_spot, spots_of, spots_after, sizes_of, size_of, child_name, folder_of, folders_after, shared_folders, limit_of, is_large_folder}
-use Rattle.generation.specs.Layouts.{Placed, placed_all, placed_at, key_in, old_keys, taken_in, free_keys, filled, keys_of, location_of, key_bytes, written_in, entries_of, folder_kind_of, object_bytes, is_same_spot}
+use Rattle.module_packer.specs.Placement.{fresh, IsPlacement, FreshIsAPlacement}
+use Rattle.generation.specs.Publication.{Spot, gateway_spot, spots_of, spots_after, sizes_of, size_of, child_name, folders_after, shared_folders, limit_of, is_large_folder}
+use Rattle.generation.specs.Layouts.{Placed, placed_all, placed_at, key_in, old_keys, taken_in, free_keys, filled, keys_of, key_bytes, entries_of, folder_kind_of, object_bytes, is_same_spot}
 use Rattle.generation.proofs.Limiting.{len_map}
 use Rattle.generation.proofs.Placing.{Within, within_limits, length-keys_of, placed_spots, placed_modules, placed_keys, length-object_bytes, all_unmap, folder_small, find_none}
-use Rattle.generation.proofs.Rising.{rising_all, each_folder, Rising}
+use Rattle.generation.proofs.Rising.{rising_all, each_folder}
 use Rattle.generation.proofs.Keyed.{Distinct, keys_distinct, keys_small}
 use Rattle.generation.proofs.Carrying.{spelled, In, Sound, AreSmall}
-use Rattle.generation.proofs.Inside.{all_in}
 
 -- ---- names and sizes of objects
 

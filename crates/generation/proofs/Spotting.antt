@@ -1,19 +1,16 @@
 -- Objects that are named by an entry and a number of names.
-use Rattle.std.proofs.Common.{◌≡◌, ◌≢◌, ℕ, zero, suc, ◌+◌, ◌-◌, ◌<◌, ◌≤◌, Bool, true, false, not, ◌&&◌, List, [], ◌∷◌, ◌++◌, length, take, drop, map, Option, Some, None, cond, refl, sym, ◌∙◌, ap, subst, add-one, arith, length-drop, length-take, min, inl, inr, append_assoc, append-nil}
+use Rattle.std.proofs.Common.{◌≡◌, ◌≢◌, ℕ, zero, suc, ◌+◌, ◌-◌, ◌<◌, ◌≤◌, Bool, true, false, not, ◌&&◌, List, [], ◌∷◌, ◌++◌, length, take, drop, map, Option, Some, None, cond, refl, sym, ◌∙◌, ap, add-one, arith, length-take, append_assoc, append-nil}
 use mathlib.Core.Bool.{beq}
 use Rattle.std.specs.Prelude.{slice_get}
 use Rattle.std.specs.List.{range_with_len, All}
-use Rattle.std.proofs.lemmas.Grind.{common_steps}
 use Rattle.std.proofs.lemmas.List.{map-append}
 use Rattle.std.proofs.lemmas.List.FromFn.{map-range_with_len_more}
 use Rattle.std.proofs.lemmas.Option.{same_Some}
-use Rattle.std.proofs.lemmas.Bool.{cases_lt}
 use Rattle.path_tree.specs.Paths.{Bytes, PathNames, same_name, same_path, IsPath, IsName}
-use Rattle.path_tree.specs.Trees.{Tree, IsTree}
+use Rattle.path_tree.specs.Trees.{Tree}
 use Rattle.generation.specs.Publication.{Spot as SpotFields, shared_folders, child_name, folder_of, folders_after, spots_after, spots_of}
 use Rattle.generation.specs.Layouts.{same_kind}
-use Rattle.generation.specs.View.{path_at, bytes_at, before_of, view_spot, IsSpotIn}
-use Rattle.generation.proofs.Fronts.{drop_get}
+use Rattle.generation.specs.View.{path_at, bytes_at, before_of, view_spot}
 
 pub path_at_is : (t : Tree) (i : ℕ) (p : PathNames) (b : Bytes) → slice_get t i ≡ Some (p, b) → path_at t i ≡ p
 path_at_is [] i p b e = cc

@@ -1,25 +1,23 @@
 -- A path names in the modules what stands there in the tree.
-use Rattle.std.proofs.Common.{◌≡◌, ◌≢◌, ℕ, zero, suc, ◌+◌, ◌-◌, ◌<◌, ◌≤◌, Bool, true, false, not, ◌&&◌, ◌||◌, ◌==◌, List, [], ◌∷◌, ◌++◌, length, map, Option, Some, None, cond, refl, sym, ◌∙◌, ap, subst, arith, get_or, append_assoc, append-nil, ◌⊎◌, inl, inr}
-use Rattle.std.specs.List.{All, list_any, filter_map, find, cons_option, dedup, dedup_from}
+use Rattle.std.proofs.Common.{◌≡◌, ◌≢◌, ℕ, suc, Bool, true, false, ◌&&◌, ◌||◌, List, [], ◌∷◌, ◌++◌, map, Option, Some, None, cond, refl, sym, ◌∙◌, ap, subst, arith, get_or, append_assoc, append-nil}
+use Rattle.std.specs.List.{All, list_any, filter_map, find, dedup, dedup_from}
 use Rattle.std.specs.Option.{option_map}
-use Rattle.std.specs.Map.{lookup}
-use Rattle.std.specs.declared.cmp.Ordering.TheVariants.{Less, Equal}
+use Rattle.std.specs.declared.cmp.Ordering.TheVariants.{Less}
 use Rattle.std.proofs.lemmas.Option.{same_Some}
 use Rattle.std.proofs.lemmas.List.Elements.{All-cons}
 use Rattle.path_tree.specs.Paths.{Bytes, PathNames, path_cmp, same_name, same_path, is_below, next_name}
-use Rattle.path_tree.specs.Trees.{Tree, IsTree, Node, File, Folder, NoSuch, node_at, content_at, is_folder, names_below}
+use Rattle.path_tree.specs.Trees.{Tree, IsTree, File, Folder, NoSuch, node_at, content_at, is_folder, names_below}
 use Rattle.ior_tap.specs.declared.Location.{Location}
-use Rattle.biop_object.specs.Names.{Layout, Thing, AFile, AFolder, named, location_in, thing_at, location_of as leads_to}
-use Rattle.biop_object.specs.Objects.{BindingFields, binding_of}
+use Rattle.biop_object.specs.Names.{Layout, named, location_in, location_of as leads_to}
+use Rattle.biop_object.specs.Objects.{binding_of}
 use Rattle.biop_object.specs.Spelled.{SpellingsReadBack}
-use Rattle.biop_object.specs.declared.written.Written.{Written}
 use Rattle.generation.specs.Publication.{Spot, spots_of, spots_after, child_name, gateway_spot}
-use Rattle.generation.specs.Layouts.{Placed, location_of, bound_of, written_in, entries_of, layout_of, gateway_location, key_bytes}
+use Rattle.generation.specs.Layouts.{Placed, location_of, bound_of, entries_of, layout_of, gateway_location, key_bytes}
 use Rattle.generation.specs.Lawful.{IsNode}
 use Rattle.generation.proofs.Law.{same_name_is}
-use Rattle.generation.proofs.Treeing.{same_self, not_both, below_later, paths_self}
+use Rattle.generation.proofs.Treeing.{same_self, not_both, below_later}
 use Rattle.generation.proofs.Children.{kids, kids_are, Later, Ordered, ordered_from}
-use Rattle.generation.proofs.Rising.{Tells, tells_all, same_paths, path_self, paths_differ}
+use Rattle.generation.proofs.Rising.{tells_all, same_paths, paths_differ}
 use Rattle.generation.proofs.Carrying.{seen, In, find_in, in_all, Sound, thing_found}
 
 -- a name is there, and is this one

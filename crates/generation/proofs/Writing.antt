@@ -1,17 +1,14 @@
 -- What is written of a generation: bindings, modules, messages.
-use Rattle.std.proofs.Common.{◌≡◌, ◌≢◌, ℕ, zero, suc, ◌+◌, ◌-◌, ◌*◌, ◌%◌, ◌<◌, ◌≤◌, min, Bool, true, false, not, List, [], ◌∷◌, ◌++◌, length, take, drop, map, Option, Some, None, cond, ◌==◌, refl, sym, subst, ◌∙◌, ap, add-one, arith, get_or, append-nil, append_assoc, length-append, length-drop, length-take, Vec, Global, Ok, Err, Result, inl, inr, lit≤}
-use Rattle.std.specs.List.{All, find, sum_by, filter, filter_map, flat_map, list_any}
+use Rattle.std.proofs.Common.{◌≡◌, ℕ, zero, suc, ◌+◌, ◌-◌, ◌*◌, ◌%◌, ◌<◌, ◌≤◌, min, Bool, true, false, List, [], ◌∷◌, ◌++◌, length, take, drop, map, Option, Some, None, cond, ◌==◌, refl, sym, subst, ◌∙◌, ap, arith, get_or, append-nil, length-append, length-drop, length-take, Vec, Global, Result, inl, inr, lit≤}
+use Rattle.std.specs.List.{All, filter_map, flat_map}
 use Rattle.std.specs.Arc.{arc_value}
 use Rattle.std.specs.Prelude.{IfOk}
 use Rattle.std.proofs.lemmas.Bool.{cases_lt}
 use Rattle.std.proofs.lemmas.List.Elements.{filter_map-append, All-map}
 use Rattle.std.proofs.lemmas.List.{map_more}
-use Rattle.oc_bytes.specs.Numbers.{two_bytes, four_bytes}
-use Rattle.path_tree.specs.Paths.{Bytes, PathNames}
-use Rattle.path_tree.specs.Trees.{Tree}
+use Rattle.path_tree.specs.Paths.{Bytes}
 use Rattle.biop_object.specs.Objects.{gateway_kind}
 use Rattle.ior_tap.specs.Iors as iors
-use Rattle.ior_tap.specs.declared.Location.{Location}
 use Rattle.ddb_block.specs.Blocks as blocks
 use Rattle.dsi_dii.specs.Controls.{DiiFields, dii_transaction, dsi_spelling, dii_spelling, line_bytes}
 use Rattle.dsi_dii.specs.declared.ModuleLine.{ModuleLine}
@@ -131,10 +128,8 @@ dii_fits c g counts layout payload few e =
     let short = dii_short (record { download = c; block_size = 4066; transaction = dii_transaction g; modules = dii_lines counts layout }) (omega (arith, n, few)) in
     omega (arith, short, ap length e)
 
-pub block_short : {E : Type 0} (bytes : List ℕ) (a e : ℕ) (r : Result (Vec ℕ Global) E) → e ≤ a + 4066
-    → IfOk r (λ v. v.items ≡ take (e - a) (drop a bytes)) → IfOk r (λ v. length v.items ≤ 4066)
-block_short bytes a e (Ok v) le is = let n : length (take (e - a) (drop a bytes)) ≤ e - a = omega (arith, length-take (e - a) (drop a bytes)) in omega (arith, n, le, ap length is)
-block_short bytes a e (Err f) le is = is
+pub block_short : (bytes : List ℕ) (a e : ℕ) → e ≤ a + 4066 → length (take (e - a) (drop a bytes)) ≤ 4066
+block_short bytes a e le = let n : length (take (e - a) (drop a bytes)) ≤ e - a = omega (arith, length-take (e - a) (drop a bytes)) in omega (arith, n, le)
 
 pub small_bytes : (layout : List (ℕ × Bytes)) (id : ℕ) → All (λ m. length m.1 ≤ 268435456) layout → length (unwrap_or (module_in layout id) []) ≤ 268435456
 small_bytes [] id all = omega arith

@@ -1,12 +1,11 @@
 -- How a tree becomes modules, one generation after another.
-use Rattle.std.specs.Prelude.{◌≡◌, ℕ, zero, suc, ◌+◌, ◌*◌, ◌-◌, ◌%◌, ◌<◌, Bool, true, false, not, ◌&&◌, ◌||◌, List, [], ◌∷◌, ◌++◌, length, map, take, Option, Some, None, is_some, is_none, nat_lt, nat_le, ◌==◌, min, max, if◌then◌else◌}
+use Rattle.std.specs.Prelude.{ℕ, ◌+◌, ◌-◌, ◌%◌, Bool, true, false, not, ◌&&◌, List, [], ◌∷◌, ◌++◌, length, map, Option, Some, None, is_none, ◌==◌, min, max, if◌then◌else◌}
 use Rattle.std.specs.Option.{unwrap_or}
-use Rattle.std.specs.List.{flat_map, filter, filter_map, find, fold, zip, list_any, range_with_len, concat}
+use Rattle.std.specs.List.{flat_map, filter, filter_map, find, fold, list_any, range_with_len}
 use Rattle.oc_bytes.specs.Numbers.{four_bytes}
 use Rattle.path_tree.specs.Paths.{Bytes, PathNames, same_path, same_name}
 use Rattle.path_tree.specs.Trees.{Tree}
 use Rattle.ior_tap.specs.declared.Location.{Location}
-use Rattle.ior_tap.specs.Iors as iors
 use Rattle.biop_object.specs.Names.{Layout, module_in}
 use Rattle.biop_object.specs.Objects.{file_spelling, folder_spelling, gateway_kind}
 use Rattle.biop_object.specs.declared.written.Written.{Written}
@@ -20,7 +19,7 @@ use Rattle.dsi_dii.specs.declared.ModuleLine.{ModuleLine}
 use Rattle.dsmcc_section.specs.Sections as sections
 use Rattle.dsmcc_section.specs.declared.Table.TheVariants as tables
 use Rattle.module_packer.specs.Placement.{fresh}
-use Rattle.cycle_planner.specs.Cycle.{Line, cycle_of}
+use Rattle.cycle_planner.specs.Cycle.{Line}
 use Rattle.cycle_planner.specs.declared.Item.{Item}
 use Rattle.cycle_planner.specs.declared.Item.TheVariants.{Dsi, Dii, Block}
 use Rattle.generation.specs.Publication.{Spot, gateway_spot, spots_of, sizes_of, child_name}

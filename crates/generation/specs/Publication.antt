@@ -1,10 +1,10 @@
 -- The objects of a tree, their sizes, and the first limit that a tree passes. These are this project's own rules,
 -- but for the sizes, which follow from the form of the objects (ISO/IEC 13818-6, in the profile of ETSI TR 101 202).
-use Rattle.std.specs.Prelude.{◌≡◌, ℕ, zero, suc, ◌+◌, ◌-◌, ◌*◌, ◌<◌, Bool, true, false, not, List, [], ◌∷◌, ◌++◌, length, map, take, Option, Some, None, is_some, nat_lt, cond, if◌then◌else◌}
-use Rattle.std.specs.List.{flat_map, filter, sum, sum_by, find, range_with_len}
+use Rattle.std.specs.Prelude.{ℕ, suc, ◌+◌, ◌-◌, Bool, true, false, List, [], ◌∷◌, ◌++◌, length, map, take, Option, Some, None, nat_lt, cond}
+use Rattle.std.specs.List.{sum, sum_by, find, range_with_len}
 use Rattle.oc_bytes.specs.Outcome.{capped, capped32}
-use Rattle.path_tree.specs.Paths.{Bytes, PathNames, is_below, same_path, same_name}
-use Rattle.path_tree.specs.Trees.{Tree, content_at}
+use Rattle.path_tree.specs.Paths.{Bytes, PathNames, same_name}
+use Rattle.path_tree.specs.Trees.{Tree}
 use Rattle.module_packer.specs.Placement.{needed}
 
 -- an object's path, and its bytes where it is a file

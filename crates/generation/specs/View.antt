@@ -1,11 +1,12 @@
 -- What a generation keeps, as one value.
-use Rattle.std.specs.Prelude.{◌≡◌, ◌≤◌, ◌<◌, ℕ, Bool, true, false, List, [], ◌∷◌, zero, suc, length, map, take, Option, Some, None, cond}
+use Rattle.std.specs.Prelude.{◌≡◌, ◌≤◌, ◌<◌, ℕ, true, false, List, [], ◌∷◌, zero, suc, length, map, take, Some, None, cond}
 use Rattle.std.specs.List.{All, zip}
 use Rattle.std.specs.Arc.{arc_value}
 use Rattle.path_tree.specs.Paths.{Bytes, PathNames}
 use Rattle.path_tree.specs.Trees.{Tree, IsTree}
 use Rattle.biop_object.specs.declared.written.FolderKind.{FolderKind}
 use Rattle.biop_object.specs.declared.written.FolderKind.TheVariants.{Directory, Gateway}
+use Rattle.cycle_planner.specs.Cycle.{AreLines}
 use Rattle.generation.specs.Publication.{Spot as SpotFields, spots_of}
 use Rattle.generation.specs.Layouts.{GenerationState, Placed as PlacedState, lines_of, object_bytes, layout_of, greatest}
 use Rattle.generation.specs.declared.spots.Spot.{Spot}
@@ -59,9 +60,10 @@ view_generation g = record {
   counts = g.counts.items;
 }
 
--- what holds of what is kept: the lines are those of the layout, and numbers have room in their fields
+-- what holds of what is kept: the lines are those of the layout and make a cycle, and numbers have room in their fields
 pub record IsMade (g : Inside) : Type 0 where
   pub lines : g.lines.items ≡ lines_of (view_generation g)
+  pub cycle : AreLines g.lines.items
   pub number : g.number ≤ 16383
   pub counts : All (λ c. c.1 ≤ g.number) g.counts.items
   pub modules : length g.modules.items ≤ 139

@@ -1,28 +1,29 @@
 //! The sections of a generation's items.
-ghost use Rattle.std.specs.Prelude.{◌≡◌, ◌≤◌, ◌<◌, ◌+◌, ◌%◌, List, ℕ, [], length, map, IfOk};
+ghost use Rattle.std.specs.Prelude.{◌≡◌, ◌≤◌, ◌<◌, ◌+◌, ◌%◌, ◌++◌, List, ℕ, [], length, map, IfOk};
 ghost use Rattle.std.specs.List.{All};
 ghost use Rattle.std.specs.Option.{unwrap_or};
 ghost use Rattle.biop_object.specs.Names.{module_in};
 ghost use Rattle.generation.specs.Layouts.{dii_lines, control_section, block_section as section_of_block, gateway_location, count_in};
 ghost use Rattle.generation.specs.View.{view_listed};
 ghost use Rattle.biop_object.specs.Objects.{gateway_kind};
-ghost use Rattle.dsmcc_section.specs.Sections.{spelling, view as view_section};
+ghost use Rattle.dsmcc_section.specs.Sections.{IsFramed, fields_with, spelling};
 ghost use Rattle.ior_tap.specs.Iors.{view, written};
 ghost use Rattle.ddb_block.specs.Blocks.{block_of};
 ghost use Rattle.dsi_dii.specs.Controls.{dsi_spelling, dii_spelling, dii_transaction, DiiFields};
 ghost use Rattle.dsi_dii.specs.declared.ModuleLine.{ModuleLine};
 
 use crate::made::{Listed, count_in as count_of, find_module};
-use ddb_block::{Ddb, block_count};
+use ddb_block::{Parts, block_count, block_front};
 use dsi_dii::{Dii, DiiFault, Dsi, ModuleLine, TransactionId, encode_dii, encode_dsi};
-use dsmcc_section::{EncodeFault, Section, Table};
+use dsmcc_section::{EncodeFault, Header, Table, encode_parts};
 use ior_tap::{Binder, Ior, Key, Location, Profile, Tap};
 use oc_bytes::NoMemory;
 use std::alloc::{AllocError, Global};
 
 /// The section of the DSI: it names the gateway, which is the object of key 1 in module 1.
 pub(crate) fn dsi_section(alloc: Global, carousel: u32) -> Result<Vec<u8>, NoMemory>
-    ensures { IfOk result (λ v. v.items ≡ spelling (control_section 0 (dsi_spelling 0x80000000 gateway_kind (gateway_location carousel)))) }
+    ensures spells { IfOk result (λ v. v.items ≡ spelling (control_section 0 (dsi_spelling 0x80000000 gateway_kind (gateway_location carousel)))) }
+    ensures framed { IfOk result (λ v. IsFramed v.items) }
 {
     let dsi = Dsi {
         transaction: TransactionId::dsi(),
@@ -68,7 +69,8 @@ pub(crate) fn dii_section(
     requires number { number ≤ 16383 }
     requires modules { length modules.now ≤ 139 }
     requires sizes { All (λ m. length m.1 ≤ 268435456) (map view_listed modules.now) }
-    ensures { IfOk result (λ v. v.items ≡ spelling (control_section (dii_transaction number % 65536) (dii_spelling (record { download = carousel; block_size = 4066; transaction = dii_transaction number; modules = dii_lines counts.now (map view_listed modules.now) })))) }
+    ensures spells { IfOk result (λ v. v.items ≡ spelling (control_section (dii_transaction number % 65536) (dii_spelling (record { download = carousel; block_size = 4066; transaction = dii_transaction number; modules = dii_lines counts.now (map view_listed modules.now) })))) }
+    ensures framed { IfOk result (λ v. IsFramed v.items) }
 {
     let transaction = TransactionId::dii(number);
     let extension = (transaction.0 % 65536) as u16;
@@ -108,27 +110,27 @@ fn module_lines(
 /// A section of a control message.
 fn control(alloc: Global, extension: u16, payload: Vec<u8>) -> Result<Vec<u8>, NoMemory>
     requires { length payload.items ≤ 4084 }
-    ensures { IfOk result (λ v. v.items ≡ spelling (control_section extension payload.items)) }
+    ensures spells { IfOk result (λ v. v.items ≡ spelling (control_section extension payload.items)) }
+    ensures framed { IfOk result (λ v. IsFramed v.items) }
 {
-    section(
-        alloc,
-        &Section {
-            table: Table::Control,
-            extension,
-            version: 0,
-            number: 0,
-            last: 0,
-            payload,
-        },
-    )
+    let header = Header {
+        table: Table::Control,
+        extension,
+        version: 0,
+        number: 0,
+        last: 0,
+    };
+    section(alloc, &header, &[], &payload)
 }
 
-fn section(alloc: Global, section: &Section) -> Result<Vec<u8>, NoMemory>
-    requires version { section.now.version < 32 }
-    requires room { length section.now.payload.items ≤ 4084 }
-    ensures { IfOk result (λ v. v.items ≡ spelling (view_section section.now)) }
+/// The section whose payload is both parts, one behind the other.
+fn section(alloc: Global, header: &Header, front: &[u8], rest: &[u8]) -> Result<Vec<u8>, NoMemory>
+    requires version { header.now.version < 32 }
+    requires room { length front.now + length rest.now ≤ 4084 }
+    ensures spells { IfOk result (λ v. v.items ≡ spelling (fields_with header.now (front.now ++ rest.now))) }
+    ensures framed { IfOk result (λ v. IsFramed v.items) }
 {
-    match dsmcc_section::encode(alloc, section) {
+    match encode_parts(alloc, header, front, rest) {
         Ok(bytes) => Ok(bytes),
         Err(EncodeFault::NoMemory) => Err(AllocError),
         Err(EncodeFault::TooLong) => unreachable!(),
@@ -145,7 +147,8 @@ pub(crate) fn block_of_module(
     block: u16,
 ) -> Result<Vec<u8>, NoMemory>
     requires { All (λ m. length m.1 ≤ 268435456) (map view_listed modules.now) }
-    ensures { IfOk result (λ v. v.items ≡ spelling (section_of_block carousel id (count_in counts.now id % 256) block (unwrap_or (module_in (map view_listed modules.now) id) []))) }
+    ensures spells { IfOk result (λ v. v.items ≡ spelling (section_of_block carousel id (count_in counts.now id % 256) block (unwrap_or (module_in (map view_listed modules.now) id) []))) }
+    ensures framed { IfOk result (λ v. IsFramed v.items) }
 {
     let version = (count_of(counts, id) % 256) as u8;
     block_section(alloc, carousel, id, version, block, bytes_of(modules, id))
@@ -171,43 +174,34 @@ fn block_section(
     bytes: &[u8],
 ) -> Result<Vec<u8>, NoMemory>
     requires { length bytes.now ≤ 268435456 }
-    ensures { IfOk result (λ v. v.items ≡ spelling (section_of_block carousel id version block bytes.now)) }
+    ensures spells { IfOk result (λ v. v.items ≡ spelling (section_of_block carousel id version block bytes.now)) }
+    ensures framed { IfOk result (λ v. IsFramed v.items) }
 {
-    let ddb = Ddb {
+    let parts = Parts {
         download: carousel,
         module: id,
         version,
         block,
-        bytes: block_bytes(alloc, bytes, block)?,
+        bytes: block_bytes(bytes, block),
     };
-    let payload = ddb_block::encode(alloc, &ddb)?;
     let blocks = block_count(bytes.len() as u32, 4066);
-    section(
-        alloc,
-        &Section {
-            table: Table::Blocks,
-            extension: id,
-            version: version % 32,
-            number: (block % 256) as u8,
-            last: blocks.saturating_sub(1).min(255) as u8,
-            payload,
-        },
-    )
+    let header = Header {
+        table: Table::Blocks,
+        extension: id,
+        version: version % 32,
+        number: (block % 256) as u8,
+        last: blocks.saturating_sub(1).min(255) as u8,
+    };
+    section(alloc, &header, &block_front(&parts), parts.bytes)
 }
 
 /// The bytes of a block: 4,066, or what is left.
-fn block_bytes(alloc: Global, bytes: &[u8], block: u16) -> Result<Vec<u8>, NoMemory>
+fn block_bytes(bytes: &[u8], block: u16) -> &[u8]
     requires { length bytes.now ≤ 268435456 }
-    ensures block { IfOk result (λ v. v.items ≡ block_of bytes.now 4066 block) }
-    ensures short { IfOk result (λ v. length v.items ≤ 4066) }
+    ensures block { result.now ≡ block_of bytes.now 4066 block }
+    ensures short { length result.now ≤ 4066 }
 {
     let first = (usize::from(block) * 4066).min(bytes.len());
     let end = (first + 4066).min(bytes.len());
-    copied(alloc, &bytes[first..end])
-}
-
-fn copied(alloc: Global, bytes: &[u8]) -> Result<Vec<u8>, NoMemory>
-    ensures { IfOk result (λ v. v.items ≡ bytes.now) }
-{
-    bytes.to_vec(alloc)
+    &bytes[first..end]
 }

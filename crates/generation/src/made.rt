@@ -4,6 +4,8 @@ ghost use Rattle.std.specs.Arc.{arc_value};
 ghost use Rattle.std.specs.Option.{option_map};
 ghost use Rattle.path_tree.specs.Trees.{Tree};
 ghost use Rattle.biop_object.specs.Names.{Layout, module_in};
+ghost use Rattle.cycle_planner.specs.Cycle.{AreLines};
+ghost use Rattle.dsmcc_section.specs.Sections.{IsFramed};
 ghost use Rattle.generation.specs.Layouts.{GenerationState, first_of, next_of, generation_of, lines_of, lines_in, items_of, section_of, count_in as count_at, count_after as count_next, counts_after, same_module, layout_of, listed, greatest, placed_all, keys_of};
 ghost use Rattle.generation.specs.Kept.{StandsFor, layouts_of};
 ghost use Rattle.generation.specs.Publication.{limit_of, spots_of, sizes_of};
@@ -49,6 +51,8 @@ pub struct Generation {
 }
 
 impl Model for Generation {
+    ghost use Rattle.cycle_planner.specs.Cycle.{AreLines};
+    ghost use Rattle.dsmcc_section.specs.Sections.{IsFramed};
     ghost use Rattle.generation.specs.Layouts.{GenerationState};
 
     ghost Value = { GenerationState };
@@ -134,9 +138,11 @@ impl Generation {
         &self.tree
     }
 
-    /// The modules' ids, from 1 to 139 and rising, each with its number of blocks of 4,066 bytes.
+    /// The modules' ids, from 1 to 139 and rising, each with its number of blocks of 4,066 bytes. There is at least one, and
+    /// each block's number is one of 16 bits.
     pub fn lines(&self) -> &[(u16, u32)]
-        ensures { result.now ≡ lines_of self.now }
+        ensures exact { result.now ≡ lines_of self.now }
+        ensures lines { AreLines result.now }
     {
         &self.lines
     }
@@ -157,10 +163,11 @@ impl Generation {
     }
 
     /// The section of one of the generation's items: the DSI, the DII, or a block of a listed module whose number is
-    /// below the module's number of blocks. The only refusal is want of memory.
+    /// below the module's number of blocks. A stream of sections can be cut by it. The only refusal is want of memory.
     pub fn section(&self, item: Item) -> Result<Vec<u8>, NoMemory>
         requires { Contains (items_of self.now) item }
-        ensures { IfOk result (λ bytes. bytes.items ≡ section_of self.now item) }
+        ensures exact { IfOk result (λ bytes. bytes.items ≡ section_of self.now item) }
+        ensures framed { IfOk result (λ bytes. IsFramed bytes.items) }
     {
         match item {
             Item::Dsi => dsi_section(self.alloc, self.carousel),
@@ -195,6 +202,7 @@ fn objects_after(
     ensures objects { IfOk result (λ v. map (view_placed tree.now) v.items
         ≡ placed_all (spots_of tree.now) (keys_of (map (view_placed old_tree.now) old.now) (spots_of tree.now)) (fresh (sizes_of tree.now))) }
     ensures ready { IfOk result (λ v. (carousel : ℕ) → AreReady carousel tree.now v.items) }
+    ensures lines { IfOk result (λ v. (carousel : ℕ) → AreLines (lines_in (layout_of carousel (map (view_placed tree.now) v.items)))) }
 {
     let spots = spots(alloc, tree)?;
     let sizes = sizes(alloc, tree, &spots)?;

@@ -1,14 +1,10 @@
-use Rattle.std.proofs.Common.{sym, subst}
-use Rattle.dsmcc_section.specs.Sections.{Reads, IsFramed, view}
-use Rattle.dsmcc_section.proofs.Readings.{spelling_reads, spelling_framed}
+use Rattle.std.proofs.Common.{◌≡◌, subst}
+use Rattle.std.specs.Prelude.{IfOk}
+use Rattle.dsmcc_section.specs.Sections.{spelling}
 use Rattle.dsmcc_section.proofs.encode.Goals as goal
 
-pub returns-clause-reads : goal.returns-clause-reads
-returns-clause-reads c =
-    let s = view c.args.section.now in
-    subst (λ bytes. Reads bytes s) (sym c.in_ok-written.ensures.spells) (spelling_reads s c.written.ensures.fits)
-
-pub returns-clause-framed : goal.returns-clause-framed
-returns-clause-framed c =
-    let s = view c.args.section.now in
-    subst (λ bytes. IsFramed bytes) (sym c.in_ok-written.ensures.spells) (spelling_framed s c.written.ensures.fits)
+pub returns-clause-spells : goal.returns-clause-spells
+returns-clause-spells c =
+    let s = c.args.section.now in
+    subst (λ payload. IfOk c.encode_parts.result (λ bytes. bytes.items ≡ spelling (record { table = s.table; extension = s.extension; version = s.version; number = s.number; last = s.last; payload = payload })))
+    c.deref.ensures.value c.encode_parts.ensures.spells

@@ -1,4 +1,4 @@
-use Rattle.std.proofs.Common.{◌≡◌, ◌≤◌, ◌%◌, sym, subst, ap, ◌∙◌, length, map, arith, refl}
+use Rattle.std.proofs.Common.{◌≡◌, ◌%◌, subst, map, arith, refl}
 use Rattle.std.specs.Prelude.{IfOk}
 use Rattle.dsmcc_section.specs.Sections.{spelling}
 use Rattle.dsi_dii.specs.Controls.{dii_spelling, dii_transaction}
@@ -21,11 +21,11 @@ control-requires c =
     dii_fits c.args.carousel c.args.number c.args.counts.now layout c.in-Ok.payload.items (omega (arith, n))
     (dii_is c.args.carousel c.args.number c.dii-transaction.result.0 c.args.counts.now layout c.in_ok-module_lines.field-0.items c.in-Ok.payload.items c.dii-transaction.ensures c.in_ok-module_lines.ensures c.in-Ok.ensures.spells)
 
-pub returns-in-Ok : goal.returns-in-Ok
-returns-in-Ok c =
+pub returns-in-Ok-clause-spells : goal.returns-in-Ok-clause-spells
+returns-in-Ok-clause-spells c =
     let layout = map view_listed c.args.modules.now in
     subst (λ t. IfOk c.control.result (λ v. v.items ≡ spelling (control_section (t % 65536) (dii_spelling (record { download = c.args.carousel; block_size = 4066; transaction = dii_transaction c.args.number; modules = dii_lines c.args.counts.now layout })))))
     c.dii-transaction.ensures
     (subst (λ p. IfOk c.control.result (λ v. v.items ≡ spelling (control_section (c.dii-transaction.result.0 % 65536) p)))
     (dii_is c.args.carousel c.args.number c.dii-transaction.result.0 c.args.counts.now layout c.in_ok-module_lines.field-0.items c.in-Ok.payload.items c.dii-transaction.ensures c.in_ok-module_lines.ensures c.in-Ok.ensures.spells)
-    c.control.ensures)
+    c.control.ensures.spells)

@@ -1,10 +1,7 @@
-use Rattle.std.proofs.Common.{◌≡◌, ◌≤◌, sym, subst, ap, ◌∙◌, length, arith, refl}
+use Rattle.std.proofs.Common.{◌≡◌, subst, ap, length, arith}
 use Rattle.std.specs.Prelude.{IfOk}
 use Rattle.ior_tap.specs.Iors as iors
-use Rattle.ior_tap.specs.declared.Location.{Location}
-use Rattle.biop_object.specs.Objects.{gateway_kind}
 use Rattle.dsmcc_section.specs.Sections.{spelling}
-use Rattle.dsi_dii.specs.Controls.{dsi_spelling}
 use Rattle.generation.specs.Layouts.{gateway_location, control_section}
 use Rattle.generation.proofs.Writing.{dsi_short, gateway_written, dsi_is}
 use Rattle.generation.proofs.control.dsi_section.Goals as goal
@@ -15,9 +12,9 @@ control-requires c =
     let is = dsi_is c.args.carousel _ (iors.view c.in_ok-gateway.field-0) c.dsi.result.0 c.in_ok-gateway.ensures c.dsi.ensures (c.in_ok-payload.ensures.spells l (gateway_written c.args.carousel _ c.in_ok-gateway.ensures)) in
     omega (arith, dsi_short c.args.carousel, ap length is)
 
-pub returns : goal.returns
-returns c =
+pub returns-clause-spells : goal.returns-clause-spells
+returns-clause-spells c =
     let l = gateway_location c.args.carousel in
     subst (λ p. IfOk c.control.result (λ v. v.items ≡ spelling (control_section 0 p)))
     (dsi_is c.args.carousel _ (iors.view c.in_ok-gateway.field-0) c.dsi.result.0 c.in_ok-gateway.ensures c.dsi.ensures (c.in_ok-payload.ensures.spells l (gateway_written c.args.carousel _ c.in_ok-gateway.ensures)))
-    c.control.ensures
+    c.control.ensures.spells

@@ -1,6 +1,6 @@
-use Rattle.std.proofs.Common.{arith, sym, ap, ◌∙◌, map, length, get_or, false, ◌≡◌, ◌<◌, Err}
+use Rattle.std.proofs.Common.{arith, sym, ap, ◌∙◌, map, get_or, false, Err}
 use Rattle.generation.specs.declared.spots.Spot.{Spot}
-use Rattle.generation.specs.Publication.{size_of, is_large_folder, large_folder, Folder}
+use Rattle.generation.specs.Publication.{is_large_folder, large_folder, Folder}
 use Rattle.generation.specs.Limits.{unless_passed}
 use Rattle.generation.specs.View.{view_spot}
 use Rattle.generation.proofs.Limiting.{size_at, find_more, find_here, some_file, as_many}

@@ -1,4 +1,4 @@
-use Rattle.std.proofs.Common.{arith, ◌<◌, length, ap}
+use Rattle.std.proofs.Common.{arith, length, ap}
 use Rattle.generation.specs.View.{path_at}
 use Rattle.generation.proofs.Spotting.{path_at_within}
 use Rattle.generation.proofs.limit.front_of.Goals as goal

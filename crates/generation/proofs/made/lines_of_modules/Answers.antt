@@ -1,4 +1,4 @@
-use Rattle.std.proofs.Common.{◌≡◌, ◌≤◌, ap, ◌∙◌, length, arith}
+use Rattle.std.proofs.Common.{ap, ◌∙◌, length, arith}
 use Rattle.std.specs.Arc.{arc_value}
 use Rattle.generation.proofs.Writing.{small_module}
 use Rattle.generation.proofs.made.lines_of_modules.Goals as goal

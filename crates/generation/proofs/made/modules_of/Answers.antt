@@ -1,4 +1,4 @@
-use Rattle.std.proofs.Common.{◌≡◌, ◌+◌, sym, ◌∙◌, ap, map, arith}
+use Rattle.std.proofs.Common.{sym, ◌∙◌, ap, map, arith}
 use Rattle.std.specs.Option.{option_map}
 use Rattle.generation.specs.Layouts.{listed}
 use Rattle.generation.specs.View.{view_placed, view_listed}

@@ -1,4 +1,4 @@
-use Rattle.std.proofs.Common.{◌≡◌, sym, subst, ◌∙◌, false, arith}
+use Rattle.std.proofs.Common.{sym, subst, ◌∙◌, false, arith}
 use Rattle.std.specs.Prelude.{IfSome}
 use Rattle.std.proofs.lemmas.List.Elements.{All-push}
 use Rattle.generation.specs.declared.objects.Placed.{Placed}

@@ -1,5 +1,5 @@
-use Rattle.std.proofs.Common.{arith, ap, length, ◌∙◌, sym, suc, add-one, cond, Some, None, subst, ◌≡◌, ℕ, ◌+◌}
-use Rattle.generation.proofs.Spotting.{path_at_within, child_apart, child_is, child_found, child_none, name_valid, path_valid}
+use Rattle.std.proofs.Common.{arith, ◌∙◌, sym}
+use Rattle.generation.proofs.Spotting.{path_at_within, child_apart, child_found, child_none, name_valid, path_valid}
 use Rattle.generation.specs.View.{path_at}
 use Rattle.generation.proofs.spots.child_name.Goals as goal
 use Rattle.generation.proofs.spots.child_name.Goals.{then-spot-eq0-via-then-spot-eq0, then-spot-eq0-via-else-spot-eq0+then-folder-spot}

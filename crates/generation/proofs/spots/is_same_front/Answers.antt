@@ -1,5 +1,5 @@
-use Rattle.std.proofs.Common.{arith, ◌∙◌, ap}
-use Rattle.generation.proofs.Fronts.{same_more, same_fronts, differ_fronts}
+use Rattle.std.proofs.Common.{arith}
+use Rattle.generation.proofs.Fronts.{same_fronts, differ_fronts}
 use Rattle.generation.proofs.spots.is_same_front.Goals as goal
 
 pub loop-i-preserved : goal.loop-i-preserved

@@ -1,5 +1,4 @@
-use Rattle.std.proofs.Common.{arith, refl, sym, ap, ◌∙◌, ◌++◌, ◌∷◌, [], map, ◌-◌, ◌+◌, length, true, false, Some}
-use Rattle.std.specs.List.{range_with_len, All}
+use Rattle.std.proofs.Common.{arith, refl, ap, ◌∙◌, ◌++◌, map, ◌-◌, ◌+◌, length, true, false, Some}
 use Rattle.std.proofs.lemmas.List.Elements.{All-push}
 use Rattle.generation.specs.declared.spots.Spot.{Spot}
 use Rattle.generation.specs.Publication.{folder_of, folders_after}

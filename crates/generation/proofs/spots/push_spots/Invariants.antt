@@ -1,4 +1,4 @@
-use Rattle.std.proofs.Common.{◌≡◌, ◌≤◌, ◌++◌, ◌-◌, ◌+◌, map, length, max}
+use Rattle.std.proofs.Common.{◌≡◌, ◌≤◌, ◌++◌, ◌-◌, ◌+◌, map, max}
 use Rattle.std.specs.List.{range_with_len, All}
 use Rattle.generation.specs.Publication.{folder_of}
 use Rattle.generation.specs.View.{view_spot, path_at, IsSpotIn}

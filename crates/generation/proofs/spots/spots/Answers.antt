@@ -1,5 +1,4 @@
-use Rattle.std.proofs.Common.{arith, refl, sym, ap, ◌∙◌, map}
-use Rattle.generation.specs.View.{view_spot, path_at, bytes_at, before_of, IsSpotIn}
+use Rattle.std.proofs.Common.{arith}
 use Rattle.generation.proofs.Spotting.{spots_more, spots_all}
 use Rattle.generation.proofs.spots.spots.Goals as goal
 

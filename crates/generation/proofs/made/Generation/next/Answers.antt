@@ -1,7 +1,8 @@
-use Rattle.std.proofs.Common.{◌≡◌, ◌≤◌, ◌+◌, sym, subst, ap, ◌∙◌, map, length, arith, ◌++◌, ◌∷◌, []}
+use Rattle.std.proofs.Common.{◌≤◌, ◌+◌, sym, subst, ap, ◌∙◌, map, length, arith, ◌++◌, ◌∷◌, []}
 use Rattle.std.specs.List.{All}
 use Rattle.generation.specs.Layouts.{next_of, layout_of, lines_in, keys_of, placed_all, counts_after, generation_of}
 use Rattle.generation.specs.Publication.{spots_of, sizes_of}
+use Rattle.cycle_planner.specs.Cycle.{AreLines}
 use Rattle.module_packer.specs.Placement.{fresh}
 use Rattle.generation.specs.View.{AreReady, view_generation, view_listed, view_placed}
 use Rattle.generation.proofs.Limiting.{len_map}
@@ -17,6 +18,7 @@ invariant_of-result c =
     let layout = c.in_ok-modules.ensures ∙ ap (λ os. layout_of c.self.inside.carousel (map (view_placed c.args.tree) os)) c.deref-2.ensures.value in
     record {
       lines = c.in_ok-lines.ensures ∙ ap (λ m. lines_in (map view_listed m)) c.deref-7.ensures.value;
+      cycle = subst AreLines (sym (c.in_ok-lines.ensures ∙ (ap (λ m. lines_in (map view_listed m)) c.deref-7.ensures.value ∙ ap lines_in layout))) (c.in_ok-objects.ensures.lines c.self.inside.carousel);
       number = omega (arith, c.requires.number, ap (λ g. g.number) c.self.view_is);
       counts = subst (All (λ k. k.1 ≤ c.self.inside.number + 1)) (sym c.in_ok-counts.ensures)
           (small_counts (map view_listed c.deref-4.result.now) (map view_listed c.deref-5.result.now) c.deref-6.result.now c.self.inside.number (subst (All (λ k. k.1 ≤ c.self.inside.number)) (sym c.deref-6.ensures.value) c.self.invariant.counts));
