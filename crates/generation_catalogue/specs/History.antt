@@ -1,0 +1,107 @@
+-- A history of commits: each entry is what the rules give after those before it. The limits are this project's own rules.
+use Rattle.std.specs.Prelude.{◌≡◌, ℕ, ◌+◌, Bool, true, false, List, [], ◌∷◌, ◌++◌, length, take, Option, Some, None, Result, Ok, Err, slice_get, nat_lt, ◌==◌, if◌then◌else◌}
+use Rattle.std.specs.Option.{unwrap_or}
+use Rattle.std.specs.List.{All, last_or, sum_by}
+use Rattle.oc_bytes.specs.Outcome.{capped}
+use Rattle.path_tree.specs.Trees.{Tree}
+use Rattle.path_tree.specs.Edits.{apply_all}
+use Rattle.path_tree.specs.declared.tree.Edit.{Edit}
+use Rattle.path_tree.specs.declared.tree.Edit.TheVariants.{Put, Remove}
+use Rattle.path_tree.specs.declared.tree.EditFault.{EditFault}
+use Rattle.generation.specs.Publication as limits
+use Rattle.generation.specs.Layouts.{GenerationState, generation_of}
+use Rattle.generation_catalogue.specs.declared.entry.Refusal.{Refusal}
+use Rattle.generation_catalogue.specs.declared.entry.Refusal.TheVariants as refusals
+use Rattle.generation_catalogue.specs.declared.entry.Entry.{Entry}
+use Rattle.generation_catalogue.specs.declared.entry.Entry.TheVariants as entries
+
+-- a catalogue is its carousel and its entries; all else follows from them
+pub record CatalogueState : Type 0 where
+  pub carousel : ℕ
+  pub entries : List Entry
+
+-- the bytes that an edit puts
+abbrev pub put_size : Edit → ℕ
+put_size (Put p b) = length b
+put_size (Remove p) = 0
+
+abbrev pub put_bytes : List Edit → ℕ
+put_bytes edits = sum_by put_size edits
+
+abbrev pub put_bytes_of : Entry → ℕ
+put_bytes_of (entries.Commit editor edits outcome) = put_bytes edits
+
+abbrev pub or_same : Tree → Result Tree (ℕ × EditFault) → Tree
+or_same t (Ok new) = new
+or_same t (Err fault) = t
+
+-- the tree of the last accepted commit, and the empty one before the first
+abbrev pub last_tree : List Tree → Tree
+last_tree trees = unwrap_or (last_or None trees) []
+
+-- the trees with that of an accepted commit behind them
+abbrev pub with_tree : List Tree → List Edit → List Tree
+with_tree trees edits = trees ++ or_same (last_tree trees) (apply_all (last_tree trees) edits) ∷ []
+
+-- the trees of the accepted commits, the first of them first
+abbrev pub trees_after : List Tree → List Entry → List Tree
+trees_after trees [] = trees
+trees_after trees (entries.Commit editor edits (Ok number) ∷ es) = trees_after (with_tree trees edits) es
+trees_after trees (entries.Commit editor edits (Err refusal) ∷ es) = trees_after trees es
+
+abbrev pub trees_of : CatalogueState → List Tree
+trees_of c = trees_after [] c.entries
+
+abbrev pub current_of : CatalogueState → GenerationState
+current_of c = generation_of c.carousel (trees_of c)
+
+-- the bytes that the entries put, of refused commits too
+abbrev pub journal_of : CatalogueState → ℕ
+journal_of c = sum_by put_bytes_of c.entries
+
+abbrev pub refusal_of : limits.Passed → Refusal
+refusal_of (limits.Objects n) = refusals.TooManyObjects n
+refusal_of (limits.Folder p) = refusals.FolderTooLarge p
+refusal_of (limits.Total n) = refusals.TooManyBytes n
+refusal_of (limits.Modules n) = refusals.TooManyModules n
+
+abbrev pub unless_limit : ℕ → Option limits.Passed → Result ℕ Refusal
+unless_limit number (Some p) = Err (refusal_of p)
+unless_limit number None = Ok number
+
+abbrev pub unless_edit : ℕ → Result Tree (ℕ × EditFault) → Result ℕ Refusal
+unless_edit number (Err fault) = Err (refusals.Edit fault.0 fault.1)
+unless_edit number (Ok t) = unless_limit number (limits.limit_of t)
+
+-- what a commit answers: the first refusal that holds, or the new generation's number
+abbrev pub outcome_of : CatalogueState → List Edit → Result ℕ Refusal
+outcome_of c edits =
+    if (current_of c).number == 16383 then Err (refusals.SeasonFull 16383)
+    else (if nat_lt 536870912 (journal_of c + put_bytes edits) then Err (refusals.JournalFull (capped (journal_of c + put_bytes edits)))
+    else unless_edit ((current_of c).number + 1) (apply_all (last_tree (trees_of c)) edits))
+
+-- whether an outcome makes an entry: that a season or a journal is full makes none
+abbrev pub is_entered : Result ℕ Refusal → Bool
+is_entered (Err (refusals.SeasonFull n)) = false
+is_entered (Err (refusals.JournalFull n)) = false
+is_entered _ = true
+
+abbrev pub with_entry : CatalogueState → Entry → CatalogueState
+with_entry c e = record c { entries = c.entries ++ e ∷ [] }
+
+-- the catalogue after a commit
+abbrev pub committed : CatalogueState → ℕ → List Edit → CatalogueState
+committed c editor edits =
+    if is_entered (outcome_of c edits) then with_entry c (entries.Commit editor edits (outcome_of c edits)) else c
+
+-- the entry that the rules give after these entries, for the same request
+abbrev pub entry_after : CatalogueState → Entry → Entry
+entry_after c (entries.Commit editor edits outcome) = entries.Commit editor edits (outcome_of c edits)
+
+abbrev pub IsEntered : Entry → Type 0
+IsEntered (entries.Commit editor edits outcome) = is_entered outcome ≡ true
+
+-- each entry is what the rules give after those before it, and no entry is of an outcome that makes none
+pub record IsHistory (c : CatalogueState) : Type 0 where
+  pub entered : All IsEntered c.entries
+  pub each : (k : ℕ) (e : Entry) → slice_get c.entries k ≡ Some e → e ≡ entry_after (record c { entries = take k c.entries }) e

@@ -1,0 +1,110 @@
+ghost use Rattle.std.specs.Prelude.{◌≡◌, Err, IfOk};
+ghost use Rattle.generation_catalogue.specs.History.{is_entered};
+ghost use Rattle.generation_catalogue.specs.Requests.{of_edits, of_limit};
+ghost use Rattle.generation_catalogue.specs.declared.entry.CommitFault.TheVariants.{NoMemory as OutOfMemory};
+
+use generation::Limit;
+use oc_bytes::NoMemory;
+use path_tree::{ApplyFault, EditFault, Edits, Path};
+use std::alloc::{AllocError, AllocFailed};
+
+/// Why a commit is refused: the first of these that holds.
+#[derive(Drop)]
+pub enum Refusal {
+    /// The current generation has this number, 16,383, the greatest.
+    SeasonFull(u64),
+    /// The bytes put by all entries and by this commit, which are these, are more than 536,870,912.
+    JournalFull(u64),
+    /// The edit at this place, counted from 0, has this fault.
+    Edit(usize, EditFault),
+    /// The tree would have so many objects, more than 8,192.
+    TooManyObjects(u32),
+    /// The object of this folder would have more than 1,048,576 bytes.
+    FolderTooLarge(Path),
+    /// The objects would have so many bytes, more than 268,435,456.
+    TooManyBytes(u64),
+    /// The objects would take so many modules, more than 139.
+    TooManyModules(usize),
+}
+
+impl Refusal {
+    /// The same refusal again.
+    pub fn share(&self) -> Result<Refusal, NoMemory>
+        ensures { IfOk result (λ r. r ≡ self.now) }
+    {
+        Ok(match self {
+            Refusal::SeasonFull(number) => Refusal::SeasonFull(*number),
+            Refusal::JournalFull(total) => Refusal::JournalFull(*total),
+            Refusal::Edit(place, fault) => Refusal::Edit(*place, *fault),
+            Refusal::TooManyObjects(objects) => Refusal::TooManyObjects(*objects),
+            Refusal::FolderTooLarge(path) => Refusal::FolderTooLarge(path.share()?),
+            Refusal::TooManyBytes(bytes) => Refusal::TooManyBytes(*bytes),
+            Refusal::TooManyModules(modules) => Refusal::TooManyModules(*modules),
+        })
+    }
+
+    /// Whether a commit that is refused so makes an entry.
+    pub fn is_entered(&self) -> bool
+        ensures { result ≡ is_entered (Err self.now) }
+    {
+        !matches!(self, Refusal::SeasonFull(_) | Refusal::JournalFull(_))
+    }
+}
+
+/// Why a commit gives no generation.
+#[derive(Drop)]
+pub enum CommitFault {
+    /// The commit is refused.
+    Refused(Refusal),
+    /// Memory was wanting.
+    NoMemory,
+}
+
+impl From<AllocError> for CommitFault {
+    ghost from_gives = { λ _ e. e ≡ OutOfMemory };
+
+    fn from(_e: AllocError) -> CommitFault {
+        CommitFault::NoMemory
+    }
+}
+
+impl From<ApplyFault> for CommitFault {
+    ghost from_gives = { λ f e. e ≡ of_edits f };
+
+    fn from(fault: ApplyFault) -> CommitFault {
+        match fault {
+            ApplyFault::Edit(place, fault) => CommitFault::Refused(Refusal::Edit(place, fault)),
+            ApplyFault::NoMemory => CommitFault::NoMemory,
+        }
+    }
+}
+
+impl From<Limit> for CommitFault {
+    ghost from_gives = { λ l e. e ≡ of_limit l };
+
+    fn from(limit: Limit) -> CommitFault {
+        match limit {
+            Limit::TooManyObjects(objects) => CommitFault::Refused(Refusal::TooManyObjects(
+                objects,
+            )),
+            Limit::FolderTooLarge(path) => CommitFault::Refused(Refusal::FolderTooLarge(path)),
+            Limit::TooManyBytes(bytes) => CommitFault::Refused(Refusal::TooManyBytes(bytes)),
+            Limit::TooManyModules(modules) => CommitFault::Refused(Refusal::TooManyModules(
+                modules,
+            )),
+            Limit::NoMemory => CommitFault::NoMemory,
+        }
+    }
+}
+
+/// One entry of the history.
+#[derive(Drop)]
+pub enum Entry {
+    /// A commit: the number of the editor who made it, its edits, and the number of the generation that it made, or why it
+    /// was refused.
+    Commit {
+        editor: u32,
+        edits: Edits,
+        outcome: Result<u64, Refusal>,
+    },
+}

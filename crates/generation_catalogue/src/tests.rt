@@ -1,0 +1,101 @@
+use crate::{Catalogue, CommitFault, Refusal};
+use oc_bytes::Blob;
+use path_tree::{Edit, EditFault, Path};
+use std::alloc::Global;
+use std::test::Fail;
+
+/// Puts of the same bytes as so many files in the root, each with a name of one byte.
+fn puts(alloc: Global, files: u8, content: &Blob) -> Result<Vec<Edit>, Fail> {
+    let mut edits = Vec::new(alloc);
+    for file in 0..files {
+        let byte = 48 + u32::from(file);
+        let text = format!(in alloc; "/%{byte:02x}")?;
+        let path = Path::parse(alloc, text.as_bytes())?;
+        edits.push(Edit::Put(path, content.share()?))?;
+    }
+    Ok(edits)
+}
+
+#[test]
+fn a_refused_edit_is_entered(rt: HostRuntime) -> Result<(), Fail> {
+    let alloc = rt.alloc();
+    let mut catalogue = Catalogue::new(alloc, 7)?;
+    let content = Blob::new(alloc, vec![in alloc; 1, 2]?)?;
+    let mut edits = Vec::new(alloc);
+    edits.push(Edit::Put(Path::parse(alloc, b"/a")?, content.share()?))?;
+    edits.push(Edit::Put(Path::parse(alloc, b"/a/b")?, content.share()?))?;
+    let answer = catalogue.commit(1, edits);
+    assert!(rt;
+        matches!(
+            answer,
+            Err(CommitFault::Refused(Refusal::Edit(1, EditFault::ThroughFile)))
+        )
+    );
+    assert_eq!(rt; catalogue.entries().len(), 1);
+    assert_eq!(rt; catalogue.current().tree().len(), 0);
+    assert!(rt; matches!(catalogue.commit(1, Vec::new(alloc)), Ok(1)));
+    assert!(rt; matches!(catalogue.commit(2, puts(alloc, 3, &content)?), Ok(2)));
+    assert_eq!(rt; catalogue.entries().len(), 3);
+    assert_eq!(rt; catalogue.current().number(), 2);
+    assert_eq!(rt; catalogue.current().tree().len(), 3);
+    Ok(())
+}
+
+#[test]
+fn a_generation_has_at_most_139_modules(rt: HostRuntime) -> Result<(), Fail> {
+    let alloc = rt.alloc();
+    let mut catalogue = Catalogue::new(alloc, 7)?;
+    let content = Blob::new(alloc, vec![in alloc; 0; 65_493]?)?;
+    let answer = catalogue.commit(1, puts(alloc, 139, &content)?);
+    assert!(rt;
+        matches!(
+            answer,
+            Err(CommitFault::Refused(Refusal::TooManyModules(140)))
+        )
+    );
+    assert!(rt; matches!(catalogue.commit(1, puts(alloc, 138, &content)?), Ok(1)));
+    assert_eq!(rt; catalogue.current().lines().len(), 139);
+    Ok(())
+}
+
+#[test]
+fn the_journal_counts_refused_commits(rt: HostRuntime) -> Result<(), Fail> {
+    let alloc = rt.alloc();
+    let mut catalogue = Catalogue::new(alloc, 7)?;
+    let content = Blob::new(alloc, vec![in alloc; 0; 16_777_216]?)?;
+    let answer = catalogue.commit(1, puts(alloc, 17, &content)?);
+    assert!(rt;
+        matches!(
+            answer,
+            Err(CommitFault::Refused(Refusal::TooManyBytes(285_214_865)))
+        )
+    );
+    let answer = catalogue.commit(1, puts(alloc, 17, &content)?);
+    assert!(rt;
+        matches!(
+            answer,
+            Err(CommitFault::Refused(Refusal::JournalFull(570_425_344)))
+        )
+    );
+    assert_eq!(rt; catalogue.entries().len(), 1);
+    Ok(())
+}
+
+#[test]
+fn a_season_has_16383_commits(rt: HostRuntime) -> Result<(), Fail> {
+    let alloc = rt.alloc();
+    let mut catalogue = Catalogue::new(alloc, 7)?;
+    for number in 1..16_384u64 {
+        let answer = catalogue.commit(1, Vec::new(alloc));
+        assert!(rt; matches!(answer, Ok(given) if given == number));
+    }
+    let answer = catalogue.commit(1, Vec::new(alloc));
+    assert!(rt;
+        matches!(
+            answer,
+            Err(CommitFault::Refused(Refusal::SeasonFull(16_383)))
+        )
+    );
+    assert_eq!(rt; catalogue.entries().len(), 16_383);
+    Ok(())
+}
