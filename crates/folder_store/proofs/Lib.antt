@@ -1,0 +1,9 @@
+pub mod Applied
+pub mod Files
+pub mod MemoryLists
+pub mod MemoryTexts
+pub mod MemoryTrees
+pub mod Naming
+pub mod RealReads
+pub mod Sorting
+pub mod Walking

@@ -1,0 +1,23 @@
+use Rattle.std.proofs.Common.{◌≡◌, ◌≤◌, ◌+◌, ◌-◌, ◌*◌, Some, length, take}
+use Rattle.std.specs.List.{flat_map}
+use Rattle.std.specs.String.{string_bytes}
+use Rattle.folder_store.specs.Folders.{FolderTree, entries_below}
+use Rattle.folder_store.specs.Walk.{sorted}
+use Rattle.folder_store.specs.Gathering.{met_one}
+use Rattle.folder_store.proofs.Walking.{Goes}
+use Rattle.folder_store.proofs.reading.+walk.Given as goal
+
+abbrev pub decreases-walk_entry : goal.decreases-walk_entry
+decreases-walk_entry g l = 2 * (16 - length l.place.now.path)
+
+abbrev pub decreases-walk_folder : goal.decreases-walk_folder
+decreases-walk_folder g l = 2 * (16 - length l.place.now.path) + 1
+
+abbrev pub invariant-walk_folder-loop-entry : goal.invariant-walk_folder-loop-entry
+invariant-walk_folder-loop-entry g l = record {
+  walk : (t : FolderTree) → g.F.Folders.tree l.fn.folders ≡ Some t
+      → Goes (flat_map (met_one t (16 - length l.place.path) l.place.path (string_bytes l.place.text)) (take l.entry-index (sorted (entries_below t (string_bytes l.place.text)))))
+      l.fn.gathered.edits.items l.fn.gathered.read l.gathered.edits.items l.gathered.read;
+  same : g.F.Folders.tree l.folders ≡ g.F.Folders.tree l.fn.folders;
+  later : g.F.Folders.faults l.fn.folders ≤ g.F.Folders.faults l.folders;
+}

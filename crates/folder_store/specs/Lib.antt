@@ -1,0 +1,5 @@
+pub mod Folders
+pub mod Walk
+pub mod Memory
+pub mod Kept
+pub mod Gathering

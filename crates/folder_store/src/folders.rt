@@ -1,0 +1,79 @@
+ghost use Rattle.std.specs.Prelude.{◌≡◌, ◌≤◌, List, ℕ, Some, Option, map, false, None, IfOk, IsErrOf};
+ghost use Rattle.oc_bytes.specs.Outcome.{Rose};
+
+use oc_bytes::NoMemory;
+use std::alloc::{AllocError, AllocFailed, Global};
+
+/// What an entry of a folder is.
+#[derive(Clone, Copy, Debug, PartialEq, Eq)]
+pub enum EntryKind {
+    /// A regular file, whose bytes can be read.
+    File,
+    /// A folder, which can be listed.
+    Folder,
+    /// A link or anything else. Whoever reads a folder passes it over.
+    Other,
+}
+
+/// What stands right below a folder.
+#[derive(Drop)]
+pub struct FolderEntry {
+    /// The last name of the entry's path text. It holds no `/`.
+    pub name: String,
+    /// What the entry is.
+    pub kind: EntryKind,
+}
+
+/// Why a folder wasn't listed, or a file not read.
+#[derive(Clone, Copy, Debug, PartialEq, Eq)]
+pub enum FolderFault {
+    /// The system answered with an error, or the path is wrong. It comes only where the count of faults
+    /// rose in this call, or stands at its type's end, or where the tree is told and the path is no
+    /// folder (`list`) or no file (`read`) of it.
+    Failed,
+    /// Memory was wanting.
+    NoMemory,
+}
+
+impl From<AllocError> for FolderFault {
+    ghost use Rattle.std.specs.Prelude.{◌≡◌};
+    ghost use Rattle.folder_store.specs.declared.folders.FolderFault.TheVariants as faults;
+
+    ghost from_gives = { λ _ e. e ≡ faults.NoMemory };
+
+    fn from(_error: AllocError) -> FolderFault {
+        FolderFault::NoMemory
+    }
+}
+
+/// Folders and files of the outside. This trait is this project's own.
+///
+/// A path text has the names from the outermost folder on, joined by `/`, as `F/a/c`. No call changes
+/// what stands there, nor whether that is told.
+pub trait Folders {
+    ghost use Rattle.folder_store.specs.Folders.{FolderTree, entry_at, content_of, is_folder_at, view_entry, IsListed, IsRead, MayFail};
+
+    /// What stands there, where it is told.
+    ghost tree: { Self → Option FolderTree };
+
+    /// How often a call failed. It never falls.
+    ghost faults: { Self → ℕ };
+
+    /// The entries right below the folder `path`, each once, in no stated order.
+    fn list(&mut self, alloc: Global, path: &str) -> Result<Vec<FolderEntry>, FolderFault>
+        ensures same { tree self.new ≡ tree self.old }
+        ensures entries { IfOk result (λ es. (t : FolderTree) → tree self.old ≡ Some t → IsListed t path.now (map view_entry es.items)) }
+        ensures later { faults self.old ≤ faults self.new }
+        ensures cause { IsErrOf result FolderFault.Failed → MayFail (Rose (faults self.old) (faults self.new)) (tree self.old) (λ t. is_folder_at t path.now ≡ false) };
+
+    /// The first `most` bytes of the file `path`, or all of them where it has fewer.
+    fn read(&mut self, alloc: Global, path: &str, most: usize) -> Result<Vec<u8>, FolderFault>
+        ensures same { tree self.new ≡ tree self.old }
+        ensures bytes { IfOk result (λ bs. (t : FolderTree) → tree self.old ≡ Some t → IsRead t path.now most bs.items) }
+        ensures later { faults self.old ≤ faults self.new }
+        ensures cause { IsErrOf result FolderFault.Failed → MayFail (Rose (faults self.old) (faults self.new)) (tree self.old) (λ t. content_of (entry_at t path.now) ≡ None) };
+
+    /// The count of faults, which stays at the greatest `u64`.
+    fn faults(&self) -> u64
+        ensures { result ≡ faults self.now };
+}

@@ -1,0 +1,238 @@
+ghost use Rattle.std.specs.Prelude.{◌≡◌, ◌<◌, ◌≤◌, ◌+◌, ◌↔◌, ◌⊎◌, ◌++◌, ◌∷◌, [], ◌==◌, Some, None, true, false, length, map, is_some, option_map, Contains, IfOk, IfErr, OnOk, OnErr, IsErr, IsErrOf, IsTrue, if◌then◌else◌};
+ghost use Rattle.std.specs.List.{list_any, fold, filter_map};
+ghost use Rattle.std.specs.Option.{option_copied};
+ghost use Rattle.std.specs.String.{string_bytes};
+ghost use Rattle.oc_bytes.specs.Outcome.{Rose, capped};
+ghost use Rattle.path_tree.specs.Paths.{same_name};
+ghost use Rattle.folder_store.specs.Folders.{FolderTree, behind, content_of, entry_at, is_folder_at, view_entry, IsFolderTree, IsListed, IsRead, MayFail};
+ghost use Rattle.folder_store.specs.Memory.{AreEntries, entries_in, tree_of, ends_in_slash, file_name, folder_name, files_below, folders_below, with_folder};
+
+use crate::folders::{EntryKind, FolderEntry, FolderFault, Folders};
+use oc_bytes::{Blob, NoMemory};
+use std::alloc::Global;
+
+/// Files and folders in memory as [`Folders`], some calls of which fail as planned.
+///
+/// The calls whose numbers, counted from 0 over `list` and `read` together, stand in `fail_at` fail,
+/// and they alone raise the count of faults. A path that is no folder, or no file, fails without that.
+#[derive(Drop)]
+pub struct MemFolders {
+    entries: Vec<(String, Blob)>,
+    fail_at: Vec<u64>,
+    calls: u64,
+    failures: u64,
+    ghost form: { AreEntries (entries_in entries.items) },
+}
+
+impl MemFolders {
+    ghost use Rattle.folder_store.specs.Kept.{tree_in, failing_calls, calls_made, calls_failed};
+
+    /// Folders of these entries, of which no call was made yet.
+    ///
+    /// An entry is a file under its whole path text, as `F/a/c`; one whose text ends in `/` is a folder,
+    /// and its bytes are unused. What stands before a `/` of an entry's text is a folder too, so `a//b`
+    /// is the file `b` in a folder without a name in the folder `a`, and `/` is a folder whose own text
+    /// is empty. No two files have one text, and no file has a folder's.
+    pub fn new(entries: Vec<(String, Blob)>, fail_at: Vec<u64>) -> MemFolders
+        requires { AreEntries (entries_in entries.items) }
+        ensures tree { tree_in result ≡ tree_of (entries_in entries.items) }
+        ensures lawful { IsFolderTree (tree_in result) }
+        ensures fresh { (calls_made result ≡ 0) × (calls_failed result ≡ 0) }
+        ensures plan { failing_calls result ≡ fail_at.items }
+    {
+        MemFolders {
+            entries,
+            fail_at,
+            calls: 0,
+            failures: 0,
+        }
+    }
+
+    /// Counts a call, and fails where its number is planned to.
+    fn begin(&mut self) -> Result<(), FolderFault>
+        ensures entries { self.new.entries ≡ self.old.entries }
+        ensures plan { self.new.fail_at ≡ self.old.fail_at }
+        ensures made { self.new.calls ≡ capped (self.old.calls + 1) }
+        ensures later { self.old.failures ≤ self.new.failures }
+        ensures err { IfErr result (λ e. (e ≡ FolderFault.Failed) × Contains self.old.fail_at.items self.old.calls × (self.new.failures ≡ capped (self.old.failures + 1))) }
+        ensures ok { OnOk result ((Contains self.old.fail_at.items self.old.calls → ⊥) × (self.new.failures ≡ self.old.failures)) }
+    {
+        let call = self.calls;
+        self.calls = self.calls.saturating_add(1);
+        if self.fail_at.contains(&call) {
+            self.failures = self.failures.saturating_add(1);
+            return Err(FolderFault::Failed);
+        }
+        Ok(())
+    }
+}
+
+impl Folders for MemFolders {
+    ghost use Rattle.folder_store.specs.Kept.{tree_in, failing_calls, calls_made, calls_failed};
+
+    ghost tree = { λ f. Some (tree_in f) };
+
+    ghost faults = { λ f. f.failures };
+
+    fn list(&mut self, alloc: Global, path: &str) -> Result<Vec<FolderEntry>, FolderFault>
+        ensures same { Some (tree_in self.new) ≡ Some (tree_in self.old) }
+        ensures entries { IfOk result (λ es. (t : FolderTree) → Some (tree_in self.old) ≡ Some t → IsListed t path.now (map view_entry es.items)) }
+        ensures later { calls_failed self.old ≤ calls_failed self.new }
+        ensures cause { IsErrOf result FolderFault.Failed → MayFail (Rose (calls_failed self.old) (calls_failed self.new)) (Some (tree_in self.old)) (λ t. is_folder_at t path.now ≡ false) }
+        // The plan of failures.
+        ensures planned { IsErrOf result FolderFault.Failed ↔ (Contains (failing_calls self.old) (calls_made self.old) ⊎ (is_folder_at (tree_in self.old) path.now ≡ false)) }
+        ensures counted { Contains (failing_calls self.old) (calls_made self.old) → calls_failed self.new ≡ capped (calls_failed self.old + 1) }
+        ensures alone { (Contains (failing_calls self.old) (calls_made self.old) → ⊥) → calls_failed self.new ≡ calls_failed self.old }
+        ensures made { calls_made self.new ≡ capped (calls_made self.old + 1) }
+        ensures plan { failing_calls self.new ≡ failing_calls self.old }
+    {
+        self.begin()?;
+        if !is_folder(&self.entries, path) {
+            return Err(FolderFault::Failed);
+        }
+        Ok(listing(alloc, &self.entries, path)?)
+    }
+
+    fn read(&mut self, alloc: Global, path: &str, most: usize) -> Result<Vec<u8>, FolderFault>
+        ensures same { Some (tree_in self.new) ≡ Some (tree_in self.old) }
+        ensures bytes { IfOk result (λ bs. (t : FolderTree) → Some (tree_in self.old) ≡ Some t → IsRead t path.now most bs.items) }
+        ensures later { calls_failed self.old ≤ calls_failed self.new }
+        ensures cause { IsErrOf result FolderFault.Failed → MayFail (Rose (calls_failed self.old) (calls_failed self.new)) (Some (tree_in self.old)) (λ t. content_of (entry_at t path.now) ≡ None) }
+        // The plan of failures.
+        ensures planned { IsErrOf result FolderFault.Failed ↔ (Contains (failing_calls self.old) (calls_made self.old) ⊎ (content_of (entry_at (tree_in self.old) path.now) ≡ None)) }
+        ensures counted { Contains (failing_calls self.old) (calls_made self.old) → calls_failed self.new ≡ capped (calls_failed self.old + 1) }
+        ensures alone { (Contains (failing_calls self.old) (calls_made self.old) → ⊥) → calls_failed self.new ≡ calls_failed self.old }
+        ensures made { calls_made self.new ≡ capped (calls_made self.old + 1) }
+        ensures plan { failing_calls self.new ≡ failing_calls self.old }
+    {
+        self.begin()?;
+        let Some(content) = content_at(&self.entries, path) else {
+            return Err(FolderFault::Failed);
+        };
+        Ok(Vec::from_slice(alloc, &content[..most.min(content.len())])?)
+    }
+
+    fn faults(&self) -> u64 {
+        self.failures
+    }
+}
+
+/// What follows a folder's text and a slash.
+fn below<'a>(path: &str, text: &'a str) -> Option<&'a str>
+    ensures { option_copied result ≡ behind (path.now ++ 47 ∷ []) text.now }
+{
+    text.strip_prefix(path)?.strip_prefix('/')
+}
+
+/// The name of the entry `text`, where it is a file right below the folder.
+fn file_below<'a>(path: &str, text: &'a str) -> Option<&'a str>
+    ensures { option_copied result ≡ (if ends_in_slash text.now then None else file_name (behind (path.now ++ 47 ∷ []) text.now)) }
+{
+    if text.ends_with('/') {
+        return None;
+    }
+    let rest = below(path, text)?;
+    match rest.split_once('/') {
+        Some(_) => None,
+        None => Some(rest),
+    }
+}
+
+/// The name of the folder right below the folder in which the entry `text` stands, or which it is.
+fn folder_below<'a>(path: &str, text: &'a str) -> Option<&'a str>
+    ensures { option_copied result ≡ folder_name (behind (path.now ++ 47 ∷ []) text.now) }
+{
+    let (name, _) = below(path, text)?.split_once('/')?;
+    Some(name)
+}
+
+/// Whether the path is a folder: an entry is it or stands in it.
+fn is_folder(entries: &[(String, Blob)], path: &str) -> bool
+    requires { AreEntries (entries_in entries.now) }
+    ensures { result ≡ is_folder_at (tree_of (entries_in entries.now)) path.now }
+{
+    entries
+        .iter()
+        .any(|(text, _)| below(path, text.as_str()).is_some())
+}
+
+/// The files and the folders right below a folder.
+fn listing(
+    alloc: Global,
+    entries: &[(String, Blob)],
+    path: &str,
+) -> Result<Vec<FolderEntry>, NoMemory>
+    requires form { AreEntries (entries_in entries.now) }
+    requires folder { is_folder_at (tree_of (entries_in entries.now)) path.now ≡ true }
+    ensures { IfOk result (λ es. IsListed (tree_of (entries_in entries.now)) path.now (map view_entry es.items)) }
+{
+    let mut found = list_files(alloc, entries, path)?;
+    let mut folders = list_folders(alloc, entries, path)?;
+    found.append(&mut folders)?;
+    Ok(found)
+}
+
+/// The files right below a folder.
+fn list_files(
+    alloc: Global,
+    entries: &[(String, Blob)],
+    path: &str,
+) -> Result<Vec<FolderEntry>, NoMemory>
+    ensures { IfOk result (λ found. map view_entry found.items ≡ files_below path.now (entries_in entries.now)) }
+{
+    let mut found = Vec::new(alloc);
+    for (text, _) in entries {
+        if let Some(name) = file_below(path, text.as_str()) {
+            found.push(FolderEntry {
+                name: String::from_str(alloc, name)?,
+                kind: EntryKind::File,
+            })?;
+        }
+    }
+    Ok(found)
+}
+
+/// The folders right below a folder, each once.
+fn list_folders(
+    alloc: Global,
+    entries: &[(String, Blob)],
+    path: &str,
+) -> Result<Vec<FolderEntry>, NoMemory>
+    ensures { IfOk result (λ found. map view_entry found.items ≡ folders_below path.now (entries_in entries.now)) }
+{
+    let mut found = Vec::new(alloc);
+    for (text, _) in entries {
+        if let Some(name) = folder_below(path, text.as_str()) {
+            add_folder(alloc, &mut found, name)?;
+        }
+    }
+    Ok(found)
+}
+
+/// Puts a folder behind those that were found, unless it is among them.
+fn add_folder(alloc: Global, found: &mut Vec<FolderEntry>, name: &str) -> Result<(), NoMemory>
+    ensures { OnOk result (map view_entry found.new.items ≡ with_folder (map view_entry found.old.items) name.now) }
+{
+    if !found.iter().any(|entry| entry.name.as_str() == name) {
+        found.push(FolderEntry {
+            name: String::from_str(alloc, name)?,
+            kind: EntryKind::Folder,
+        })?;
+    }
+    Ok(())
+}
+
+/// The bytes of a file.
+fn content_at<'a>(entries: &'a [(String, Blob)], path: &str) -> Option<&'a [u8]>
+    ensures { option_copied result ≡ content_of (entry_at (tree_of (entries_in entries.now)) path.now) }
+{
+    if path.ends_with('/') {
+        return None;
+    }
+    for (text, content) in entries {
+        if text.as_str() == path {
+            return Some(content.bytes());
+        }
+    }
+    None
+}

@@ -1,0 +1,276 @@
+ghost use Rattle.std.specs.Prelude.{◌≡◌, ◌≤◌, ◌<◌, ◌+◌, ◌-◌, ◌^◌, ◌++◌, ◌⊎◌, [], ◌∷◌, Some, None, Ok, Err, true, false, length, map, take, nat_lt, IfOk, OnOk, IsErrOf};
+ghost use Rattle.std.specs.String.{string_bytes};
+ghost use Rattle.oc_bytes.specs.Outcome.{Rose};
+ghost use Rattle.path_tree.specs.Paths.{Bytes};
+ghost use Rattle.path_tree.specs.Texts.{is_name};
+ghost use Rattle.folder_store.specs.Folders.{Entry, AFile, FolderTree, IsFolderTree, is_folder_at, kind_of, entry_at, content_of, view_entry, MayFail};
+ghost use Rattle.folder_store.specs.Walk.{PutsFiles, edits_of, met_below, IsTooDeep, IsBadName};
+ghost use Rattle.folder_store.specs.Gathering.{IsSortedListing, Walks, met_one, kind_at};
+
+use crate::folders::{EntryKind, FolderEntry, FolderFault, Folders};
+use generation_catalogue::Refusal;
+use oc_bytes::{Blob, NoMemory};
+use path_tree::{Edit, Path};
+use std::alloc::{AllocError, AllocFailed, Global};
+
+/// The most bytes that are read of one file: one more than a file of a carousel has, so that a longer one is refused later.
+const MOST_CONTENT: usize = 16_777_217;
+
+/// The most bytes of all puts of a station. Where more are read, nothing further of the folder is.
+const MOST_READ: u64 = 536_870_912;
+
+/// The most names of a path.
+const MOST_NAMES: usize = 16;
+
+/// Why a folder isn't published: its tree can't be read as edits, or the edits are refused.
+#[derive(Drop)]
+pub enum TreeFault {
+    /// A file has more than 16 names below the folder, or a folder lies 17 deep.
+    TooDeep,
+    /// The name of a file or a folder is no name of a path: it has more than 254 bytes or none, or holds a byte zero or
+    /// `/`.
+    BadName,
+    /// The commit of the edits is refused.
+    Commit(Refusal),
+}
+
+/// Why a folder isn't read.
+#[derive(Clone, Copy, Debug, PartialEq, Eq)]
+pub enum ReadTree {
+    /// A fault of the outside, or the path is no folder of it.
+    FolderFault,
+    /// A file below the folder has more than 16 names, or a folder lies 17 deep.
+    TooDeep,
+    /// The name of a file or a folder has more than 254 bytes or none, or holds a byte zero or `/`.
+    BadName,
+    /// Memory was wanting.
+    NoMemory,
+}
+
+impl From<AllocError> for ReadTree {
+    ghost use Rattle.std.specs.Prelude.{◌≡◌};
+    ghost use Rattle.folder_store.specs.declared.reading.ReadTree.TheVariants.{NoMemory};
+
+    ghost from_gives = { λ _ e. e ≡ NoMemory };
+
+    fn from(_error: AllocError) -> ReadTree {
+        ReadTree::NoMemory
+    }
+}
+
+impl<T: Drop> From<AllocFailed<T>> for ReadTree {
+    ghost use Rattle.std.specs.Prelude.{◌≡◌};
+    ghost use Rattle.folder_store.specs.declared.reading.ReadTree.TheVariants.{NoMemory};
+
+    ghost from_gives = { λ _ e. e ≡ NoMemory };
+
+    fn from(_error: AllocFailed<T>) -> ReadTree {
+        ReadTree::NoMemory
+    }
+}
+
+impl From<FolderFault> for ReadTree {
+    ghost use Rattle.std.specs.Prelude.{◌≡◌};
+    ghost use Rattle.folder_store.specs.Gathering.{read_fault};
+
+    ghost from_gives = { λ fault e. e ≡ read_fault fault };
+
+    fn from(fault: FolderFault) -> ReadTree {
+        match fault {
+            FolderFault::Failed => ReadTree::FolderFault,
+            FolderFault::NoMemory => ReadTree::NoMemory,
+        }
+    }
+}
+
+/// Where a file or a folder stands: its path below the folder that is read, and its path text in the outside.
+#[derive(Drop)]
+struct Place {
+    path: Path,
+    text: String,
+}
+
+impl Place {
+    /// The place of a name in the folder that stands here. It is too deep where the folder's path has sixteen names, and
+    /// only then is the name looked at.
+    fn below(&self, alloc: Global, name: &str) -> Result<Place, ReadTree>
+        ensures room { OnOk result (length self.now.path < 16) }
+        ensures name { OnOk result (is_name name.now ≡ true) }
+        ensures path { IfOk result (λ p. p.path ≡ self.now.path ++ name.now ∷ []) }
+        ensures text { IfOk result (λ p. string_bytes p.text ≡ string_bytes self.now.text ++ 47 ∷ name.now) }
+        ensures too_deep { IsErrOf result ReadTree.TooDeep → length self.now.path ≡ 16 }
+        ensures bad_name { IsErrOf result ReadTree.BadName → (length self.now.path < 16) × (is_name name.now ≡ false) }
+        ensures no_fault { IsErrOf result ReadTree.FolderFault → ⊥ }
+    {
+        if self.path.len() == MOST_NAMES {
+            return Err(ReadTree::TooDeep);
+        }
+        let Some(path) = self.path.below(name.as_bytes())? else {
+            return Err(ReadTree::BadName);
+        };
+        let text = format!(in alloc; "{}/{name}", self.text)?;
+        Ok(Place { path, text })
+    }
+}
+
+/// What was read so far.
+#[derive(Drop)]
+struct Gathered {
+    /// An edit for each file, in the order in which they were met.
+    edits: Vec<Edit>,
+    /// How many bytes the files have in all.
+    read: u64,
+}
+
+impl Gathered {
+    /// Whether the walk is at its end, since more bytes were read than the limit.
+    fn is_full(&self) -> bool
+        ensures { result ≡ nat_lt 536870912 self.now.read }
+    {
+        self.read > MOST_READ
+    }
+
+    /// Adds the edit that puts a file.
+    fn add(&mut self, alloc: Global, path: Path, content: Vec<u8>) -> Result<(), NoMemory>
+        ensures edits { OnOk result (self.new.edits.items ≡ self.old.edits.items ++ Edit.Put path content.items ∷ []) }
+        ensures read { OnOk result (self.old.read + length content.items < 2 ^ 64 → self.new.read ≡ self.old.read + length content.items) }
+    {
+        let size = content.len() as u64;
+        let content = Blob::new(alloc, content)?;
+        self.edits.push(Edit::Put(path, content))?;
+        self.read = self.read.saturating_add(size);
+        Ok(())
+    }
+}
+
+/// The entries of a folder, in the order of their names' bytes.
+fn sorted_entries<F: Folders>(
+    alloc: Global,
+    folders: &mut F,
+    path: &str,
+) -> Result<Vec<FolderEntry>, ReadTree>
+    ensures entries { IfOk result (λ es. (t : FolderTree) → F.tree folders.old ≡ Some t → IsSortedListing t path.now (map view_entry es.items)) }
+    ensures fault { IsErrOf result ReadTree.FolderFault → MayFail (Rose (F.faults folders.old) (F.faults folders.new)) (F.tree folders.old) (λ t. is_folder_at t path.now ≡ false) }
+    ensures not_deep { IsErrOf result ReadTree.TooDeep → ⊥ }
+    ensures not_bad { IsErrOf result ReadTree.BadName → ⊥ }
+    ensures same { F.tree folders.new ≡ F.tree folders.old }
+    ensures later { F.faults folders.old ≤ F.faults folders.new }
+{
+    let mut entries = folders.list(alloc, path)?;
+    entries.sort_unstable_by(|entry, other| entry.name.cmp(&other.name));
+    Ok(entries)
+}
+
+/// Reads a file and adds its edit.
+fn read_file<F: Folders>(
+    alloc: Global,
+    folders: &mut F,
+    place: Place,
+    gathered: &mut Gathered,
+) -> Result<(), ReadTree>
+    requires { gathered.old.read ≤ 536870912 }
+    ensures walk { (t : FolderTree) (content : Bytes) → F.tree folders.old ≡ Some t → entry_at t (string_bytes place.text) ≡ Some (AFile content)
+        → Walks (Ok (Edit.Put place.path (take 16777217 content)) ∷ []) gathered.old.edits.items gathered.old.read result gathered.new.edits.items gathered.new.read }
+    ensures fault { IsErrOf result ReadTree.FolderFault → MayFail (Rose (F.faults folders.old) (F.faults folders.new)) (F.tree folders.old) (λ t. content_of (entry_at t (string_bytes place.text)) ≡ None) }
+    ensures same { F.tree folders.new ≡ F.tree folders.old }
+    ensures later { F.faults folders.old ≤ F.faults folders.new }
+{
+    let content = folders.read(alloc, &place.text, MOST_CONTENT)?;
+    gathered.add(alloc, place.path, content)?;
+    Ok(())
+}
+
+/// Adds the edits of the files below a folder. A folder lies at most sixteen deep, and so do the calls.
+#[cycle(walk)]
+fn walk_folder<F: Folders>(
+    alloc: Global,
+    folders: &mut F,
+    place: &Place,
+    gathered: &mut Gathered,
+) -> Result<(), ReadTree>
+    ensures walk { (t : FolderTree) → F.tree folders.old ≡ Some t
+        → Walks (met_below t (16 - length place.now.path) place.now.path (string_bytes place.now.text)) gathered.old.edits.items gathered.old.read result gathered.new.edits.items gathered.new.read }
+    ensures fault { IsErrOf result ReadTree.FolderFault → MayFail (Rose (F.faults folders.old) (F.faults folders.new)) (F.tree folders.old) (λ t. is_folder_at t (string_bytes place.now.text) ≡ false) }
+    ensures no_folder { (t : FolderTree) → F.tree folders.old ≡ Some t → is_folder_at t (string_bytes place.now.text) ≡ false
+        → (result ≡ Err ReadTree.FolderFault) ⊎ (result ≡ Err ReadTree.NoMemory) }
+    ensures same { F.tree folders.new ≡ F.tree folders.old }
+    ensures later { F.faults folders.old ≤ F.faults folders.new }
+{
+    let entries = sorted_entries(alloc, folders, &place.text)?;
+    for entry in &entries {
+        walk_entry(alloc, folders, place, entry, gathered)?;
+    }
+    Ok(())
+}
+
+/// Adds the edits of one entry of a folder: that of a file, or those of the files below a folder.
+#[cycle(walk)]
+fn walk_entry<F: Folders>(
+    alloc: Global,
+    folders: &mut F,
+    place: &Place,
+    entry: &FolderEntry,
+    gathered: &mut Gathered,
+) -> Result<(), ReadTree>
+    ensures walk { (t : FolderTree) (e : Entry) → F.tree folders.old ≡ Some t → entry_at t (string_bytes place.now.text ++ 47 ∷ string_bytes entry.now.name) ≡ Some e → kind_of e ≡ entry.now.kind
+        → Walks (met_one t (16 - length place.now.path) place.now.path (string_bytes place.now.text) (string_bytes entry.now.name, e)) gathered.old.edits.items gathered.old.read result gathered.new.edits.items gathered.new.read }
+    ensures fault { IsErrOf result ReadTree.FolderFault → MayFail (Rose (F.faults folders.old) (F.faults folders.new)) (F.tree folders.old)
+        (λ t. kind_at t (string_bytes place.now.text ++ 47 ∷ string_bytes entry.now.name) ≡ Some entry.now.kind → ⊥) }
+    ensures same { F.tree folders.new ≡ F.tree folders.old }
+    ensures later { F.faults folders.old ≤ F.faults folders.new }
+{
+    if gathered.is_full() {
+        return Ok(());
+    }
+    match entry.kind {
+        EntryKind::File => {
+            let file = place.below(alloc, &entry.name)?;
+            read_file(alloc, folders, file, gathered)
+        }
+        EntryKind::Folder => {
+            let folder = place.below(alloc, &entry.name)?;
+            walk_folder(alloc, folders, &folder, gathered)
+        }
+        EntryKind::Other => Ok(()),
+    }
+}
+
+/// Reads a folder of the outside as edits: one `Put` for each file below `root`, in the order of paths, with the names
+/// from `root` on as its path. The bytes of a file aren't copied again.
+///
+/// `root` is listed, and below it the path text of a file or a folder is its folder's text, `/` and its name. The entries of
+/// a folder are taken by the bytes of their names, a folder's content at its place. Links and other kinds are passed over,
+/// so that a folder in which nothing else stands gives no edit. A file's first 16,777,217 bytes are read, one more than a
+/// file of a carousel may have. After the file at which more than 536,870,912 bytes are read in all, the walk ends.
+///
+/// The first entry in this order that breaks a rule is refused: `TooDeep` exactly where a file has more than 16 names or a
+/// folder lies 17 deep, and else `BadName` exactly where its name has more than 254 bytes, is empty, or holds a byte zero or
+/// `/`. `FolderFault` comes only where the count of faults rose in this call, or stands at the greatest u64, or where the
+/// tree is told and `root` is no folder of it, and always in this last case. Want of memory aside, there is no other refusal.
+/// These rules are this project's own.
+pub fn read_tree<F: Folders>(
+    alloc: Global,
+    folders: &mut F,
+    root: &str,
+) -> Result<Vec<Edit>, ReadTree>
+    ensures edits { IfOk result (λ es. (t : FolderTree) → F.tree folders.old ≡ Some t → edits_of t root.now ≡ Ok es.items) }
+    ensures files { IfOk result (λ es. (t : FolderTree) → F.tree folders.old ≡ Some t → IsFolderTree t → PutsFiles t root.now es.items) }
+    ensures too_deep { IsErrOf result ReadTree.TooDeep → (t : FolderTree) → F.tree folders.old ≡ Some t → edits_of t root.now ≡ Err IsTooDeep }
+    ensures bad_name { IsErrOf result ReadTree.BadName → (t : FolderTree) → F.tree folders.old ≡ Some t → edits_of t root.now ≡ Err IsBadName }
+    ensures fault { IsErrOf result ReadTree.FolderFault → MayFail (Rose (F.faults folders.old) (F.faults folders.new)) (F.tree folders.old) (λ t. is_folder_at t root.now ≡ false) }
+    ensures no_folder { (t : FolderTree) → F.tree folders.old ≡ Some t → is_folder_at t root.now ≡ false
+        → (result ≡ Err ReadTree.FolderFault) ⊎ (result ≡ Err ReadTree.NoMemory) }
+    ensures same { F.tree folders.new ≡ F.tree folders.old }
+    ensures later { F.faults folders.old ≤ F.faults folders.new }
+{
+    let Ok(path) = Path::parse(alloc, b"/") else {
+        return Err(ReadTree::NoMemory);
+    };
+    let text = String::from_str(alloc, root)?;
+    let mut gathered = Gathered {
+        edits: Vec::new(alloc),
+        read: 0,
+    };
+    walk_folder(alloc, folders, &Place { path, text }, &mut gathered)?;
+    Ok(gathered.edits)
+}

@@ -1,0 +1,192 @@
+ghost use Rattle.std.specs.Prelude.{◌≡◌, ◌≤◌, ◌+◌, ◌-◌, ◌^◌, ◌<◌, [], length, take, min, None, IfOk, OnOk, IsErrOf};
+ghost use Rattle.oc_bytes.specs.Outcome.{Rose, Told};
+ghost use Rattle.oc_bytes.specs.Streams.{Takes};
+
+use crate::folders::{EntryKind, FolderEntry, FolderFault, Folders};
+use oc_bytes::{Failed, Source, StdSource};
+use std::alloc::Global;
+use std::fs::{File, FileType, OpenFile};
+use std::io::{Error, ErrorKind};
+use std::rt::Files;
+use std::{fs, io};
+
+/// How often one call is tried, where a signal interrupts it: once, and 16 times again.
+const TRIES: u32 = 17;
+
+/// The most bytes that one read of a file asks for.
+const PIECE: usize = 65_536;
+
+/// Folders of the system as [`Folders`]. What stands there isn't told.
+///
+/// Each error that the system answers raises the count of faults. A call that a signal interrupts is
+/// repeated at most 16 times. A path text is the system's, from the current folder on where it doesn't
+/// begin with `/`. A link in a listed folder is an [`EntryKind::Other`], whatever it leads to. A folder
+/// in which a name isn't UTF-8 isn't listed: that counts as an error of the system.
+#[derive(Drop)]
+pub struct OsFolders<R: Drop> {
+    rt: R,
+    faults: u64,
+}
+
+impl<R: Files + Drop> OsFolders<R> {
+    /// The folders that this runtime reaches, with no fault counted yet.
+    pub fn new(rt: R) -> OsFolders<R>
+        ensures { result.faults ≡ 0 }
+    {
+        OsFolders { rt, faults: 0 }
+    }
+
+    /// Counts an error, and fails unless a signal interrupted the call.
+    fn note(&mut self, error: &Error) -> Result<(), FolderFault>
+        ensures later { self.old.faults ≤ self.new.faults }
+        ensures again { OnOk result (min (self.old.faults + 1) (2 ^ 64 - 1) ≤ self.new.faults) }
+        ensures cause { IsErrOf result FolderFault.Failed → Rose self.old.faults self.new.faults }
+    {
+        if is_want_of_memory(error) {
+            return Err(FolderFault::NoMemory);
+        }
+        self.faults = self.faults.saturating_add(1);
+        match error.kind() {
+            ErrorKind::Interrupted => Ok(()),
+            _ => Err(FolderFault::Failed),
+        }
+    }
+
+    /// Opens a file, and says how many bytes it seems to have.
+    fn open(&mut self, path: &str) -> Result<(R::File, u64), FolderFault>
+        ensures later { self.old.faults ≤ self.new.faults }
+        ensures cause { IsErrOf result FolderFault.Failed → Rose self.old.faults self.new.faults }
+    {
+        for _ in 0..TRIES {
+            match open_once(&self.rt, path) {
+                Ok(opened) => return Ok(opened),
+                Err(error) => self.note(&error)?,
+            }
+        }
+        Err(FolderFault::Failed)
+    }
+}
+
+impl<R: Files + Clone + Drop> Folders for OsFolders<R> {
+    ghost tree = { λ _. None };
+
+    ghost faults = { λ f. f.faults };
+
+    fn list(&mut self, alloc: Global, path: &str) -> Result<Vec<FolderEntry>, FolderFault> {
+        for _ in 0..TRIES {
+            match list_once(&self.rt, alloc, path) {
+                Ok(entries) => return Ok(entries),
+                Err(error) => self.note(&error)?,
+            }
+        }
+        Err(FolderFault::Failed)
+    }
+
+    fn read(&mut self, alloc: Global, path: &str, most: usize) -> Result<Vec<u8>, FolderFault> {
+        let (file, len) = self.open(path)?;
+        let mut source = StdSource::new(file);
+        let read = read_front(alloc, &mut source, most, len);
+        self.faults = self.faults.saturating_add(source.faults());
+        read
+    }
+
+    fn faults(&self) -> u64 {
+        self.faults
+    }
+}
+
+/// The program's own allocator had no room, rather than the system.
+fn is_want_of_memory(error: &Error) -> bool {
+    matches!(error.kind(), ErrorKind::OutOfMemory) && error.raw_os_error().is_none()
+}
+
+fn open_once<R: Files>(rt: &R, path: &str) -> io::Result<(R::File, u64)> {
+    let file = File::open(rt, path)?;
+    let len = file.metadata()?.len();
+    Ok((file, len))
+}
+
+fn list_once<R: Files + Clone + Drop>(
+    rt: &R,
+    alloc: Global,
+    path: &str,
+) -> io::Result<Vec<FolderEntry>> {
+    let mut found = Vec::new(alloc);
+    for entry in fs::read_dir(&(rt, alloc), path)? {
+        let entry = entry?;
+        let kind = kind_of(entry.file_type()?);
+        let name = String::from_str(alloc, entry.file_name())?;
+        found.push(FolderEntry { name, kind })?;
+    }
+    Ok(found)
+}
+
+fn kind_of(file_type: FileType) -> EntryKind {
+    if file_type.is_file() {
+        EntryKind::File
+    } else if file_type.is_dir() {
+        EntryKind::Folder
+    } else {
+        EntryKind::Other
+    }
+}
+
+/// The first `most` bytes of a source, or all where it has fewer; it seems to have `len` bytes.
+fn read_front<S: Source>(
+    alloc: Global,
+    source: &mut S,
+    most: usize,
+    len: u64,
+) -> Result<Vec<u8>, FolderFault>
+    ensures front { IfOk result (λ bytes. Told (S.left source.old) (S.left source.new) (λ before _. bytes.items ≡ take most before)) }
+    ensures later { S.faults source.old ≤ S.faults source.new }
+    ensures cause { IsErrOf result FolderFault.Failed → Rose (S.faults source.old) (S.faults source.new) }
+{
+    let seems = usize::try_from(len).unwrap_or(most).min(most);
+    let bytes = Vec::with_capacity(alloc, seems)?;
+    let mut piece = vec![in alloc; 0u8; seems.min(PIECE - 1) + 1]?;
+    read_pieces(source, &mut piece, bytes, most)
+}
+
+/// The same, by way of a piece and into a `Vec` that is empty.
+fn read_pieces<S: Source>(
+    source: &mut S,
+    piece: &mut [u8],
+    mut bytes: Vec<u8>,
+    most: usize,
+) -> Result<Vec<u8>, FolderFault>
+    requires room { 0 < length piece.old }
+    requires empty { bytes.items ≡ [] }
+    ensures front { IfOk result (λ bytes. Told (S.left source.old) (S.left source.new) (λ before _. bytes.items ≡ take most before)) }
+    ensures later { S.faults source.old ≤ S.faults source.new }
+    ensures cause { IsErrOf result FolderFault.Failed → Rose (S.faults source.old) (S.faults source.new) }
+{
+    while bytes.len() < most {
+        let n = read_piece(source, piece, most - bytes.len())?;
+        if n == 0 {
+            return Ok(bytes);
+        }
+        bytes.extend_from_slice(&piece[..n])?;
+    }
+    Ok(bytes)
+}
+
+/// One read of at most `most` bytes, which are at least one, into the front of a piece.
+fn read_piece<S: Source>(
+    source: &mut S,
+    piece: &mut [u8],
+    most: usize,
+) -> Result<usize, FolderFault>
+    requires room { 0 < length piece.old }
+    requires most { 0 < most }
+    ensures within { IfOk result (λ n. (n ≤ most) × (n ≤ length piece.old)) }
+    ensures read { IfOk result (λ n. Told (S.left source.old) (S.left source.new) (λ before after. Takes before after piece.new n)) }
+    ensures later { S.faults source.old ≤ S.faults source.new }
+    ensures cause { IsErrOf result FolderFault.Failed → Rose (S.faults source.old) (S.faults source.new) }
+{
+    let n = piece.len().min(most);
+    match source.read(&mut piece[..n]) {
+        Ok(n) => Ok(n),
+        Err(Failed) => Err(FolderFault::Failed),
+    }
+}
