@@ -1,0 +1,15 @@
+mod Holding
+mod Lists
+mod Modules
+mod Saying
+mod Hearing
+mod Cycles
+mod Below
+mod Finding
+mod Answering
+mod Rounds
+mod Meeting
+mod Opening
+mod Instances
+mod Waiting
+mod Reaching

@@ -1,0 +1,77 @@
+-- Whole cycles, undamaged, open every path.
+use Rattle.std.proofs.Common.{◌≡◌, ℕ, suc, ◌+◌, ◌<◌, List, [], ◌∷◌, ◌++◌, map, length, get_or, Some, refl, sym, subst, arith, lit<}
+use Rattle.std.proofs.lemmas.Option.{same_Some}
+use Rattle.std.proofs.lemmas.List.Elements.{All-map, Contains-append_left}
+use Rattle.std.specs.List.{All, flat_map}
+use Rattle.path_tree.specs.Paths.{Bytes}
+use Rattle.path_tree.specs.Trees.{node_at}
+use Rattle.biop_object.specs.Names.{Layout}
+use Rattle.cycle_planner.specs.Cycle.{blocks_of, cycle_of}
+use Rattle.cycle_planner.specs.declared.Item.TheVariants.{Dsi, Block}
+use Rattle.dsmcc_section.specs.Sections as sections
+use Rattle.generation.specs.Layouts.{lines_in}
+use Rattle.generation.specs.Kept.{LayoutsAreLawful}
+use Rattle.generation.specs.Lawful.{layout_at, section_in}
+use Rattle.section_stream.specs.Cuts.{candidates}
+use Rattle.section_stream.specs.Laws.{PacketsGiveTheSections}
+use Rattle.section_stream.specs.Packing.{IsSectionLike}
+use Rattle.tuner_core.specs.LookBack.{answer_after}
+use Rattle.carousel_world.specs.Air as air
+use Rattle.carousel_world.specs.Headline.{IsNodeAnswer}
+use Rattle.carousel_world.specs.Premises.{IsWhole}
+use Rattle.carousel_world.specs.Publishing.{repeated, layouts_for, items_sent, publication, packets_sent, EveryReceptionMeets, EachCycleOpens}
+use Rattle.carousel_world.proofs.Modules.{IsSent}
+use Rattle.carousel_world.proofs.Saying.{Spelled, item_framed}
+use Rattle.carousel_world.proofs.Cycles.{sent_items, cycle_has}
+use Rattle.carousel_world.proofs.Rounds.{contains_map}
+use Rattle.carousel_world.proofs.Meeting.{IsSecond, second_of, sections_are}
+
+abbrev sections_of : ℕ → List Layout → ℕ → ℕ → List Bytes
+sections_of carousel ls g cycles = map (section_in carousel ls g) (repeated cycles (cycle_of (lines_in (layout_at ls g))))
+
+-- a cycle is a whole round
+pub whole_cycles : (carousel : ℕ) (ls : List Layout) (g cycles : ℕ) → length ls ≡ g + 1 → IsWhole carousel ls g (sections_of carousel ls g (suc cycles))
+whole_cycles carousel ls g cycles last =
+    let blocks = flat_map blocks_of (lines_in (layout_at ls g)) in
+    let later = repeated cycles (cycle_of (lines_in (layout_at ls g))) in
+    record {
+      generation = omega arith;
+      gateway = (0, omega arith, refl);
+      round = record {
+        before = section_in carousel ls g Dsi ∷ [];
+        after = map (section_in carousel ls g) (blocks ++ later);
+        place = refl;
+        blocks = λ m b item. contains_map (section_in carousel ls g) (blocks ++ later) (Block m b) (Contains-append_left blocks later (Block m b) (cycle_has ls g m b item));
+      };
+      no_later = λ h above below has. absurd (omega arith);
+    }
+
+like_section : (bytes : Bytes) → sections.IsFramed bytes → IsSectionLike bytes
+like_section bytes f = record { size = (f.least, f.most); length_field = sym f.counted; first = f.begins }
+
+all_like : (carousel : ℕ) (ls : List Layout) (g cycles : ℕ) → ((s : sections.Fields) → sections.Fits s → sections.IsFramed (sections.spelling s)) → Spelled → IsSent carousel ls g → g < length ls
+    → All IsSectionLike (sections_of carousel ls g cycles)
+all_like carousel ls g cycles framed spelled sent lt =
+    let items = repeated cycles (cycle_of (lines_in (layout_at ls g))) in
+    All-map IsSectionLike (section_in carousel ls g) items
+    (λ k d below. like_section (section_in carousel ls g (get_or items k d))
+    (item_framed carousel ls g framed spelled sent (get_or items k d) (sent_items carousel ls g cycles sent lt k d below)))
+
+never_back : air.NeverBack (λ i. Some i)
+never_back i j a b lt e h =
+    let same : i ≡ a = same_Some i a e in
+    let other : j ≡ b = same_Some j b h in
+    omega arith
+
+pub each_cycle : EveryReceptionMeets → PacketsGiveTheSections → LayoutsAreLawful → Spelled → ((s : sections.Fields) → sections.Fits s → sections.IsFramed (sections.spelling s)) → EachCycleOpens
+each_cycle meets give lawful spelled framed carousel cycles t p lt is =
+    let ls = layouts_for carousel t in
+    let of : IsSecond carousel ls t = second_of lawful carousel t lt is in
+    let sent = air.sections (publication carousel (suc cycles) t) in
+    let same : sent ≡ sections_of carousel ls 1 (suc cycles) = sections_are carousel ls 1 (items_sent carousel (suc cycles) t) in
+    let listed : 1 < length ls = omega (arith, of.two) in
+    let like : All IsSectionLike sent = subst (All IsSectionLike) (sym same) (all_like carousel ls 1 (suc cycles) framed spelled of.sent listed) in
+    let heard : candidates 256 (packets_sent carousel (suc cycles) t) ≡ sent = give (record { pid = 256; counter = 0 }) sent (lit< tt) (lit< tt) like in
+    let whole : IsWhole carousel ls 1 sent = subst (IsWhole carousel ls 1) (sym same) (whole_cycles carousel ls 1 cycles of.two) in
+    subst (λ cs. IsNodeAnswer (answer_after cs p) (node_at t p)) (sym heard)
+    ((meets.sections sent carousel (suc cycles) t (λ i. Some i) never_back lt is (λ i bytes e accepted. (i, refl, e))).opens p whole)

@@ -1,0 +1,5 @@
+pub mod Air
+pub mod Premises
+pub mod Headline
+pub mod Publishing
+pub mod Instances

@@ -1,0 +1,86 @@
+-- One tree that is sent in a number of whole cycles, and what a receiver makes of it.
+use Rattle.std.specs.Prelude.{◌≡◌, ℕ, zero, suc, ◌<◌, true, false, List, [], ◌∷◌, ◌++◌, map, Some}
+use Rattle.std.specs.List.{concat}
+use Rattle.path_tree.specs.Paths.{Bytes, PathNames}
+use Rattle.path_tree.specs.Trees.{Tree, node_at}
+use Rattle.biop_object.specs.Names.{Layout}
+use Rattle.cycle_planner.specs.Cycle.{cycle_of}
+use Rattle.cycle_planner.specs.declared.Item.{Item}
+use Rattle.generation.specs.Layouts.{lines_in}
+use Rattle.generation.specs.Kept.{layouts_of}
+use Rattle.generation.specs.Lawful.{layout_at, IsPublishable}
+use Rattle.section_stream.specs.Cuts.{candidates}
+use Rattle.section_stream.specs.Packing.{packets_of_all}
+use Rattle.path_resolver.specs.declared.answer.Answer.TheVariants as answers
+use Rattle.tuner_core.specs.Heard.{heard}
+use Rattle.tuner_core.specs.LookBack.{answer_after, held_after}
+use Rattle.carousel_world.specs.Air.{Broadcast, sections, Ascription, NeverBack, IsAscribed}
+use Rattle.carousel_world.specs.Premises.{Ascribed, NoChance, IsWhole}
+use Rattle.carousel_world.specs.Headline.{IsAnswer, IsNodeAnswer, has_carousel, first_missing}
+
+abbrev pub repeated : {A : Type 0} → ℕ → List A → List A
+repeated zero xs = []
+repeated (suc n) xs = xs ++ repeated n xs
+
+-- the layouts of generation 0, whose tree is empty, and of generation 1, whose tree this is
+abbrev pub layouts_for : ℕ → Tree → List Layout
+layouts_for carousel t = layouts_of carousel (t ∷ [])
+
+-- generation 1 alone
+abbrev pub layout_for : ℕ → Tree → Layout
+layout_for carousel t = layout_at (layouts_for carousel t) 1
+
+-- so many whole cycles of generation 1
+abbrev pub items_sent : (carousel cycles : ℕ) → Tree → List Item
+items_sent carousel cycles t = repeated cycles (cycle_of (lines_in (layout_for carousel t)))
+
+-- what is sent
+abbrev pub publication : (carousel cycles : ℕ) → Tree → Broadcast
+publication carousel cycles t = record {
+  carousel = carousel;
+  trees = [] ∷ t ∷ [];
+  layouts = layouts_for carousel t;
+  air = map (λ item. (1, item)) (items_sent carousel cycles t);
+}
+
+-- its packets, on PID 256 with continuity counters from 0
+abbrev pub packets_sent : (carousel cycles : ℕ) → Tree → List Bytes
+packets_sent carousel cycles t = packets_of_all (record { pid = 256; counter = 0 }) (sections (publication carousel cycles t))
+
+abbrev pub published : (carousel cycles : ℕ) → Tree → Bytes
+published carousel cycles t = concat (packets_sent carousel cycles t)
+
+-- ---- what a receiver owes
+
+-- each answer is the tree's own lookup, or the first module on the walk isn't whole yet, or no carousel was heard; after a whole cycle
+-- each path opens
+pub record MeetsTree (carousel : ℕ) (t : Tree) (candidates : List Bytes) : Type 0 where
+  pub silent : (p : PathNames) → has_carousel candidates ≡ false → answer_after candidates p ≡ answers.NoCarousel
+  pub told : (p : PathNames) → has_carousel candidates ≡ true
+      → IsAnswer (first_missing carousel (layout_for carousel t) (held_after (map heard candidates)) p) (node_at t p) (answer_after candidates p)
+  pub opens : (p : PathNames) → IsWhole carousel (layouts_for carousel t) 1 candidates → IsNodeAnswer (answer_after candidates p) (node_at t p)
+
+-- for every tree that can be published, however the accepted candidates are ascribed to its air
+abbrev pub MeetsAir : List Bytes → (carousel cycles : ℕ) → Tree → Ascribed → Type 0
+MeetsAir candidates carousel cycles t is_from = carousel < 4294967296 → IsPublishable t
+    → NoChance (publication carousel cycles t) candidates is_from → MeetsTree carousel t candidates
+
+-- for every such tree, and every way in which the packets can be from its cycles
+abbrev pub MeetsPublished : ℕ → List Bytes → List Bytes → Type 0
+MeetsPublished pid packets candidates = (carousel cycles : ℕ) (t : Tree) (from : Ascription) → NeverBack from
+    → MeetsAir candidates carousel cycles t (IsAscribed (publication carousel cycles t) pid packets from)
+
+-- the same over sections that stand back to back
+abbrev pub MeetsPublishedSections : List Bytes → Type 0
+MeetsPublishedSections candidates = (carousel cycles : ℕ) (t : Tree) (from : Ascription) → NeverBack from
+    → MeetsAir candidates carousel cycles t (λ i k. from i ≡ Some k)
+
+-- it holds of whatever is heard
+pub record EveryReceptionMeets : Type 0 where
+  pub packets : (pid : ℕ) (packets : List Bytes) → MeetsPublished pid packets (candidates pid packets)
+  pub sections : (candidates : List Bytes) → MeetsPublishedSections candidates
+
+-- the packets of one or more whole cycles, undamaged, give each path of the tree
+abbrev pub EachCycleOpens : Type 0
+EachCycleOpens = (carousel cycles : ℕ) (t : Tree) (p : PathNames) → carousel < 4294967296 → IsPublishable t
+    → IsNodeAnswer (answer_after (candidates 256 (packets_sent carousel (suc cycles) t)) p) (node_at t p)
