@@ -1,0 +1,3 @@
+pub mod Numerals
+pub mod Naming
+pub mod Faults

@@ -1,0 +1,22 @@
+-- What the words behind each keyword say.
+use Rattle.std.specs.Prelude.{List, Option, Some, None}
+use Rattle.path_tree.specs.Paths.{Bytes}
+use Rattle.shell_words.specs.Words as commands
+use Rattle.shell_words.specs.Words.{Named}
+use Rattle.shell_words.specs.declared.keyword.Keyword.{Keyword}
+use Rattle.shell_words.specs.declared.keyword.Keyword.TheVariants.{Assemble, Open, Record, List as ListAll, Publish, Rehearse, Session, Big}
+
+abbrev pub words_by : Keyword → List Bytes → Option Named
+words_by Assemble words = commands.assemble_by words
+words_by Open words = commands.open_by words
+words_by Record words = commands.record_by words
+words_by ListAll words = commands.list_by words
+words_by Publish words = commands.publish_by words
+words_by Rehearse words = commands.rehearse_by words
+words_by Session words = commands.session_by words
+words_by Big words = commands.big_by words
+
+-- what the words behind the first one say, where that is a keyword
+abbrev pub words_behind : List Bytes → Option Keyword → Option Named
+words_behind words (Some keyword) = words_by keyword words
+words_behind words None = None

@@ -1,0 +1,162 @@
+-- Which command the words name.
+use Rattle.std.specs.Prelude.{ℕ, ◌≤◌, ◌<◌, length, Bool, false, ◌==◌, List, [], ◌∷◌, Option, Some, None, Result, Ok, Err, if◌then◌else◌, codes}
+use Rattle.std.specs.List.{list_any, find}
+use Rattle.std.specs.Option.{option_map}
+use Rattle.std.specs.Str.{bytes_eq}
+use Rattle.std.specs.String.{string_bytes}
+use Rattle.oc_bytes.specs.Decimals.{decimal_in}
+use Rattle.path_tree.specs.Paths.{Bytes, PathNames}
+use Rattle.path_tree.specs.Texts.{path_of, TextFault}
+use Rattle.shell_words.specs.declared.words.Command.{Command}
+use Rattle.shell_words.specs.declared.words.Command.TheVariants as code
+use Rattle.shell_words.specs.declared.words.WordsFault.{WordsFault}
+use Rattle.shell_words.specs.declared.words.WordsFault.TheVariants as faults
+
+pub data Named : Type 0 where
+  Assemble : (id version size download : ℕ) → Named
+  OpenSections : List PathNames → Named
+  Open : ℕ → List PathNames → Named
+  Record : ℕ → Named
+  ListAll : ℕ → Named
+  Publish : Bytes → ℕ → ℕ → Named
+  Rehearse : Named
+  Session : Named
+  Big : ℕ → Named
+
+abbrev pub view : Command → Named
+view (code.Assemble id version size download) = Assemble id version size download
+view (code.OpenSections paths) = OpenSections paths.items
+view (code.Open pid paths) = Open pid paths.items
+view (code.Record pid) = Record pid
+view (code.List pid) = ListAll pid
+view (code.Publish folder carousel cycles) = Publish (string_bytes folder) carousel cycles
+view code.Rehearse = Rehearse
+view code.Session = Session
+view (code.Big n) = Big n
+
+-- the words don't fit
+pub data Misfit : Type 0 where
+  Words : Misfit
+
+abbrev pub cause : WordsFault → Option Misfit
+cause faults.Words = Some Words
+cause faults.NoMemory = None
+
+-- ---- values of words
+
+infixl 10 ◌>>=◌
+abbrev pub ◌>>=◌ : {A B : Type 0} → Option A → (A → Option B) → Option B
+(Some x) >>= f = f x
+None >>= f = None
+
+abbrev pub pid_in : Bytes → Option ℕ
+pid_in word = decimal_in 0 8190 word
+
+abbrev pub any_u32_in : Bytes → Option ℕ
+any_u32_in word = decimal_in 0 4294967295 word
+
+-- at least one byte
+abbrev pub folder_in : Bytes → Option Bytes
+folder_in [] = None
+folder_in (c ∷ cs) = Some (c ∷ cs)
+
+abbrev pub path_by : Result PathNames TextFault → Option PathNames
+path_by (Ok path) = Some path
+path_by (Err fault) = None
+
+abbrev pub path_in : Bytes → Option PathNames
+path_in word = path_by (path_of word)
+
+abbrev pub onto_paths : Option PathNames → Option (List PathNames) → Option (List PathNames)
+onto_paths (Some path) (Some paths) = Some (path ∷ paths)
+onto_paths _ _ = None
+
+abbrev pub all_paths : List Bytes → Option (List PathNames)
+all_paths [] = Some []
+all_paths (word ∷ words) = onto_paths (path_in word) (all_paths words)
+
+-- one or more paths
+abbrev pub paths_in : List Bytes → Option (List PathNames)
+paths_in [] = None
+paths_in (word ∷ words) = all_paths (word ∷ words)
+
+-- ---- the commands: what the words behind the first one say, or None where they don't fit
+
+abbrev pub assemble_by : List Bytes → Option Named
+assemble_by (id ∷ version ∷ size ∷ download ∷ []) = do
+  i ← decimal_in 0 65535 id
+  v ← decimal_in 0 255 version
+  s ← decimal_in 0 16842752 size
+  d ← any_u32_in download
+  Some (Assemble i v s d)
+assemble_by _ = None
+
+abbrev pub open_by : List Bytes → Option Named
+open_by [] = None
+open_by (from ∷ words) =
+    if bytes_eq from (codes "sections") then option_map OpenSections (paths_in words)
+    else (pid_in from >>= λ pid. option_map (Open pid) (paths_in words))
+
+-- the PID that is the only word
+abbrev pub pid_by : List Bytes → Option ℕ
+pid_by (pid ∷ []) = pid_in pid
+pid_by _ = None
+
+abbrev pub record_by : List Bytes → Option Named
+record_by words = option_map Record (pid_by words)
+
+abbrev pub list_by : List Bytes → Option Named
+list_by words = option_map ListAll (pid_by words)
+
+abbrev pub publish_by : List Bytes → Option Named
+publish_by (folder ∷ carousel ∷ cycles ∷ []) = do
+  c ← any_u32_in carousel
+  n ← decimal_in 1 1000 cycles
+  f ← folder_in folder
+  Some (Publish f c n)
+publish_by _ = None
+
+abbrev pub rehearse_by : List Bytes → Option Named
+rehearse_by [] = Some Rehearse
+rehearse_by (word ∷ words) = None
+
+abbrev pub session_by : List Bytes → Option Named
+session_by [] = Some Session
+session_by (word ∷ words) = None
+
+abbrev pub big_by : List Bytes → Option Named
+big_by (n ∷ []) = option_map Big (decimal_in 1 16 n)
+big_by _ = None
+
+abbrev pub commands : List (Bytes × (List Bytes → Option Named))
+commands =
+    (codes "assemble", assemble_by) ∷ (codes "open", open_by) ∷ (codes "record", record_by) ∷ (codes "list", list_by)
+    ∷ (codes "publish", publish_by) ∷ (codes "rehearse", rehearse_by) ∷ (codes "session", session_by) ∷ (codes "big", big_by) ∷ []
+
+abbrev pub named : Bytes → List Bytes → Option Named
+named word words = find (λ c. bytes_eq word c.0) commands >>= λ c. c.1 words
+
+abbrev pub begins_with_dash : Bytes → Bool
+begins_with_dash [] = false
+begins_with_dash (c ∷ cs) = c == 45
+
+abbrev pub or_misfit : {A : Type 0} → Option A → Result A Misfit
+or_misfit (Some x) = Ok x
+or_misfit None = Err Words
+
+-- the command that the words name, with the values of its words
+abbrev pub command_of : List Bytes → Result Named Misfit
+command_of [] = Err Words
+command_of (word ∷ words) = if list_any begins_with_dash (word ∷ words) then Err Words else or_misfit (named word words)
+
+-- the values lie in their ranges
+abbrev pub IsSized : Command → Type 0
+IsSized (code.Assemble id version size download) = size ≤ 16842752
+IsSized (code.OpenSections paths) = Unit {0}
+IsSized (code.Open pid paths) = pid ≤ 8190
+IsSized (code.Record pid) = pid ≤ 8190
+IsSized (code.List pid) = pid ≤ 8190
+IsSized (code.Publish folder carousel cycles) = (0 < length (string_bytes folder)) × (1 ≤ cycles) × (cycles ≤ 1000)
+IsSized code.Rehearse = Unit {0}
+IsSized code.Session = Unit {0}
+IsSized (code.Big n) = (1 ≤ n) × (n ≤ 16)

@@ -1,0 +1,94 @@
+//! Whether as many words stand behind a keyword as its command takes. `clap` counts them.
+
+ghost use Rattle.std.specs.Prelude.{◌≡◌, ◌-◌, ◌<◌, Err, false, length, IfOk, OnOk};
+ghost use Rattle.std.specs.String.{string_bytes};
+ghost use Rattle.std.specs.List.{list_any};
+ghost use Rattle.clap.specs.Words.{app_of, rule_of};
+ghost use Rattle.shell_words.specs.Words.{begins_with_dash};
+ghost use Rattle.shell_words.specs.Counting.{Fits, app_of_keyword, one, one_or_more};
+
+use crate::keyword::Keyword;
+use crate::words::WordsFault;
+use clap::error::ErrorKind;
+use clap::{Arg, ArgAction, Command};
+use std::alloc::{AllocError, Global};
+
+/// Refuses words of another number than the keyword's command takes. The first word is the keyword.
+pub fn count<'a>(alloc: Global, keyword: Keyword, words: &'a [String]) -> Result<(), WordsFault>
+    requires keyword { 0 < length words.now }
+    requires plain { list_any (λ word. begins_with_dash (string_bytes word)) words.now ≡ false }
+    ensures fits { OnOk result (Fits keyword (length words.now - 1)) }
+    ensures misfits { result ≡ Err WordsFault.Words → Fits keyword (length words.now - 1) → ⊥ }
+{
+    let Ok(syntax) = syntax(alloc, keyword) else {
+        return Err(WordsFault::NoMemory);
+    };
+    match syntax.try_get_matches_from(words) {
+        Ok(_) => Ok(()),
+        Err(error) => match error.kind() {
+            ErrorKind::OutOfMemory => Err(WordsFault::NoMemory),
+            _ => Err(WordsFault::Words),
+        },
+    }
+}
+
+/// The words of a keyword's command, each with its name.
+fn syntax<'a>(alloc: Global, keyword: Keyword) -> Result<Command<'a>, AllocError>
+    ensures { IfOk result (λ c. app_of c ≡ app_of_keyword keyword) }
+{
+    match keyword {
+        Keyword::Assemble => assemble(alloc),
+        Keyword::Open => open(alloc),
+        Keyword::Record => Command::new(alloc, "record").arg(one(alloc, "PID")),
+        Keyword::List => Command::new(alloc, "list").arg(one(alloc, "PID")),
+        Keyword::Publish => publish(alloc),
+        Keyword::Rehearse => Ok(Command::new(alloc, "rehearse")),
+        Keyword::Session => Ok(Command::new(alloc, "session")),
+        Keyword::Big => Command::new(alloc, "big").arg(one(alloc, "N")),
+    }
+}
+
+fn assemble<'a>(alloc: Global) -> Result<Command<'a>, AllocError>
+    ensures { IfOk result (λ c. app_of c ≡ app_of_keyword Keyword.Assemble) }
+{
+    Command::new(alloc, "assemble")
+        .arg(one(alloc, "ID"))?
+        .arg(one(alloc, "VERSION"))?
+        .arg(one(alloc, "SIZE"))?
+        .arg(one(alloc, "DOWNLOAD"))
+}
+
+fn open<'a>(alloc: Global) -> Result<Command<'a>, AllocError>
+    ensures { IfOk result (λ c. app_of c ≡ app_of_keyword Keyword.Open) }
+{
+    Command::new(alloc, "open")
+        .arg(one(alloc, "SOURCE"))?
+        .arg(one_or_more(alloc, "PATH"))
+}
+
+fn publish<'a>(alloc: Global) -> Result<Command<'a>, AllocError>
+    ensures { IfOk result (λ c. app_of c ≡ app_of_keyword Keyword.Publish) }
+{
+    Command::new(alloc, "publish")
+        .arg(one(alloc, "FOLDER"))?
+        .arg(one(alloc, "CAROUSEL"))?
+        .arg(one(alloc, "CYCLES"))
+}
+
+/// A positional that one word is for.
+fn one<'a>(alloc: Global, name: &'a str) -> Arg<'a>
+    ensures rule { rule_of result ≡ one name.entry.now }
+    ensures local { result.global ≡ false }
+{
+    Arg::new(alloc, name).required(true)
+}
+
+/// A positional that one or more words are for.
+fn one_or_more<'a>(alloc: Global, name: &'a str) -> Arg<'a>
+    ensures rule { rule_of result ≡ one_or_more name.entry.now }
+    ensures local { result.global ≡ false }
+{
+    Arg::new(alloc, name)
+        .required(true)
+        .action(ArgAction::Append)
+}

@@ -1,0 +1,44 @@
+ghost use Rattle.std.specs.Prelude.{◌≡◌, List};
+ghost use Rattle.path_tree.specs.Paths.{Bytes};
+ghost use Rattle.shell_words.specs.Words.{named};
+ghost use Rattle.shell_words.specs.Keywords.{words_behind};
+
+/// The first word of a command.
+#[derive(Clone, Copy)]
+pub enum Keyword {
+    Assemble,
+    Open,
+    Record,
+    List,
+    Publish,
+    Rehearse,
+    Session,
+    Big,
+}
+
+impl Keyword {
+    /// The keyword that a word is, byte for byte.
+    pub fn parse(word: &str) -> Option<Keyword>
+        ensures { (words : List Bytes) → named word.now words ≡ words_behind words result }
+    {
+        if word == "assemble" {
+            Some(Keyword::Assemble)
+        } else if word == "open" {
+            Some(Keyword::Open)
+        } else if word == "record" {
+            Some(Keyword::Record)
+        } else if word == "list" {
+            Some(Keyword::List)
+        } else if word == "publish" {
+            Some(Keyword::Publish)
+        } else if word == "rehearse" {
+            Some(Keyword::Rehearse)
+        } else if word == "session" {
+            Some(Keyword::Session)
+        } else if word == "big" {
+            Some(Keyword::Big)
+        } else {
+            None
+        }
+    }
+}

@@ -1,0 +1,160 @@
+ghost use Rattle.std.specs.Prelude.{◌≡◌, ◌≤◌, length, map, IfOk, IfSome};
+ghost use Rattle.std.specs.String.{string_bytes};
+ghost use Rattle.std.specs.Option.{option_map};
+ghost use Rattle.std.specs.List.{list_any};
+ghost use Rattle.oc_bytes.specs.Outcome.{Gives};
+ghost use Rattle.shell_words.specs.Words as commands;
+ghost use Rattle.shell_words.specs.Keywords.{words_by};
+ghost use Rattle.shell_words.specs.Counting.{Fits};
+
+use crate::counting::count;
+use crate::keyword::Keyword;
+use crate::values;
+use crate::words::{Command, WordsFault};
+use std::alloc::Global;
+
+/// The greatest size of a module, in bytes.
+const MOST_SIZE: u32 = 16_842_752;
+
+/// The most cycles of one publication.
+const MOST_CYCLES: u32 = 1_000;
+
+/// The greatest size of a made-up session.
+const MOST_BIG: u32 = 16;
+
+/// The command that the words of a command line name, without the program's name, with the values of its words. These are
+/// this project's own rules.
+///
+/// The first word is the command's, byte for byte. A word that begins with `-` is refused. Numbers are decimal digits
+/// without a sign and without a leading zero, `0` itself excepted, in the ranges that `Command` gives; a folder has at
+/// least one byte; a path is a text that `Path::parse` takes.
+///
+/// `WordsFault::Words` comes exactly where the words don't fit that, and `WordsFault::NoMemory` only where no memory was
+/// found.
+pub fn command(alloc: Global, words: &[String]) -> Result<Command, WordsFault>
+    ensures gives { Gives commands.view commands.cause result (commands.command_of (map string_bytes words.now)) }
+    ensures sized { IfOk result commands.IsSized }
+{
+    if words.is_empty() || has_dash(words) {
+        return Err(WordsFault::Words);
+    }
+    let Some(keyword) = Keyword::parse(words[0].as_str()) else {
+        return Err(WordsFault::Words);
+    };
+    count(alloc, keyword, words)?;
+    read(alloc, keyword, &words[1..])
+}
+
+fn has_dash(words: &[String]) -> bool
+    ensures { result ≡ list_any (λ word. commands.begins_with_dash (string_bytes word)) words.now }
+{
+    words.iter().any(|word| begins_with_dash(word))
+}
+
+fn begins_with_dash(word: &String) -> bool
+    ensures { result ≡ commands.begins_with_dash (string_bytes word.now) }
+{
+    word.as_bytes().first() == Some(&b'-')
+}
+
+/// The command of this keyword, with the values of the words behind it.
+fn read(alloc: Global, keyword: Keyword, words: &[String]) -> Result<Command, WordsFault>
+    requires { Fits keyword (length words.now) }
+    ensures gives { Gives commands.view commands.cause result (commands.or_misfit (words_by keyword (map string_bytes words.now))) }
+    ensures sized { IfOk result commands.IsSized }
+{
+    match keyword {
+        Keyword::Assemble => assemble(words).ok_or(WordsFault::Words),
+        Keyword::Open => open(alloc, words),
+        Keyword::Record => match only_pid(words) {
+            Some(pid) => Ok(Command::Record(pid)),
+            None => Err(WordsFault::Words),
+        },
+        Keyword::List => match only_pid(words) {
+            Some(pid) => Ok(Command::List(pid)),
+            None => Err(WordsFault::Words),
+        },
+        Keyword::Publish => publish(alloc, words),
+        Keyword::Rehearse => Ok(Command::Rehearse),
+        Keyword::Session => Ok(Command::Session),
+        Keyword::Big => big(words).ok_or(WordsFault::Words),
+    }
+}
+
+fn assemble(words: &[String]) -> Option<Command>
+    requires { length words.now ≡ 4 }
+    ensures by { option_map commands.view result ≡ commands.assemble_by (map string_bytes words.now) }
+    ensures sized { IfSome result commands.IsSized }
+{
+    let [id, version, size, download] = words else {
+        unreachable!();
+    };
+    let id = values::decimal(id, 0, 65_535)?;
+    let version = values::decimal(version, 0, 255)?;
+    let size = values::decimal(size, 0, MOST_SIZE)?;
+    let download = values::decimal(download, 0, u32::MAX)?;
+    Some(Command::Assemble {
+        id: id as u16,
+        version: version as u8,
+        size,
+        download,
+    })
+}
+
+fn open(alloc: Global, words: &[String]) -> Result<Command, WordsFault>
+    requires { 2 ≤ length words.now }
+    ensures gives { Gives commands.view commands.cause result (commands.or_misfit (commands.open_by (map string_bytes words.now))) }
+    ensures sized { IfOk result commands.IsSized }
+{
+    if words[0].as_str() == "sections" {
+        let paths = values::paths(alloc, &words[1..])?;
+        return Ok(Command::OpenSections(paths));
+    }
+    let Some(pid) = values::pid(&words[0]) else {
+        return Err(WordsFault::Words);
+    };
+    let paths = values::paths(alloc, &words[1..])?;
+    Ok(Command::Open(pid, paths))
+}
+
+/// The PID that is the only word of a command.
+fn only_pid(words: &[String]) -> Option<u16>
+    requires { length words.now ≡ 1 }
+    ensures by { result ≡ commands.pid_by (map string_bytes words.now) }
+    ensures bound { IfSome result (λ pid. pid ≤ 8190) }
+{
+    let [pid] = words else {
+        unreachable!();
+    };
+    values::pid(pid)
+}
+
+fn publish(alloc: Global, words: &[String]) -> Result<Command, WordsFault>
+    requires { length words.now ≡ 3 }
+    ensures gives { Gives commands.view commands.cause result (commands.or_misfit (commands.publish_by (map string_bytes words.now))) }
+    ensures sized { IfOk result commands.IsSized }
+{
+    let [folder, carousel, cycles] = words else {
+        unreachable!();
+    };
+    let Some(carousel) = values::decimal(carousel, 0, u32::MAX) else {
+        return Err(WordsFault::Words);
+    };
+    let Some(cycles) = values::decimal(cycles, 1, MOST_CYCLES) else {
+        return Err(WordsFault::Words);
+    };
+    let folder = values::folder(alloc, folder)?;
+    Ok(Command::Publish(folder, carousel, cycles))
+}
+
+fn big(words: &[String]) -> Option<Command>
+    requires { length words.now ≡ 1 }
+    ensures by { option_map commands.view result ≡ commands.big_by (map string_bytes words.now) }
+    ensures sized { IfSome result commands.IsSized }
+{
+    let [size] = words else {
+        unreachable!();
+    };
+    let size = values::decimal(size, 1, MOST_BIG)?;
+    Some(Command::Big(size))
+}

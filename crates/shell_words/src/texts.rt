@@ -1,0 +1,71 @@
+ghost use Rattle.std.specs.Prelude.{◌≡◌, IfOk};
+ghost use Rattle.std.specs.String.{string_bytes};
+ghost use Rattle.shell_words.specs.Texts.{answer_line, refusal_line, fault_text};
+
+use generation_catalogue::Refusal;
+use oc_bytes::NoMemory;
+use path_resolver::Answer;
+use path_tree::EditFault;
+use std::alloc::Global;
+
+/// The text that stands for an answer, without the path: what it is, and behind it, each after a space, a file's length in
+/// bytes, the number of a folder's names, or the module and the place of a fault, in decimal. This project's own texts.
+///
+/// Want of memory is the only refusal.
+pub fn answer_text(alloc: Global, answer: &Answer) -> Result<String, NoMemory>
+    ensures { IfOk result (λ text. string_bytes text ≡ answer_line answer.now) }
+{
+    match answer {
+        Answer::File(file) => {
+            let length = file.bytes().len();
+            format!(in alloc; "file {length}")
+        }
+        Answer::Folder(folder) => {
+            let count = folder.count();
+            format!(in alloc; "folder {count}")
+        }
+        Answer::NoSuch => String::from_str(alloc, "no-such"),
+        Answer::NotYet(module) => format!(in alloc; "not-yet {module}"),
+        Answer::NoCarousel => String::from_str(alloc, "no-carousel"),
+        Answer::Elsewhere => String::from_str(alloc, "elsewhere"),
+        Answer::Compressed(module) => format!(in alloc; "compressed {module}"),
+        Answer::Bad(module, place) => format!(in alloc; "bad {module} {place}"),
+        Answer::Dangling(module) => format!(in alloc; "dangling {module}"),
+        Answer::OtherKind(module) => format!(in alloc; "other-kind {module}"),
+    }
+}
+
+/// The text that stands for a refusal: why, and behind it, each after a space, the number that passes its limit, in decimal,
+/// the place of an edit, from 0, and its fault, or the path of a folder. This project's own texts.
+///
+/// Want of memory is the only refusal.
+pub fn refusal_text(alloc: Global, refusal: &Refusal) -> Result<String, NoMemory>
+    ensures { IfOk result (λ text. string_bytes text ≡ refusal_line refusal.now) }
+{
+    match refusal {
+        Refusal::SeasonFull(number) => format!(in alloc; "season-full {number}"),
+        Refusal::JournalFull(total) => format!(in alloc; "journal-full {total}"),
+        Refusal::Edit(place, fault) => {
+            let fault = fault_text(*fault);
+            format!(in alloc; "edit {place} {fault}")
+        }
+        Refusal::TooManyObjects(objects) => format!(in alloc; "too-many-objects {objects}"),
+        Refusal::FolderTooLarge(path) => {
+            let path = path.print()?;
+            format!(in alloc; "folder-too-large {path}")
+        }
+        Refusal::TooManyBytes(bytes) => format!(in alloc; "too-many-bytes {bytes}"),
+        Refusal::TooManyModules(modules) => format!(in alloc; "too-many-modules {modules}"),
+    }
+}
+
+fn fault_text(fault: EditFault) -> &'static str
+    ensures { result.now ≡ fault_text fault }
+{
+    match fault {
+        EditFault::NoSuchFile => "no-such-file",
+        EditFault::FolderThere => "folder-there",
+        EditFault::ThroughFile => "through-file",
+        EditFault::FileTooLarge => "file-too-large",
+    }
+}

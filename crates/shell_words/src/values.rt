@@ -1,0 +1,101 @@
+//! The values that single words stand for.
+
+ghost use Rattle.std.specs.Prelude.{◌≡◌, ◌≤◌, ◌<◌, length, map, IfSome};
+ghost use Rattle.std.specs.String.{string_bytes};
+ghost use Rattle.std.specs.List.{list_all};
+ghost use Rattle.oc_bytes.specs.Outcome.{Gives};
+ghost use Rattle.oc_bytes.specs.Decimals as decimals;
+ghost use Rattle.shell_words.specs.Words as commands;
+
+use crate::words::WordsFault;
+use path_tree::{Path, PathFault};
+use std::alloc::Global;
+
+/// The greatest PID of a stream; the one above it is that of stuffing (ISO/IEC 13818-1, 2.4.3.3).
+const MOST_PID: u32 = 8_190;
+
+/// The PID that a word spells.
+pub fn pid(word: &String) -> Option<u16>
+    ensures value { result ≡ commands.pid_in (string_bytes word.now) }
+    ensures bound { IfSome result (λ pid. pid ≤ 8190) }
+{
+    let pid = decimal(word, 0, MOST_PID)?;
+    Some(pid as u16)
+}
+
+/// The number that a word spells, from `least` to `greatest`: decimal digits without a sign and without a leading zero.
+pub fn decimal(word: &String, least: u32, greatest: u32) -> Option<u32>
+    ensures value { result ≡ decimals.decimal_in least greatest (string_bytes word.now) }
+    ensures least { IfSome result (λ n. least ≤ n) }
+    ensures greatest { IfSome result (λ n. n ≤ greatest) }
+{
+    if !is_decimal(word.as_bytes()) {
+        return None;
+    }
+    let Ok(number) = word.as_str().parse::<u32>() else {
+        return None;
+    };
+    if number < least {
+        return None;
+    }
+    if number <= greatest {
+        Some(number)
+    } else {
+        None
+    }
+}
+
+/// Whether the text is decimal digits without a leading zero, or `0`.
+fn is_decimal(text: &[u8]) -> bool
+    ensures { result ≡ decimals.is_decimal text.now }
+{
+    match text {
+        [] => false,
+        [only] => only.is_ascii_digit(),
+        [first, ..] => *first != b'0' && are_digits(text),
+    }
+}
+
+fn are_digits(text: &[u8]) -> bool
+    ensures { result ≡ list_all decimals.is_digit text.now }
+{
+    text.iter().all(|c| c.is_ascii_digit())
+}
+
+/// The paths of one or more words.
+pub fn paths(alloc: Global, words: &[String]) -> Result<Vec<Path>, WordsFault>
+    requires { 0 < length words.now }
+    ensures { Gives (λ paths. paths.items) commands.cause result (commands.or_misfit (commands.paths_in (map string_bytes words.now))) }
+{
+    let mut paths = Vec::new(alloc);
+    for word in words {
+        let path = path(alloc, word)?;
+        if paths.push(path).is_err() {
+            return Err(WordsFault::NoMemory);
+        }
+    }
+    Ok(paths)
+}
+
+fn path(alloc: Global, word: &String) -> Result<Path, WordsFault>
+    ensures { Gives (λ path. path) commands.cause result (commands.or_misfit (commands.path_in (string_bytes word.now))) }
+{
+    match Path::parse(alloc, word.as_bytes()) {
+        Ok(path) => Ok(path),
+        Err(PathFault::NoMemory) => Err(WordsFault::NoMemory),
+        Err(_) => Err(WordsFault::Words),
+    }
+}
+
+/// The folder that a word names: any but the empty word.
+pub fn folder(alloc: Global, word: &String) -> Result<String, WordsFault>
+    ensures { Gives string_bytes commands.cause result (commands.or_misfit (commands.folder_in (string_bytes word.now))) }
+{
+    if word.is_empty() {
+        return Err(WordsFault::Words);
+    }
+    match String::from_str(alloc, word.as_str()) {
+        Ok(folder) => Ok(folder),
+        Err(_) => Err(WordsFault::NoMemory),
+    }
+}

@@ -1,0 +1,40 @@
+use path_tree::Path;
+
+/// A command with the values of its words.
+#[derive(Drop)]
+pub enum Command {
+    /// `assemble ID VERSION SIZE DOWNLOAD`: one module out of sections. A module's id, 0 to 65,535, its version, 0 to
+    /// 255, its size in bytes, 0 to 16,842,752, and the id of its download, any 32-bit number.
+    Assemble {
+        id: u16,
+        version: u8,
+        size: u32,
+        download: u32,
+    },
+    /// `open sections PATH..`: the answers to one or more paths, out of sections.
+    OpenSections(Vec<Path>),
+    /// `open PID PATH..`: the answers to one or more paths, out of the packets of a PID, 0 to 8,190.
+    Open(u16, Vec<Path>),
+    /// `record PID`: the sections in the packets of a PID, 0 to 8,190.
+    Record(u16),
+    /// `list PID`: every path, out of the packets of a PID, 0 to 8,190.
+    List(u16),
+    /// `publish FOLDER CAROUSEL CYCLES`: the packets of a folder's files. The folder's name, of at least one byte, the
+    /// id of the carousel, any 32-bit number, and how many cycles are sent, 1 to 1,000.
+    Publish(String, u32, u32),
+    /// `rehearse`: the events of a script, one after another.
+    Rehearse,
+    /// `session`: the events of a script, by many threads.
+    Session,
+    /// `big N`: a session that is made up, of this size, 1 to 16.
+    Big(u32),
+}
+
+/// Why no command is given.
+#[derive(Clone, Copy, Debug, PartialEq, Eq)]
+pub enum WordsFault {
+    /// The words name no command, or their number or one of their values doesn't fit the command that they name.
+    Words,
+    /// No memory was found.
+    NoMemory,
+}
