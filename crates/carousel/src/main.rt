@@ -1,7 +1,8 @@
-//! The program: it runs the command that its words name on standard input and standard output.
+//! The program: it runs the command that its words name on standard input, standard output and the system's folders.
 #![tactic(auto)]
 
 use carousel_shell::{Status, run_plain};
+use folder_store::OsFolders;
 use oc_bytes::{StdSink, StdSource};
 use std::process::ExitCode;
 use std::{env, io};
@@ -11,7 +12,8 @@ fn main(rt: HostRuntime) -> ExitCode {
         Ok(words) => {
             let mut source = StdSource::new(rt.stdin());
             let mut sink = StdSink::new(rt.stdout());
-            run_plain(rt.alloc(), &words, &mut source, &mut sink)
+            let mut folders = OsFolders::new(&rt);
+            run_plain(rt.alloc(), &words, &mut source, &mut sink, &mut folders)
         }
         Err(status) => status,
     };

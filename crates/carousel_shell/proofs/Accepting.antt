@@ -135,6 +135,8 @@ due_halted pid status.InputTooLong start left before after input h r i =
 due_halted pid status.Done start left before after input h r i = absurd h
 due_halted pid status.NotAll start left before after input h r i = absurd h
 due_halted pid status.Words start left before after input h r i = absurd h
+due_halted pid status.FolderFault start left before after input h r i = absurd h
+due_halted pid (status.TreeRefused fault) start left before after input h r i = absurd h
 due_halted pid (status.Incomplete b) start left before after input h r i = absurd h
 
 -- ---- what is owed
@@ -164,7 +166,7 @@ front_grows pid taken packets others cs sent grow split all f =
           ∙ ap (λ t. t ++ accepted g.0) f.whole_is ∙ append_assoc sent f.rest (accepted g.0);
     }
 
-front_extent : (s : Status) (output written : Bytes) → IsRecordStop s → IsFront written output → IsWritten (record_extent s) output written
+front_extent : (s : Status) (output written : Bytes) → IsRecordStop s → IsFront written output → IsWritten (record_extent s) (Some output) written
 front_extent status.ReadFault output written h f = f
 front_extent status.WriteFault output written h f = f
 front_extent status.NoMemory output written h f = f
@@ -172,6 +174,8 @@ front_extent status.InputTooLong output written h f = f
 front_extent status.Done output written h f = absurd h
 front_extent status.NotAll output written h f = absurd h
 front_extent status.Words output written h f = absurd h
+front_extent status.FolderFault output written h f = absurd h
+front_extent (status.TreeRefused fault) output written h f = absurd h
 front_extent (status.Incomplete b) output written h f = absurd h
 
 not_at_end : (s : Status) → IsRecordStop s → IsAtEnd s → ⊥
@@ -182,6 +186,8 @@ not_at_end status.InputTooLong h t = t
 not_at_end status.Done h t = h
 not_at_end status.NotAll h t = h
 not_at_end status.Words h t = h
+not_at_end status.FolderFault h t = h
+not_at_end (status.TreeRefused fault) h t = h
 not_at_end (status.Incomplete b) h t = h
 
 pub owes_halted : (pid : ℕ) (s : Status) (start last begin end : Option Bytes) → CandidatesGrow → IsRecordStop s → IsHalted pid s start last begin end

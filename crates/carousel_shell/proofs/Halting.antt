@@ -1,10 +1,9 @@
 -- Where the reading of packets stops.
-use Rattle.std.proofs.Common.{◌≡◌, ℕ, ◌++◌, List, Option, Some, None, refl, sym, ap, ◌∙◌, append_assoc}
+use Rattle.std.proofs.Common.{◌≡◌, ℕ, List, Option}
 use Rattle.std.specs.List.{concat}
 use Rattle.oc_bytes.specs.Outcome.{Told}
 use Rattle.carousel_shell.specs.Cuts.{Bytes}
-use Rattle.carousel_shell.specs.Held.{onto_left, IsRear}
-use Rattle.carousel_shell.specs.Packets.{HasCut, Halts, is_over_packets, AreTaken}
+use Rattle.carousel_shell.specs.Packets.{HasCut, Halts, is_over_packets}
 use Rattle.carousel_shell.specs.declared.packets.PacketReader.{PacketReader}
 use Rattle.carousel_shell.specs.Gathering.{Stopped}
 use Rattle.carousel_shell.specs.declared.status.Status.{Status}

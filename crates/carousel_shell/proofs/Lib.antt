@@ -1,5 +1,3 @@
-pub mod Numerals
-pub mod Naming
 pub mod Holding
 pub mod Cutting
 pub mod Offering
@@ -9,3 +7,9 @@ pub mod Packeting
 pub mod Accepting
 pub mod Walking
 pub mod Halting
+pub mod Opening
+pub mod Resending
+pub mod Nothing
+pub mod Cycling
+pub mod Committing
+pub mod Kinding

@@ -83,7 +83,8 @@ blocks_by_place m sections blocks l f = ext_get_or None blocks (blocks_among m s
     (λ b h. let k : b < ddb.block_count_of m.size 4066 = omega arith in
     f b k ∙ sym (get_or-map-range_with_len (first_fitting m sections) 0 (ddb.block_count_of m.size 4066) b b None k (omega arith)))
 
-number_of_blocks : (m : Asked) (a : AssemblerState) (sections : List Bytes) → HasBlocks m a sections → length a.blocks ≡ ddb.block_count_of m.size 4066
+-- as many as the module has
+pub number_of_blocks : (m : Asked) (a : AssemblerState) (sections : List Bytes) → HasBlocks m a sections → length a.blocks ≡ ddb.block_count_of m.size 4066
 number_of_blocks m a sections h = ap length h.blocks ∙ length-map-range_with_len (first_fitting m sections) 0 (ddb.block_count_of m.size 4066)
 
 block_at : (m : Asked) (a : AssemblerState) (sections : List Bytes) (b : ℕ) → HasBlocks m a sections → b < ddb.block_count_of m.size 4066 → get_or a.blocks b None ≡ first_fitting m sections b

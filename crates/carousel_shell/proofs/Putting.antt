@@ -1,5 +1,5 @@
 -- Output that is written in large pieces.
-use Rattle.std.proofs.Common.{◌≡◌, ℕ, ◌+◌, ◌<◌, ◌≤◌, Bool, true, false, ◌&&◌, List, [], ◌∷◌, ◌++◌, get_or, map, length, take, drop, Option, Some, None, Result, Ok, Err, OnOk, OnErr, refl, ◌∙◌, sym, ap, subst, append_assoc, append-nil}
+use Rattle.std.proofs.Common.{◌≡◌, ℕ, ◌+◌, ◌<◌, Bool, true, false, ◌&&◌, List, [], ◌∷◌, ◌++◌, get_or, map, length, take, drop, Option, Some, None, Result, Ok, Err, OnErr, refl, ◌∙◌, sym, ap, subst, append_assoc, append-nil}
 use Rattle.std.specs.Option.{is_some}
 use Rattle.std.proofs.lemmas.Bool.{true≢false}
 use Rattle.std.proofs.lemmas.Option.{same_Some, slice_get_within, get_or_from_slice_get, slice_get-get_or}
@@ -10,7 +10,7 @@ use Rattle.std.specs.Prelude.{slice_get}
 use Rattle.oc_bytes.specs.Outcome.{Told}
 use Rattle.oc_bytes.specs.Streams.{AppendsFront}
 use Rattle.carousel_shell.specs.Cuts.{Bytes}
-use Rattle.carousel_shell.specs.Sending.{Sends, IsSending, SendsFront, HasStopped}
+use Rattle.carousel_shell.specs.Sending.{IsSending, HasStopped}
 
 -- content that is told over two calls
 pub told_then : {P Q R : Bytes → Bytes → Type 0} {a b c : Option Bytes} → Told a b P → Told b c Q → ((x y z : Bytes) → P x y → Q y z → R x z) → Told a c R

@@ -1,5 +1,5 @@
 -- How commands end, and how much of an output is written.
-use Rattle.std.specs.Prelude.{◌≡◌, ◌⊎◌, [], ◌++◌}
+use Rattle.std.specs.Prelude.{◌≡◌, ◌⊎◌, [], ◌++◌, Option, Some, None}
 use Rattle.carousel_shell.specs.Cuts.{Bytes}
 use Rattle.carousel_shell.specs.declared.status.Status.{Status}
 use Rattle.carousel_shell.specs.declared.status.Status.TheVariants as status
@@ -10,6 +10,7 @@ use Rattle.carousel_shell.specs.declared.status.Status.TheVariants as status
 abbrev pub Stops : Status → Type 0
 Stops status.ReadFault = Unit {0}
 Stops status.WriteFault = Unit {0}
+Stops status.FolderFault = Unit {0}
 Stops status.NoMemory = Unit {0}
 Stops _ = ⊥
 
@@ -43,16 +44,18 @@ pub record IsFront (front whole : Bytes) : Type 0 where
   pub rest : Bytes
   pub whole_is : whole ≡ front ++ rest
 
-abbrev pub IsWritten : Extent → Bytes → Bytes → Type 0
-IsWritten Whole output written = written ≡ output
+-- so much of an output, where it is known
+abbrev pub IsWritten : Extent → Option Bytes → Bytes → Type 0
+IsWritten Whole (Some output) written = written ≡ output
+IsWritten Front (Some output) written = IsFront written output
 IsWritten Nothing output written = written ≡ []
-IsWritten Front output written = IsFront written output
+IsWritten _ None written = Unit {0}
 
 -- what was written behind what the sink had: the whole output, nothing, or a front of it
-pub record WritesPart (e : Extent) (output before after : Bytes) : Type 0 where
+pub record WritesPart (e : Extent) (output : Option Bytes) (before after : Bytes) : Type 0 where
   pub written : Bytes
   pub after_is : after ≡ before ++ written
   pub extent : IsWritten e output written
 
 abbrev pub Writes : Status → (output before after : Bytes) → Type 0
-Writes s = WritesPart (extent_of s)
+Writes s output = WritesPart (extent_of s) (Some output)

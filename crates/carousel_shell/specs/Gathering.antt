@@ -4,7 +4,7 @@ use Rattle.block_assembler.specs.Blocks.{AssemblerState}
 use Rattle.carousel_shell.specs.Cuts.{Bytes}
 use Rattle.carousel_shell.specs.Held.{IsRear}
 use Rattle.carousel_shell.specs.Input.{Asked, blocks_among, blocks_in, is_over_sections}
-use Rattle.carousel_shell.specs.Words as commands
+use Rattle.shell_words.specs.Words as commands
 use Rattle.carousel_shell.specs.declared.assemble.Wanted.{Wanted}
 use Rattle.carousel_shell.specs.declared.status.Status.{Status}
 use Rattle.carousel_shell.specs.declared.status.Status.TheVariants as status

@@ -1,5 +1,5 @@
 -- What a receiver holds at the end of an input.
-use Rattle.std.specs.Prelude.{◌≡◌, ℕ, Bool, List, map, Option}
+use Rattle.std.specs.Prelude.{◌≡◌, Bool, List, map, Option}
 use Rattle.oc_bytes.specs.Outcome.{Told}
 use Rattle.path_resolver.specs.declared.shot.Shot.{Shot}
 use Rattle.path_resolver.specs.Shots.{held_of}

@@ -1,10 +1,11 @@
 pub mod Cuts
 pub mod Held
 pub mod Input
-pub mod Words
 pub mod Statuses
 pub mod Ends
+pub mod Publishing
 pub mod Owed
+pub mod Receiving
 pub mod Gathering
 pub mod Texts
 pub mod Hearing
@@ -14,3 +15,4 @@ pub mod Packets
 pub mod Recording
 pub mod Accepted
 pub mod Listing
+pub mod Kinds

@@ -1,5 +1,5 @@
 -- The sections of one PID that are recorded.
-use Rattle.std.specs.Prelude.{◌≡◌, ℕ, List, [], ◌++◌, Option, if◌then◌else◌}
+use Rattle.std.specs.Prelude.{◌≡◌, ℕ, List, [], ◌++◌, Option, Some, if◌then◌else◌}
 use Rattle.oc_bytes.specs.Outcome.{Told}
 use Rattle.oc_bytes.specs.declared.sink.WriteFault.{WriteFault}
 use Rattle.oc_bytes.specs.declared.sink.WriteFault.TheVariants as writes
@@ -27,7 +27,7 @@ pub record OwesRecord (pid : ℕ) (s : Status) (input left before after : Bytes)
   pub to_end : IsAtEnd s → left ≡ []
   pub written : Bytes
   pub after_is : after ≡ before ++ written
-  pub extent : IsWritten (record_extent s) (recorded pid taken) written
+  pub extent : IsWritten (record_extent s) (Some (recorded pid taken)) written
 
 -- the status of a failed write
 abbrev pub write_status : WriteFault → Status

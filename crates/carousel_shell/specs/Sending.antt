@@ -1,5 +1,5 @@
 -- Output that is written in large pieces: what was written, and what is pending.
-use Rattle.std.specs.Prelude.{◌≡◌, List, ◌++◌, Option}
+use Rattle.std.specs.Prelude.{◌≡◌, ◌++◌, Option}
 use Rattle.oc_bytes.specs.Outcome.{Told}
 use Rattle.carousel_shell.specs.Cuts.{Bytes}
 use Rattle.carousel_shell.specs.Extents.{IsFront}

@@ -15,12 +15,14 @@ use crate::status::Status;
 use oc_bytes::{NoMemory, Sink, WriteFault};
 use path_resolver::{Answer, FolderRef, Shot, resolve};
 use path_tree::{Path, print_name};
+use shell_words::answer_text;
 use std::alloc::Global;
 
 /// Writes the answers to the paths, in order.
 pub fn answer_paths<K: Sink>(alloc: Global, shot: &Shot, paths: &[Path], sink: &mut K) -> Status
     ensures due { IsDue result (if_all (list_all (λ p. texts.is_found (answer_of (held_of shot.now) p)) paths.now)) }
     ensures no_read { result ≡ Status.ReadFault → ⊥ }
+    ensures no_folder { result ≡ Status.FolderFault → ⊥ }
     ensures writes { Told (K.written sink.old) (K.written sink.new) (λ before after. Writes result (texts.open_text (answer_of (held_of shot.now)) paths.now) before after) }
     ensures write_fault { result ≡ Status.WriteFault → Rose (K.faults sink.old) (K.faults sink.new) }
 {
@@ -171,30 +173,6 @@ fn answered_line(alloc: Global, path: &Path, answer: &Answer) -> Result<String, 
     text.push_str(answer.as_str())?;
     text.push('\n')?;
     Ok(text)
-}
-
-/// The words that stand for an answer.
-fn answer_text(alloc: Global, answer: &Answer) -> Result<String, NoMemory>
-    ensures { IfOk result (λ text. string_bytes text ≡ texts.answer_line answer.now) }
-{
-    match answer {
-        Answer::File(file) => {
-            let length = file.bytes().len();
-            format!(in alloc; "file {length}")
-        }
-        Answer::Folder(folder) => {
-            let count = folder.count();
-            format!(in alloc; "folder {count}")
-        }
-        Answer::NoSuch => String::from_str(alloc, "no-such"),
-        Answer::NotYet(module) => format!(in alloc; "not-yet {module}"),
-        Answer::NoCarousel => String::from_str(alloc, "no-carousel"),
-        Answer::Elsewhere => String::from_str(alloc, "elsewhere"),
-        Answer::Compressed(module) => format!(in alloc; "compressed {module}"),
-        Answer::Bad(module, place) => format!(in alloc; "bad {module} {place}"),
-        Answer::Dangling(module) => format!(in alloc; "dangling {module}"),
-        Answer::OtherKind(module) => format!(in alloc; "other-kind {module}"),
-    }
 }
 
 pub(crate) fn is_found(answer: &Answer) -> bool

@@ -1,4 +1,4 @@
-ghost use Rattle.std.specs.Prelude.{◌≡◌, ◌≤◌, ◌++◌, ◌∷◌, ℕ, List, [], Some, IfOk, IfErr, OnOk};
+ghost use Rattle.std.specs.Prelude.{◌≡◌, ◌≤◌, ◌++◌, ◌∷◌, ℕ, List, [], length, Some, None, is_some, IfOk, IfErr, OnOk};
 ghost use Rattle.std.specs.List.{position};
 ghost use Rattle.std.specs.Option.{option_map, unwrap_or, is_none};
 ghost use Rattle.oc_bytes.specs.Outcome.{Rose, Told};
@@ -7,7 +7,8 @@ ghost use Rattle.block_assembler.specs.Blocks.{empty_of, joined};
 ghost use Rattle.carousel_shell.specs.Cuts.{Bytes};
 ghost use Rattle.carousel_shell.specs.Input.{block_heard, if_asked, is_over_sections};
 ghost use Rattle.carousel_shell.specs.Ends.{end_of, unless_missing};
-ghost use Rattle.carousel_shell.specs.Owed.{IsDue, Owes, Writes};
+ghost use Rattle.carousel_shell.specs.Kinds.{IsAssembleStatus};
+ghost use Rattle.carousel_shell.specs.Owed.{IsDue, EndsAs, Owes, Writes};
 ghost use Rattle.carousel_shell.specs.Gathering.{asked_of, named_of, HasBlocks, Ends, IsStop, Stopped};
 
 use crate::sections::{goes_on, next_section};
@@ -43,11 +44,14 @@ pub fn assemble<S: Source, K: Sink>(
 ) -> Status
     requires { wanted.size ≤ 16842752 }
     ensures words { result ≡ Status.Words → ⊥ }
-    ensures due { (input : Bytes) → S.left source.old ≡ Some input → IsDue result (end_of (named_of wanted) input) }
+    ensures no_folder { result ≡ Status.FolderFault → ⊥ }
+    ensures due { (input : Bytes) → S.left source.old ≡ Some input → EndsAs result (end_of (named_of wanted) None input) }
     ensures owes { (input left before after : Bytes) → S.left source.old ≡ Some input → S.left source.new ≡ Some left
-        → K.written sink.old ≡ Some before → K.written sink.new ≡ Some after → Owes (named_of wanted) result input left before after }
+        → K.written sink.old ≡ Some before → K.written sink.new ≡ Some after → Owes (named_of wanted) None result input left before after }
     ensures read_fault { result ≡ Status.ReadFault → Rose (S.faults source.old) (S.faults source.new) }
     ensures write_fault { result ≡ Status.WriteFault → Rose (K.faults sink.old) (K.faults sink.new) }
+    ensures kinds { IsAssembleStatus (ddb.block_count_of wanted.size 4066) result }
+    ensures kept { is_some (S.left source.new) ≡ is_some (S.left source.old) }
 {
     let mut assembler = match Assembler::new(alloc, wanted.size, BLOCK_SIZE) {
         Ok(assembler) => assembler,
@@ -64,6 +68,7 @@ pub fn assemble<S: Source, K: Sink>(
 fn write_module<K: Sink>(assembler: &Assembler, sink: &mut K) -> Status
     ensures due { IsDue result (unless_missing (position is_none assembler.now.blocks)) }
     ensures no_read { result ≡ Status.ReadFault → ⊥ }
+    ensures no_folder { result ≡ Status.FolderFault → ⊥ }
     ensures writes { Told (K.written sink.old) (K.written sink.new) (λ before after. Writes result (unwrap_or (joined assembler.now.blocks) []) before after) }
     ensures write_fault { result ≡ Status.WriteFault → Rose (K.faults sink.old) (K.faults sink.new) }
 {
@@ -79,6 +84,7 @@ fn write_module<K: Sink>(assembler: &Assembler, sink: &mut K) -> Status
 fn write_output<K: Sink>(sink: &mut K, bytes: &[u8]) -> Status
     ensures due { IsDue result Status.Done }
     ensures no_read { result ≡ Status.ReadFault → ⊥ }
+    ensures no_folder { result ≡ Status.FolderFault → ⊥ }
     ensures writes { Told (K.written sink.old) (K.written sink.new) (λ before after. Writes result bytes.now before after) }
     ensures write_fault { result ≡ Status.WriteFault → Rose (K.faults sink.old) (K.faults sink.new) }
 {
@@ -101,6 +107,7 @@ fn gather<S: Source>(
     ensures stop { IfErr result IsStop }
     ensures stopped { IfErr result (λ s. Told (S.left source.old) (S.left source.new) (Stopped (is_over_sections 65536) s)) }
     ensures read_fault { IfErr result (λ s. s ≡ Status.ReadFault → Rose (S.faults source.old) (S.faults source.new)) }
+    ensures number { OnOk result (length assembler.new.blocks ≡ ddb.block_count_of wanted.size 4066) }
 {
     let mut unread = Unread::new(alloc)?;
     for taken in 0..MOST_SECTIONS {

@@ -1,4 +1,5 @@
-//! The commands of the carousel: each takes its words, reads its input from a source and writes to a sink.
+//! The commands of the carousel: each takes its words, reads its input from a source or, `publish`, from a folder, and
+//! writes to a sink.
 #![tactic(auto)]
 
 mod answers;
@@ -7,20 +8,21 @@ mod hearing;
 mod listing;
 mod open;
 mod packets;
-mod parsing;
 mod pending;
 mod plain;
+mod publish;
 mod record;
 mod sections;
 mod status;
 mod unread;
-mod words;
 
 pub use plain::run_plain;
 pub use status::Status;
 
 #[cfg(test)]
 mod listing_tests;
+#[cfg(test)]
+mod publish_tests;
 #[cfg(test)]
 mod record_tests;
 #[cfg(test)]

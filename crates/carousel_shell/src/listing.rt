@@ -34,6 +34,7 @@ const MOST_NAMES: usize = 16;
 pub fn list_all<K: Sink>(alloc: Global, shot: &Shot, sink: &mut K) -> Status
     ensures due { IsDue result (if_all (all_listed (answer_of (held_of shot.now)))) }
     ensures no_read { result ≡ Status.ReadFault → ⊥ }
+    ensures no_folder { result ≡ Status.FolderFault → ⊥ }
     ensures writes { Told (K.written sink.old) (K.written sink.new) (λ before after. Writes result (list_text (answer_of (held_of shot.now))) before after) }
     ensures write_fault { result ≡ Status.WriteFault → Rose (K.faults sink.old) (K.faults sink.new) }
 {

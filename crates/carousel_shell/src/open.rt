@@ -1,9 +1,10 @@
-ghost use Rattle.std.specs.Prelude.{◌≡◌, Some};
+ghost use Rattle.std.specs.Prelude.{◌≡◌, Some, None, is_some};
 ghost use Rattle.oc_bytes.specs.Outcome.{Rose};
 ghost use Rattle.carousel_shell.specs.Cuts.{Bytes};
 ghost use Rattle.carousel_shell.specs.Ends.{end_of};
-ghost use Rattle.carousel_shell.specs.Owed.{IsDue, Owes};
-ghost use Rattle.carousel_shell.specs.Words as commands;
+ghost use Rattle.carousel_shell.specs.Kinds.{IsAnswerStatus};
+ghost use Rattle.carousel_shell.specs.Owed.{EndsAs, Owes};
+ghost use Rattle.shell_words.specs.Words as commands;
 
 use crate::answers::answer_paths;
 use crate::hearing::{hear_packets, hear_sections};
@@ -21,11 +22,14 @@ pub fn open_sections<S: Source, K: Sink>(
     sink: &mut K,
 ) -> Status
     ensures words { result ≡ Status.Words → ⊥ }
-    ensures due { (input : Bytes) → S.left source.old ≡ Some input → IsDue result (end_of (commands.OpenSections paths.now) input) }
+    ensures no_folder { result ≡ Status.FolderFault → ⊥ }
+    ensures due { (input : Bytes) → S.left source.old ≡ Some input → EndsAs result (end_of (commands.OpenSections paths.now) None input) }
     ensures owes { (input left before after : Bytes) → S.left source.old ≡ Some input → S.left source.new ≡ Some left
-        → K.written sink.old ≡ Some before → K.written sink.new ≡ Some after → Owes (commands.OpenSections paths.now) result input left before after }
+        → K.written sink.old ≡ Some before → K.written sink.new ≡ Some after → Owes (commands.OpenSections paths.now) None result input left before after }
     ensures read_fault { result ≡ Status.ReadFault → Rose (S.faults source.old) (S.faults source.new) }
     ensures write_fault { result ≡ Status.WriteFault → Rose (K.faults sink.old) (K.faults sink.new) }
+    ensures kinds { IsAnswerStatus result }
+    ensures kept { is_some (S.left source.new) ≡ is_some (S.left source.old) }
 {
     match hear_sections(alloc, source) {
         Ok(shot) => answer_paths(alloc, &shot, paths, sink),
@@ -42,11 +46,14 @@ pub fn open_packets<S: Source, K: Sink>(
     sink: &mut K,
 ) -> Status
     ensures words { result ≡ Status.Words → ⊥ }
-    ensures due { (input : Bytes) → S.left source.old ≡ Some input → IsDue result (end_of (commands.Open pid paths.now) input) }
+    ensures no_folder { result ≡ Status.FolderFault → ⊥ }
+    ensures due { (input : Bytes) → S.left source.old ≡ Some input → EndsAs result (end_of (commands.Open pid paths.now) None input) }
     ensures owes { (input left before after : Bytes) → S.left source.old ≡ Some input → S.left source.new ≡ Some left
-        → K.written sink.old ≡ Some before → K.written sink.new ≡ Some after → Owes (commands.Open pid paths.now) result input left before after }
+        → K.written sink.old ≡ Some before → K.written sink.new ≡ Some after → Owes (commands.Open pid paths.now) None result input left before after }
     ensures read_fault { result ≡ Status.ReadFault → Rose (S.faults source.old) (S.faults source.new) }
     ensures write_fault { result ≡ Status.WriteFault → Rose (K.faults sink.old) (K.faults sink.new) }
+    ensures kinds { IsAnswerStatus result }
+    ensures kept { is_some (S.left source.new) ≡ is_some (S.left source.old) }
 {
     match hear_packets(alloc, pid, source) {
         Ok(shot) => answer_paths(alloc, &shot, paths, sink),
@@ -62,11 +69,14 @@ pub fn list_packets<S: Source, K: Sink>(
     sink: &mut K,
 ) -> Status
     ensures words { result ≡ Status.Words → ⊥ }
-    ensures due { (input : Bytes) → S.left source.old ≡ Some input → IsDue result (end_of (commands.ListAll pid) input) }
+    ensures no_folder { result ≡ Status.FolderFault → ⊥ }
+    ensures due { (input : Bytes) → S.left source.old ≡ Some input → EndsAs result (end_of (commands.ListAll pid) None input) }
     ensures owes { (input left before after : Bytes) → S.left source.old ≡ Some input → S.left source.new ≡ Some left
-        → K.written sink.old ≡ Some before → K.written sink.new ≡ Some after → Owes (commands.ListAll pid) result input left before after }
+        → K.written sink.old ≡ Some before → K.written sink.new ≡ Some after → Owes (commands.ListAll pid) None result input left before after }
     ensures read_fault { result ≡ Status.ReadFault → Rose (S.faults source.old) (S.faults source.new) }
     ensures write_fault { result ≡ Status.WriteFault → Rose (K.faults sink.old) (K.faults sink.new) }
+    ensures kinds { IsAnswerStatus result }
+    ensures kept { is_some (S.left source.new) ≡ is_some (S.left source.old) }
 {
     match hear_packets(alloc, pid, source) {
         Ok(shot) => list_all(alloc, &shot, sink),

@@ -1,7 +1,8 @@
-ghost use Rattle.std.specs.Prelude.{◌≡◌, ◌≤◌, ◌<◌, ◌++◌, [], Option, Some, map, IfOk, IfErr, OnOk, OnErr, IsErrOf};
+ghost use Rattle.std.specs.Prelude.{◌≡◌, ◌≤◌, ◌<◌, ◌++◌, [], is_some, Option, Some, map, IfOk, IfErr, OnOk, OnErr, IsErrOf};
 ghost use Rattle.oc_bytes.specs.Outcome.{Rose};
 ghost use Rattle.section_stream.specs.Kept.{view_bytes};
 ghost use Rattle.carousel_shell.specs.Cuts.{Bytes};
+ghost use Rattle.carousel_shell.specs.Kinds.{IsRecordStatus};
 ghost use Rattle.carousel_shell.specs.Owed.{IsDue};
 ghost use Rattle.carousel_shell.specs.Sending.{IsSending, HasStopped};
 ghost use Rattle.carousel_shell.specs.Accepted as sections;
@@ -33,11 +34,14 @@ impl From<WriteFault> for Status {
 pub fn record<S: Source, K: Sink>(alloc: Global, pid: u16, source: &mut S, sink: &mut K) -> Status
     requires { pid < 8192 }
     ensures words { result ≡ Status.Words → ⊥ }
+    ensures no_folder { result ≡ Status.FolderFault → ⊥ }
     ensures due { (input : Bytes) → S.left source.old ≡ Some input → IsDue result (recording.record_end input) }
     ensures owes { (input left before after : Bytes) → S.left source.old ≡ Some input → S.left source.new ≡ Some left
         → K.written sink.old ≡ Some before → K.written sink.new ≡ Some after → recording.OwesRecord pid result input left before after }
     ensures read_fault { result ≡ Status.ReadFault → Rose (S.faults source.old) (S.faults source.new) }
     ensures write_fault { result ≡ Status.WriteFault → Rose (K.faults sink.old) (K.faults sink.new) }
+    ensures kinds { IsRecordStatus result }
+    ensures kept { is_some (S.left source.new) ≡ is_some (S.left source.old) }
 {
     candidates_grow();
     match record_all(alloc, pid, source, sink) {

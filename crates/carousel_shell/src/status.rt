@@ -1,17 +1,19 @@
 ghost use Rattle.std.specs.Prelude.{◌≡◌, IfOk};
 ghost use Rattle.std.specs.String.{string_bytes};
 ghost use Rattle.std.specs.Option.{option_map};
-ghost use Rattle.carousel_shell.specs.Statuses.{code_of, line_of};
+ghost use Rattle.carousel_shell.specs.Statuses.{code_of, line_of, tree_text as text_of_tree};
 
+use folder_store::TreeFault;
 use oc_bytes::{Failed, NoMemory};
+use shell_words::refusal_text;
 use std::alloc::{AllocError, Global};
 
 /// How a command ended.
-#[derive(Debug, Drop)]
+#[derive(Drop)]
 pub enum Status {
     /// The command did all that it says, and the input was read to its end.
     Done,
-    /// `open`: some path's answer is neither a file nor a folder.
+    /// `open`, `list`: some answer is neither a file nor a folder, or `list` met its limit of 65,536 lines.
     NotAll,
     /// The words don't name a command with its values.
     Words,
@@ -19,6 +21,10 @@ pub enum Status {
     ReadFault,
     /// The sink failed.
     WriteFault,
+    /// The folders failed, or the folder that `publish` names is none.
+    FolderFault,
+    /// `publish`: the folder's files make no tree that can be sent.
+    TreeRefused(TreeFault),
     /// The input goes on behind the most that the command takes.
     InputTooLong,
     /// Memory was wanting.
@@ -38,6 +44,8 @@ impl Status {
             Status::Words => 2,
             Status::ReadFault => 4,
             Status::WriteFault => 5,
+            Status::FolderFault => 6,
+            Status::TreeRefused(_) => 7,
             Status::InputTooLong => 8,
             Status::NoMemory => 9,
             Status::Incomplete(_) => 10,
@@ -53,11 +61,28 @@ impl Status {
             Status::Words => String::from_str(alloc, "carousel: bad words")?,
             Status::ReadFault => String::from_str(alloc, "carousel: read fault")?,
             Status::WriteFault => String::from_str(alloc, "carousel: write fault")?,
+            Status::FolderFault => String::from_str(alloc, "carousel: folder fault")?,
+            Status::TreeRefused(fault) => {
+                let text = tree_text(alloc, fault)?;
+                let text = text.as_str();
+                format!(in alloc; "carousel: tree refused: {text}")?
+            }
             Status::InputTooLong => String::from_str(alloc, "carousel: input too long")?,
             Status::NoMemory => String::from_str(alloc, "carousel: no memory")?,
             Status::Incomplete(block) => format!(in alloc; "carousel: block {block} is missing")?,
         };
         Ok(Some(text))
+    }
+}
+
+/// Why a tree is refused.
+fn tree_text(alloc: Global, fault: &TreeFault) -> Result<String, NoMemory>
+    ensures { IfOk result (λ text. string_bytes text ≡ text_of_tree fault.now) }
+{
+    match fault {
+        TreeFault::TooDeep => String::from_str(alloc, "too-deep"),
+        TreeFault::BadName => String::from_str(alloc, "bad-name"),
+        TreeFault::Commit(refusal) => refusal_text(alloc, refusal),
     }
 }
 

@@ -1,4 +1,5 @@
 use super::*;
+use folder_store::MemFolders;
 use oc_bytes::{MemSink, MemSource};
 use std::alloc::Global;
 use std::test::Fail;
@@ -86,7 +87,7 @@ const FILE: [u8; 196] = [
     0x94, 0x9C, 0xD4, 0x7B,
 ];
 
-fn words(alloc: Global, line: &str) -> Result<Vec<String>, Fail> {
+pub(crate) fn words(alloc: Global, line: &str) -> Result<Vec<String>, Fail> {
     let mut words = Vec::new(alloc);
     for word in line.split_whitespace() {
         words.push(String::from_str(alloc, word)?)?;
@@ -112,12 +113,18 @@ fn put_packet(packets: &mut Vec<u8>, counter: u8, section: &[u8]) -> Result<(), 
     Ok(())
 }
 
+/// Folders in which nothing stands.
+pub(crate) fn no_folders(alloc: Global) -> MemFolders {
+    MemFolders::new(Vec::new(alloc), Vec::new(alloc))
+}
+
 /// The exit status and what was written, in pieces of 7 bytes.
 fn outcome(alloc: Global, line: &str, input: Vec<u8>) -> Result<(u8, MemSink), Fail> {
     let words = words(alloc, line)?;
     let mut source = MemSource::new(input, Vec::new(alloc), 7);
     let mut sink = MemSink::new(alloc, Vec::new(alloc), 3);
-    let status = run_plain(alloc, &words, &mut source, &mut sink);
+    let mut folders = no_folders(alloc);
+    let status = run_plain(alloc, &words, &mut source, &mut sink, &mut folders);
     Ok((status.code(), sink))
 }
 
@@ -224,13 +231,14 @@ fn faults_stop_a_command(rt: HostRuntime) -> Result<(), Fail> {
     let words = words(alloc, "assemble 1 0 5 42")?;
     let mut source = MemSource::new(joined(alloc, &[&HELLO])?, Vec::from_slice(alloc, &[1])?, 20);
     let mut sink = MemSink::new(alloc, Vec::new(alloc), 2);
-    let status = run_plain(alloc, &words, &mut source, &mut sink);
+    let mut folders = no_folders(alloc);
+    let status = run_plain(alloc, &words, &mut source, &mut sink, &mut folders);
     assert_eq!(rt; status.code(), 4);
     assert_eq!(rt; sink.written(), b"".as_slice());
 
     let mut source = MemSource::new(joined(alloc, &[&HELLO])?, Vec::new(alloc), 20);
     let mut sink = MemSink::new(alloc, Vec::from_slice(alloc, &[1])?, 2);
-    let status = run_plain(alloc, &words, &mut source, &mut sink);
+    let status = run_plain(alloc, &words, &mut source, &mut sink, &mut folders);
     assert_eq!(rt; status.code(), 5);
     assert_eq!(rt; sink.written(), b"he".as_slice());
     Ok(())

@@ -1,4 +1,4 @@
-use Rattle.std.proofs.Common.{◌≡◌, ◌∙◌, sym, append-nil}
+use Rattle.std.proofs.Common.{◌∙◌, sym, append-nil}
 use Rattle.carousel_shell.proofs.Holding.{told_weaker}
 use Rattle.carousel_shell.proofs.answers.answer_paths.Goals as goal
 

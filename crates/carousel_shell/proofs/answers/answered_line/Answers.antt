@@ -1,4 +1,4 @@
-use Rattle.std.proofs.Common.{rules, arith, append_assoc}
+use Rattle.std.proofs.Common.{rules, append_assoc}
 use Rattle.carousel_shell.proofs.answers.answered_line.Goals as goal
 
 pub returns : goal.returns

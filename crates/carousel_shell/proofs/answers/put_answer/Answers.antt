@@ -1,4 +1,3 @@
-use Rattle.std.proofs.Common.{◌≡◌, ◌++◌}
 use Rattle.std.proofs.lemmas.Result.{err_from_is_err_and}
 use Rattle.carousel_shell.proofs.Putting.{stopped_more, stopped_here, stopped_join, sending_join}
 use Rattle.carousel_shell.proofs.answers.put_answer.Goals as goal

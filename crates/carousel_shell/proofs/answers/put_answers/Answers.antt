@@ -1,4 +1,4 @@
-use Rattle.std.proofs.Common.{◌≡◌, ◌≤◌, ◌<◌, ◌+◌, ◌++◌, ◌∙◌, ◌&&◌, [], take, length, arith, sym, ap}
+use Rattle.std.proofs.Common.{◌≤◌, ◌<◌, ◌+◌, ◌∙◌, ◌&&◌, [], take, length, arith, ap}
 use Rattle.std.specs.List.{list_all}
 use Rattle.std.proofs.lemmas.Result.{err_from_is_err_and}
 use Rattle.std.proofs.lemmas.List.{take_all}
@@ -6,7 +6,7 @@ use Rattle.path_tree.specs.Paths.{PathNames}
 use Rattle.path_resolver.specs.Resolving.{answer_of}
 use Rattle.path_resolver.specs.Shots.{held_of}
 use Rattle.carousel_shell.specs.Texts.{open_entry, is_found}
-use Rattle.carousel_shell.proofs.Putting.{stopped_here, stopped_part, parts_next, all_next}
+use Rattle.carousel_shell.proofs.Putting.{stopped_part, parts_next, all_next}
 use Rattle.carousel_shell.proofs.answers.put_answers.Goals as goal
 
 pub returns-in_err-found-clause-err : goal.returns-in_err-found-clause-err

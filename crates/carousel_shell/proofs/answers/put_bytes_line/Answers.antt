@@ -1,4 +1,4 @@
-use Rattle.std.proofs.Common.{◌≡◌, ◌++◌, ◌∷◌, [], sym, append_assoc}
+use Rattle.std.proofs.Common.{◌++◌, ◌∷◌, []}
 use Rattle.std.proofs.lemmas.Result.{err_from_is_err_and, on_ok_weaker, on_err_weaker}
 use Rattle.carousel_shell.proofs.Putting.{stopped_more, stopped_join, sending_join}
 use Rattle.carousel_shell.proofs.answers.put_bytes_line.Goals as goal

@@ -1,4 +1,3 @@
-use Rattle.std.proofs.Common.{◌≡◌, ◌++◌}
 use Rattle.carousel_shell.proofs.Putting.{stopped_more, stopped_here}
 use Rattle.carousel_shell.proofs.answers.put_line.Goals as goal
 

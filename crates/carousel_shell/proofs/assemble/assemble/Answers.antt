@@ -1,9 +1,15 @@
-use Rattle.std.proofs.Common.{◌++◌, sym, ap, ◌∙◌, append-nil}
+use Rattle.std.proofs.Common.{◌++◌, None, sym, ap, ◌∙◌, append-nil}
 use Rattle.std.proofs.lemmas.Option.{same_Some}
+use Rattle.carousel_shell.specs.Ends.{end_of}
 use Rattle.carousel_shell.specs.Gathering.{named_of}
 use Rattle.carousel_shell.proofs.Cutting.{told_here}
 use Rattle.carousel_shell.proofs.Joining.{due_stop, not_at_end, writes_nothing}
+use Rattle.carousel_shell.proofs.Nothing.{due_nothing}
+use Rattle.carousel_shell.proofs.Kinding.{due_assembles, stop_assembles}
 use Rattle.carousel_shell.proofs.assemble.assemble.Goals as goal
+
+pub returns-in-Err-NoMemory-clause-due : goal.returns-in-Err-NoMemory-clause-due
+returns-in-Err-NoMemory-clause-due g c = λ input _. due_nothing (end_of (named_of c.args.wanted) None input)
 
 pub returns-in-Ok-gather-clause-due : goal.returns-in-Ok-gather-clause-due
 returns-in-Ok-gather-clause-due g c = λ input i.
@@ -23,7 +29,7 @@ returns-in-Ok-gather-clause-owes g c = λ input left before after i l b a.
 pub returns-clause-due : goal.returns-clause-due
 returns-clause-due g c = λ input i.
     let r = told_here _ _ input c.in-Err-gather.ensures.stopped i in
-    due_stop (named_of c.args.wanted) input c.in-Err-gather.status c.in-Err-gather.ensures.stop r.2.too_long
+    due_stop (named_of c.args.wanted) None input c.in-Err-gather.status c.in-Err-gather.ensures.stop r.2.too_long
 
 pub returns-clause-owes : goal.returns-clause-owes
 returns-clause-owes g c = λ input left before after i l b a.
@@ -34,3 +40,9 @@ returns-clause-owes g c = λ input left before after i l b a.
       to_end = λ e. absurd (not_at_end c.in-Err-gather.status c.in-Err-gather.ensures.stop e);
       writes = writes_nothing c.in-Err-gather.status _ before after c.in-Err-gather.ensures.stop (same_Some after before (sym a ∙ b));
     }
+
+pub returns-in-Ok-gather-clause-kinds : goal.returns-in-Ok-gather-clause-kinds
+returns-in-Ok-gather-clause-kinds g c = due_assembles _ _ c.write_module.result c.in-Ok-gather.ensures.number c.write_module.ensures.due c.write_module.ensures.no_folder
+
+pub returns-clause-kinds : goal.returns-clause-kinds
+returns-clause-kinds g c = stop_assembles _ c.in-Err-gather.status c.in-Err-gather.ensures.stop

@@ -3,7 +3,7 @@ use Rattle.std.proofs.lemmas.Result.{err_from_is_err_and}
 use Rattle.std.proofs.lemmas.Bool.{true≢false}
 use Rattle.carousel_shell.specs.Gathering.{asked_of}
 use Rattle.carousel_shell.specs.declared.status.Status.TheVariants as status
-use Rattle.carousel_shell.proofs.Offering.{blocks_begin}
+use Rattle.carousel_shell.proofs.Offering.{blocks_begin, number_of_blocks}
 use Rattle.carousel_shell.proofs.Cutting.{told_begin, told_next, told_end, told_rear, stopped_other, stopped_long, ended_few, ended_full, gathered}
 use Rattle.carousel_shell.proofs.assemble.gather.Goals as goal
 
@@ -62,3 +62,9 @@ returns-clause-done g c =
     (ended_full 65536 _ c.loop-taken.unread c.goes_on.new.unread _ _ c.loop-taken.invariant.sections full
     c.loop-taken.invariant.cut c.goes_on.ensures.rest (c.in_ok-goes_on.ensures.ended (ap Ok c.if-branch.false))
     (λ rest e n. true≢false (sym ((c.in_ok-goes_on.ensures.more rest e).1 n) ∙ c.if-branch.false)))
+
+pub returns-in_default-clause-number : goal.returns-in_default-clause-number
+returns-in_default-clause-number g c = number_of_blocks (asked_of c.args.wanted) c.loop-taken.assembler c.loop-taken.invariant.sections c.loop-taken.invariant.blocks
+
+pub returns-clause-number : goal.returns-clause-number
+returns-clause-number g c = number_of_blocks (asked_of c.args.wanted) c.loop-taken.assembler c.loop-taken.invariant.sections c.loop-taken.invariant.blocks

@@ -1,7 +1,6 @@
-use Rattle.std.proofs.Common.{◌≡◌, ◌≤◌, ◌<◌, ◌+◌, ◌++◌, ◌∷◌, [], List, length, take, drop, Ok, Some, true, false, refl, sym, ap, ◌∙◌, arith, length-append}
+use Rattle.std.proofs.Common.{◌≡◌, ◌<◌, ◌++◌, ◌∷◌, [], length, take, Ok, refl, sym, ap, ◌∙◌, arith, length-append}
 use Rattle.std.proofs.lemmas.Result.{err_from_is_err_and}
 use Rattle.std.proofs.lemmas.Bool.{true≢false}
-use Rattle.carousel_shell.specs.Held.{onto_left, AreCut}
 use Rattle.carousel_shell.specs.declared.status.Status.TheVariants as status
 use Rattle.carousel_shell.proofs.Cutting.{told_begin, told_next, told_end, told_rear, stopped_other, stopped_long, ended_few, ended_full}
 use Rattle.carousel_shell.proofs.hearing.feed_sections.Goals as goal

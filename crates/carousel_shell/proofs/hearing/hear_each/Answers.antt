@@ -1,4 +1,4 @@
-use Rattle.std.proofs.Common.{◌≡◌, ◌<◌, ◌≤◌, ◌++◌, map, take, length, arith, append-nil}
+use Rattle.std.proofs.Common.{◌<◌, ◌≤◌, length, arith, append-nil}
 use Rattle.std.proofs.lemmas.List.{take_all}
 use Rattle.section_stream.specs.Kept.{view_bytes}
 use Rattle.carousel_shell.proofs.Putting.{map_next}

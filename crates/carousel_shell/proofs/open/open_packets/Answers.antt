@@ -1,4 +1,4 @@
-use Rattle.std.proofs.Common.{◌≡◌, ◌++◌, Some, refl, sym, ap, subst, ◌∙◌, append-nil}
+use Rattle.std.proofs.Common.{◌++◌, None, sym, ap, subst, ◌∙◌, append-nil}
 use Rattle.std.specs.List.{list_all}
 use Rattle.std.proofs.lemmas.Option.{same_Some}
 use Rattle.path_tree.specs.Paths.{PathNames}
@@ -9,9 +9,10 @@ use Rattle.path_resolver.specs.declared.answer.Answer.{Answer}
 use Rattle.carousel_shell.specs.Ends.{if_all}
 use Rattle.carousel_shell.specs.Owed.{IsDue, Writes}
 use Rattle.carousel_shell.specs.Texts.{open_text, is_found}
-use Rattle.carousel_shell.specs.Words as commands
+use Rattle.shell_words.specs.Words as commands
 use Rattle.carousel_shell.proofs.Cutting.{told_here}
 use Rattle.carousel_shell.proofs.Joining.{due_stop, not_at_end, writes_nothing}
+use Rattle.carousel_shell.proofs.Kinding.{due_answers, stop_answers}
 use Rattle.carousel_shell.proofs.open.open_packets.Goals as goal
 
 pub returns-in-Ok-clause-due : goal.returns-in-Ok-clause-due
@@ -36,7 +37,7 @@ returns-in-Ok-clause-owes g c = λ input left before after i l b a.
 pub returns-in-Err-clause-due : goal.returns-in-Err-clause-due
 returns-in-Err-clause-due g c = λ input i.
     let r = told_here _ _ input c.in-Err.ensures.stopped i in
-    due_stop (commands.Open c.args.pid c.args.paths.now) input c.in-Err.status c.in-Err.ensures.stop r.2.too_long
+    due_stop (commands.Open c.args.pid c.args.paths.now) None input c.in-Err.status c.in-Err.ensures.stop r.2.too_long
 
 pub returns-in-Err-clause-owes : goal.returns-in-Err-clause-owes
 returns-in-Err-clause-owes g c = λ input left before after i l b a.
@@ -47,3 +48,9 @@ returns-in-Err-clause-owes g c = λ input left before after i l b a.
       to_end = λ e. absurd (not_at_end c.in-Err.status c.in-Err.ensures.stop e);
       writes = writes_nothing c.in-Err.status _ before after c.in-Err.ensures.stop (same_Some after before (sym a ∙ b));
     }
+
+pub returns-in-Ok-clause-kinds : goal.returns-in-Ok-clause-kinds
+returns-in-Ok-clause-kinds g c = due_answers _ c.answer_paths.result c.answer_paths.ensures.due c.answer_paths.ensures.no_folder
+
+pub returns-in-Err-clause-kinds : goal.returns-in-Err-clause-kinds
+returns-in-Err-clause-kinds g c = stop_answers c.in-Err.status c.in-Err.ensures.stop

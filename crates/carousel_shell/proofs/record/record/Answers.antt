@@ -1,4 +1,5 @@
 use Rattle.carousel_shell.proofs.Accepting.{due_done, due_halted, owes_done, owes_halted}
+use Rattle.carousel_shell.proofs.Kinding.{stop_records}
 use Rattle.carousel_shell.proofs.record.record.Goals as goal
 
 pub returns-in-Ok-clause-due : goal.returns-in-Ok-clause-due
@@ -12,3 +13,6 @@ returns-in-Err-clause-due g c = λ input i. due_halted c.args.pid c.in-Err.statu
 
 pub returns-in-Err-clause-owes : goal.returns-in-Err-clause-owes
 returns-in-Err-clause-owes g c = owes_halted c.args.pid c.in-Err.status _ _ _ _ c.candidates_grow.ensures c.in-Err.ensures.stop c.in-Err.ensures.stopped
+
+pub returns-in-Err-clause-kinds : goal.returns-in-Err-clause-kinds
+returns-in-Err-clause-kinds g c = stop_records c.in-Err.status c.in-Err.ensures.stop

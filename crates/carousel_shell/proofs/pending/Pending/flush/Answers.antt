@@ -1,4 +1,3 @@
-use Rattle.std.proofs.Common.{◌≡◌, ◌∙◌, sym, ap}
 use Rattle.std.proofs.lemmas.Result.{err_from_is_err_and}
 use Rattle.carousel_shell.proofs.Putting.{sending_flush, front_flush}
 use Rattle.carousel_shell.proofs.pending.Pending.flush.Goals as goal

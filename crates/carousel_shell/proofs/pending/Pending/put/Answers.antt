@@ -1,4 +1,4 @@
-use Rattle.std.proofs.Common.{◌≡◌, ◌∙◌, sym, ap, ◌++◌}
+use Rattle.std.proofs.Common.{◌∙◌, ap, ◌++◌}
 use Rattle.std.proofs.lemmas.Result.{err_from_is_err_and, on_ok_weaker, on_err_weaker}
 use Rattle.carousel_shell.proofs.Putting.{sending_more, sending_all, front_all, stopped_here, stopped_more, on_err}
 use Rattle.carousel_shell.proofs.pending.Pending.put.Goals as goal

@@ -1,0 +1,163 @@
+use super::*;
+use crate::tests::words;
+use folder_store::{EntryKind, FolderEntry, FolderFault, Folders, MemFolders, TreeFault};
+use generation_catalogue::Refusal;
+use oc_bytes::{Blob, MemSink, MemSource, NoMemory};
+use std::alloc::Global;
+use std::test::Fail;
+
+/// The folder F without an entry, in which the calls of these numbers fail.
+fn empty_folder(alloc: Global, fail_at: Vec<u64>) -> Result<MemFolders, Fail> {
+    let mut entries = Vec::new(alloc);
+    entries.push((
+        String::from_str(alloc, "F/")?,
+        Blob::new(alloc, Vec::new(alloc))?,
+    ))?;
+    Ok(MemFolders::new(entries, fail_at))
+}
+
+/// The folder F with the file `a`, which says `hello`.
+fn hello_folder(alloc: Global) -> Result<MemFolders, Fail> {
+    let mut entries = Vec::new(alloc);
+    entries.push((
+        String::from_str(alloc, "F/a")?,
+        Blob::new(alloc, Vec::from_slice(alloc, b"hello")?)?,
+    ))?;
+    Ok(MemFolders::new(entries, Vec::new(alloc)))
+}
+
+/// A folder with 139 files of 65,493 bytes. With the 44 bytes before them each is an object of 65,537 bytes, which has a
+/// module of its own. What stands in the folder isn't told.
+#[derive(Drop)]
+struct ManyFiles;
+
+impl ManyFiles {
+    fn entries(alloc: Global) -> Result<Vec<FolderEntry>, NoMemory> {
+        let mut entries = Vec::new(alloc);
+        for number in 0..139u32 {
+            entries.push(FolderEntry {
+                name: format!(in alloc; "{number}")?,
+                kind: EntryKind::File,
+            })?;
+        }
+        Ok(entries)
+    }
+}
+
+impl Folders for ManyFiles {
+    ghost use Rattle.std.specs.Prelude.{None};
+
+    ghost tree = { λ f. None };
+
+    ghost faults = { λ f. 0 };
+
+    fn list(&mut self, alloc: Global, _path: &str) -> Result<Vec<FolderEntry>, FolderFault> {
+        match ManyFiles::entries(alloc) {
+            Ok(entries) => Ok(entries),
+            Err(_) => Err(FolderFault::NoMemory),
+        }
+    }
+
+    fn read(&mut self, alloc: Global, _path: &str, _most: usize) -> Result<Vec<u8>, FolderFault> {
+        let mut bytes = Vec::new(alloc);
+        match bytes.resize(65_493, 0) {
+            Ok(()) => Ok(bytes),
+            Err(_) => Err(FolderFault::NoMemory),
+        }
+    }
+
+    fn faults(&self) -> u64 {
+        0
+    }
+}
+
+/// The status of a command without input and what it wrote.
+fn outcome<F: Folders>(
+    alloc: Global,
+    line: &str,
+    fail_at: Vec<u64>,
+    folders: &mut F,
+) -> Result<(Status, MemSink), Fail> {
+    let words = words(alloc, line)?;
+    let mut source = MemSource::new(Vec::new(alloc), Vec::new(alloc), 1);
+    let mut sink = MemSink::new(alloc, fail_at, 100);
+    let status = run_plain(alloc, &words, &mut source, &mut sink, folders);
+    Ok((status, sink))
+}
+
+/// What a command writes of these packets, and its exit status.
+fn answers(alloc: Global, line: &str, packets: &[u8]) -> Result<(u8, MemSink), Fail> {
+    let words = words(alloc, line)?;
+    let packets = Vec::from_slice(alloc, packets)?;
+    let mut source = MemSource::new(packets, Vec::new(alloc), 1000);
+    let mut sink = MemSink::new(alloc, Vec::new(alloc), 100);
+    let mut folders = tests::no_folders(alloc);
+    let status = run_plain(alloc, &words, &mut source, &mut sink, &mut folders);
+    Ok((status.code(), sink))
+}
+
+#[test]
+fn published_folders_are_received(rt: HostRuntime) -> Result<(), Fail> {
+    let alloc = rt.alloc();
+    let mut folders = empty_folder(alloc, Vec::new(alloc))?;
+    let (status, sink) = outcome(alloc, "publish F 1 1", Vec::new(alloc), &mut folders)?;
+    assert_eq!(rt; status.code(), 0);
+    assert_eq!(rt; sink.written().len(), 564);
+    assert!(rt;
+        sink.written()
+            .starts_with(&[0x47, 0x41, 0x00, 0x10, 0x00, 0x3B, 0xB0, 0x70])
+    );
+    let (code, lines) = answers(alloc, "list 256", sink.written())?;
+    assert_eq!(rt; lines.written(), b"/ folder 0\n".as_slice());
+    assert_eq!(rt; code, 0);
+
+    let mut folders = hello_folder(alloc)?;
+    let (status, sink) = outcome(alloc, "publish F 1 2", Vec::new(alloc), &mut folders)?;
+    assert_eq!(rt; status.code(), 0);
+    let (code, lines) = answers(alloc, "open 256 /a /a/b", sink.written())?;
+    assert_eq!(rt;
+        lines.written(),
+        b"/a file 5\nhello\n/a/b no-such\n".as_slice()
+    );
+    assert_eq!(rt; code, 1);
+    Ok(())
+}
+
+#[test]
+fn faults_stop_publishing(rt: HostRuntime) -> Result<(), Fail> {
+    let alloc = rt.alloc();
+    let mut folders = hello_folder(alloc)?;
+    let (status, sink) = outcome(alloc, "publish G 1 1", Vec::new(alloc), &mut folders)?;
+    assert_eq!(rt; status.code(), 6);
+    assert_eq!(rt; sink.written(), b"".as_slice());
+
+    let mut folders = empty_folder(alloc, Vec::from_slice(alloc, &[0])?)?;
+    let (status, _sink) = outcome(alloc, "publish F 1 1", Vec::new(alloc), &mut folders)?;
+    assert_eq!(rt; status.code(), 6);
+
+    let mut folders = hello_folder(alloc)?;
+    let fail_at = Vec::from_slice(alloc, &[1])?;
+    let (status, sink) = outcome(alloc, "publish F 1 1", fail_at, &mut folders)?;
+    assert_eq!(rt; status.code(), 5);
+    assert_eq!(rt; sink.written().len(), 100);
+    Ok(())
+}
+
+#[test]
+fn trees_that_are_too_large_are_refused(rt: HostRuntime) -> Result<(), Fail> {
+    let alloc = rt.alloc();
+    let (status, sink) = outcome(alloc, "publish F 1 1", Vec::new(alloc), &mut ManyFiles)?;
+    assert_eq!(rt; sink.written(), b"".as_slice());
+    let line = status.line(alloc)?.ok_or("no line")?;
+    assert_eq!(rt;
+        line.as_str(),
+        "carousel: tree refused: too-many-modules 140"
+    );
+    assert!(rt;
+        matches!(
+            status,
+            Status::TreeRefused(TreeFault::Commit(Refusal::TooManyModules(140)))
+        )
+    );
+    Ok(())
+}
