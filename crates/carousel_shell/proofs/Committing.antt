@@ -16,7 +16,7 @@ use Rattle.cycle_planner.specs.declared.Item.{Item}
 use Rattle.biop_object.specs.Names.{Layout}
 use Rattle.generation.specs.Layouts.{GenerationState, generation_of, lines_of, lines_in, items_of, section_of}
 use Rattle.generation.specs.Publication.{Passed, limit_of}
-use Rattle.generation.specs.Lawful.{section_in}
+use Rattle.generation.specs.Lawful.{HasBytes, section_in}
 use Rattle.generation.specs.Kept.{IsGenerationOf, GenerationsAreOfTheLists}
 use Rattle.generation_catalogue.specs.History.{CatalogueState, current_of, journal_of, put_bytes, outcome_of, unless_edit, unless_limit, or_same, is_entered, with_entry, committed}
 use Rattle.generation_catalogue.specs.Requests.{commit_cause}
@@ -110,10 +110,10 @@ tree_is : (carousel : ℕ) (t : Tree) (g : GenerationState) → g ≡ generation
 tree_is carousel t g e = ap (λ (s : GenerationState). s.tree) e
 
 pub made_of_folder : EditsMakeTheFiles → (folder : Bytes) (carousel editor n : ℕ) (told : Option FolderTree) (edits : List Edit) (before after : CatalogueState) (g : GenerationState)
-    → before ≡ new_carousel carousel → outcome_of before edits ≡ Ok n → after ≡ committed before editor edits → g ≡ current_of after → IsTree g.tree
+    → before ≡ new_carousel carousel → outcome_of before edits ≡ Ok n → after ≡ committed before editor edits → g ≡ current_of after → IsTree g.tree → HasBytes g.tree
     → ((t : FolderTree) → told ≡ Some t → edits_of t folder ≡ Ok edits) → ((t : FolderTree) → told ≡ Some t → is_folder_at t folder ≡ true)
     → IsOfFolder folder carousel told g
-made_of_folder law folder carousel editor n told edits before after g b o a e valid is_edits there =
+made_of_folder law folder carousel editor n told edits before after g b o a e valid bytes is_edits there =
     let C : CatalogueState → Type 0 = λ c. outcome_of c edits ≡ Ok n in
     let out : outcome_of (new_carousel carousel) edits ≡ Ok n = subst C b o in
     let applied = tree_accepted carousel n edits out in
@@ -123,7 +123,7 @@ made_of_folder law folder carousel editor n told edits before after g b o a e va
     record {
       tree = applied.0;
       is = is;
-      publishable = λ bytes. record { tree = subst IsTree (tree_is carousel applied.0 g is) valid; bytes = bytes; within = applied.2 };
+      publishable = record { tree = subst IsTree (tree_is carousel applied.0 g is) valid; bytes = subst HasBytes (tree_is carousel applied.0 g is) bytes; within = applied.2 };
       accepted = λ t h. (
         ap (λ v. cond v (end_by carousel (edits_of t folder)) status.FolderFault) (there t h) ∙ ap (end_by carousel) (is_edits t h) ∙ ap unless_refused out,
         ap (λ v. cond v (tree_by carousel (edits_of t folder)) None) (there t h) ∙ ap (tree_by carousel) (is_edits t h)

@@ -11,5 +11,6 @@ pub mod Opening
 pub mod Resending
 pub mod Nothing
 pub mod Cycling
+pub mod Bytewise
 pub mod Committing
 pub mod Kinding

@@ -5,7 +5,7 @@ use Rattle.path_tree.specs.Trees.{Tree}
 use Rattle.path_tree.specs.Edits.{apply_all}
 use Rattle.path_tree.specs.declared.tree.EditFault.{EditFault}
 use Rattle.generation.specs.Layouts.{GenerationState, generation_of}
-use Rattle.generation.specs.Lawful.{HasBytes, IsPublishable}
+use Rattle.generation.specs.Lawful.{IsPublishable}
 use Rattle.generation_catalogue.specs.History.{CatalogueState, outcome_of}
 use Rattle.generation_catalogue.specs.declared.entry.Refusal.{Refusal}
 use Rattle.generation_catalogue.specs.declared.entry.CommitFault.{CommitFault}
@@ -79,7 +79,7 @@ publish_output folder carousel cycles t = published_of carousel cycles (tree_of_
 -- at a path exactly where the folder has it at the path's text; and one that can be published.
 pub record HasPublished (folder : Bytes) (carousel cycles : ℕ) (told : Option FolderTree) (before after : Bytes) : Type 0 where
   pub tree : Tree
-  pub publishable : HasBytes tree → IsPublishable tree
+  pub publishable : IsPublishable tree
   pub of_folder : (t : FolderTree) → told ≡ Some t → tree_of_folder folder carousel t ≡ Some tree
   pub files : (t : FolderTree) → told ≡ Some t → IsFolderTree t → HasFiles t folder tree
   pub after_is : after ≡ before ++ published carousel cycles tree
@@ -87,7 +87,7 @@ pub record HasPublished (folder : Bytes) (carousel cycles : ℕ) (told : Option 
 -- a front of such a tree's cycles was written
 pub record HasBegun (folder : Bytes) (carousel cycles : ℕ) (told : Option FolderTree) (before after : Bytes) : Type 0 where
   pub tree : Tree
-  pub publishable : HasBytes tree → IsPublishable tree
+  pub publishable : IsPublishable tree
   pub of_folder : (t : FolderTree) → told ≡ Some t → tree_of_folder folder carousel t ≡ Some tree
   pub files : (t : FolderTree) → told ≡ Some t → IsFolderTree t → HasFiles t folder tree
   pub written : Bytes
@@ -122,7 +122,7 @@ IsRefusal _ = ⊥
 pub record IsOfFolder (folder : Bytes) (carousel : ℕ) (told : Option FolderTree) (g : GenerationState) : Type 0 where
   pub tree : Tree
   pub is : g ≡ generation_of carousel (tree ∷ [])
-  pub publishable : HasBytes tree → IsPublishable tree
+  pub publishable : IsPublishable tree
   pub accepted : (t : FolderTree) → told ≡ Some t → (publish_end folder carousel t ≡ status.Done) × (tree_of_folder folder carousel t ≡ Some tree)
   pub files : (t : FolderTree) → told ≡ Some t → IsFolderTree t → HasFiles t folder tree
 

@@ -6,6 +6,7 @@ mod answers;
 mod assemble;
 mod hearing;
 mod listing;
+mod octets;
 mod open;
 mod packets;
 mod pending;

@@ -11,6 +11,7 @@ ghost use Rattle.carousel_shell.specs.Owed.{IsDue, Writes, WritesPart, extent_of
 ghost use Rattle.carousel_shell.specs.Sending.{IsSending, HasStopped};
 ghost use Rattle.carousel_shell.specs.Publishing.{publish_end, publish_output, IsPublishStatus, HasPublished, BeginsAtMost, IsOfFolder, IsRefusal, HasSent, packed, mux_start};
 
+use crate::octets::tree_is_of_octets;
 use crate::pending::Pending;
 use crate::status::Status;
 use cycle_planner::{Item, cycle_len, item_at};
@@ -121,8 +122,7 @@ fn first_generation<F: Folders>(
     let mut catalogue = Catalogue::new(alloc, carousel)?;
     catalogue.commit(EDITOR, edits)?;
     let generation = Arc::try_clone(catalogue.current())?;
-    // What holds of each tree comes with its length.
-    let _ = generation.tree().len();
+    tree_is_of_octets(generation.tree());
     Ok(generation)
 }
 
