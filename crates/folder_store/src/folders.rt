@@ -48,8 +48,8 @@ impl From<AllocError> for FolderFault {
 
 /// Folders and files of the outside. This trait is this project's own.
 ///
-/// A path text has the names from the outermost folder on, joined by `/`, as `F/a/c`. No call changes
-/// what stands there, nor whether that is told.
+/// A path text is the names of a file or a folder, the outermost first, with a `/` between two of them:
+/// `site/img/logo.png`. No call changes what stands there, nor whether that is told.
 pub trait Folders {
     ghost use Rattle.folder_store.specs.Folders.{FolderTree, entry_at, content_of, is_folder_at, view_entry, IsListed, IsRead, MayFail};
 

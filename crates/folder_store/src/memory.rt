@@ -29,8 +29,9 @@ impl MemFolders {
 
     /// Folders of these entries, of which no call was made yet.
     ///
-    /// An entry is a file under its whole path text, as `F/a/c`; one whose text ends in `/` is a folder,
-    /// and its bytes are unused. What stands before a `/` of an entry's text is a folder too, so `a//b`
+    /// An entry's text is the whole path text of a file, `site/img/logo.png` say, and its bytes are the
+    /// content. Where the text ends in `/` the entry is a folder, and the bytes count for nothing. What
+    /// stands before a `/` of an entry's text is a folder too, so `a//b`
     /// is the file `b` in a folder without a name in the folder `a`, and `/` is a folder whose own text
     /// is empty. No two files have one text, and no file has a folder's.
     pub fn new(entries: Vec<(String, Blob)>, fail_at: Vec<u64>) -> MemFolders

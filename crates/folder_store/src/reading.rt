@@ -25,10 +25,9 @@ const MOST_NAMES: usize = 16;
 /// Why a folder isn't published: its tree can't be read as edits, or the edits are refused.
 #[derive(Drop)]
 pub enum TreeFault {
-    /// A file has more than 16 names below the folder, or a folder lies 17 deep.
+    /// A file or a folder stands below sixteen folders of the one that is published.
     TooDeep,
-    /// The name of a file or a folder is no name of a path: it has more than 254 bytes or none, or holds a byte zero or
-    /// `/`.
+    /// The name of a file or a folder is no name of a path: it has no byte or more than 254, or a zero byte or a `/` in it.
     BadName,
     /// The commit of the edits is refused.
     Commit(Refusal),
@@ -39,9 +38,9 @@ pub enum TreeFault {
 pub enum ReadTree {
     /// A fault of the outside, or the path is no folder of it.
     FolderFault,
-    /// A file below the folder has more than 16 names, or a folder lies 17 deep.
+    /// A file or a folder stands below sixteen folders of the one that is read.
     TooDeep,
-    /// The name of a file or a folder has more than 254 bytes or none, or holds a byte zero or `/`.
+    /// The name of a file or a folder has no byte or more than 254, or a zero byte or a `/` in it.
     BadName,
     /// Memory was wanting.
     NoMemory,
@@ -243,9 +242,9 @@ fn walk_entry<F: Folders>(
 /// so that a folder in which nothing else stands gives no edit. A file's first 16,777,217 bytes are read, one more than a
 /// file of a carousel may have. After the file at which more than 536,870,912 bytes are read in all, the walk ends.
 ///
-/// The first entry in this order that breaks a rule is refused: `TooDeep` exactly where a file has more than 16 names or a
-/// folder lies 17 deep, and else `BadName` exactly where its name has more than 254 bytes, is empty, or holds a byte zero or
-/// `/`. `FolderFault` comes only where the count of faults rose in this call, or stands at the greatest u64, or where the
+/// The walk refuses the first entry that it can't take, and then alone. It is `TooDeep` where sixteen names lead to its folder
+/// already, whether it is a file or a folder. Else it is a `BadName` where its name is none of a path: without a byte, of 255
+/// bytes or more, with a zero byte or a `/` in it. `FolderFault` comes only where the count of faults rose in this call, or stands at the greatest u64, or where the
 /// tree is told and `root` is no folder of it, and always in this last case. Want of memory aside, there is no other refusal.
 /// These rules are this project's own.
 pub fn read_tree<F: Folders>(
