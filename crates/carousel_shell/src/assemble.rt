@@ -1,4 +1,4 @@
-ghost use Rattle.std.specs.Prelude.{◌≡◌, ◌≤◌, ◌++◌, ◌∷◌, ℕ, List, [], length, Some, None, is_some, IfOk, IfErr, OnOk};
+ghost use Rattle.std.specs.Prelude.{◌≡◌, ◌≤◌, ◌++◌, ◌∷◌, ℕ, List, [], length, Some, None, is_some, IfErr, OnOk};
 ghost use Rattle.std.specs.List.{position};
 ghost use Rattle.std.specs.Option.{option_map, unwrap_or, is_none};
 ghost use Rattle.oc_bytes.specs.Outcome.{Rose, Told};
@@ -15,10 +15,10 @@ use crate::sections::{goes_on, next_section};
 use crate::status::Status;
 use crate::unread::Unread;
 use block_assembler::{Assembler, NewFault};
-use ddb_block::{Ddb, DdbFault};
-use dsmcc_section::{SectionFault, Table};
-use oc_bytes::{NoMemory, Sink, Source, WriteFault, write_all};
-use std::alloc::{AllocError, Global};
+use ddb_block::{Parts, parts_of};
+use dsmcc_section::{Table, payload_of};
+use oc_bytes::{Sink, Source, WriteFault, write_all};
+use std::alloc::Global;
 
 /// The size of a module's blocks, in bytes; the last block may be shorter.
 const BLOCK_SIZE: u16 = 4_066;
@@ -114,7 +114,7 @@ fn gather<S: Source>(
         let Some(len) = next_section(&mut unread, source)? else {
             return Ok(());
         };
-        offer_section(alloc, wanted, &unread.held()[..len], assembler)?;
+        offer_section(wanted, &unread.held()[..len], assembler);
         unread.pass(len);
     }
     if goes_on(&mut unread, source)? {
@@ -124,53 +124,36 @@ fn gather<S: Source>(
     }
 }
 
-/// Offers the block that a section carries, where it is one of the wanted.
-fn offer_section(
-    alloc: Global,
-    wanted: Wanted,
-    section: &[u8],
-    assembler: &mut Assembler,
-) -> Result<(), NoMemory>
-    ensures { OnOk result ((sections : List Bytes) → HasBlocks (asked_of wanted) assembler.old sections → HasBlocks (asked_of wanted) assembler.new (sections ++ section.now ∷ [])) }
+/// Offers the block that a section carries, where it is one of the wanted. The block's bytes are lent up to the assembler.
+fn offer_section(wanted: Wanted, section: &[u8], assembler: &mut Assembler)
+    ensures { (sections : List Bytes) → HasBlocks (asked_of wanted) assembler.old sections → HasBlocks (asked_of wanted) assembler.new (sections ++ section.now ∷ []) }
 {
-    if let Some(block) = asked_block(alloc, wanted, section)? {
-        let _ = assembler.offer(block.block, &block.bytes);
+    if let Some(block) = asked_block(wanted, section) {
+        let _ = assembler.offer(block.block, block.bytes);
     }
-    Ok(())
 }
 
 /// The block message of the module that a section carries.
-fn asked_block(alloc: Global, wanted: Wanted, section: &[u8]) -> Result<Option<Ddb>, NoMemory>
-    ensures { IfOk result (λ block. option_map ddb.view block ≡ if_asked (asked_of wanted) (block_heard section.now)) }
+fn asked_block(wanted: Wanted, section: &[u8]) -> Option<Parts<'_>>
+    ensures { option_map ddb.parts_view result ≡ if_asked (asked_of wanted) (block_heard section.now) }
 {
-    let Some(block) = block_in(alloc, section)? else {
-        return Ok(None);
-    };
+    let block = block_in(section)?;
     if block.download == wanted.download
         && block.module == wanted.id
         && block.version == wanted.version
     {
-        Ok(Some(block))
+        Some(block)
     } else {
-        Ok(None)
+        None
     }
 }
 
 /// The block message that a section carries.
-fn block_in(alloc: Global, section: &[u8]) -> Result<Option<Ddb>, NoMemory>
-    ensures { IfOk result (λ block. option_map ddb.view block ≡ block_heard section.now) }
+fn block_in(section: &[u8]) -> Option<Parts<'_>>
+    ensures { option_map ddb.parts_view result ≡ block_heard section.now }
 {
-    let section = match dsmcc_section::decode(alloc, section) {
-        Ok(section) => section,
-        Err(SectionFault::Skip(_)) => return Ok(None),
-        Err(SectionFault::NoMemory) => return Err(AllocError),
-    };
-    match section.table {
-        Table::Control => Ok(None),
-        Table::Blocks => match ddb_block::decode(alloc, &section.payload) {
-            Ok(block) => Ok(Some(block)),
-            Err(DdbFault::NotDdb(_)) => Ok(None),
-            Err(DdbFault::NoMemory) => Err(AllocError),
-        },
+    match payload_of(section) {
+        Ok((Table::Blocks, payload)) => parts_of(payload).ok(),
+        Ok((Table::Control, _)) | Err(_) => None,
     }
 }

@@ -1,4 +1,4 @@
-ghost use Rattle.std.specs.Prelude.{◌≡◌, ◌≤◌, ◌<◌, ◌++◌, [], is_some, Option, Some, map, IfOk, IfErr, OnOk, OnErr, IsErrOf};
+ghost use Rattle.std.specs.Prelude.{◌≡◌, ◌≤◌, ◌<◌, ◌++◌, [], is_some, Option, Some, map, IfErr, OnOk, OnErr, IsErrOf};
 ghost use Rattle.oc_bytes.specs.Outcome.{Rose};
 ghost use Rattle.section_stream.specs.Kept.{view_bytes};
 ghost use Rattle.carousel_shell.specs.Cuts.{Bytes};
@@ -11,10 +11,10 @@ ghost use Rattle.carousel_shell.specs.Recording as recording;
 use crate::packets::PacketReader;
 use crate::pending::Pending;
 use crate::status::Status;
-use dsmcc_section::SectionFault;
-use oc_bytes::{NoMemory, Sink, Source, WriteFault};
+use dsmcc_section::payload_of;
+use oc_bytes::{Sink, Source, WriteFault};
 use section_stream::candidates_grow;
-use std::alloc::{AllocError, Global};
+use std::alloc::Global;
 
 impl From<WriteFault> for Status {
     ghost use Rattle.carousel_shell.specs.Recording.{write_status};
@@ -66,7 +66,7 @@ fn record_all<S: Source, K: Sink>(
     let mut out = Pending::new(alloc)?;
     let mut reader = PacketReader::new(alloc, pid)?;
     while let Some(candidates) = reader.next(source)? {
-        put_accepted(alloc, &candidates, &mut out, sink)?;
+        put_accepted(&candidates, &mut out, sink)?;
     }
     out.flush(sink)?;
     Ok(())
@@ -74,7 +74,6 @@ fn record_all<S: Source, K: Sink>(
 
 /// Puts those of the candidates that are sections behind what is pending.
 fn put_accepted<K: Sink>(
-    alloc: Global,
     candidates: &[Vec<u8>],
     out: &mut Pending,
     sink: &mut K,
@@ -87,18 +86,13 @@ fn put_accepted<K: Sink>(
     ensures cause { IsErrOf result WriteFault.Failed → Rose (K.faults sink.old) (K.faults sink.new) }
 {
     for candidate in candidates {
-        put_one(alloc, candidate, out, sink)?;
+        put_one(candidate, out, sink)?;
     }
     Ok(())
 }
 
 /// Puts a candidate behind what is pending, where it is a section.
-fn put_one<K: Sink>(
-    alloc: Global,
-    candidate: &[u8],
-    out: &mut Pending,
-    sink: &mut K,
-) -> Result<(), WriteFault>
+fn put_one<K: Sink>(candidate: &[u8], out: &mut Pending, sink: &mut K) -> Result<(), WriteFault>
     ensures ok { OnOk result ((start : Option Bytes) (output : Bytes) → IsSending start (K.written sink.old) out.old output
         → IsSending start (K.written sink.new) out.new (output ++ sections.accepted_one candidate.now)) }
     ensures err { OnErr result ((start : Option Bytes) (output : Bytes) → IsSending start (K.written sink.old) out.old output
@@ -106,20 +100,16 @@ fn put_one<K: Sink>(
     ensures later { K.faults sink.old ≤ K.faults sink.new }
     ensures cause { IsErrOf result WriteFault.Failed → Rose (K.faults sink.old) (K.faults sink.new) }
 {
-    match is_accepted(alloc, candidate) {
-        Ok(true) => out.put(sink, candidate),
-        Ok(false) => Ok(()),
-        Err(_) => Err(WriteFault::NoMemory),
+    if is_accepted(candidate) {
+        out.put(sink, candidate)
+    } else {
+        Ok(())
     }
 }
 
 /// Whether a candidate is a section.
-fn is_accepted(alloc: Global, candidate: &[u8]) -> Result<bool, NoMemory>
-    ensures { IfOk result (λ accepted. accepted ≡ sections.is_accepted candidate.now) }
+fn is_accepted(candidate: &[u8]) -> bool
+    ensures { result ≡ sections.is_accepted candidate.now }
 {
-    match dsmcc_section::decode(alloc, candidate) {
-        Ok(_) => Ok(true),
-        Err(SectionFault::Skip(_)) => Ok(false),
-        Err(SectionFault::NoMemory) => Err(AllocError),
-    }
+    payload_of(candidate).is_ok()
 }

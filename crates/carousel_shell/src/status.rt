@@ -11,7 +11,7 @@ use std::alloc::{AllocError, Global};
 /// How a command ended.
 #[derive(Drop)]
 pub enum Status {
-    /// The command did all that it says, and the input was read to its end.
+    /// Nothing is left to do: all that the command writes was written, and its input was read to the end.
     Done,
     /// `open`, `list`: some answer is neither a file nor a folder, or `list` met its limit of 65,536 lines.
     NotAll,

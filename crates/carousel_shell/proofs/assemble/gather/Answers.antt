@@ -29,18 +29,13 @@ returns-in_default-clause-done g c =
     (told_end _ c.next_section.new.unread _ c.loop-taken.invariant.sections (sym c.in_ok-len.ensures.len ∙ c.in_default.is) (c.in_ok-len.ensures.ended (ap Ok c.in_default.is))
     (rw c.next_section.ensures.rest c.loop-taken.invariant.cut)))
 
-pub returns-in_err-offer_section-clause-stopped : goal.returns-in_err-offer_section-clause-stopped
-returns-in_err-offer_section-clause-stopped g c =
-    let p = err_from_is_err_and c.from_residual-in_err-offer_section.result c.from_residual-in_err-offer_section.ensures.1 in
-    rw (p.1, p.2) (stopped_other status.NoMemory (λ e. cc) (told_rear _ c.next_section.new.unread _ c.loop-taken.invariant.sections (rw c.next_section.ensures.rest c.loop-taken.invariant.cut)))
-
 pub loop-taken-preserved : goal.loop-taken-preserved
 loop-taken-preserved g c = record {
   sections = c.loop-taken.invariant.sections ++ take c.in-Some.len c.next_section.new.unread ∷ [];
   number = omega (arith, length-append c.loop-taken.invariant.sections (take c.in-Some.len c.next_section.new.unread ∷ []), c.loop-taken.invariant.number);
   cut = rw c.pass.ensures (told_next _ c.next_section.new.unread _ c.loop-taken.invariant.sections c.in-Some.len (sym c.in_ok-len.ensures.len ∙ c.in-Some.is)
       (rw c.next_section.ensures.rest c.loop-taken.invariant.cut));
-  blocks = rw c.held.ensures at (c.in_ok-offer_section.ensures c.loop-taken.invariant.sections c.loop-taken.invariant.blocks);
+  blocks = rw c.held.ensures at (c.offer_section.ensures c.loop-taken.invariant.sections c.loop-taken.invariant.blocks);
   later = omega (arith, c.loop-taken.invariant.later, c.next_section.ensures.later);
 }
 

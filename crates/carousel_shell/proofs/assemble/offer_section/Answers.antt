@@ -7,10 +7,10 @@ use Rattle.carousel_shell.proofs.assemble.offer_section.Goals as goal
 
 pub returns-in-Some : goal.returns-in-Some
 returns-in-Some c = λ sections h.
-    rw (c.offer.ensures.after, c.deref.ensures.value)
-    (blocks_offered (asked_of c.args.wanted) c.args.assembler.now sections c.args.section.now (ddb.view c.in-Some.block)
-    (sym c.in_ok-block.ensures ∙ ap (option_map ddb.view) c.in-Some.is) h)
+    rw c.offer.ensures.after
+    (blocks_offered (asked_of c.args.wanted) c.args.assembler.now sections c.args.section.now (ddb.parts_view c.in-Some.block)
+    (sym c.asked_block.ensures ∙ ap (option_map ddb.parts_view) c.in-Some.is) h)
 
 pub returns-in_default : goal.returns-in_default
 returns-in_default c = λ sections h.
-    blocks_same (asked_of c.args.wanted) c.args.assembler.now sections c.args.section.now (sym c.in_ok-block.ensures ∙ ap (option_map ddb.view) c.in_default.is) h
+    blocks_same (asked_of c.args.wanted) c.args.assembler.now sections c.args.section.now (sym c.asked_block.ensures ∙ ap (option_map ddb.parts_view) c.in_default.is) h
