@@ -1,7 +1,6 @@
 -- The answer to a path on what a receiver holds.
-use Rattle.std.specs.Prelude.{◌≡◌, ℕ, ◌<◌, Bool, true, false, not, ◌&&◌, ◌||◌, List, [], ◌∷◌, length, map, take, drop, Option, Some, None, ◌==◌, if◌then◌else◌}
+use Rattle.std.specs.Prelude.{ℕ, Bool, true, false, not, ◌||◌, List, [], ◌∷◌, take, drop, Option, Some, None, ◌==◌, if◌then◌else◌}
 use Rattle.std.specs.List.{find}
-use Rattle.oc_bytes.specs.Numbers.{number_of}
 use Rattle.path_tree.specs.Paths.{Bytes, PathNames, same_name}
 use Rattle.ior_tap.specs.Iors.{TapFields, biop_of_profiles, delivery_of_taps}
 use Rattle.ior_tap.specs.declared.Location.{Location}
@@ -100,3 +99,9 @@ answer_of held path = go held.gateway held.label where
   go : Option Root → Option ℕ → Answer
   go (Some g) (Some label) = walk g.location.carousel held path (g.location, g.delivery)
   go _ _ = answers.NoCarousel
+
+-- the answer shares a module
+abbrev pub is_shared : Answer → Bool
+is_shared (answers.File file) = true
+is_shared (answers.Folder folder) = true
+is_shared _ = false

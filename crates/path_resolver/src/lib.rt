@@ -3,10 +3,12 @@
 #![tactic(auto)]
 
 mod answer;
+mod crossing;
 mod shot;
 mod walking;
 
 pub use answer::{Answer, FileRef, FolderRef};
+pub use crossing::cross_threads;
 pub use shot::{Gateway, Held, Shot};
 pub use walking::resolve;
 

@@ -150,9 +150,6 @@ fn told(answer: &Answer) -> (&'static str, usize, usize) {
     }
 }
 
-/// Shots and answers may be shared by threads.
-fn crosses<T: Send + Sync>(_: &T) {}
-
 #[test]
 fn answers(rt: HostRuntime) -> Result<(), Fail> {
     let alloc = rt.alloc();
@@ -189,9 +186,8 @@ fn answers(rt: HostRuntime) -> Result<(), Fail> {
 fn lent(rt: HostRuntime) -> Result<(), Fail> {
     let alloc = rt.alloc();
     let shot = shot_of(alloc, Some(7), true)?;
-    crosses(&shot);
+    cross_threads();
     let file = resolve(&shot, &Path::parse(alloc, b"/f")?)?;
-    crosses(&file);
     match &file {
         Answer::File(file) => {
             assert_eq!(rt; file.bytes(), b"hello".as_slice());

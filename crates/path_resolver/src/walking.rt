@@ -1,4 +1,4 @@
-ghost use Rattle.std.specs.Prelude.{◌≡◌, ◌==◌, Option, map, IfOk, MatchResult};
+ghost use Rattle.std.specs.Prelude.{◌≡◌, ◌==◌, Option, map, IsTrue, IfOk, OnErr, MatchResult};
 ghost use Rattle.std.specs.List.{find};
 ghost use Rattle.std.specs.Option.{option_map};
 ghost use Rattle.std.specs.Arc.{arc_value};
@@ -6,7 +6,7 @@ ghost use Rattle.path_tree.specs.Paths.{Bytes, same_name};
 ghost use Rattle.biop_object.specs.Objects.{view_binding};
 ghost use Rattle.biop_object.specs.ObjectReading.{found_of};
 ghost use Rattle.path_resolver.specs.Resolving as resolving;
-ghost use Rattle.path_resolver.specs.Resolving.{answer_of, last, walk};
+ghost use Rattle.path_resolver.specs.Resolving.{answer_of, is_shared, last, walk};
 ghost use Rattle.path_resolver.specs.Shots.{held_of, view_held};
 ghost use Rattle.path_resolver.specs.Targets.{view_target, BindingGoes, ObjectGoes, StepGoes, IsModuleAt, IsNoModule};
 
@@ -95,7 +95,8 @@ fn module_at<'a>(shot: &'a Shot, carousel: u32, target: &Target) -> Result<&'a A
 
 /// The answer at a location's object, where no name is left.
 fn object_answer(module: &Arc<Module>, location: &Location) -> Result<Answer, NoMemory>
-    ensures { IfOk result (λ a. a ≡ resolving.ended location.now.module (arc_value module.now) (found_of (arc_value module.now) location.now.key)) }
+    ensures answer { IfOk result (λ a. a ≡ resolving.ended location.now.module (arc_value module.now) (found_of (arc_value module.now) location.now.key)) }
+    ensures memory { OnErr result (IsTrue (is_shared (resolving.ended location.now.module (arc_value module.now) (found_of (arc_value module.now) location.now.key)))) }
 {
     let id = location.module;
     match module.find(location.key.bytes()) {
@@ -109,7 +110,8 @@ fn object_answer(module: &Arc<Module>, location: &Location) -> Result<Answer, No
 
 /// The answer at a location, where no name is left.
 fn end_of(shot: &Shot, carousel: u32, target: &Target) -> Result<Answer, NoMemory>
-    ensures { IfOk result (λ a. a ≡ last carousel (held_of shot.now) (view_target target.now)) }
+    ensures answer { IfOk result (λ a. a ≡ last carousel (held_of shot.now) (view_target target.now)) }
+    ensures memory { OnErr result (IsTrue (is_shared (last carousel (held_of shot.now) (view_target target.now)))) }
 {
     match module_at(shot, carousel, target) {
         Ok(module) => object_answer(module, target.location),
@@ -159,7 +161,8 @@ fn leads<'a>(shot: &'a Shot, carousel: u32, target: &Target, name: &[u8]) -> Ste
 
 /// The walk from the gateway along all names.
 fn walk_from(shot: &Shot, gateway: &Gateway, path: &Path) -> Result<Answer, NoMemory>
-    ensures { IfOk result (λ a. a ≡ walk gateway.now.location.carousel (held_of shot.now) path.now (gateway.now.location, gateway.now.delivery)) }
+    ensures answer { IfOk result (λ a. a ≡ walk gateway.now.location.carousel (held_of shot.now) path.now (gateway.now.location, gateway.now.delivery)) }
+    ensures memory { OnErr result (IsTrue (is_shared (walk gateway.now.location.carousel (held_of shot.now) path.now (gateway.now.location, gateway.now.delivery)))) }
 {
     let carousel = gateway.location.carousel;
     let mut target = Target {
@@ -176,7 +179,8 @@ fn walk_from(shot: &Shot, gateway: &Gateway, path: &Path) -> Result<Answer, NoMe
 }
 
 /// The answer to the whole path on one shot: the walk from the gateway along all names. A file or a folder shares the
-/// module that holds it; the one refusal is want of memory, in sharing it.
+/// module that holds it; the one refusal is out of memory, in sharing it, so that it comes only where the answer is a file
+/// or a folder.
 ///
 /// Without a gateway or a label it is `NoCarousel`. At each location, in this order: `Elsewhere` where its carousel
 /// isn't the gateway's, or its delivery is known and of another identification than the DII that is held; `Dangling`
@@ -186,7 +190,8 @@ fn walk_from(shot: &Shot, gateway: &Gateway, path: &Path) -> Result<Answer, NoMe
 /// `NoSuch` where there is none, `Elsewhere` where its IOR has no location. (ETSI TR 101 202, clauses 4.7.4 and
 /// 4.7.5; the order is this project's own rule.)
 pub fn resolve(shot: &Shot, path: &Path) -> Result<Answer, NoMemory>
-    ensures { IfOk result (λ a. a ≡ answer_of (held_of shot.now) path.now) }
+    ensures answer { IfOk result (λ a. a ≡ answer_of (held_of shot.now) path.now) }
+    ensures memory { OnErr result (IsTrue (is_shared (answer_of (held_of shot.now) path.now))) }
 {
     match (&shot.gateway, shot.label) {
         (Some(gateway), Some(_)) => walk_from(shot, gateway, path),

@@ -1,5 +1,8 @@
-pub mod Offers
-pub mod Places
 pub mod Lists
-pub mod Contents
+pub mod Gateways
+pub mod Cutting
+pub mod Turning
 pub mod Stepping
+pub mod Asking
+pub mod Answering
+mod Rows

@@ -1,9 +1,9 @@
 pub mod Heard
 pub mod Hearing
 pub mod Limits
+pub mod Said
+pub mod Spans
 pub mod LookBack
-pub mod Slots
-pub mod SlotView
 pub mod Stands
+pub mod Answers
 pub mod TunerView
-pub mod View

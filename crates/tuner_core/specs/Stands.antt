@@ -1,75 +1,48 @@
 -- The receiver's state and a list of candidates.
-use Rattle.std.specs.Prelude.{◌≡◌, ℕ, ◌+◌, Bool, true, false, not, ◌&&◌, ◌||◌, List, [], ◌∷◌, length, map, Option, Some, None, ◌==◌, if◌then◌else◌}
-use Rattle.std.specs.List.{find}
+use Rattle.std.specs.Prelude.{◌≡◌, ℕ, ◌+◌, Bool, true, false, not, ◌&&◌, ◌||◌, List, [], length, map, Option, Some, None, nat_lt, ◌==◌, if◌then◌else◌}
 use Rattle.std.specs.Option.{option_map}
 use Rattle.oc_bytes.specs.Outcome.{capped}
 use Rattle.path_tree.specs.Paths.{Bytes, same_name}
 use Rattle.ior_tap.specs.Iors.{TapFields, biop_of_profiles, delivery_of_taps}
 use Rattle.ior_tap.specs.declared.Location.{Location}
-use Rattle.dsi_dii.specs.Controls.{DiiFields, version_of, identification_of}
-use Rattle.dsi_dii.specs.declared.ModuleLine.{ModuleLine}
+use Rattle.dsi_dii.specs.Controls.{DiiFields, identification_of, version_of, distance_of}
 use Rattle.ddb_block.specs.Blocks as ddb
+use Rattle.module_cache.specs.Contents.{bytes_of, is_new}
+use Rattle.module_cache.specs.Held.{TunedState, tuned_in, turned, offered_to, taken_of}
+use Rattle.module_cache.specs.Limits.{is_within}
+use Rattle.module_cache.specs.declared.taken.Taken.{Taken}
+use Rattle.module_cache.specs.declared.taken.Taken.TheVariants as taken
 use Rattle.path_resolver.specs.Resolving.{HeldModule}
 use Rattle.path_resolver.specs.Shots.{Snapshot, view_gateway}
 use Rattle.path_resolver.specs.declared.shot.Gateway.{Gateway}
 use Rattle.tuner_core.specs.Heard.{Heard, Skipped, NoControl, NoBlock, ADsi, ADii, ABlock, heard}
-use Rattle.tuner_core.specs.Limits.{is_within}
-use Rattle.tuner_core.specs.LookBack.{held_dii, heard_since, gateway_of, blocks_among}
-use Rattle.tuner_core.specs.Slots.{Content, Packed, content_of, taken_in, slot_after, fresh_content, bytes_of}
-use Rattle.tuner_core.specs.declared.slot.Line.{Line}
-use Rattle.tuner_core.specs.declared.told.Taken.{Taken}
-use Rattle.tuner_core.specs.declared.told.Taken.TheVariants as taken
+use Rattle.tuner_core.specs.Said.{gateway_of, block_in}
+use Rattle.tuner_core.specs.Spans.{spans, label_in, epoch_in}
 use Rattle.tuner_core.specs.declared.told.Cause.TheVariants as causes
 use Rattle.tuner_core.specs.declared.told.Fed.{Fed}
 use Rattle.tuner_core.specs.declared.told.Fed.TheVariants.{Changed, Nothing}
 
--- the held DII, and what is there of each module that it lists
-pub record TunedState : Type 0 where
-  pub download : ℕ
-  pub block_size : ℕ
-  pub identification : ℕ
-  pub version : ℕ
-  pub lines : List Line
-
+-- the number of candidates, the gateway, the held DII with what is there of its modules, the generation as the receiver counts it,
+-- and how often a turn dropped all that was held
 pub record TunerState : Type 0 where
   pub mark : ℕ
   pub gateway : Option Gateway
   pub held : Option TunedState
+  pub label : Option ℕ
+  pub epoch : ℕ
 
 abbrev pub fresh : TunerState
-fresh = record { mark = 0; gateway = None; held = None }
+fresh = record { mark = 0; gateway = None; held = None; label = None; epoch = 0 }
 
--- ---- what the state is, looking back
-
-abbrev pub content_among : List Heard → DiiFields → ModuleLine → Bool → Content
-content_among since d l true = Packed
-content_among since d l false = content_of (blocks_among since d l)
-
-abbrev pub line_among : List Heard → DiiFields → ModuleLine → Line
-line_among since d l = record { line = l; slot = record { size = l.size; block_size = d.block_size; content = content_among since d l l.compressed } }
-
-abbrev pub tuned_with : DiiFields → List Line → TunedState
-tuned_with d lines = record {
-  download = d.download;
-  block_size = d.block_size;
-  identification = identification_of d.transaction;
-  version = version_of d.transaction;
-  lines = lines;
-}
-
-abbrev pub tuned_among : List Heard → DiiFields → TunedState
-tuned_among since d = tuned_with d (map (line_among since d) d.modules)
-
-abbrev pub held_of : List Heard → Option TunedState
-held_of hs = option_map (tuned_among (heard_since hs)) (held_dii hs)
-
--- the state stands for these candidates, part by part
+-- the state is what looking back over these candidates gives, part by part
 pub record StandsFor (t : TunerState) (candidates : List Bytes) : Type 0 where
   pub mark : t.mark ≡ capped (length candidates)
   pub gateway : option_map view_gateway t.gateway ≡ gateway_of (map heard candidates)
-  pub held : t.held ≡ held_of (map heard candidates)
+  pub held : t.held ≡ tuned_in block_in (spans (map heard candidates))
+  pub label : t.label ≡ label_in (spans (map heard candidates))
+  pub epoch : t.epoch ≡ epoch_in (spans (map heard candidates))
 
--- ---- one candidate
+-- ---- one DSI
 
 abbrev pub same_location : Location → Location → Bool
 same_location a b = (a.carousel == b.carousel) && (a.module == b.module) && same_name a.key b.key
@@ -90,54 +63,57 @@ abbrev pub after_dsi : Option Gateway → Option (Location × List TapFields) �
 after_dsi g (Some (l, taps)) = after_gateway g l (delivery_of_taps taps)
 after_dsi g None = (g, Nothing causes.NoGateway)
 
--- the line of a module of which nothing has come yet
-abbrev pub line_fresh : ℕ → ModuleLine → Line
-line_fresh block_size l = record { line = l; slot = record { size = l.size; block_size = block_size; content = fresh_content l.size block_size l.compressed } }
+-- ---- one DII, one block
 
-abbrev pub fresh_tuned : DiiFields → TunedState
-fresh_tuned d = tuned_with d (map (line_fresh d.block_size) d.modules)
+-- the part of the state that they change
+pub record TurnState : Type 0 where
+  pub held : Option TunedState
+  pub label : Option ℕ
+  pub epoch : ℕ
+
+abbrev pub turns_of : TunerState → TurnState
+turns_of t = record { held = t.held; label = t.label; epoch = t.epoch }
 
 abbrev pub is_other_dii : Option TunedState → DiiFields → Bool
 is_other_dii None d = identification_of d.transaction == 0
 is_other_dii (Some t) d = (identification_of d.transaction == 0) || not (identification_of d.transaction == t.identification)
 
-abbrev pub or_first : Option TunedState → DiiFields → Option TunedState × Fed
-or_first None d = (Some (fresh_tuned d), Changed)
-or_first (Some t) d = (Some t, Nothing causes.SameDii)
+abbrev pub is_same_version : Option TunedState → DiiFields → Bool
+is_same_version None d = false
+is_same_version (Some t) d = version_of d.transaction == t.version
 
-abbrev pub after_dii : Option TunedState → DiiFields → Option TunedState × Fed
+-- The first DII gives its version as the label. Each later one adds its distance, and one that is 256 or more after the held one
+-- drops all that was held.
+abbrev pub turn_from : TurnState → Option TunedState → DiiFields → TurnState
+turn_from t None d = record { held = Some (turned None d false); label = Some (version_of d.transaction); epoch = t.epoch }
+turn_from t (Some old) d =
+    let n = distance_of old.version (version_of d.transaction) in
+    record {
+      held = Some (turned (Some old) d (nat_lt n 256));
+      label = option_map (λ k. capped (k + n)) t.label;
+      epoch = if nat_lt n 256 then t.epoch else capped (t.epoch + 1);
+    }
+
+abbrev pub after_dii : TurnState → DiiFields → TurnState × Fed
 after_dii t d =
-    if is_other_dii t d then (t, Nothing causes.OtherDii)
-    else (if not (is_within d) then (t, Nothing causes.DiiOverLimit) else or_first t d)
-
--- the line of a block's module, where it has the block's version
-abbrev pub line_after : ddb.Block → Line → Line
-line_after b x = if x.line.version == b.version then record { line = x.line; slot = slot_after x.slot b.number b.bytes } else x
-
-abbrev pub lines_after : ddb.Block → List Line → List Line
-lines_after b [] = []
-lines_after b (x ∷ xs) = if x.line.id == b.module_id then line_after b x ∷ xs else x ∷ lines_after b xs
-
-abbrev pub tuned_after : TunedState → ddb.Block → TunedState
-tuned_after t b = if t.download == b.download then record t { lines = lines_after b t.lines } else t
-
-abbrev pub taken_line : ddb.Block → Option Line → Taken
-taken_line b None = taken.Unlisted
-taken_line b (Some x) = if x.line.version == b.version then taken_in x.slot b.number b.bytes else taken.OtherVersion
-
-abbrev pub taken_tuned : TunedState → ddb.Block → Taken
-taken_tuned t b = if t.download == b.download then taken_line b (find (λ x. x.line.id == b.module_id) t.lines) else taken.OtherDownload
+    if is_other_dii t.held d then (t, Nothing causes.OtherDii)
+    else (if not (is_within d) then (t, Nothing causes.DiiOverLimit)
+    else (if is_same_version t.held d then (t, Nothing causes.SameDii) else (turn_from t t.held d, Changed)))
 
 abbrev pub fed_by : Taken → Fed
 fed_by taken.New = Changed
 fed_by t = Nothing (causes.Block t)
 
 abbrev pub after_block : Option TunedState → ddb.Block → Option TunedState × Fed
-after_block None b = (None, Nothing (causes.Block taken.NoDii))
-after_block (Some t) b = (Some (tuned_after t b), fed_by (taken_tuned t b))
+after_block t b = (offered_to t b, fed_by (taken_of t b))
+
+-- ---- one candidate
 
 abbrev pub with_gateway : TunerState → Option Gateway × Fed → TunerState × Fed
 with_gateway t x = (record t { gateway = x.0 }, x.1)
+
+abbrev pub with_turns : TunerState → TurnState × Fed → TunerState × Fed
+with_turns t x = (record t { held = x.0.held; label = x.0.label; epoch = x.0.epoch }, x.1)
 
 abbrev pub with_held : TunerState → Option TunedState × Fed → TunerState × Fed
 with_held t x = (record t { held = x.0 }, x.1)
@@ -147,7 +123,7 @@ after_heard t (Skipped skip) = (t, Nothing (causes.Section skip))
 after_heard t (NoControl place) = (t, Nothing (causes.NotControl place))
 after_heard t (NoBlock place) = (t, Nothing (causes.NotDdb place))
 after_heard t (ADsi d) = with_gateway t (after_dsi t.gateway (biop_of_profiles d.gateway.profiles))
-after_heard t (ADii d) = with_held t (after_dii t.held d)
+after_heard t (ADii d) = with_turns t (after_dii (turns_of t) d)
 after_heard t (ABlock b) = with_held t (after_block t.held b)
 
 -- the same, with one candidate more
@@ -157,26 +133,35 @@ marked t = record t { mark = capped (t.mark + 1) }
 abbrev pub step : TunerState → Bytes → TunerState × Fed
 step t candidate = let x = after_heard t (heard candidate) in (marked x.0, x.1)
 
+-- Memory is asked for to read a section of the table of control messages, and for a block that is new.
+abbrev pub asks : Option TunedState → Heard → Bool
+asks held (Skipped skip) = false
+asks held (NoControl place) = true
+asks held (NoBlock place) = false
+asks held (ADsi d) = true
+asks held (ADii d) = true
+asks held (ABlock b) = is_new (taken_of held b)
+
 -- ---- a shot
 
-abbrev pub table_in : Option TunedState → List HeldModule
-table_in None = []
-table_in (Some t) = map (λ x. record { line = x.line; bytes = bytes_of x.slot.content }) t.lines
+abbrev pub table_of : Option TunedState → List HeldModule
+table_of None = []
+table_of (Some t) = map (λ x. record { line = x.line; bytes = bytes_of x.stored.content }) t.lines
 
-abbrev pub identification_in : Option TunedState → ℕ
-identification_in None = 0
-identification_in (Some t) = t.identification
+abbrev pub identification_held : Option TunedState → ℕ
+identification_held None = 0
+identification_held (Some t) = t.identification
 
 abbrev pub snapshot_of : ℕ → ℕ → TunerState → Snapshot
 snapshot_of number draws t = record {
   number = number;
   draws = draws;
   mark = t.mark;
-  epoch = 0;
+  epoch = t.epoch;
   held = record {
-    label = option_map (λ x. x.version) t.held;
-    identification = identification_in t.held;
+    label = t.label;
+    identification = identification_held t.held;
     gateway = option_map view_gateway t.gateway;
-    table = table_in t.held;
+    table = table_of t.held;
   };
 }

@@ -1,5 +1,5 @@
 use super::*;
-use dsmcc_section::{Section, Table, encode};
+use dsmcc_section::{Section, Skip, Table, encode};
 use std::alloc::Global;
 use std::test::Fail;
 
@@ -83,11 +83,11 @@ fn other_messages_change_nothing(rt: HostRuntime) -> Result<(), Fail> {
     assert_eq!(rt; tuner.feed(&dii)?, Fed::Changed);
     for (place, byte, cause) in [
         (0, 0x12, Cause::NotControl(0)),
-        (5, 0x01, Cause::SameDii),
         (7, 0x00, Cause::OtherDii),
         (7, 0x04, Cause::OtherDii),
         (16, 0x10, Cause::DiiOverLimit),
         (34, 0x02, Cause::DiiOverLimit),
+        (37, 0x23, Cause::SameDii),
     ] {
         let mut payload = DII;
         payload[place] = byte;
@@ -107,5 +107,35 @@ fn other_messages_change_nothing(rt: HostRuntime) -> Result<(), Fail> {
         let other = section(rt.alloc(), Table::Blocks, &payload)?;
         assert_eq!(rt; tuner.feed(&other)?, Fed::Nothing(cause), "at {place}");
     }
+    Ok(())
+}
+
+#[test]
+fn a_damaged_section_changes_nothing(rt: HostRuntime) -> Result<(), Fail> {
+    let mut damaged = section(rt.alloc(), Table::Blocks, &BLOCK)?;
+    let _ = damaged.pop();
+    damaged.push(0)?;
+    let mut tuner = Tuner::new(rt.alloc());
+    let wrong = Fed::Nothing(Cause::Section(Skip::BadCrc));
+    assert_eq!(rt; tuner.feed(&damaged)?, wrong);
+    Ok(())
+}
+
+// The DII of generation 1 turns, and the module stays.
+#[test]
+fn a_dii_of_another_version_turns(rt: HostRuntime) -> Result<(), Fail> {
+    let alloc = rt.alloc();
+    let mut next = DII;
+    next[5] = 1;
+    let dii = section(alloc, Table::Control, &DII)?;
+    let block = section(alloc, Table::Blocks, &BLOCK)?;
+    let next = section(alloc, Table::Control, &next)?;
+    let mut tuner = Tuner::new(alloc);
+    assert_eq!(rt; tuner.feed(&dii)?, Fed::Changed);
+    assert_eq!(rt; tuner.feed(&block)?, Fed::Changed);
+    assert_eq!(rt; tuner.feed(&next)?, Fed::Changed);
+    assert!(rt; tuner.feed(&block)? != Fed::Changed);
+    let shot = tuner.shot(0, 0)?;
+    assert_eq!(rt; shot.label, Some(1));
     Ok(())
 }

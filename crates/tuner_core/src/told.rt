@@ -1,27 +1,5 @@
 use dsmcc_section::Skip;
-
-/// What became of a block message, the first of these that holds.
-#[derive(Clone, Copy, Debug, PartialEq, Eq)]
-pub enum Taken {
-    /// No DII is held.
-    NoDii,
-    /// Its downloadId isn't the held DII's.
-    OtherDownload,
-    /// The held DII doesn't list its module.
-    Unlisted,
-    /// The held DII lists another version of the module.
-    OtherVersion,
-    /// The module is compressed; nothing of it is taken.
-    Compressed,
-    /// The module has no block of this number.
-    WrongPlace,
-    /// The block hasn't the length of its place.
-    WrongLength,
-    /// The block is there already.
-    Again,
-    /// The block was taken.
-    New,
-}
+use module_cache::Taken;
 
 /// Why a candidate changed nothing of what is held.
 #[derive(Clone, Copy, Debug, PartialEq, Eq)]
@@ -37,11 +15,11 @@ pub enum Cause {
     NoGateway,
     /// A DSI with the gateway that is held.
     SameDsi,
-    /// A DII of identification 0, or of another one than the held DII's.
+    /// A DII of identification 0, or of another one than the first DII that was held.
     OtherDii,
     /// A DII that breaks a limit of the receiver, or that lists a module twice.
     DiiOverLimit,
-    /// A DII while one is held. This receiver keeps the first, and passes over later ones of any version.
+    /// A DII of the version that is held. It changes nothing, whatever it lists.
     SameDii,
     /// A block message that wasn't taken; never `New`.
     Block(Taken),

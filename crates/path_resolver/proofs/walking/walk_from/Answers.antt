@@ -3,8 +3,8 @@ use Rattle.path_resolver.specs.Targets.{view_target}
 use Rattle.path_resolver.proofs.Finding.{ends, goes}
 use Rattle.path_resolver.proofs.walking.walk_from.Goals as goal
 
-pub returns-in-Ends : goal.returns-in-Ends
-returns-in-Ends c = ends c.args.gateway.now.location.carousel (held_of c.args.shot.now) c.args.path.now c.loop-i.i c.name.result.now (view_target c.loop-i.target) c.in-Ends.answer _
+pub returns-in-Ends-clause-answer : goal.returns-in-Ends-clause-answer
+returns-in-Ends-clause-answer c = ends c.args.gateway.now.location.carousel (held_of c.args.shot.now) c.args.path.now c.loop-i.i c.name.result.now (view_target c.loop-i.target) c.in-Ends.answer _
     c.name.ensures c.in-Ends.ensures c.loop-i.invariant
 
 pub loop-i-preserved : goal.loop-i-preserved

@@ -1,5 +1,4 @@
-use Rattle.std.specs.Arc.{arc_value}
-use Rattle.std.proofs.Common.{◌≡◌, ◌∙◌, ap, List, ℕ, sym}
+use Rattle.std.proofs.Common.{◌≡◌, ◌∙◌, ap, sym}
 use Rattle.biop_object.specs.declared.module.Binding.{Binding}
 use Rattle.biop_object.specs.ObjectReading.{bindings_of}
 use Rattle.path_resolver.specs.Names.{names_of}

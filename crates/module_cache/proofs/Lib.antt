@@ -1,0 +1,11 @@
+pub mod Offers
+pub mod Places
+pub mod Lists
+pub mod Contents
+pub mod Keeping
+pub mod Same
+pub mod Spanning
+pub mod Answering
+pub mod Offering
+pub mod Calling
+pub mod CallerLemmas

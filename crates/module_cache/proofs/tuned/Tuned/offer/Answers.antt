@@ -1,0 +1,31 @@
+use Rattle.std.proofs.Common.{◌≡◌, ◌∙◌, ap, map, length, true}
+use Rattle.std.proofs.lemmas.List.{with_items_is}
+use Rattle.std.proofs.lemmas.Result.{IfOk-weaker}
+use Rattle.ddb_block.specs.Blocks.{parts_view}
+use Rattle.module_cache.proofs.Places.{of_download}
+use Rattle.module_cache.specs.Held.{taken_tuned, lines_after}
+use Rattle.module_cache.specs.Limits.{no_id_twice}
+use Rattle.module_cache.proofs.Calling.{either_way}
+use Rattle.module_cache.proofs.Keeping.{once_after}
+use Rattle.module_cache.proofs.tuned.Tuned.offer.Goals as goal
+
+pub returns-clause-answer : goal.returns-clause-answer
+returns-clause-answer c =
+    let b = parts_view c.args.parts.now in
+    let same : c.args.self.now.download ≡ c.args.parts.now.download = (cc) in
+    let lines : c.args.self.now.lines ≡ c.deref_mut.result.now = (cc) in
+    IfOk-weaker c.offer_lines.result _ (λ t. t ≡ taken_tuned c.args.self.now b)
+    (λ t e. of_download c.args.self.now c.deref_mut.result.now b t same lines e) c.offer_lines.ensures.answer
+
+pub invariant_of-self : goal.invariant_of-self
+invariant_of-self c =
+    let b = parts_view c.args.parts.now in
+    let whole : length c.offer_lines.new.lines ≡ c.self.inside.lines.len = c.offer_lines.auto.lines ∙ c.deref_mut.ensures.len in
+    record {
+      version = c.self.invariant.version;
+      once =
+          ap (λ xs. no_id_twice (map (λ x. x.line) xs)) (with_items_is c.self.inside.lines c.offer_lines.new.lines whole)
+          ∙ either_way c.offer_lines.result _ _ (no_id_twice (map (λ x. x.line) c.offer_lines.new.lines) ≡ true) c.offer_lines.ensures.ok c.offer_lines.ensures.err
+          (λ e. ap (λ xs. no_id_twice (map (λ x. x.line) xs)) (e ∙ ap (lines_after b) c.deref_mut.ensures.value) ∙ once_after b c.self.inside.lines.items c.self.invariant.once)
+          (λ e. ap (λ xs. no_id_twice (map (λ x. x.line) xs)) (e ∙ c.deref_mut.ensures.value) ∙ c.self.invariant.once);
+    }

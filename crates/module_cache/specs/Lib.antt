@@ -1,0 +1,10 @@
+pub mod Limits
+pub mod Contents
+pub mod StoredView
+pub mod Slots
+pub mod LookBack
+pub mod Spans
+pub mod Held
+pub mod Keeping
+pub mod Calls
+pub mod TunedView

@@ -1,0 +1,53 @@
+-- DIIs that take each other's place, and what was heard after each.
+--
+-- A DII that is held from now on opens a span, which goes on up to the next. What is there of a module was heard in its stretch: in
+-- the newest span, and in the spans right before it in which the module was described in the same way, as long as each DII kept
+-- what was there. `H` is what is heard.
+use Rattle.std.specs.Prelude.{ℕ, Bool, true, false, not, ◌&&◌, List, [], ◌∷◌, ◌++◌, Option, Some, None, ◌==◌, if◌then◌else◌}
+use Rattle.std.specs.List.{find}
+use Rattle.dsi_dii.specs.Controls.{DiiFields, version_of, identification_of}
+use Rattle.dsi_dii.specs.declared.ModuleLine.{ModuleLine}
+
+-- a DII that took the place of the one before, whether what was there before was kept, and what was heard after it up to the next
+pub record Span (H : Type 0) : Type 0 where
+  pub dii : DiiFields
+  pub kept : Bool
+  pub since : List H
+
+abbrev pub version : DiiFields → ℕ
+version d = version_of d.transaction
+
+abbrev pub identification : DiiFields → ℕ
+identification d = identification_of d.transaction
+
+-- heard in the newest span; the newest span stands first
+abbrev pub within : {H : Type 0} → List (Span H) → H → List (Span H)
+within [] h = []
+within (s ∷ ss) h = record { dii = s.dii; kept = s.kept; since = s.since ++ h ∷ [] } ∷ ss
+
+-- ---- a module's stretch
+
+abbrev pub same_flag : Bool → Bool → Bool
+same_flag true c = c
+same_flag false c = not c
+
+-- two lines describe a module in the same way
+abbrev pub same_line : ModuleLine → ModuleLine → Bool
+same_line a b = (a.size == b.size) && (a.version == b.version) && same_flag a.compressed b.compressed
+
+abbrev pub same_line_in : Option ModuleLine → ModuleLine → Bool
+same_line_in (Some a) b = same_line a b
+same_line_in None b = false
+
+-- the DII describes a module as the held one does
+abbrev pub agrees : DiiFields → DiiFields → ModuleLine → Bool
+agrees d held l = (d.download == held.download) && (d.block_size == held.block_size) && same_line_in (find (λ k. k.id == l.id) d.modules) l
+
+-- what was heard in the earlier spans of the stretch, where the next one kept what was there
+abbrev pub earlier : {H : Type 0} → DiiFields → ModuleLine → Bool → List (Span H) → List H
+earlier held l kept [] = []
+earlier held l kept (s ∷ ss) = if kept && agrees s.dii held l then earlier held l s.kept ss ++ s.since else []
+
+-- what was heard in the stretch of a module of the held DII
+abbrev pub stretch : {H : Type 0} → Span H → List (Span H) → ModuleLine → List H
+stretch s ss l = earlier s.dii l s.kept ss ++ s.since

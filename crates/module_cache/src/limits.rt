@@ -1,0 +1,70 @@
+//! The limits of a receiver.
+
+ghost use Rattle.std.specs.Prelude.{◌≡◌, ◌==◌, ◌≤◌, nat_le};
+ghost use Rattle.dsi_dii.specs.Controls.{view_dii};
+ghost use Rattle.std.specs.List.{list_all, list_any, sum_by};
+ghost use Rattle.module_cache.specs.Limits as limits;
+
+use ddb_block::block_count;
+use dsi_dii::{Dii, ModuleLine};
+
+/// A module of at most 16,842,752 bytes and 65,536 blocks.
+fn is_small(block_size: u16, line: &ModuleLine) -> bool
+    requires { 1 ≤ block_size }
+    ensures { result ≡ limits.is_small block_size line.now }
+{
+    line.size <= 16_842_752 && block_count(line.size, block_size) <= 65_536
+}
+
+/// Each module is small.
+fn are_small(block_size: u16, lines: &[ModuleLine]) -> bool
+    requires { 1 ≤ block_size }
+    ensures { result ≡ list_all (limits.is_small block_size) lines.now }
+{
+    lines.iter().all(|line| is_small(block_size, line))
+}
+
+/// A line of this module is among these.
+fn has_id(lines: &[ModuleLine], id: u16) -> bool
+    ensures { result ≡ list_any (λ k. k.id == id) lines.now }
+{
+    lines.iter().any(|line| line.id == id)
+}
+
+/// No module stands twice in the lines.
+fn each_once(lines: &[ModuleLine]) -> bool
+    ensures { result ≡ limits.no_id_twice lines.now }
+{
+    for (i, line) in lines.iter().enumerate() {
+        if has_id(&lines[i + 1..], line.id) {
+            return false;
+        }
+    }
+    true
+}
+
+/// The modules have at most 268,435,456 bytes together.
+fn fit_together(lines: &[ModuleLine]) -> bool
+    ensures { result ≡ nat_le (sum_by (λ l. l.size) lines.now) 268435456 }
+{
+    let mut left: u32 = 268_435_456;
+    for line in lines {
+        if line.size > left {
+            return false;
+        }
+        left -= line.size;
+    }
+    true
+}
+
+/// The modules of a DII can be received: blocks of 1 to 4,066 bytes, modules of at most 16,842,752 bytes and 65,536 blocks each
+/// and 268,435,456 bytes together, and no module listed twice.
+pub fn is_within(dii: &Dii) -> bool
+    ensures { result ≡ limits.is_within (view_dii dii.now) }
+{
+    dii.block_size >= 1
+        && dii.block_size <= 4066
+        && are_small(dii.block_size, &dii.modules)
+        && fit_together(&dii.modules)
+        && each_once(&dii.modules)
+}

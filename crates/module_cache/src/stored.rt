@@ -1,0 +1,252 @@
+//! What is there of one module of the held DII.
+
+ghost use Rattle.std.specs.Prelude.{◌≡◌, ◌≢◌, ◌≤◌, ◌<◌, List, ℕ, IfOk, OnOk, OnErr, length, replicate, None};
+ghost use Rattle.std.specs.Arc.{arc_value};
+ghost use Rattle.std.specs.Option.{option_map};
+ghost use Rattle.ddb_block.specs.Blocks.{block_count_of};
+ghost use Rattle.block_assembler.specs.Blocks.{IsAssembled, offered, after_offer, joined};
+ghost use Rattle.module_cache.specs.Contents.{by_offer, taken_again, taken_at, taken_in, stored_after, content_after, fresh_content, whole_or, Blocks};
+ghost use Rattle.module_cache.specs.StoredView.{view_state, IsShaped, IsState};
+ghost use Rattle.module_cache.specs.Contents as contents;
+ghost use Rattle.module_cache.specs.Slots.{view_slot, slot_of};
+
+use crate::taken::{Slot, Taken};
+use biop_object::Module;
+use block_assembler::{Assembler, NewFault, Offer};
+use ddb_block::{block_count, block_span};
+use dsi_dii::ModuleLine;
+use oc_bytes::NoMemory;
+use std::alloc::{AllocError, Global};
+use std::marker::Model;
+use std::sync::Arc;
+
+#[derive(Drop)]
+enum State {
+    /// The module is compressed: nothing of it is taken.
+    Packed,
+    /// No block has come, and no memory is taken.
+    Empty,
+    /// Some blocks have come.
+    Part(Assembler),
+    Whole(Arc<Module>),
+}
+
+/// What is there of a module. The memory for its bytes is taken when its first block comes.
+#[derive(Drop)]
+pub struct Stored {
+    size: u32,
+    block_size: u16,
+    state: State,
+}
+
+impl Model for Stored {
+    ghost use Rattle.module_cache.specs.Contents.{StoredState};
+
+    ghost Value = { StoredState };
+
+    ghost use Rattle.module_cache.specs.StoredView.{view_stored, IsStored};
+
+    ghost view = { view_stored };
+
+    ghost invariant = { IsStored };
+}
+
+/// A line of the held DII, and what is there of its module.
+#[derive(Drop)]
+pub struct Line {
+    pub line: ModuleLine,
+    pub stored: Stored,
+}
+
+/// The module of these bytes.
+fn module_of(alloc: Global, bytes: &[u8]) -> Result<Arc<Module>, NoMemory>
+    ensures { IfOk result (λ m. arc_value m ≡ bytes.now) }
+{
+    let bytes = bytes.to_vec(alloc)?;
+    match Module::read(alloc, bytes) {
+        Ok(module) => Ok(Arc::new(alloc, module)?),
+        Err((error, _bytes)) => Err(error),
+    }
+}
+
+/// The module of an assembler in which no block is missing.
+fn completed(alloc: Global, assembler: &Assembler) -> Result<Option<Arc<Module>>, NoMemory>
+    ensures { IfOk result (λ m. option_map (λ a. arc_value a) m ≡ joined assembler.now.blocks) }
+{
+    match assembler.whole() {
+        Some(bytes) => Ok(Some(module_of(alloc, bytes)?)),
+        None => Ok(None),
+    }
+}
+
+/// What a block answers that is there already.
+fn again(size: u32, block_size: u16, block: u16, bytes: &[u8]) -> Taken
+    requires { 1 ≤ block_size }
+    ensures { result ≡ taken_again size block_size block bytes.now }
+{
+    if u32::from(block) >= block_count(size, block_size) {
+        Taken::WrongPlace
+    } else if bytes.len() != usize::from(block_span(size, block_size, block)) {
+        Taken::WrongLength
+    } else {
+        Taken::Again
+    }
+}
+
+/// Offers a block to an assembler, and gives the module where it was the last one that was missing. Where the module finds no
+/// memory, the block is missing again.
+fn offer_to(
+    alloc: Global,
+    assembler: &mut Assembler,
+    block: u16,
+    bytes: &[u8],
+) -> Result<(Taken, Option<Arc<Module>>), NoMemory>
+    ensures answer { IfOk result (λ r. r.0 ≡ by_offer (offered assembler.old block bytes.now)) }
+    ensures after { OnOk result (assembler.new ≡ after_offer assembler.old block bytes.now) }
+    ensures shape { (size block_size : ℕ) → IsShaped size block_size assembler.old → IsShaped size block_size assembler.new }
+    ensures whole { IfOk result (λ r. r.0 ≡ Taken.New → option_map (λ a. arc_value a) r.1 ≡ joined assembler.new.blocks) }
+    ensures part { IfOk result (λ r. r.0 ≢ Taken.New → r.1 ≡ None) }
+    ensures changed { IfOk result (λ r. r.0 ≡ Taken.New → (size block_size : ℕ) → IsShaped size block_size assembler.old → contents.content_of assembler.new.blocks ≢ Blocks assembler.old.blocks) }
+    ensures err { OnErr result (assembler.new ≡ assembler.old) }
+    ensures memory { OnErr result (by_offer (offered assembler.old block bytes.now) ≡ Taken.New) }
+{
+    match assembler.offer(block, bytes) {
+        Offer::WrongPlace => return Ok((Taken::WrongPlace, None)),
+        Offer::WrongLength => return Ok((Taken::WrongLength, None)),
+        Offer::Again => return Ok((Taken::Again, None)),
+        Offer::New => {}
+    }
+    match completed(alloc, assembler) {
+        Ok(module) => Ok((Taken::New, module)),
+        Err(error) => {
+            assembler.forget(block);
+            Err(error)
+        }
+    }
+}
+
+/// The state in which an assembler is after an offer, which gave the module where it was whole.
+fn state_after(assembler: Assembler, whole: Option<Arc<Module>>) -> State
+    ensures view { (size block_size : ℕ) → view_state size block_size result ≡ whole_or assembler.blocks (option_map (λ a. arc_value a) whole) }
+    ensures shape { (size block_size : ℕ) → IsShaped size block_size assembler → IsState size block_size result }
+{
+    match whole {
+        Some(module) => State::Whole(module),
+        None => State::Part(assembler),
+    }
+}
+
+/// What a module's first block makes of it: nothing where it doesn't fit, and no memory is taken then.
+fn begun(
+    alloc: Global,
+    size: u32,
+    block_size: u16,
+    block: u16,
+    bytes: &[u8],
+) -> Result<(Taken, State), NoMemory>
+    requires { IsAssembled size block_size }
+    ensures answer { IfOk result (λ r. r.0 ≡ taken_at size block_size (view_state size block_size State.Empty) block bytes.now) }
+    ensures after { IfOk result (λ r. view_state size block_size r.1 ≡ content_after size block_size (view_state size block_size State.Empty) block bytes.now) }
+    ensures shape { IfOk result (λ r. IsState size block_size r.1) }
+    ensures changed { IfOk result (λ r. r.0 ≡ Taken.New → view_state size block_size r.1 ≢ view_state size block_size State.Empty) }
+    ensures memory { OnErr result (taken_at size block_size (view_state size block_size State.Empty) block bytes.now ≡ Taken.New) }
+{
+    let taken = again(size, block_size, block, bytes);
+    if taken != Taken::Again {
+        return Ok((taken, State::Empty));
+    }
+    let mut assembler = match Assembler::new(alloc, size, block_size) {
+        Ok(assembler) => assembler,
+        Err(NewFault::NoMemory) => return Err(AllocError),
+        Err(NewFault::NoBlockSize) => unreachable!(),
+        Err(NewFault::TooLarge) => unreachable!(),
+    };
+    let (taken, module) = offer_to(alloc, &mut assembler, block, bytes)?;
+    Ok((taken, state_after(assembler, module)))
+}
+
+/// The state of a module of which nothing has come yet.
+#[tactic(auto, using(crate::proofs::Offers::fresh_whole, crate::proofs::Offers::fresh_blocks))]
+fn fresh_state(
+    alloc: Global,
+    size: u32,
+    block_size: u16,
+    compressed: bool,
+) -> Result<State, NoMemory>
+    requires { 1 ≤ block_size }
+    ensures view { IfOk result (λ s. view_state size block_size s ≡ fresh_content size block_size compressed) }
+    ensures shape { IfOk result (λ s. IsState size block_size s) }
+{
+    if compressed {
+        return Ok(State::Packed);
+    }
+    if block_count(size, block_size) == 0 {
+        return Ok(State::Whole(module_of(alloc, &[])?));
+    }
+    Ok(State::Empty)
+}
+
+impl Stored {
+    /// A module of `size` bytes in blocks of `block_size` bytes, of which nothing has come yet. One without bytes is whole at
+    /// once.
+    pub(crate) fn new(
+        alloc: Global,
+        size: u32,
+        block_size: u16,
+        compressed: bool,
+    ) -> Result<Stored, NoMemory>
+        requires { IsAssembled size block_size }
+        ensures { IfOk result (λ s. s ≡ record { size = size; block_size = block_size; content = fresh_content size block_size compressed }) }
+    {
+        let state = fresh_state(alloc, size, block_size, compressed)?;
+        Ok(Stored {
+            size,
+            block_size,
+            state,
+        })
+    }
+
+    /// What is there of the module. Takes no memory.
+    pub fn slot(&self) -> Slot<'_>
+        ensures { view_slot result ≡ slot_of self.now.content }
+    {
+        match &self.state {
+            State::Packed => Slot::Compressed,
+            State::Empty => Slot::Partial,
+            State::Part(_) => Slot::Partial,
+            State::Whole(module) => Slot::Whole(module),
+        }
+    }
+
+    /// Offers a block. Only `New` changes anything.
+    pub(crate) fn offer(
+        &mut self,
+        alloc: Global,
+        block: u16,
+        bytes: &[u8],
+    ) -> Result<Taken, NoMemory>
+        ensures answer { IfOk result (λ t. t ≡ taken_in self.old block bytes.now) }
+        ensures ok { OnOk result (self.new ≡ stored_after self.old block bytes.now) }
+        ensures changed { IfOk result (λ t. t ≡ Taken.New → self.new ≢ self.old) }
+        ensures err { OnErr result (self.new ≡ self.old) }
+        ensures memory { OnErr result (taken_in self.old block bytes.now ≡ Taken.New) }
+    {
+        let taken = match &mut self.state {
+            State::Packed => Taken::Compressed,
+            State::Whole(_) => again(self.size, self.block_size, block, bytes),
+            State::Empty => {
+                let (taken, state) = begun(alloc, self.size, self.block_size, block, bytes)?;
+                self.state = state;
+                taken
+            }
+            State::Part(assembler) => {
+                let (taken, module) = offer_to(alloc, assembler, block, bytes)?;
+                if let Some(module) = module {
+                    self.state = State::Whole(module);
+                }
+                taken
+            }
+        };
+        Ok(taken)
+    }
+}

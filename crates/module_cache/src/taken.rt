@@ -1,0 +1,38 @@
+use biop_object::Module;
+use std::sync::Arc;
+
+/// What became of a block that was offered: the first of these that holds.
+#[derive(Clone, Copy, Debug, PartialEq, Eq)]
+pub enum Taken {
+    /// No DII is held.
+    NoDii,
+    /// Its downloadId isn't the held DII's.
+    OtherDownload,
+    /// The held DII doesn't list its module.
+    Unlisted,
+    /// The held DII lists another version of the module.
+    OtherVersion,
+    /// The module is compressed; nothing of it is taken.
+    Compressed,
+    /// The module has no block of this number.
+    WrongPlace,
+    /// The block hasn't the length of its place: the block size, or what is left for the last block.
+    WrongLength,
+    /// The block is there already; it stays.
+    Again,
+    /// The block was taken.
+    New,
+}
+
+/// What is there of a module.
+#[derive(Drop)]
+pub enum Slot<'a> {
+    /// No DII is held, or the held DII doesn't list the module.
+    Unlisted,
+    /// The module is sent compressed; nothing of it is taken.
+    Compressed,
+    /// A block is missing; none may have come yet.
+    Partial,
+    /// The module, lent.
+    Whole(&'a Arc<Module>),
+}

@@ -1,0 +1,208 @@
+//! The held DII, and what is there of the modules that it lists.
+
+ghost use Rattle.std.specs.Prelude.{◌≡◌, ◌≢◌, ◌≤◌, ◌<◌, ◌==◌, [], map, true, IsTrue, Some, IfOk, OnOk, OnErr};
+ghost use Rattle.std.specs.List.{find, fold, position, list_all};
+ghost use Rattle.std.specs.Option.{option_map};
+ghost use Rattle.block_assembler.specs.Blocks.{IsAssembled};
+ghost use Rattle.ddb_block.specs.Blocks.{parts_view};
+ghost use Rattle.dsi_dii.specs.Controls.{view_dii};
+ghost use Rattle.module_cache.specs.Limits as limits;
+ghost use Rattle.module_cache.specs.Limits.{no_id_twice};
+ghost use Rattle.module_cache.specs.Keeping.{line_keeping, lines_keeping, tuned_keeping};
+ghost use Rattle.module_cache.specs.Spans.{same_line};
+ghost use Rattle.module_cache.specs.Held.{line_fresh, fresh_tuned, taken_line, taken_tuned, line_after, lines_after, tuned_after};
+
+use crate::stored::{Line, Stored};
+use crate::taken::Taken;
+use ddb_block::Parts;
+use dsi_dii::{Dii, ModuleLine};
+use oc_bytes::NoMemory;
+use std::alloc::Global;
+use std::marker::Model;
+
+/// The held DII.
+#[derive(Drop)]
+pub struct Tuned {
+    download: u32,
+    block_size: u16,
+    identification: u16,
+    version: u16,
+    lines: Vec<Line>,
+}
+
+impl Model for Tuned {
+    ghost use Rattle.module_cache.specs.Held.{TunedState};
+
+    ghost Value = { TunedState };
+
+    ghost use Rattle.module_cache.specs.TunedView.{view_tuned, IsTuned};
+
+    ghost view = { view_tuned };
+
+    ghost invariant = { IsTuned };
+}
+
+/// The place of the first line of a module.
+fn place_of(lines: &[Line], id: u16) -> Option<usize>
+    ensures { result ≡ position (λ x. x.line.id == id) lines.now }
+{
+    lines.iter().position(|x| x.line.id == id)
+}
+
+/// Offers a block to the line of its module.
+fn offer_line(line: &mut Line, alloc: Global, parts: &Parts<'_>) -> Result<Taken, NoMemory>
+    ensures answer { IfOk result (λ t. t ≡ taken_line (parts_view parts.now) (Some line.old)) }
+    ensures ok { OnOk result (line.new ≡ line_after (parts_view parts.now) line.old) }
+    ensures changed { IfOk result (λ t. t ≡ Taken.New → line.new ≢ line.old) }
+    ensures err { OnErr result (line.new ≡ line.old) }
+    ensures memory { OnErr result (taken_line (parts_view parts.now) (Some line.old) ≡ Taken.New) }
+{
+    if line.line.version != parts.version {
+        return Ok(Taken::OtherVersion);
+    }
+    line.stored.offer(alloc, parts.block, parts.bytes)
+}
+
+/// Offers a block to the first line of its module.
+fn offer_lines(lines: &mut [Line], alloc: Global, parts: &Parts<'_>) -> Result<Taken, NoMemory>
+    ensures answer { IfOk result (λ t. t ≡ taken_line (parts_view parts.now) (find (λ x. x.line.id == parts.now.module) lines.old)) }
+    ensures ok { OnOk result (lines.new ≡ lines_after (parts_view parts.now) lines.old) }
+    ensures changed { IfOk result (λ t. t ≡ Taken.New → lines.new ≢ lines.old) }
+    ensures err { OnErr result (lines.new ≡ lines.old) }
+    ensures memory { OnErr result (taken_line (parts_view parts.now) (find (λ x. x.line.id == parts.now.module) lines.old) ≡ Taken.New) }
+{
+    match place_of(lines, parts.module) {
+        Some(place) => offer_line(&mut lines[place], alloc, parts),
+        None => Ok(Taken::Unlisted),
+    }
+}
+
+/// Both lines describe a module in the same way.
+fn is_same_line(a: &ModuleLine, b: &ModuleLine) -> bool
+    ensures { result ≡ same_line a.now b.now }
+{
+    a.size == b.size && a.version == b.version && a.compressed == b.compressed
+}
+
+/// Puts what is there of an old line into the new one, where both describe the module in the same way.
+fn keep_line(line: &mut Line, old: Line)
+    ensures { line.new ≡ line_keeping old line.old }
+{
+    if is_same_line(&old.line, &line.line) {
+        line.stored = old.stored;
+    }
+}
+
+/// Puts what is there of an old line into the first line of its module.
+fn keep_in(lines: &mut [Line], old: Line)
+    ensures { lines.new ≡ lines_keeping lines.old old }
+{
+    match place_of(lines, old.line.id) {
+        Some(place) => keep_line(&mut lines[place], old),
+        None => {}
+    }
+}
+
+/// Puts what is there of each old line into the first line of its module.
+fn keep_lines(lines: &mut [Line], old: Vec<Line>)
+    ensures { lines.new ≡ fold lines_keeping lines.old old.items }
+{
+    for line in old {
+        keep_in(lines, line);
+    }
+}
+
+/// The line of a module of which nothing has come yet.
+fn line_of(alloc: Global, block_size: u16, line: ModuleLine) -> Result<Line, NoMemory>
+    requires { IsAssembled line.size block_size }
+    ensures { IfOk result (λ x. x ≡ line_fresh block_size line) }
+{
+    let stored = Stored::new(alloc, line.size, block_size, line.compressed)?;
+    Ok(Line { line, stored })
+}
+
+/// The lines of modules of which nothing has come yet.
+fn lines_of(alloc: Global, block_size: u16, modules: &[ModuleLine]) -> Result<Vec<Line>, NoMemory>
+    requires blocks { (1 ≤ block_size) × (block_size ≤ 4066) }
+    requires small { IsTrue (list_all (limits.is_small block_size) modules.now) }
+    ensures ok { IfOk result (λ v. v.items ≡ map (line_fresh block_size) modules.now) }
+    ensures memory { OnErr result (modules.now ≢ []) }
+{
+    let mut lines = Vec::with_capacity(alloc, modules.len())?;
+    for line in modules {
+        lines.push(line_of(alloc, block_size, *line)?)?;
+    }
+    Ok(lines)
+}
+
+impl Tuned {
+    /// A DII of whose modules nothing has come yet.
+    pub(crate) fn new(alloc: Global, dii: &Dii) -> Result<Tuned, NoMemory>
+        requires { IsTrue (limits.is_within (view_dii dii.now)) }
+        ensures ok { IfOk result (λ t. t ≡ fresh_tuned (view_dii dii.now)) }
+        ensures memory { OnErr result ((view_dii dii.now).modules ≢ []) }
+    {
+        let lines = lines_of(alloc, dii.block_size, &dii.modules)?;
+        Ok(Tuned {
+            download: dii.download,
+            block_size: dii.block_size,
+            identification: dii.transaction.identification(),
+            version: dii.transaction.version(),
+            lines,
+        })
+    }
+
+    /// Takes over from an old DII what is there of the modules that both describe in the same way. Takes no memory.
+    pub(crate) fn keep(&mut self, old: Tuned)
+        ensures after { self.new ≡ tuned_keeping self.old old }
+        ensures once { no_id_twice (map (λ x. x.line) old.lines) ≡ true }
+    {
+        if old.download == self.download && old.block_size == self.block_size {
+            keep_lines(&mut self.lines, old.lines);
+        }
+    }
+
+    /// The identification of the held DII: 0 to 32,767.
+    pub fn identification(&self) -> u16
+        ensures { result ≡ self.now.identification }
+    {
+        self.identification
+    }
+
+    /// The version of the held DII: 0 to 16,383.
+    pub fn version(&self) -> u16
+        ensures version { result ≡ self.now.version }
+        ensures range { result < 16384 }
+    {
+        self.version
+    }
+
+    /// The lines of the held DII, in its order.
+    pub fn lines(&self) -> &[Line]
+        ensures { result.now ≡ self.now.lines }
+    {
+        &self.lines
+    }
+
+    /// The line of a module, the first of its id.
+    pub(crate) fn line(&self, id: u16) -> Option<&Line>
+        ensures { option_map (λ x. x.now) result ≡ find (λ x. x.line.id == id) self.now.lines }
+    {
+        self.lines.iter().find(|x| x.line.id == id)
+    }
+
+    /// Offers a block. Only `New` changes anything.
+    pub(crate) fn offer(&mut self, alloc: Global, parts: &Parts<'_>) -> Result<Taken, NoMemory>
+        ensures answer { IfOk result (λ t. t ≡ taken_tuned self.old (parts_view parts.now)) }
+        ensures ok { OnOk result (self.new ≡ tuned_after self.old (parts_view parts.now)) }
+        ensures changed { IfOk result (λ t. t ≡ Taken.New → self.new ≢ self.old) }
+        ensures err { OnErr result (self.new ≡ self.old) }
+        ensures memory { OnErr result (taken_tuned self.old (parts_view parts.now) ≡ Taken.New) }
+        ensures once { no_id_twice (map (λ x. x.line) self.old.lines) ≡ true }
+    {
+        if self.download != parts.download {
+            return Ok(Taken::OtherDownload);
+        }
+        offer_lines(&mut self.lines, alloc, parts)
+    }
+}

@@ -1,9 +1,0 @@
-use Rattle.std.proofs.Common.{◌∙◌, ap, sym}
-use Rattle.block_assembler.specs.Blocks.{after_forget}
-use Rattle.tuner_core.proofs.Offers.{forgotten}
-use Rattle.tuner_core.proofs.slot.offer_to.Goals as goal
-
-pub returns-in-Err-clause-err : goal.returns-in-Err-clause-err
-returns-in-Err-clause-err c =
-    c.forget.ensures.after ∙ ap (λ a. after_forget a c.args.block) c.offer.ensures.after
-    ∙ forgotten c.args.assembler.now c.args.block c.args.bytes.now (sym c.in-New.ensures.answer)

@@ -1,6 +1,0 @@
--- The held DII as the code keeps it, as a state.
-use Rattle.tuner_core.specs.Stands.{TunedState}
-use Rattle.tuner_core.specs.declared.tuned.Tuned.TheInside.{Inside}
-
-abbrev pub view_tuned : Inside → TunedState
-view_tuned t = record { download = t.download; block_size = t.block_size; identification = t.identification; version = t.version; lines = t.lines.items }
