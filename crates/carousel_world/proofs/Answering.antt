@@ -17,8 +17,8 @@ use Rattle.generation.specs.Lawful.{IsNode, IsInside, identification_for, Carrie
 use Rattle.path_resolver.specs.Resolving.{HeldModule, Held, is_elsewhere, by_binding, in_folder, goes_on, at_target, walk, answer_of, ended}
 use Rattle.path_resolver.specs.declared.answer.Answer.{Answer}
 use Rattle.path_resolver.specs.declared.answer.Answer.TheVariants as answers
-use Rattle.carousel_world.specs.Headline.{IsNodeAnswer, IsAnswer, modules_on, has_bytes, is_whole_in, first_missing}
-use Rattle.carousel_world.proofs.Holding.{IsTable, HoldsOf}
+use Rattle.carousel_world.specs.Headline.{IsNodeAnswer, IsAnswer, modules_on}
+use Rattle.carousel_world.proofs.Holding.{IsTable, HoldsOf, has_bytes, is_held_whole, missing_of, first_not_held}
 use Rattle.carousel_world.proofs.Below.{IsClosed, tree_closed, root_there}
 use Rattle.carousel_world.proofs.Finding.{same_test, entry_of, IsThere, IsAwaited, held_or_awaited, Sees, thing_seen, binds, file_ends, folder_goes_on, ends_at}
 
@@ -73,14 +73,11 @@ abbrev pub IsAnswerIn : Layout → Option ℕ → Node → Answer → Type 0
 IsAnswerIn layout (Some m) node answer = (answer ≡ answers.NotYet m) × (bytes : Bytes) × (module_in layout m ≡ Some bytes)
 IsAnswerIn layout None node answer = IsNodeAnswer answer node
 
-abbrev pub missing_of : Held → List ℕ → Option ℕ
-missing_of held ms = find (λ m. not (is_whole_in held m)) ms
-
-awaited : (layout : Layout) (held : Held) (m : ℕ) (more : List ℕ) (node : Node) (answer : Answer) (bytes : Bytes) → is_whole_in held m ≡ false → answer ≡ answers.NotYet m → module_in layout m ≡ Some bytes
+awaited : (layout : Layout) (held : Held) (m : ℕ) (more : List ℕ) (node : Node) (answer : Answer) (bytes : Bytes) → is_held_whole held m ≡ false → answer ≡ answers.NotYet m → module_in layout m ≡ Some bytes
     → IsAnswerIn layout (missing_of held (m ∷ more)) node answer
 awaited layout held m more node answer bytes missing is listed = rw missing (is, bytes, listed)
 
-passed_on : (layout : Layout) (held : Held) (m : ℕ) (more : List ℕ) (node : Node) (answer : Answer) → is_whole_in held m ≡ true → IsAnswerIn layout (missing_of held more) node answer
+passed_on : (layout : Layout) (held : Held) (m : ℕ) (more : List ℕ) (node : Node) (answer : Answer) → is_held_whole held m ≡ true → IsAnswerIn layout (missing_of held more) node answer
     → IsAnswerIn layout (missing_of held (m ∷ more)) node answer
 passed_on layout held m more node answer whole rest = rw whole rest
 
@@ -210,7 +207,7 @@ tells carousel layout held holds inside (n ∷ ns) node l d place =
 -- ---- from the gateway on
 
 answers_in : (carousel : ℕ) (layout : Layout) (t : Tree) (held : Held) → HoldsOf carousel layout held → Carries carousel layout t → (p : PathNames)
-    → IsAnswerIn layout (first_missing carousel layout held p) (node_at t p) (answer_of held p)
+    → IsAnswerIn layout (first_not_held carousel layout held p) (node_at t p) (answer_of held p)
 answers_in carousel layout t held holds carries p =
     rw (holds.gateway, holds.label) (tells carousel layout held holds carries.inside p (node_at t) (gateway_location carousel) (Some holds.delivery) (record {
       paths = carries.paths;
@@ -222,8 +219,8 @@ answers_in carousel layout t held holds carries p =
 
 -- Each answer is the tree's own lookup, or the first module on the walk that isn't whole.
 pub answers_told : (carousel : ℕ) (layout : Layout) (t : Tree) (held : Held) → HoldsOf carousel layout held → Carries carousel layout t → (p : PathNames)
-    → IsAnswer (first_missing carousel layout held p) (node_at t p) (answer_of held p)
-answers_told carousel layout t held holds carries p = go (first_missing carousel layout held p) (answers_in carousel layout t held holds carries p) where
+    → IsAnswer (first_not_held carousel layout held p) (node_at t p) (answer_of held p)
+answers_told carousel layout t held holds carries p = go (first_not_held carousel layout held p) (answers_in carousel layout t held holds carries p) where
   go : (first : Option ℕ) → IsAnswerIn layout first (node_at t p) (answer_of held p) → IsAnswer first (node_at t p) (answer_of held p)
   go None told = told
   go (Some m) told = told.0
@@ -256,8 +253,8 @@ not_whole b e f = let bad : not true ≡ true = subst (λ c. not c ≡ true) e f
 -- Each answer is the tree's own lookup.
 pub answers_whole : (carousel : ℕ) (layout : Layout) (t : Tree) (held : Held) → HoldsOf carousel layout held → Carries carousel layout t → AreWhole held.table → (p : PathNames)
     → IsNodeAnswer (answer_of held p) (node_at t p)
-answers_whole carousel layout t held holds carries whole p = go (first_missing carousel layout held p) refl (answers_in carousel layout t held holds carries p) where
-  go : (first : Option ℕ) → first_missing carousel layout held p ≡ first → IsAnswerIn layout first (node_at t p) (answer_of held p) → IsNodeAnswer (answer_of held p) (node_at t p)
+answers_whole carousel layout t held holds carries whole p = go (first_not_held carousel layout held p) refl (answers_in carousel layout t held holds carries p) where
+  go : (first : Option ℕ) → first_not_held carousel layout held p ≡ first → IsAnswerIn layout first (node_at t p) (answer_of held p) → IsNodeAnswer (answer_of held p) (node_at t p)
   go None e told = told
-  go (Some m) e told = absurd (not_whole (is_whole_in held m) (whole_entry layout held.table m told.1 holds.table whole told.2)
-      (first_passes (λ k. not (is_whole_in held k)) (modules_on layout (Some (gateway_location carousel)) p) m e))
+  go (Some m) e told = absurd (not_whole (is_held_whole held m) (whole_entry layout held.table m told.1 holds.table whole told.2)
+      (first_passes (λ k. not (is_held_whole held k)) (modules_on layout (Some (gateway_location carousel)) p) m e))

@@ -1,27 +1,20 @@
--- The items of whole cycles, and what a receiver hears of their sections.
-use Rattle.std.proofs.Common.{◌≡◌, ℕ, zero, suc, ◌<◌, Bool, true, false, eqb, List, [], ◌∷◌, map, length, get_or, Some, None, Ok, Err, refl, ap, sym, ◌∙◌, subst, arith}
+-- The items of whole cycles.
+use Rattle.std.proofs.Common.{◌≡◌, ℕ, zero, suc, ◌<◌, Bool, true, false, eqb, List, [], ◌∷◌, length, get_or, Some, None, refl, ap, sym, ◌∙◌, subst, arith}
 use Rattle.std.proofs.lemmas.Bool.{eqb-true}
 use Rattle.std.proofs.lemmas.Option.{same_Some}
 use Rattle.std.proofs.lemmas.List.Elements.{All-head, All-tail, All-cons, All-nil, All-map, All-append, Contains-append_left, Contains-append_right}
 use Rattle.std.proofs.lemmas.List.FromFn.{length-range_with_len, get_or-range_with_len, length-map-range_with_len, get_or-map-range_with_len}
-use Rattle.std.specs.Prelude.{Result, slice_get, IsTrue, is_ok}
 use Rattle.std.specs.List.{All, Contains, flat_map, range_with_len}
-use Rattle.std.specs.Option.{unwrap_or}
 use Rattle.path_tree.specs.Paths.{Bytes}
 use Rattle.biop_object.specs.Names.{Layout, module_in}
 use Rattle.cycle_planner.specs.Cycle.{Line, blocks_of, cycle_of}
 use Rattle.cycle_planner.specs.declared.Item.{Item}
 use Rattle.cycle_planner.specs.declared.Item.TheVariants.{Dsi, Dii, Block}
 use Rattle.ddb_block.specs.Blocks as ddb
-use Rattle.dsmcc_section.specs.Sections as sections
-use Rattle.dsmcc_section.specs.declared.Skip.{Skip}
 use Rattle.generation.specs.Layouts.{lines_in}
-use Rattle.generation.specs.Lawful.{layout_at, section_in, IsItem}
-use Rattle.tuner_core.specs.Heard.{heard, heard_section, is_accepted}
+use Rattle.generation.specs.Lawful.{layout_at, IsItem}
 use Rattle.carousel_world.specs.Publishing.{repeated}
 use Rattle.carousel_world.proofs.Modules.{IsSent, each_listed}
-use Rattle.carousel_world.proofs.Saying.{Spelled, says, hears_item}
-use Rattle.carousel_world.proofs.Hearing.{IsSaid}
 
 -- ---- the items of a cycle are the generation's
 
@@ -48,7 +41,7 @@ modules_are_items ls g lt (m ∷ ms) all =
     (blocks_are_items ls g lt m (All-head (λ m. module_in (layout_at ls g) m.0 ≡ Some m.1) m ms all))
     (modules_are_items ls g lt ms (All-tail (λ m. module_in (layout_at ls g) m.0 ≡ Some m.1) m ms all))
 
-cycle_items : (carousel : ℕ) (ls : List Layout) (g : ℕ) → IsSent carousel ls g → g < length ls → All (IsItem ls g) (cycle_of (lines_in (layout_at ls g)))
+pub cycle_items : (carousel : ℕ) (ls : List Layout) (g : ℕ) → IsSent carousel ls g → g < length ls → All (IsItem ls g) (cycle_of (lines_in (layout_at ls g)))
 cycle_items carousel ls g sent lt =
     All-cons (IsItem ls g) Dsi (Dii ∷ flat_map blocks_of (lines_in (layout_at ls g))) lt
     (All-cons (IsItem ls g) Dii (flat_map blocks_of (lines_in (layout_at ls g))) lt
@@ -60,51 +53,6 @@ each_repeated P (suc n) xs all = All-append P xs (repeated n xs) all (each_repea
 
 pub sent_items : (carousel : ℕ) (ls : List Layout) (g cycles : ℕ) → IsSent carousel ls g → g < length ls → All (IsItem ls g) (repeated cycles (cycle_of (lines_in (layout_at ls g))))
 sent_items carousel ls g cycles sent lt = each_repeated (IsItem ls g) cycles (cycle_of (lines_in (layout_at ls g))) (cycle_items carousel ls g sent lt)
-
--- ---- what is heard of them
-
-from_get : {X Y : Type 0} (f : X → Y) (P : X → Type 0) (xs : List X) (k : ℕ) (y : Y) → All P xs → slice_get (map f xs) k ≡ Some y → (x : X) × P x × (y ≡ f x)
-from_get f P [] k y all e = absurd (none e) where
-  none : None ≡ Some y → ⊥
-  none e = cc
-from_get f P (x ∷ xs) zero y all e = (x, All-head P x xs all, sym (same_Some (f x) y e))
-from_get f P (x ∷ xs) (suc k) y all e = from_get f P xs k y (All-tail P x xs all) e
-
-pub all_by_get : {X : Type 0} (P : X → Type 0) (xs : List X) → ((i : ℕ) (x : X) → slice_get xs i ≡ Some x → P x) → All P xs
-all_by_get P [] each = All-nil P
-all_by_get P (x ∷ xs) each = All-cons P x xs (each 0 x refl) (all_by_get P xs (λ i y e. each (suc i) y e))
-
-item_said : (carousel : ℕ) (ls : List Layout) (g : ℕ) (item : Item) → IsItem ls g item → IsSaid carousel ls g (says carousel ls g item)
-item_said carousel ls g Dsi item = refl
-item_said carousel ls g Dii item = refl
-item_said carousel ls g (Block m b) item = record {
-  bytes = item.1.0;
-  listed = item.1.1;
-  part = ap (λ o. ddb.block_of (unwrap_or o []) 4066 b) item.1.1;
-}
-
-pub section_said : (carousel : ℕ) (ls : List Layout) (g : ℕ) → Spelled → IsSent carousel ls g → (item : Item) → IsItem ls g item → IsSaid carousel ls g (heard (section_in carousel ls g item))
-section_said carousel ls g spelled sent item is =
-    subst (IsSaid carousel ls g) (sym (hears_item carousel ls g spelled sent item is)) (item_said carousel ls g item is)
-
-one_said : (carousel : ℕ) (ls : List Layout) (g : ℕ) → Spelled → IsSent carousel ls g → (bytes : Bytes)
-    → (IsTrue (is_accepted bytes) → (item : Item) × IsItem ls g item × (bytes ≡ section_in carousel ls g item)) → IsSaid carousel ls g (heard bytes)
-one_said carousel ls g spelled sent bytes from = by (sections.read bytes) refl where
-  by : (r : Result sections.Fields Skip) → sections.read bytes ≡ r → IsSaid carousel ls g (heard bytes)
-  by (Err skip) e = subst (λ r. IsSaid carousel ls g (heard_section r)) (sym e) tt
-  by (Ok s) e =
-      let x = from (ap (λ r. is_ok r) e) in
-      subst (λ y. IsSaid carousel ls g (heard y)) (sym x.2) (section_said carousel ls g spelled sent x.0 x.1)
-
--- under which premises all is said
-pub all_said : (carousel : ℕ) (ls : List Layout) (g : ℕ) → Spelled → IsSent carousel ls g → (items : List Item) → All (IsItem ls g) items → (candidates : List Bytes)
-    → ((i : ℕ) (bytes : Bytes) → slice_get candidates i ≡ Some bytes → IsTrue (is_accepted bytes) → (k : ℕ) × (slice_get (map (section_in carousel ls g) items) k ≡ Some bytes))
-    → All (IsSaid carousel ls g) (map heard candidates)
-all_said carousel ls g spelled sent items each candidates from =
-    All-map (IsSaid carousel ls g) heard candidates
-    (all_by_get (λ bytes. IsSaid carousel ls g (heard bytes)) candidates
-    (λ i bytes e. one_said carousel ls g spelled sent bytes
-    (λ accepted. let k = from i bytes e accepted in from_get (section_in carousel ls g) (IsItem ls g) items k.0 bytes each k.1)))
 
 -- ---- each item is in a cycle
 

@@ -16,8 +16,8 @@ use Rattle.path_resolver.specs.Names.{names_of}
 use Rattle.path_resolver.specs.Resolving.{HeldModule, Held, Target, ended, goes_on, in_folder, in_module}
 use Rattle.path_resolver.specs.declared.answer.Answer.{Answer}
 use Rattle.path_resolver.specs.declared.answer.Answer.TheVariants as answers
-use Rattle.carousel_world.specs.Headline.{IsNodeAnswer, is_whole_in}
-use Rattle.carousel_world.proofs.Holding.{IsTable}
+use Rattle.carousel_world.specs.Headline.{IsNodeAnswer}
+use Rattle.carousel_world.proofs.Holding.{IsTable, is_held_whole}
 
 pub same_test : (a b : ℕ) → a ≡ b → (a == b) ≡ true
 same_test a b e = grind (arith, nat_tests, e)
@@ -52,12 +52,12 @@ entry_of (x ∷ xs) (h ∷ hs) m bytes is e = go (x.0 == m) refl (λ f. entry_of
 
 -- what is sought in a module is sought in the layout's bytes
 pub record IsThere (held : Held) (m : ℕ) (bytes : Bytes) : Type 0 where
-  pub whole : is_whole_in held m ≡ true
+  pub whole : is_held_whole held m ≡ true
   pub object : (seek : Bytes → Answer) → in_module seek m (find (λ h. h.line.id == m) held.table) ≡ seek bytes
 
 -- or isn't there yet
 pub record IsAwaited (held : Held) (m : ℕ) : Type 0 where
-  pub missing : is_whole_in held m ≡ false
+  pub missing : is_held_whole held m ≡ false
   pub object : (seek : Bytes → Answer) → in_module seek m (find (λ h. h.line.id == m) held.table) ≡ answers.NotYet m
 
 pub held_or_awaited : (held : Held) (m : ℕ) (bytes : Bytes) → Entry held.table m bytes → IsThere held m bytes ⊎ IsAwaited held m

@@ -2,14 +2,25 @@ mod Holding
 mod Lists
 mod Modules
 mod Saying
-mod Hearing
 mod Cycles
 mod Below
 mod Finding
 mod Answering
 mod Rounds
-mod Meeting
+mod Wholeness
+mod Generations
+mod Ascribing
+mod Completing
+mod Receiving
+mod Climbing
+mod Premising
+mod Forward
+pub mod CallerLemmas
+mod Single
 mod Opening
 mod Instances
 mod Waiting
+mod Premised
+mod Damaged
+mod Carried
 mod Reaching

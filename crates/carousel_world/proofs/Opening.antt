@@ -15,16 +15,17 @@ use Rattle.generation.specs.Lawful.{layout_at, section_in}
 use Rattle.section_stream.specs.Cuts.{candidates}
 use Rattle.section_stream.specs.Laws.{PacketsGiveTheSections}
 use Rattle.section_stream.specs.Packing.{IsSectionLike}
-use Rattle.tuner_core.specs.LookBack.{answer_after}
-use Rattle.carousel_world.specs.Air as air
+use Rattle.tuner_core.specs.Spans.{answer_after}
+use Rattle.carousel_world.specs.Broadcasts as broadcasts
 use Rattle.carousel_world.specs.Headline.{IsNodeAnswer}
 use Rattle.carousel_world.specs.Premises.{IsWhole}
-use Rattle.carousel_world.specs.Publishing.{repeated, layouts_for, items_sent, publication, packets_sent, EveryReceptionMeets, EachCycleOpens}
+use Rattle.carousel_world.specs.Publishing.{repeated, layouts_for, publication, packets_sent, EveryPublicationMeets, EachCycleOpens}
 use Rattle.carousel_world.proofs.Modules.{IsSent}
 use Rattle.carousel_world.proofs.Saying.{Spelled, item_framed}
 use Rattle.carousel_world.proofs.Cycles.{sent_items, cycle_has}
 use Rattle.carousel_world.proofs.Rounds.{contains_map}
-use Rattle.carousel_world.proofs.Meeting.{IsSecond, second_of, sections_are}
+use Rattle.carousel_world.proofs.CallerLemmas.{published_sections}
+use Rattle.carousel_world.proofs.Single.{IsSecond, second_of}
 
 abbrev sections_of : ℕ → List Layout → ℕ → ℕ → List Bytes
 sections_of carousel ls g cycles = map (section_in carousel ls g) (repeated cycles (cycle_of (lines_in (layout_at ls g))))
@@ -41,7 +42,7 @@ whole_cycles carousel ls g cycles last =
         before = section_in carousel ls g Dsi ∷ [];
         after = map (section_in carousel ls g) (blocks ++ later);
         place = refl;
-        blocks = λ m b item. contains_map (section_in carousel ls g) (blocks ++ later) (Block m b) (Contains-append_left blocks later (Block m b) (cycle_has ls g m b item));
+        blocks = λ m b all item. contains_map (section_in carousel ls g) (blocks ++ later) (Block m b) (Contains-append_left blocks later (Block m b) (cycle_has ls g m b item));
       };
       no_later = λ h above below has. absurd (omega arith);
     }
@@ -57,18 +58,18 @@ all_like carousel ls g cycles framed spelled sent lt =
     (λ k d below. like_section (section_in carousel ls g (get_or items k d))
     (item_framed carousel ls g framed spelled sent (get_or items k d) (sent_items carousel ls g cycles sent lt k d below)))
 
-never_back : air.NeverBack (λ i. Some i)
+pub never_back : broadcasts.NeverBack (λ i. Some i)
 never_back i j a b lt e h =
     let same : i ≡ a = same_Some i a e in
     let other : j ≡ b = same_Some j b h in
     omega arith
 
-pub each_cycle : EveryReceptionMeets → PacketsGiveTheSections → LayoutsAreLawful → Spelled → ((s : sections.Fields) → sections.Fits s → sections.IsFramed (sections.spelling s)) → EachCycleOpens
+pub each_cycle : EveryPublicationMeets → PacketsGiveTheSections → LayoutsAreLawful → Spelled → ((s : sections.Fields) → sections.Fits s → sections.IsFramed (sections.spelling s)) → EachCycleOpens
 each_cycle meets give lawful spelled framed carousel cycles t p lt is =
     let ls = layouts_for carousel t in
     let of : IsSecond carousel ls t = second_of lawful carousel t lt is in
-    let sent = air.sections (publication carousel (suc cycles) t) in
-    let same : sent ≡ sections_of carousel ls 1 (suc cycles) = sections_are carousel ls 1 (items_sent carousel (suc cycles) t) in
+    let sent = broadcasts.sections (publication carousel (suc cycles) t) in
+    let same : sent ≡ sections_of carousel ls 1 (suc cycles) = published_sections carousel (suc cycles) t in
     let listed : 1 < length ls = omega (arith, of.two) in
     let like : All IsSectionLike sent = subst (All IsSectionLike) (sym same) (all_like carousel ls 1 (suc cycles) framed spelled of.sent listed) in
     let heard : candidates 256 (packets_sent carousel (suc cycles) t) ≡ sent = give (record { pid = 256; counter = 0 }) sent (lit< tt) (lit< tt) like in

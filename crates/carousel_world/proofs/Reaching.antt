@@ -3,26 +3,32 @@ use Rattle.std.proofs.Common.{ℕ, suc, ◌<◌, [], ◌∷◌, refl, sym, subst
 use Rattle.path_tree.specs.Trees.{Tree}
 use Rattle.generation.specs.Kept.{LayoutsAreLawful}
 use Rattle.generation.specs.Lawful.{IsPublishable}
-use Rattle.carousel_world.specs.Air.{sections}
+use Rattle.carousel_world.specs.Broadcasts.{sections}
 use Rattle.carousel_world.specs.Instances.{PremisesCanBeMet}
 use Rattle.carousel_world.specs.Premises.{IsWhole}
-use Rattle.carousel_world.specs.Publishing.{items_sent, layouts_for, publication}
-use Rattle.carousel_world.proofs.Instances.{content, letter, one_file, one_node, one_publishable, published_air}
-use Rattle.carousel_world.proofs.Meeting.{second_of, sections_are}
+use Rattle.carousel_world.specs.Publishing.{layouts_for, publication, EveryPublicationMeets}
+use Rattle.carousel_world.proofs.CallerLemmas.{published_sections}
+use Rattle.carousel_world.specs.Instances.{tree_of}
+use Rattle.carousel_world.proofs.Instances.{letter, first_content, first_node, first_publishable}
+use Rattle.carousel_world.proofs.Damaged.{damage}
+use Rattle.carousel_world.proofs.Carried.{carrying}
 use Rattle.carousel_world.proofs.Opening.{whole_cycles}
 use Rattle.carousel_world.proofs.Saying.{Spelled}
+use Rattle.carousel_world.proofs.Single.{second_of, in_order}
 use Rattle.carousel_world.proofs.Waiting.{waits}
 
 whole_round : LayoutsAreLawful → (carousel cycles : ℕ) (t : Tree) → carousel < 4294967296 → IsPublishable t → IsWhole carousel (layouts_for carousel t) 1 (sections (publication carousel (suc cycles) t))
 whole_round lawful carousel cycles t lt is =
     let ls = layouts_for carousel t in
-    subst (IsWhole carousel ls 1) (sym (sections_are carousel ls 1 (items_sent carousel (suc cycles) t))) (whole_cycles carousel ls 1 cycles (second_of lawful carousel t lt is).two)
+    subst (IsWhole carousel ls 1) (sym (published_sections carousel (suc cycles) t)) (whole_cycles carousel ls 1 cycles (second_of lawful carousel t lt is).two)
 
-pub can_be_met : Spelled → LayoutsAreLawful → PremisesCanBeMet
-can_be_met spelled lawful = record {
-  tree = (one_file, record { publishable = one_publishable; path = letter ∷ []; content = content; there = one_node });
-  air = published_air lawful;
+pub can_be_met : Spelled → LayoutsAreLawful → EveryPublicationMeets → PremisesCanBeMet
+can_be_met spelled lawful meets = record {
+  tree = (tree_of first_content, record { publishable = first_publishable; path = letter ∷ []; content = first_content; there = first_node });
+  in_order = λ carousel cycles t lt is. in_order carousel cycles t (second_of lawful carousel t lt is);
   undamaged = λ carousel cycles t i bytes e accepted. (i, refl, e);
   whole = whole_round lawful;
-  waits = waits spelled lawful;
+  waits = waits spelled lawful meets;
+  damage = damage lawful;
+  carrying = carrying lawful;
 }

@@ -1,13 +1,21 @@
 -- That the premises of the laws can be met, and that a receiver does wait.
-use Rattle.std.specs.Prelude.{◌≡◌, ℕ, suc, ◌<◌, List, [], ◌∷◌}
+use Rattle.std.specs.Prelude.{◌≡◌, ℕ, suc, ◌<◌, List, [], ◌∷◌, ◌++◌, map, take, replicate, Option, Some, slice_get, slice_index_or, slice_set}
+use Rattle.std.specs.List.{range_with_len}
 use Rattle.path_tree.specs.Paths.{Bytes, PathNames}
 use Rattle.path_tree.specs.Trees.{Tree, File, node_at}
+use Rattle.cycle_planner.specs.Cycle.{cycle_of}
 use Rattle.cycle_planner.specs.declared.Item.TheVariants.{Dsi, Dii}
-use Rattle.generation.specs.Lawful.{IsPublishable, section_in}
+use Rattle.generation.specs.Layouts.{lines_in}
+use Rattle.generation.specs.Kept.{layouts_of}
+use Rattle.generation.specs.Lawful.{IsPublishable, layout_at, section_in}
+use Rattle.path_resolver.specs.declared.answer.Answer.{Answer}
 use Rattle.path_resolver.specs.declared.answer.Answer.TheVariants as answers
-use Rattle.tuner_core.specs.LookBack.{answer_after}
-use Rattle.carousel_world.specs.Air.{IsAir, sections}
-use Rattle.carousel_world.specs.Premises.{NoChance, IsWhole}
+use Rattle.section_stream.specs.Cuts.{candidates}
+use Rattle.section_stream.specs.Packing.{packets_of_all}
+use Rattle.tuner_core.specs.Spans.{answer_after}
+use Rattle.carousel_world.specs.Broadcasts.{Broadcast, SendsInOrder, sections, NeverBack, IsAscribed}
+use Rattle.carousel_world.specs.Premises.{AcceptedAreSent, IsHeardOf, IsWhole}
+use Rattle.carousel_world.specs.Receptions.{label_after}
 use Rattle.carousel_world.specs.Publishing.{layouts_for, publication}
 
 -- a tree with a file, which can be published
@@ -21,15 +29,101 @@ pub record HasFile (t : Tree) : Type 0 where
 abbrev pub control_alone : ℕ → Tree → List Bytes
 control_alone carousel t = section_in carousel (layouts_for carousel t) 1 Dsi ∷ section_in carousel (layouts_for carousel t) 1 Dii ∷ []
 
+-- ---- two generations, heard with losses and damage
+
+-- a tree of one file, whose name is `a`
+abbrev pub tree_of : Bytes → Tree
+tree_of content = ((97 ∷ []) ∷ [], content) ∷ []
+
+-- a whole cycle of each of these generations, of carousel 1, where the first tree is that of generation 1
+abbrev pub cycles_of : List Tree → List ℕ → Broadcast
+cycles_of trees generations = record {
+  carousel = 1;
+  trees = [] ∷ trees;
+  layouts = layouts_of 1 trees;
+  groups = map (λ g. record { generation = g; items = cycle_of (lines_in (layout_at (layouts_of 1 trees) g)) }) generations;
+}
+
+-- what was sent on PID 256, what was received of it, and for each received packet the number of the sent one that it is from
+pub record Reception : Type 0 where
+  pub broadcast : Broadcast
+  pub packets : List Bytes
+  pub numbers : List ℕ
+
+-- packet n of what is sent
+abbrev pub packet_of : Broadcast → ℕ → Bytes
+packet_of b n = slice_index_or (packets_of_all (record { pid = 256; counter = 0 }) (sections b)) n []
+
+-- all premises hold together, and a whole cycle of this generation was heard
+pub record IsPremised (r : Reception) (g : ℕ) : Type 0 where
+  pub never_back : NeverBack (slice_get r.numbers)
+  pub heard : IsHeardOf r.broadcast (candidates 256 r.packets) (IsAscribed r.broadcast 256 r.packets (slice_get r.numbers))
+  pub whole : IsWhole r.broadcast.carousel r.broadcast.layouts g (candidates 256 r.packets)
+
+-- after the first n packets this is the label, and this the answer to `/a`
+pub record Tells (r : Reception) (n : ℕ) (label : Option ℕ) (answer : Answer) : Type 0 where
+  pub label_is : label_after (candidates 256 (take n r.packets)) ≡ label
+  pub answer_is : answer_after (candidates 256 (take n r.packets)) ((97 ∷ []) ∷ []) ≡ answer
+
+-- Generation 1 is sent once and generation 2, whose file has other bytes, twice: in each cycle a packet of the DSI, one of the DII and
+-- two of the one block. The first packet is lost, the second comes twice, and in generation 2's first block a byte is changed.
+abbrev pub changed_file : Broadcast
+changed_file = cycles_of (tree_of (1 ∷ 2 ∷ 3 ∷ []) ∷ tree_of (4 ∷ 5 ∷ 6 ∷ []) ∷ []) (1 ∷ 2 ∷ 2 ∷ [])
+
+abbrev pub damaged : Reception
+damaged = record {
+  broadcast = changed_file;
+  packets = packet_of changed_file 1 ∷ packet_of changed_file 1 ∷ packet_of changed_file 2 ∷ packet_of changed_file 3 ∷ packet_of changed_file 4
+      ∷ packet_of changed_file 5 ∷ slice_set (packet_of changed_file 6) 100 7 ∷ packet_of changed_file 7 ∷ packet_of changed_file 8
+      ∷ packet_of changed_file 9 ∷ packet_of changed_file 10 ∷ packet_of changed_file 11 ∷ [];
+  numbers = 1 ∷ 1 ∷ 2 ∷ 3 ∷ 4 ∷ 5 ∷ 6 ∷ 7 ∷ 8 ∷ 9 ∷ 10 ∷ 11 ∷ [];
+}
+
+pub record DamageIsPremised : Type 0 where
+  pub premised : IsPremised damaged 2
+  -- the DII and the block of generation 1 were heard, and no DSI
+  pub before : Tells damaged 4 (Some 1) answers.NoCarousel
+  -- generation 2's DII turned, and its block is damaged
+  pub damaged_block : Tells damaged 8 (Some 2) (answers.NotYet 1)
+  pub after : Tells damaged 12 (Some 2) (answers.File (4 ∷ 5 ∷ 6 ∷ []))
+
+-- The same file is published twice, in a module of two blocks. Generation 1 is sent once and generation 2 three times: in each cycle a
+-- packet of the DSI, one of the DII, 23 of the first block and one of the second. Of generation 1 the DSI and the DII come; of generation
+-- 2 the first block, then the DII, the second block, and the first block once more.
+abbrev pub seven : Bytes
+seven = replicate 4000 7
+
+abbrev pub same_file : Broadcast
+same_file = cycles_of (tree_of seven ∷ tree_of seven ∷ []) (1 ∷ 2 ∷ 2 ∷ 2 ∷ [])
+
+abbrev pub numbers_taken : List ℕ
+numbers_taken = 0 ∷ 1 ∷ range_with_len 28 23 ++ 53 ∷ 77 ∷ range_with_len 80 23
+
+abbrev pub carried_over : Reception
+carried_over = record { broadcast = same_file; packets = map (packet_of same_file) numbers_taken; numbers = numbers_taken }
+
+pub record CarryingIsPremised : Type 0 where
+  pub premised : IsPremised carried_over 2
+  -- the block of generation 2 is one commit away from the DII before it, which describes the module alike
+  pub before : Tells carried_over 25 (Some 1) (answers.NotYet 1)
+  -- generation 2's DII turned
+  pub turned : Tells carried_over 26 (Some 2) (answers.NotYet 1)
+  -- of the two blocks only the second was heard since
+  pub carried : Tells carried_over 27 (Some 2) (answers.File seven)
+
 pub record PremisesCanBeMet : Type 0 where
   -- some tree can be published
   pub tree : (t : Tree) × HasFile t
-  -- what is published is an air
-  pub air : (carousel cycles : ℕ) (t : Tree) → carousel < 4294967296 → IsPublishable t → IsAir (publication carousel cycles t)
+  -- what is published is sent in order
+  pub in_order : (carousel cycles : ℕ) (t : Tree) → carousel < 4294967296 → IsPublishable t → SendsInOrder (publication carousel cycles t)
   -- its sections, as they were sent, are what was sent
-  pub undamaged : (carousel cycles : ℕ) (t : Tree) → NoChance (publication carousel cycles t) (sections (publication carousel cycles t)) (λ i k. i ≡ k)
+  pub undamaged : (carousel cycles : ℕ) (t : Tree) → AcceptedAreSent (publication carousel cycles t) (sections (publication carousel cycles t)) (λ i k. i ≡ k)
   -- one cycle or more is a whole one
   pub whole : (carousel cycles : ℕ) (t : Tree) → carousel < 4294967296 → IsPublishable t
       → IsWhole carousel (layouts_for carousel t) 1 (sections (publication carousel (suc cycles) t))
   -- who has heard no block waits for the module in which the gateway lies, whatever the path
   pub waits : (carousel : ℕ) (t : Tree) (p : PathNames) → carousel < 4294967296 → IsPublishable t → answer_after (control_alone carousel t) p ≡ answers.NotYet 1
+  -- a loss, a repeated packet and a changed byte, before a whole cycle of the later of two generations
+  pub damage : DamageIsPremised
+  -- a block that is carried over a turn
+  pub carrying : CarryingIsPremised

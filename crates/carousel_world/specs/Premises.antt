@@ -1,32 +1,73 @@
--- Under which conditions what is heard is what was sent.
-use Rattle.std.specs.Prelude.{◌≡◌, ℕ, ◌<◌, List, ◌∷◌, ◌++◌, length, Some, slice_get, IsTrue}
+-- Under which conditions what is heard is what was sent, and what it is to hear a whole cycle.
+use Rattle.std.specs.Prelude.{◌≡◌, ℕ, ◌+◌, ◌<◌, List, ◌∷◌, ◌++◌, length, map, Some, slice_get, IsTrue}
 use Rattle.std.specs.List.{Contains}
 use Rattle.path_tree.specs.Paths.{Bytes}
-use Rattle.cycle_planner.specs.declared.Item.TheVariants.{Dsi, Dii, Block}
 use Rattle.biop_object.specs.Names.{Layout}
-use Rattle.generation.specs.Lawful.{section_in, IsItem}
-use Rattle.tuner_core.specs.Heard.{is_accepted}
-use Rattle.carousel_world.specs.Air.{Broadcast, sections}
+use Rattle.dsi_dii.specs.Controls.{DiiFields}
+use Rattle.ddb_block.specs.Blocks as ddb
+use Rattle.cycle_planner.specs.declared.Item.{Item}
+use Rattle.cycle_planner.specs.declared.Item.TheVariants.{Dsi, Dii, Block}
+use Rattle.generation.specs.Lawful.{Lawful, dii_in, section_in, IsItem}
+use Rattle.tuner_core.specs.Heard.{ADii, ABlock, heard, is_accepted}
+use Rattle.carousel_world.specs.Broadcasts.{Broadcast, Sending, sections, sendings, SendsInOrder}
 
--- which candidate is from which section of the air
+-- which candidate is from which section that was sent
 abbrev pub Ascribed : Type 1
 Ascribed = ℕ → ℕ → Type 0
 
--- damaged sections fail their CRC: each accepted candidate is ascribed to a section of the air, and equals it
-abbrev pub NoChance : Broadcast → List Bytes → Ascribed → Type 0
-NoChance b candidates is_from = (i : ℕ) (bytes : Bytes) → slice_get candidates i ≡ Some bytes → IsTrue (is_accepted bytes)
+-- damaged sections fail their CRC: each accepted candidate is from a section that was sent, and equals it
+abbrev pub AcceptedAreSent : Broadcast → List Bytes → Ascribed → Type 0
+AcceptedAreSent b candidates is_from = (i : ℕ) (bytes : Bytes) → slice_get candidates i ≡ Some bytes → IsTrue (is_accepted bytes)
     → (k : ℕ) × is_from i k × (slice_get (sections b) k ≡ Some bytes)
 
--- at some place the DII of generation g is heard, and behind it every block of the modules that it lists
-pub record HasRound (carousel : ℕ) (ls : List Layout) (g : ℕ) (candidates : List Bytes) : Type 0 where
+-- candidate number i is an accepted DII, or an accepted block
+abbrev pub IsDiiAt : List Bytes → ℕ → Type 0
+IsDiiAt candidates i = (bytes : Bytes) × (d : DiiFields) × (slice_get candidates i ≡ Some bytes) × (heard bytes ≡ ADii d)
+
+abbrev pub IsBlockAt : List Bytes → ℕ → Type 0
+IsBlockAt candidates i = (bytes : Bytes) × (x : ddb.Block) × (slice_get candidates i ≡ Some bytes) × (heard bytes ≡ ABlock x)
+
+-- the last accepted DII before candidate j is candidate i
+pub record IsLastDiiBefore (candidates : List Bytes) (i j : ℕ) : Type 0 where
+  pub before : i < j
+  pub there : IsDiiAt candidates i
+  pub last : (k : ℕ) → i < k → k < j → IsDiiAt candidates k → ⊥
+
+-- the candidate is from a section of this generation
+abbrev pub IsFromGeneration : Broadcast → Ascribed → ℕ → ℕ → Type 0
+IsFromGeneration b is_from i g = (k : ℕ) × (s : Sending) × is_from i k × (slice_get (sendings b) k ≡ Some s) × (s.0 ≡ g)
+
+-- fewer than 256 commits separate an accepted block from the last accepted DII before it
+abbrev pub BlocksAreNear : Broadcast → List Bytes → Ascribed → Type 0
+BlocksAreNear b candidates is_from = (i j g h : ℕ) → IsBlockAt candidates j → IsLastDiiBefore candidates i j
+    → IsFromGeneration b is_from i g → IsFromGeneration b is_from j h → h < g + 256
+
+-- The candidates are of a lawful broadcast, of which generation 0 is there before anything is published; those that are accepted were
+-- sent, and no block is too far from its DII.
+pub record IsHeardOf (b : Broadcast) (candidates : List Bytes) (is_from : Ascribed) : Type 0 where
+  pub first : 0 < length b.layouts
+  pub lawful : Lawful b.carousel b.layouts b.trees
+  pub in_order : SendsInOrder b
+  pub accepted : AcceptedAreSent b candidates is_from
+  pub near : BlocksAreNear b candidates is_from
+
+-- ---- a whole cycle
+
+-- at some place this DII of generation g is heard, and after it every block of the modules that it lists
+pub record HasRound (carousel : ℕ) (ls : List Layout) (g : ℕ) (candidates : List Bytes) (dii : Item) (lists : ℕ → Type 0) : Type 0 where
   pub before : List Bytes
   pub after : List Bytes
-  pub place : candidates ≡ before ++ section_in carousel ls g Dii ∷ after
-  pub blocks : (m b : ℕ) → IsItem ls g (Block m b) → Contains after (section_in carousel ls g (Block m b))
+  pub place : candidates ≡ before ++ section_in carousel ls g dii ∷ after
+  pub blocks : (m b : ℕ) → lists m → IsItem ls g (Block m b) → Contains after (section_in carousel ls g (Block m b))
 
--- a whole undamaged cycle of generation g was heard, and no DII of a later generation
+-- the one DII of a generation lists each of its modules
+abbrev pub every_module : ℕ → Type 0
+every_module m = Unit {0}
+
+-- A whole undamaged cycle of generation g was heard, in any order and over any time: the carousel's DSI, the generation's DII, and
+-- after it each block. No DII of a later generation was accepted.
 pub record IsWhole (carousel : ℕ) (ls : List Layout) (g : ℕ) (candidates : List Bytes) : Type 0 where
   pub generation : g < length ls
   pub gateway : Contains candidates (section_in carousel ls g Dsi)
-  pub round : HasRound carousel ls g candidates
-  pub no_later : (h : ℕ) → g < h → h < length ls → Contains candidates (section_in carousel ls h Dii) → ⊥
+  pub round : HasRound carousel ls g candidates Dii every_module
+  pub no_later : (h : ℕ) → g < h → h < length ls → Contains (map heard candidates) (ADii (dii_in carousel ls h)) → ⊥

@@ -1,5 +1,5 @@
--- One tree that is sent in a number of whole cycles, and what a receiver makes of it.
-use Rattle.std.specs.Prelude.{◌≡◌, ℕ, zero, suc, ◌<◌, true, false, List, [], ◌∷◌, ◌++◌, map, Some}
+-- One tree that is sent in a number of whole cycles, as a broadcast of one group, and what a receiver makes of it.
+use Rattle.std.specs.Prelude.{◌≡◌, ℕ, zero, suc, ◌<◌, true, false, List, [], ◌∷◌, ◌++◌, Some}
 use Rattle.std.specs.List.{concat}
 use Rattle.path_tree.specs.Paths.{Bytes, PathNames}
 use Rattle.path_tree.specs.Trees.{Tree, node_at}
@@ -12,10 +12,9 @@ use Rattle.generation.specs.Lawful.{layout_at, IsPublishable}
 use Rattle.section_stream.specs.Cuts.{candidates}
 use Rattle.section_stream.specs.Packing.{packets_of_all}
 use Rattle.path_resolver.specs.declared.answer.Answer.TheVariants as answers
-use Rattle.tuner_core.specs.Heard.{heard}
-use Rattle.tuner_core.specs.LookBack.{answer_after, held_after}
-use Rattle.carousel_world.specs.Air.{Broadcast, sections, Ascription, NeverBack, IsAscribed}
-use Rattle.carousel_world.specs.Premises.{Ascribed, NoChance, IsWhole}
+use Rattle.tuner_core.specs.Spans.{answer_after}
+use Rattle.carousel_world.specs.Broadcasts.{Broadcast, sections, Ascription, NeverBack, IsAscribed}
+use Rattle.carousel_world.specs.Premises.{Ascribed, AcceptedAreSent, IsWhole}
 use Rattle.carousel_world.specs.Headline.{IsAnswer, IsNodeAnswer, has_carousel, first_missing}
 
 abbrev pub repeated : {A : Type 0} → ℕ → List A → List A
@@ -40,7 +39,7 @@ publication carousel cycles t = record {
   carousel = carousel;
   trees = [] ∷ t ∷ [];
   layouts = layouts_for carousel t;
-  air = map (λ item. (1, item)) (items_sent carousel cycles t);
+  groups = record { generation = 1; items = items_sent carousel cycles t } ∷ [];
 }
 
 -- its packets, on PID 256 with continuity counters from 0
@@ -56,27 +55,27 @@ published carousel cycles t = concat (packets_sent carousel cycles t)
 -- each path opens
 pub record MeetsTree (carousel : ℕ) (t : Tree) (candidates : List Bytes) : Type 0 where
   pub silent : (p : PathNames) → has_carousel candidates ≡ false → answer_after candidates p ≡ answers.NoCarousel
-  pub told : (p : PathNames) → has_carousel candidates ≡ true
-      → IsAnswer (first_missing carousel (layout_for carousel t) (held_after (map heard candidates)) p) (node_at t p) (answer_after candidates p)
+  pub known : (p : PathNames) → has_carousel candidates ≡ true
+      → IsAnswer (first_missing carousel (layout_for carousel t) candidates p) (node_at t p) (answer_after candidates p)
   pub opens : (p : PathNames) → IsWhole carousel (layouts_for carousel t) 1 candidates → IsNodeAnswer (answer_after candidates p) (node_at t p)
 
--- for every tree that can be published, however the accepted candidates are ascribed to its air
-abbrev pub MeetsAir : List Bytes → (carousel cycles : ℕ) → Tree → Ascribed → Type 0
-MeetsAir candidates carousel cycles t is_from = carousel < 4294967296 → IsPublishable t
-    → NoChance (publication carousel cycles t) candidates is_from → MeetsTree carousel t candidates
+-- for every tree that can be published, however the accepted candidates are ascribed to what is sent of it
+abbrev pub MeetsPublication : List Bytes → (carousel cycles : ℕ) → Tree → Ascribed → Type 0
+MeetsPublication candidates carousel cycles t is_from = carousel < 4294967296 → IsPublishable t
+    → AcceptedAreSent (publication carousel cycles t) candidates is_from → MeetsTree carousel t candidates
 
 -- for every such tree, and every way in which the packets can be from its cycles
 abbrev pub MeetsPublished : ℕ → List Bytes → List Bytes → Type 0
 MeetsPublished pid packets candidates = (carousel cycles : ℕ) (t : Tree) (from : Ascription) → NeverBack from
-    → MeetsAir candidates carousel cycles t (IsAscribed (publication carousel cycles t) pid packets from)
+    → MeetsPublication candidates carousel cycles t (IsAscribed (publication carousel cycles t) pid packets from)
 
 -- the same over sections that stand back to back
 abbrev pub MeetsPublishedSections : List Bytes → Type 0
 MeetsPublishedSections candidates = (carousel cycles : ℕ) (t : Tree) (from : Ascription) → NeverBack from
-    → MeetsAir candidates carousel cycles t (λ i k. from i ≡ Some k)
+    → MeetsPublication candidates carousel cycles t (λ i k. from i ≡ Some k)
 
 -- it holds of whatever is heard
-pub record EveryReceptionMeets : Type 0 where
+pub record EveryPublicationMeets : Type 0 where
   pub packets : (pid : ℕ) (packets : List Bytes) → MeetsPublished pid packets (candidates pid packets)
   pub sections : (candidates : List Bytes) → MeetsPublishedSections candidates
 

@@ -1,17 +1,39 @@
 //! The laws, as functions that do nothing.
 ghost use Rattle.carousel_world.specs.Instances.{PremisesCanBeMet};
-ghost use Rattle.carousel_world.specs.Publishing.{EachCycleOpens, EveryReceptionMeets};
+ghost use Rattle.carousel_world.specs.Publishing.{EachCycleOpens, EveryPublicationMeets};
+ghost use Rattle.carousel_world.specs.Receptions.{EveryReceptionMeets, LabelsNeverFall};
 
-/// Whatever of the cycles of one published tree a receiver hears, lost, damaged, repeated or interleaved with others: while each
-/// section that is accepted is one that was sent, each answer is the tree's own lookup, byte for byte. It is `NotYet` exactly where
-/// a module on the path's walk isn't whole, and names the first, and `NoCarousel` exactly where no DSI or no DII was heard. After a
-/// whole cycle every path opens.
+/// Whatever a receiver hears of a carousel whose tree changes from generation to generation, lost, damaged, repeated or interleaved
+/// with other packets: while each section that is accepted is one that was sent, in the order of sending, and while fewer than 256
+/// commits separate a block from the DII heard before it, each answer tells of one generation. It is the path's lookup in that
+/// generation's tree, byte for byte, and the label is the generation's number: one that was published and sent, and whose DII was
+/// heard. The answer is `NotYet` exactly where a module on the path's walk isn't whole, and names the first, and `NoCarousel`
+/// exactly where no DSI or no DII was heard. After a whole cycle of a generation, with no DII of a later one, every path of it opens.
+///
+/// It holds of the candidates of any list of packets, whatever their PIDs, and of any list of sections.
 pub fn every_reception_meets()
     ensures { EveryReceptionMeets }
 {
     dsmcc_section::spellings_read();
     ddb_block::spellings_read();
     dsi_dii::spellings_read_back();
+    generation::equal_versions_mean_equal_bytes();
+    section_stream::cuts_come_in_order();
+    section_stream::sections_start_where_they_are_put();
+}
+
+/// With more that is heard, the number of the generation that a receiver holds never falls. Nothing is premised of what is heard.
+pub fn labels_never_fall()
+    ensures { LabelsNeverFall }
+{
+    section_stream::candidates_grow();
+}
+
+/// The same of one published tree that is sent in whole cycles, where nothing has to be near: all that is sent is of one generation.
+pub fn every_publication_meets()
+    ensures { EveryPublicationMeets }
+{
+    every_reception_meets();
     generation::layouts_are_lawful();
 }
 
@@ -19,7 +41,7 @@ pub fn every_reception_meets()
 pub fn each_cycle_opens()
     ensures { EachCycleOpens }
 {
-    every_reception_meets();
+    every_publication_meets();
     dsmcc_section::spellings_read();
     ddb_block::spellings_read();
     dsi_dii::spellings_read_back();
@@ -27,12 +49,17 @@ pub fn each_cycle_opens()
     section_stream::packets_give_the_sections();
 }
 
-/// The premises of the other two laws can be met, and the answers differ: some tree of a file can be published; what is published
+/// The premises of the other laws can be met, and the answers differ: some tree of a file can be published; what is published
 /// are items of its generation, in order; its sections, as they were sent, are ascribed to themselves, and from one cycle on they
 /// are a whole one. Who has heard the control sections alone waits for module 1, in which the gateway lies, whatever the path.
+///
+/// All premises hold together of two receptions of packets, of a whole cycle of the later of two generations each. In one the
+/// first packet is lost, one comes twice and a byte of a block is changed; in the other a block is heard before the DII of its
+/// generation and carried over that DII. Both answer that a module isn't whole before they answer the file.
 pub fn premises_can_be_met()
     ensures { PremisesCanBeMet }
 {
+    every_publication_meets();
     dsmcc_section::spellings_read();
     ddb_block::spellings_read();
     dsi_dii::spellings_read_back();

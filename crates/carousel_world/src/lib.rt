@@ -3,4 +3,7 @@
 
 mod laws;
 
-pub use laws::{each_cycle_opens, every_reception_meets, premises_can_be_met};
+pub use laws::{
+    each_cycle_opens, every_publication_meets, every_reception_meets, labels_never_fall,
+    premises_can_be_met,
+};

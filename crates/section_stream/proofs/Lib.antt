@@ -7,3 +7,5 @@ pub mod Opening
 pub mod Taking
 pub mod Packed
 pub mod Filling
+pub mod Places
+pub mod Starting

@@ -2,11 +2,12 @@
 use Rattle.std.proofs.Common.{◌≡◌, ℕ, zero, suc, ◌+◌, ◌-◌, ◌*◌, ◌%◌, ◌<◌, ◌≤◌, Bool, true, false, not, ◌&&◌, ◌||◌, ◌==◌, nat_le, List, [], ◌∷◌, ◌++◌, length, take, drop, replicate, slice_index, Some, Ok, if◌then◌else◌, refl, sym, ◌∙◌, ap, subst, arith, append_assoc, append-nil, add-zero, length-drop, ◌⊎◌, inl, inr}
 use Rattle.std.specs.List.{All}
 use Rattle.std.proofs.lemmas.Grind.{common_steps}
-use Rattle.std.proofs.lemmas.List.{map-append, replicate-append-replicate, drop-append-le, take_all, drop_all, take-append-drop, length-take-le}
+use Rattle.std.proofs.Common.{length-append}
+use Rattle.std.proofs.lemmas.List.{replicate-append-replicate, drop-append-le, take_all, drop_all, take-append-drop, length-take, length-take-le, length-replicate}
 use Rattle.std.proofs.lemmas.Bool.{cases_lt, leb-true}
 use Rattle.std.proofs.Math.Seq.{take-append_seam, drop-append_seam}
 use Rattle.ts_packet.specs.Packets.{parsed, packet_bytes}
-use Rattle.section_stream.specs.Cuts.{Bytes, Received, kept_of, is_repeat, without_repeats_of, without_repeats, pointer_fits, going_on, whole_len, opened_in, cuts_at, cuts_of, candidates}
+use Rattle.section_stream.specs.Cuts.{Bytes, Received, Cut, kept_of, is_repeat, without_repeats_of, without_repeats, pointer_fits, going_on, whole_len, opened_in, cuts_at, cuts_of, cuts, candidates}
 use Rattle.section_stream.specs.Packing.{MuxState, IsSectionLike, filled, pieces, packet_count, past, packets_of_all}
 use Rattle.section_stream.proofs.Cutting.{bytes_of}
 use Rattle.section_stream.proofs.Outputs.{received_from}
@@ -176,18 +177,22 @@ opens_none k bytes more n e = rw (stuffing_begins_none bytes more n e) refl
 whole_with_stuffing : (s : Bytes) (n : ℕ) → IsSectionLike s → whole_len (s ++ replicate n 0xFF) ≡ Some (length s)
 whole_with_stuffing s n h = grind (arith, common_steps, h.size.0, h.size.1, h.length_field)
 
+-- the candidate of a section that begins behind the pointer field of packet k
+abbrev pub cut_at : ℕ → Bytes → Cut
+cut_at k s = record { packet = k; offset = 5; bytes = s }
+
 -- a section with stuffing behind it is the one candidate that opens there
-opens-section : (s : Bytes) (k : ℕ) (here more : Bytes) (n : ℕ) → IsSectionLike s → 0 < length here → here ++ more ≡ s ++ replicate n 0xFF
-    → bytes_of (opened_in 188 k here more) ≡ s ∷ []
-opens-section s k here more n h some e = go (nat_le (length s) (length here)) refl where
+opens-section : (s : Bytes) (k : ℕ) (here more : Bytes) (n : ℕ) → IsSectionLike s → length here ≡ 183 → here ++ more ≡ s ++ replicate n 0xFF
+    → opened_in 188 k here more ≡ cut_at k s ∷ []
+opens-section s k here more n h size e = go (nat_le (length s) (length here)) refl where
   first_byte : slice_index here 0 ≡ slice_index s 0
   first_byte =
-      let a : slice_index (here ++ more) 0 ≡ slice_index here 0 = grind (arith, common_steps, some) in
+      let a : slice_index (here ++ more) 0 ≡ slice_index here 0 = grind (arith, common_steps, size) in
       let b : slice_index (s ++ replicate n 0xFF) 0 ≡ slice_index s 0 = grind (arith, common_steps, h.size.0) in
       sym a ∙ ap (λ x. slice_index x 0) e ∙ b
 
   begins : ((length here == 0) || (slice_index here 0 == 0xFF)) ≡ false
-  begins = grind (arith, first_byte, some, h.first)
+  begins = grind (arith, first_byte, size, h.first)
 
   whole : whole_len (here ++ more) ≡ Some (length s)
   whole = ap whole_len e ∙ whole_with_stuffing s n h
@@ -198,18 +203,20 @@ opens-section s k here more n h some e = go (nat_le (length s) (length here)) re
   rest : length s ≤ length here → drop (length s) here ++ more ≡ replicate n 0xFF
   rest i = sym (drop-append-le (length s) here more i) ∙ ap (drop (length s)) e ∙ drop-append_seam s (replicate n 0xFF)
 
-  go : (b : Bool) → nat_le (length s) (length here) ≡ b → bytes_of (opened_in 188 k here more) ≡ s ∷ []
-  go false t = rw (begins, whole, t, taken) refl
-  go true t = rw (begins, whole, t, taken, opens_none k (drop (length s) here) more n (rest (leb-true (length s) (length here) t))) refl
+  place : 188 - length here ≡ 5
+  place = omega (arith, size)
+
+  go : (b : Bool) → nat_le (length s) (length here) ≡ b → opened_in 188 k here more ≡ cut_at k s ∷ []
+  go false t = rw (begins, whole, t, taken, place) refl
+  go true t = rw (begins, whole, t, taken, place, opens_none k (drop (length s) here) more n (rest (leb-true (length s) (length here) t))) refl
 
 -- the packets of one section cut that section, and then what comes behind them
 one-section : (s : Bytes) (n k c : ℕ) (later : List Received) → IsSectionLike s → length s + 1 ≤ 184 * n → ((d : ℕ) → going_on d later ≡ [])
-    → bytes_of (cuts_of (taken_as n k true c (0 ∷ s) ++ later)) ≡ s ∷ bytes_of (cuts_of later)
+    → cuts_of (taken_as n k true c (0 ∷ s) ++ later) ≡ cut_at k s ∷ cuts_of later
 one-section s zero k c later h fits none = absurd (omega (arith, fits))
 one-section s (suc n) k c later h fits none =
-    map-append (λ x. x.bytes) (cuts_at first behind) (cuts_of behind)
-    ∙ ap (λ x. x ++ bytes_of (cuts_of behind)) (ap bytes_of at_first ∙ ap (λ m. bytes_of (opened_in 188 k here m)) more_is ∙ opened)
-    ∙ ap (λ x. s ∷ bytes_of x) (no-cuts n (k + 1) ((c + 1) % 16) (drop 184 (0 ∷ s)) later) where
+    ap (λ x. x ++ cuts_of behind) (at_first ∙ ap (λ m. opened_in 188 k here m) more_is ∙ opened)
+    ∙ ap (λ x. cut_at k s ∷ x) (no-cuts n (k + 1) ((c + 1) % 16) (drop 184 (0 ∷ s)) later) where
       first : Received
       first = record { number = k; start = true; counter = c; payload = filled (take 184 (0 ∷ s)) }
 
@@ -231,23 +238,35 @@ one-section s (suc n) k c later h fits none =
       together : here ++ payloads n (drop 184 (0 ∷ s)) ≡ s ++ replicate (184 * suc n - length (0 ∷ s)) 0xFF
       together = ap (drop 1) (payloads-are (suc n) (0 ∷ s) (omega (arith, fits)))
 
-      some : 0 < length here
-      some = grind (arith, common_steps)
+      size : length here ≡ 183
+      size = simp (length-append, length-replicate) (omega (arith, length-take 183 s))
 
-      opened : bytes_of (opened_in 188 k here (payloads n (drop 184 (0 ∷ s)))) ≡ s ∷ []
-      opened = opens-section s k here (payloads n (drop 184 (0 ∷ s))) (184 * suc n - length (0 ∷ s)) h some together
+      opened : opened_in 188 k here (payloads n (drop 184 (0 ∷ s))) ≡ cut_at k s ∷ []
+      opened = opens-section s k here (payloads n (drop 184 (0 ∷ s))) (184 * suc n - length (0 ∷ s)) h size together
+
+-- the candidates of sections of which the first begins in packet k
+abbrev pub cuts_from : ℕ → List Bytes → List Cut
+cuts_from k [] = []
+cuts_from k (s ∷ ss) = cut_at k s ∷ cuts_from (k + packet_count s) ss
 
 -- the packets of sections cut those sections
-all-cuts : (k : ℕ) (m : MuxState) (sections : List Bytes) → All IsSectionLike sections → bytes_of (cuts_of (all_taken k m sections)) ≡ sections
+all-cuts : (k : ℕ) (m : MuxState) (sections : List Bytes) → All IsSectionLike sections → cuts_of (all_taken k m sections) ≡ cuts_from k sections
 all-cuts k m [] h = refl
 all-cuts k m (s ∷ ss) h =
     one-section s (packet_count s) k m.counter (all_taken (k + packet_count s) (past m s) ss) (h 0 s (omega arith)) fits (λ d. nothing-goes-on (k + packet_count s) d (past m s) ss)
-    ∙ ap (λ x. s ∷ x) (all-cuts (k + packet_count s) (past m s) ss (λ i d b. h (suc i) d (omega (arith, b)))) where
+    ∙ ap (λ x. cut_at k s ∷ x) (all-cuts (k + packet_count s) (past m s) ss (λ i d b. h (suc i) d (omega (arith, b)))) where
       fits : length s + 1 ≤ 184 * packet_count s
       fits = omega arith
 
-pub packets-cut : (m : MuxState) (sections : List Bytes) → m.pid < 8192 → m.counter < 16 → All IsSectionLike sections → candidates m.pid (packets_of_all m sections) ≡ sections
-packets-cut m sections h i all =
-    ap (λ rs. bytes_of (cuts_of (without_repeats rs))) (received-packets 0 m sections h i)
-    ∙ ap (λ rs. bytes_of (cuts_of rs)) (all_stay (all_taken 0 m sections) m.counter (follow-all 0 m sections i))
+pub packets-cuts : (m : MuxState) (sections : List Bytes) → m.pid < 8192 → m.counter < 16 → All IsSectionLike sections → cuts m.pid (packets_of_all m sections) ≡ cuts_from 0 sections
+packets-cuts m sections h i all =
+    ap (λ rs. cuts_of (without_repeats rs)) (received-packets 0 m sections h i)
+    ∙ ap (λ rs. cuts_of rs) (all_stay (all_taken 0 m sections) m.counter (follow-all 0 m sections i))
     ∙ all-cuts 0 m sections all
+
+their_bytes : (k : ℕ) (sections : List Bytes) → bytes_of (cuts_from k sections) ≡ sections
+their_bytes k [] = refl
+their_bytes k (s ∷ ss) = ap (λ xs. s ∷ xs) (their_bytes (k + packet_count s) ss)
+
+pub packets-cut : (m : MuxState) (sections : List Bytes) → m.pid < 8192 → m.counter < 16 → All IsSectionLike sections → candidates m.pid (packets_of_all m sections) ≡ sections
+packets-cut m sections h i all = ap bytes_of (packets-cuts m sections h i all) ∙ their_bytes 0 sections

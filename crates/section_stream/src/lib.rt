@@ -10,7 +10,10 @@ mod payload;
 
 pub use counts::Counts;
 pub use demux::Demux;
-pub use laws::{candidates_grow, packets_give_the_sections};
+pub use laws::{
+    candidates_grow, cuts_come_in_order, packets_give_the_sections,
+    sections_start_where_they_are_put,
+};
 pub use mux::Mux;
 
 #[cfg(test)]

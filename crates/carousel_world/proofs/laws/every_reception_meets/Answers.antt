@@ -1,4 +1,4 @@
-use Rattle.carousel_world.proofs.Meeting.{every_reception}
+use Rattle.carousel_world.proofs.Premising.{every_reception}
 use Rattle.carousel_world.proofs.laws.every_reception_meets.Goals as goal
 
 pub returns : goal.returns
@@ -10,4 +10,4 @@ returns c = every_reception (record {
   dii_size = c.spellings_read_back.ensures.dii_size;
   dsi = c.spellings_read_back.ensures.dsi;
   dsi_size = c.spellings_read_back.ensures.dsi_size;
-}) c.layouts_are_lawful.ensures
+}) c.equal_versions_mean_equal_bytes.ensures c.cuts_come_in_order.ensures c.sections_start_where_they_are_put.ensures

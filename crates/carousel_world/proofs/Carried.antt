@@ -1,0 +1,119 @@
+-- A reception in which a block is carried over a turn meets the premises.
+use Rattle.std.proofs.Common.{ℕ, zero, suc, ◌<◌, List, [], ◌∷◌, take, Some, refl, slice_get, arith, lit<, lit≤}
+use Rattle.std.specs.List.{Contains}
+use Rattle.std.specs.Option.{unwrap_or}
+use Rattle.std.proofs.lemmas.List.Elements.{All-nil, All-cons}
+use Rattle.path_tree.specs.Paths.{Bytes}
+use Rattle.biop_object.specs.Names.{module_in}
+use Rattle.cycle_planner.specs.declared.Item.{Item}
+use Rattle.cycle_planner.specs.declared.Item.TheVariants.{Dsi, Dii, Block}
+use Rattle.ddb_block.specs.Message.{message_at}
+use Rattle.ddb_block.specs.Blocks.{block_at}
+use Rattle.ior_tap.specs.IorReading.{each_at, tap_at, component_at, location_at, taps_at, components_at, profile_at, ior_at}
+use Rattle.dsi_dii.specs.ControlReading.{info_at, line_at, dii_at, dsi_at, head_at, sized_at, frame_at, private_at}
+use Rattle.biop_object.specs.ObjectReading.{binding_at, context_at, file_at, folder_at, object_at, inside_at}
+use Rattle.generation.specs.Kept.{LayoutsAreLawful}
+use Rattle.generation.specs.Lawful.{ArePublishable, IsPublishable, layout_at, section_in}
+use Rattle.path_resolver.specs.declared.answer.Answer.TheVariants as answers
+use Rattle.section_stream.specs.Cuts.{candidates}
+use Rattle.carousel_world.specs.Broadcasts.{IsAscribed}
+use Rattle.carousel_world.specs.Premises.{AcceptedAreSent, IsWhole}
+use Rattle.carousel_world.specs.Instances.{tree_of, seven, carried_over, same_file, IsPremised, Tells, CarryingIsPremised}
+use Rattle.carousel_world.proofs.Instances.{seven_publishable}
+use Rattle.carousel_world.proofs.Premised.{never_back_by, heard_by, its_blocks}
+
+abbrev pub section : ℕ → Item → Bytes
+section g item = section_in 1 same_file.layouts g item
+
+abbrev pub all : List Bytes
+all = candidates 256 carried_over.packets
+
+-- ---- each accepted candidate was sent
+
+abbrev pub From : ℕ → ℕ → Type 0
+From i k = IsAscribed same_file 256 carried_over.packets (slice_get carried_over.numbers) i k
+
+of_dsi : From 0 0
+of_dsi = record { cut = record { packet = 0; offset = 5; bytes = section 1 Dsi }; is = refl; packet = 0; came = refl; begins = refl }
+
+of_dii : From 1 1
+of_dii = record { cut = record { packet = 1; offset = 5; bytes = section 1 Dii }; is = refl; packet = 1; came = refl; begins = refl }
+
+of_first_block : From 2 6
+of_first_block = record { cut = record { packet = 2; offset = 5; bytes = section 2 (Block 1 0) }; is = refl; packet = 28; came = refl; begins = refl }
+
+of_second_dii : From 3 9
+of_second_dii = record { cut = record { packet = 25; offset = 5; bytes = section 2 Dii }; is = refl; packet = 53; came = refl; begins = refl }
+
+of_second_block : From 4 11
+of_second_block = record { cut = record { packet = 26; offset = 5; bytes = section 2 (Block 1 1) }; is = refl; packet = 77; came = refl; begins = refl }
+
+of_last_block : From 5 14
+of_last_block = record { cut = record { packet = 27; offset = 5; bytes = section 2 (Block 1 0) }; is = refl; packet = 80; came = refl; begins = refl }
+
+accepted_are_sent : AcceptedAreSent same_file all From
+accepted_are_sent zero bytes e accepted = (0, of_dsi, e)
+accepted_are_sent (suc zero) bytes e accepted = (1, of_dii, e)
+accepted_are_sent (suc (suc zero)) bytes e accepted = (6, of_first_block, e)
+accepted_are_sent (suc (suc (suc zero))) bytes e accepted = (9, of_second_dii, e)
+accepted_are_sent (suc (suc (suc (suc zero)))) bytes e accepted = (11, of_second_block, e)
+accepted_are_sent (suc (suc (suc (suc (suc zero))))) bytes e accepted = (14, of_last_block, e)
+accepted_are_sent (suc (suc (suc (suc (suc (suc i)))))) bytes e accepted = cc
+
+-- ---- a whole cycle
+
+abbrev module_bytes : Bytes
+module_bytes = unwrap_or (module_in (layout_at same_file.layouts 2) 1) []
+
+abbrev pub later : List Bytes
+later = section 2 (Block 1 1) ∷ section 2 (Block 1 0) ∷ []
+
+each_block : (b : ℕ) → b < 2 → Contains later (section 2 (Block 1 b))
+each_block zero lt = (1, lit< tt, refl)
+each_block (suc zero) lt = (0, lit< tt, refl)
+each_block (suc (suc b)) lt = absurd (omega (arith, lt))
+
+whole : IsWhole 1 same_file.layouts 2 all
+whole = record {
+  generation = lit< tt;
+  gateway = (0, lit< tt, refl);
+  round = record {
+    before = take 3 all;
+    after = later;
+    place = refl;
+    blocks = λ m b every item. its_blocks same_file.layouts 2 module_bytes later 1 2 refl refl each_block m b item;
+  };
+  no_later = λ h above below has. let few : h < 3 = below in absurd (omega (arith, above, few));
+}
+
+both : ArePublishable 1 (tree_of seven ∷ tree_of seven ∷ [])
+both = record {
+  carousel_id = lit< tt;
+  few = lit≤ tt;
+  each = All-cons IsPublishable (tree_of seven) (tree_of seven ∷ []) seven_publishable
+      (All-cons IsPublishable (tree_of seven) [] seven_publishable (All-nil IsPublishable));
+}
+
+premised : LayoutsAreLawful → IsPremised carried_over 2
+premised lawful = record {
+  never_back = never_back_by carried_over.numbers refl;
+  heard = heard_by lawful (tree_of seven ∷ tree_of seven ∷ []) (1 ∷ 2 ∷ 2 ∷ 2 ∷ []) all From both refl refl refl accepted_are_sent;
+  whole = whole;
+}
+
+-- ---- what is answered
+
+before : Tells carried_over 25 (Some 1) (answers.NotYet 1)
+unfolding message_at block_at each_at tap_at component_at location_at taps_at components_at profile_at ior_at info_at line_at dii_at dsi_at binding_at context_at file_at folder_at object_at head_at sized_at frame_at private_at inside_at
+before = record { label_is = refl; answer_is = refl }
+
+turned : Tells carried_over 26 (Some 2) (answers.NotYet 1)
+unfolding message_at block_at each_at tap_at component_at location_at taps_at components_at profile_at ior_at info_at line_at dii_at dsi_at binding_at context_at file_at folder_at object_at head_at sized_at frame_at private_at inside_at
+turned = record { label_is = refl; answer_is = refl }
+
+carried : Tells carried_over 27 (Some 2) (answers.File seven)
+unfolding message_at block_at each_at tap_at component_at location_at taps_at components_at profile_at ior_at info_at line_at dii_at dsi_at binding_at context_at file_at folder_at object_at head_at sized_at frame_at private_at inside_at
+carried = record { label_is = refl; answer_is = refl }
+
+pub carrying : LayoutsAreLawful → CarryingIsPremised
+carrying lawful = record { premised = premised lawful; before = before; turned = turned; carried = carried }

@@ -1,0 +1,89 @@
+-- What a receiver owes of whatever it hears, over many generations.
+use Rattle.std.specs.Prelude.{◌≡◌, ℕ, ◌<◌, ◌≤◌, true, false, List, [], ◌∷◌, ◌++◌, length, map, Option, Some, None, slice_get}
+use Rattle.std.specs.List.{Contains, list_any}
+use Rattle.path_tree.specs.Paths.{Bytes, PathNames}
+use Rattle.path_tree.specs.Trees.{node_at}
+use Rattle.biop_object.specs.Names.{module_in}
+use Rattle.ddb_block.specs.Blocks.{block_of}
+use Rattle.dsi_dii.specs.Controls.{DiiFields}
+use Rattle.generation.specs.Lawful.{layout_at, tree_at, dii_in}
+use Rattle.path_resolver.specs.declared.answer.Answer.{Answer}
+use Rattle.path_resolver.specs.declared.answer.Answer.TheVariants as answers
+use Rattle.section_stream.specs.Cuts.{candidates}
+use Rattle.tuner_core.specs.Heard.{ADii, heard}
+use Rattle.tuner_core.specs.Spans.{Span, spans, label_in, answer_after}
+use Rattle.carousel_world.specs.Broadcasts.{Broadcast, Sending, sendings, Ascription, NeverBack, IsAscribed}
+use Rattle.carousel_world.specs.Headline.{IsAnswer, IsNodeAnswer, is_dii, has_carousel, first_missing, block_there}
+use Rattle.carousel_world.specs.Premises.{IsHeardOf, IsWhole}
+
+-- the number of the generation that a receiver takes what it holds for
+abbrev pub label_after : List Bytes → Option ℕ
+label_after candidates = label_in (spans (map heard candidates))
+
+-- the last DII that turned
+abbrev pub newest_dii : List Span → Option DiiFields
+newest_dii [] = None
+newest_dii (s ∷ ss) = Some s.dii
+
+-- something of this generation was sent
+abbrev pub IsSentIn : Broadcast → ℕ → Type 0
+IsSentIn b g = (k : ℕ) × (s : Sending) × (slice_get (sendings b) k ≡ Some s) × (s.0 ≡ g)
+
+-- All that is held is of one generation, whose number the label is. It was published, something of it was sent, and its DII was heard
+-- and is the last that turned. Each block that is there is the one of its modules, whole or not.
+pub record HoldsOne (b : Broadcast) (candidates : List Bytes) (generation : ℕ) : Type 0 where
+  pub labelled : label_after candidates ≡ Some generation
+  pub published : generation < length b.layouts
+  pub sent : IsSentIn b generation
+  pub dii_heard : Contains (map heard candidates) (ADii (dii_in b.carousel b.layouts generation))
+  pub turned : newest_dii (spans (map heard candidates)) ≡ Some (dii_in b.carousel b.layouts generation)
+  pub blocks : (m n : ℕ) (bytes block : Bytes) → module_in (layout_at b.layouts generation) m ≡ Some bytes → block_there candidates m n ≡ Some block
+      → block ≡ block_of bytes 4066 n
+
+-- The label is that generation's number. The answer is the path's lookup in its tree, or the first module on the walk in its layout
+-- that isn't whole.
+pub record IsOfOne (b : Broadcast) (candidates : List Bytes) (p : PathNames) (label : Option ℕ) (answer : Answer) : Type 0 where
+  pub generation : ℕ
+  pub labelled : label ≡ Some generation
+  pub holds : HoldsOne b candidates generation
+  pub answered : IsAnswer (first_missing b.carousel (layout_at b.layouts generation) candidates p) (node_at (tree_at b.trees generation) p) answer
+
+-- label and answer are of one generation; NoCarousel comes exactly where no DSI or no DII was heard
+pub record TellsOne (b : Broadcast) (candidates : List Bytes) (p : PathNames) (label : Option ℕ) (answer : Answer) : Type 0 where
+  pub silent : has_carousel candidates ≡ false → answer ≡ answers.NoCarousel
+  pub known : has_carousel candidates ≡ true → IsOfOne b candidates p label answer
+
+-- From the first DII on all that is held is of one generation; each answer tells of that one; and after a whole cycle of a generation
+-- each path of it opens.
+pub record Meets (b : Broadcast) (candidates : List Bytes) : Type 0 where
+  pub held : list_any is_dii (map heard candidates) ≡ true → (g : ℕ) × HoldsOne b candidates g
+  pub answers : (p : PathNames) → TellsOne b candidates p (label_after candidates) (answer_after candidates p)
+  pub opens : (g : ℕ) (p : PathNames) → IsWhole b.carousel b.layouts g candidates → IsNodeAnswer (answer_after candidates p) (node_at (tree_at b.trees g) p)
+
+-- over packets: for every broadcast and every way in which the packets can be from it
+abbrev pub MeetsOnPackets : ℕ → List Bytes → List Bytes → Type 0
+MeetsOnPackets pid packets candidates = (b : Broadcast) (from : Ascription) → NeverBack from
+    → IsHeardOf b candidates (IsAscribed b pid packets from) → Meets b candidates
+
+-- the same over sections that stand back to back, where each section is from one that was sent, or none
+abbrev pub MeetsOnSections : List Bytes → Type 0
+MeetsOnSections candidates = (b : Broadcast) (from : Ascription) → NeverBack from
+    → IsHeardOf b candidates (λ i k. from i ≡ Some k) → Meets b candidates
+
+-- it holds of whatever is heard
+pub record EveryReceptionMeets : Type 0 where
+  pub packets : (pid : ℕ) (packets : List Bytes) → MeetsOnPackets pid packets (candidates pid packets)
+  pub sections : (candidates : List Bytes) → MeetsOnSections candidates
+
+-- ---- a receiver's generations
+
+-- from no label to any, and from a label to one that isn't lower
+abbrev pub GoesOn : Option ℕ → Option ℕ → Type 0
+GoesOn None later = Unit {0}
+GoesOn (Some g) (Some h) = g ≤ h
+GoesOn (Some g) None = ⊥
+
+-- with more that is heard the label never falls, whatever it is
+pub record LabelsNeverFall : Type 0 where
+  pub sections : (candidates more : List Bytes) → GoesOn (label_after candidates) (label_after (candidates ++ more))
+  pub packets : (pid : ℕ) (packets more : List Bytes) → GoesOn (label_after (candidates pid packets)) (label_after (candidates pid (packets ++ more)))
