@@ -1,44 +1,53 @@
 -- One more entry, and what the catalogue keeps beside the entries.
-use Rattle.std.proofs.Common.{◌≡◌, ◌≢◌, ℕ, zero, suc, ◌+◌, ◌<◌, ◌≤◌, Bool, true, false, List, [], ◌∷◌, ◌++◌, length, take, Option, Some, None, Result, Ok, Err, MatchOption, slice_get, refl, ap, sym, ◌∙◌, subst, arith, eqb, ltb, ◌⊎◌, inl, inr, if◌then◌else◌}
+use Rattle.std.proofs.Common.{◌≡◌, ◌≢◌, ℕ, zero, suc, ◌+◌, ◌<◌, ◌≤◌, Bool, true, false, List, [], ◌∷◌, ◌++◌, length, take, drop, min, ◌-◌, ◌%◌, Option, Some, None, Result, Ok, Err, MatchOption, slice_get, refl, ap, sym, ◌∙◌, subst, arith, eqb, ltb, ◌⊎◌, inl, inr, if◌then◌else◌, ◌==◌, cond}
 use Rattle.std.specs.Bool.{⊤}
 use Rattle.std.specs.Option.{unwrap_or}
-use Rattle.std.specs.List.{fold, last_or}
+use Rattle.std.specs.List.{All, Contains, fold, last_or, count_by}
 use Rattle.std.proofs.lemmas.List.{take-append-le, take_at}
 use Rattle.std.proofs.lemmas.List.Sums.{fold_push, sum_by_push}
 use Rattle.std.proofs.lemmas.List.Elements.{All-push}
+use Rattle.std.proofs.lemmas.List.{length-append}
+use Rattle.std.proofs.Math.Nat.{zero-mod, mod-add-mod, mod_self, mod-eq_of_lt, add-zero}
 use Rattle.std.proofs.lemmas.Option.{same_Some}
-use Rattle.std.proofs.lemmas.Bool.{ne_eqb, le-ltb, eqb-false, ltb-false}
+use Rattle.std.proofs.lemmas.Bool.{ne_eqb, le-ltb, eqb-false, eqb-true, ltb-false}
 use Rattle.oc_bytes.specs.Outcome.{capped}
 use Rattle.path_tree.specs.Trees.{Tree}
 use Rattle.path_tree.specs.Edits.{apply_all}
 use Rattle.path_tree.specs.declared.tree.Edit.{Edit}
+use Rattle.path_tree.specs.declared.tree.EditFault.{EditFault}
 use Rattle.path_tree.specs.declared.tree.ApplyFault.{ApplyFault}
 use Rattle.path_tree.specs.declared.tree.ApplyFault.TheVariants as apply_faults
 use Rattle.path_tree.specs.Edits.{apply_cause}
+use Rattle.generation.specs.Publication as passed
 use Rattle.generation.specs.Publication.{Passed, limit_of}
 use Rattle.generation.specs.Limits.{check_of, unless_passed, limit_cause}
 use Rattle.generation.specs.declared.limit.Limit.{Limit}
 use Rattle.generation.specs.declared.limit.Limit.TheVariants as limits
-use Rattle.generation.specs.Layouts.{GenerationState, first_of, next_of, generation_of}
+use Rattle.generation.specs.Lawful.{IsPublishable, ArePublishable}
+use Rattle.cycle_planner.specs.Cycle.{cycle_of}
+use Rattle.cycle_planner.specs.declared.Item.{Item}
+use Rattle.generation.specs.Layouts.{GenerationState, first_of, next_of, generation_of, lines_of}
 use Rattle.generation_catalogue.specs.declared.entry.Refusal.{Refusal}
 use Rattle.generation_catalogue.specs.declared.entry.Refusal.TheVariants as refusals
 use Rattle.generation_catalogue.specs.declared.entry.Entry.{Entry}
 use Rattle.generation_catalogue.specs.declared.entry.Entry.TheVariants as entries
 use Rattle.generation_catalogue.specs.declared.entry.CommitFault.{CommitFault}
-use Rattle.generation_catalogue.specs.History.{CatalogueState, put_bytes, put_bytes_of, or_same, last_tree, with_tree, trees_after, trees_of, current_of, journal_of, refusal_of, unless_limit, unless_edit, outcome_of, is_entered, with_entry, entry_after, IsEntered, IsHistory}
+use Rattle.generation_catalogue.specs.History.{CatalogueState, put_bytes, put_bytes_of, is_draw, draws_of, drawn_since, cycle_in, cursor_of, count_drawn, items_drawn, drawn, or_same, last_tree, with_tree, trees_after, trees_of, current_of, journal_of, refusal_of, unless_limit, unless_edit, outcome_of, is_entered, with_entry, entry_after, IsEntered, IsHistory}
 use Rattle.generation_catalogue.specs.Requests.{commit_cause, of_edits, of_limit, generation_after}
 
 -- ---- the trees
 
-trees_accepted : (es : List Entry) (ts : List Tree) (editor : ℕ) (edits : List Edit) (n : ℕ) → trees_after ts (es ++ entries.Commit editor edits (Ok n) ∷ []) ≡ with_tree (trees_after ts es) edits
+pub trees_accepted : (es : List Entry) (ts : List Tree) (editor : ℕ) (edits : List Edit) (n : ℕ) → trees_after ts (es ++ entries.Commit editor edits (Ok n) ∷ []) ≡ with_tree (trees_after ts es) edits
 trees_accepted [] ts editor edits n = refl
 trees_accepted (entries.Commit e x (Ok m) ∷ es) ts editor edits n = trees_accepted es (with_tree ts x) editor edits n
 trees_accepted (entries.Commit e x (Err r) ∷ es) ts editor edits n = trees_accepted es ts editor edits n
+trees_accepted (entries.Draw a g f k ∷ es) ts editor edits n = trees_accepted es ts editor edits n
 
-trees_refused : (es : List Entry) (ts : List Tree) (editor : ℕ) (edits : List Edit) (r : Refusal) → trees_after ts (es ++ entries.Commit editor edits (Err r) ∷ []) ≡ trees_after ts es
+pub trees_refused : (es : List Entry) (ts : List Tree) (editor : ℕ) (edits : List Edit) (r : Refusal) → trees_after ts (es ++ entries.Commit editor edits (Err r) ∷ []) ≡ trees_after ts es
 trees_refused [] ts editor edits r = refl
 trees_refused (entries.Commit e x (Ok m) ∷ es) ts editor edits r = trees_refused es (with_tree ts x) editor edits r
 trees_refused (entries.Commit e x (Err q) ∷ es) ts editor edits r = trees_refused es ts editor edits r
+trees_refused (entries.Draw a g f k ∷ es) ts editor edits r = trees_refused es ts editor edits r
 
 -- a generation's tree is the last of the trees that lead to it
 tree_from : (ts : List Tree) (g : GenerationState) → (fold next_of g ts).tree ≡ unwrap_or (last_or (Some g.tree) ts) []
@@ -59,6 +68,77 @@ current_accepted c editor edits n =
 
 pub current_refused : (c : CatalogueState) (editor : ℕ) (edits : List Edit) (r : Refusal) → current_of (with_entry c (entries.Commit editor edits (Err r))) ≡ current_of c
 current_refused c editor edits r = ap (generation_of c.carousel) (trees_refused c.entries [] editor edits r)
+
+pub trees_drawn : (es : List Entry) (ts : List Tree) (asked generation first count : ℕ) → trees_after ts (es ++ entries.Draw asked generation first count ∷ []) ≡ trees_after ts es
+trees_drawn [] ts asked generation first count = refl
+trees_drawn (entries.Commit e x (Ok m) ∷ es) ts asked generation first count = trees_drawn es (with_tree ts x) asked generation first count
+trees_drawn (entries.Commit e x (Err q) ∷ es) ts asked generation first count = trees_drawn es ts asked generation first count
+trees_drawn (entries.Draw a g f k ∷ es) ts asked generation first count = trees_drawn es ts asked generation first count
+
+current_drawn : (c : CatalogueState) (asked generation first count : ℕ) → current_of (with_entry c (entries.Draw asked generation first count)) ≡ current_of c
+current_drawn c asked generation first count = ap (generation_of c.carousel) (trees_drawn c.entries [] asked generation first count)
+
+-- a generation's number is how many trees lead to it
+number_from : (ts : List Tree) (g : GenerationState) → (fold next_of g ts).number ≡ g.number + length ts
+number_from [] g = omega arith
+number_from (t ∷ ts) g = let h = number_from ts (next_of g t) in omega (arith, h)
+
+pub number_is : (c : CatalogueState) → (current_of c).number ≡ length (trees_of c)
+number_is c = let h = number_from (trees_of c) (first_of c.carousel) in omega (arith, h)
+
+-- ---- the draws, and the cursor
+
+abbrev pub cycle_for : GenerationState → List Item
+cycle_for g = cycle_of (lines_of g)
+
+draws_more : (c : CatalogueState) (e : Entry) → draws_of (with_entry c e) ≡ draws_of c + cond (is_draw e) 1 0
+draws_more c e = fold_push (λ (n : ℕ) (x : Entry). n + cond (is_draw x) 1 0) 0 c.entries e
+
+since_accepted : (es : List Entry) (n editor : ℕ) (edits : List Edit) (k : ℕ) → drawn_since n (es ++ entries.Commit editor edits (Ok k) ∷ []) ≡ 0
+since_accepted [] n editor edits k = refl
+since_accepted (entries.Commit e x (Ok m) ∷ es) n editor edits k = since_accepted es 0 editor edits k
+since_accepted (entries.Commit e x (Err q) ∷ es) n editor edits k = since_accepted es n editor edits k
+since_accepted (entries.Draw a g f c ∷ es) n editor edits k = since_accepted es (n + c) editor edits k
+
+since_refused : (es : List Entry) (n editor : ℕ) (edits : List Edit) (r : Refusal) → drawn_since n (es ++ entries.Commit editor edits (Err r) ∷ []) ≡ drawn_since n es
+since_refused [] n editor edits r = refl
+since_refused (entries.Commit e x (Ok m) ∷ es) n editor edits r = since_refused es 0 editor edits r
+since_refused (entries.Commit e x (Err q) ∷ es) n editor edits r = since_refused es n editor edits r
+since_refused (entries.Draw a g f c ∷ es) n editor edits r = since_refused es (n + c) editor edits r
+
+since_drawn : (es : List Entry) (n asked generation first count : ℕ) → drawn_since n (es ++ entries.Draw asked generation first count ∷ []) ≡ drawn_since n es + count
+since_drawn [] n asked generation first count = refl
+since_drawn (entries.Commit e x (Ok m) ∷ es) n asked generation first count = since_drawn es 0 asked generation first count
+since_drawn (entries.Commit e x (Err q) ∷ es) n asked generation first count = since_drawn es n asked generation first count
+since_drawn (entries.Draw a g f c ∷ es) n asked generation first count = since_drawn es (n + c) asked generation first count
+
+pub cursor_accepted : (c : CatalogueState) (editor : ℕ) (edits : List Edit) (n : ℕ) → cursor_of (with_entry c (entries.Commit editor edits (Ok n))) ≡ 0
+cursor_accepted c editor edits n =
+    let after = with_entry c (entries.Commit editor edits (Ok n)) in
+    ap (λ (x : ℕ). x % length (cycle_in after)) (since_accepted c.entries 0 editor edits n) ∙ zero-mod (length (cycle_in after))
+
+cursor_refused : (c : CatalogueState) (editor : ℕ) (edits : List Edit) (r : Refusal) → cursor_of (with_entry c (entries.Commit editor edits (Err r))) ≡ cursor_of c
+cursor_refused c editor edits r =
+    ap (λ (x : ℕ). x % length (cycle_in (with_entry c (entries.Commit editor edits (Err r))))) (since_refused c.entries 0 editor edits r)
+    ∙ ap (λ (g : GenerationState). drawn_since 0 c.entries % length (cycle_for g)) (current_refused c editor edits r)
+
+-- the cursor is below the cycle's length
+pub cursor_below : (c : CatalogueState) → cursor_of c < length (cycle_in c)
+cursor_below c = omega arith
+
+-- what a draw adds to the cursor stays within the cycle
+modulo_next : (n d length : ℕ) → 0 < length → n % length + d ≤ length → (n + d) % length ≡ (if n % length + d == length then 0 else n % length + d)
+modulo_next n d length some within = sym (mod-add-mod n length d) ∙ by (eqb (n % length + d) length) refl where
+  by : (b : Bool) → eqb (n % length + d) length ≡ b → (n % length + d) % length ≡ (if b then 0 else n % length + d)
+  by true e = ap (λ (x : ℕ). x % length) (eqb-true (n % length + d) length e) ∙ mod_self length
+  by false e = let ne = eqb-false (n % length + d) length e in mod-eq_of_lt {n = n % length + d} {m = length} (omega (arith, ne, within))
+
+pub cursor_drawn : (c : CatalogueState) (asked generation first count : ℕ) → cursor_of c + count ≤ length (cycle_in c)
+    → cursor_of (with_entry c (entries.Draw asked generation first count)) ≡ (if cursor_of c + count == length (cycle_in c) then 0 else cursor_of c + count)
+cursor_drawn c asked generation first count within =
+    ap (λ (x : ℕ). x % length (cycle_in (with_entry c (entries.Draw asked generation first count)))) (since_drawn c.entries 0 asked generation first count)
+    ∙ ap (λ (g : GenerationState). (drawn_since 0 c.entries + count) % length (cycle_for g)) (current_drawn c asked generation first count)
+    ∙ modulo_next (drawn_since 0 c.entries) count (length (cycle_in c)) (omega arith) within
 
 -- ---- what is admitted
 
@@ -110,6 +190,20 @@ looked_at c edits g h n total tree e m ne t l f k = record {
 
 outcome_looked : (c : CatalogueState) (edits : List Edit) (tree : Tree) → IsLookedAt c edits tree → outcome_of c edits ≡ unless_edit ((current_of c).number + 1) (apply_all tree edits)
 outcome_looked c edits tree l = outcome_is c edits l.number l.total ∙ ap (λ (t : Tree). unless_edit ((current_of c).number + 1) (apply_all t edits)) (sym l.tree)
+
+-- what is looked at so makes an entry, whatever comes of it
+pub entered_looked : (c : CatalogueState) (edits : List Edit) (tree : Tree) → IsLookedAt c edits tree → is_entered (outcome_of c edits) ≡ true
+entered_looked c edits tree l = ap is_entered (outcome_looked c edits tree l) ∙ by_edits (apply_all tree edits) where
+  by_limit : (o : Option Passed) → is_entered (unless_limit ((current_of c).number + 1) o) ≡ true
+  by_limit None = refl
+  by_limit (Some (passed.Objects n)) = refl
+  by_limit (Some (passed.Folder p)) = refl
+  by_limit (Some (passed.Total n)) = refl
+  by_limit (Some (passed.Modules n)) = refl
+
+  by_edits : (r : Result Tree (ℕ × EditFault)) → is_entered (unless_edit ((current_of c).number + 1) r) ≡ true
+  by_edits (Err fault) = refl
+  by_edits (Ok t) = by_limit (limit_of t)
 
 pub outcome_accepted : (c : CatalogueState) (edits : List Edit) (tree t : Tree) → IsLookedAt c edits tree → apply_all tree edits ≡ Ok t → check_of t ≡ Ok 0
     → (outcome_of c edits ≡ Ok ((current_of c).number + 1)) × (next_of (current_of c) t ≡ generation_after c edits)
@@ -165,65 +259,107 @@ get_push (z ∷ xs) x y (suc k) e = later (get_push xs x y k e) where
   later (inl h) = inl (omega (arith, h.0), h.1)
   later (inr h) = inr (ap suc h.0, h.1)
 
-pub history_more : (c : CatalogueState) (editor : ℕ) (edits : List Edit) → is_entered (outcome_of c edits) ≡ true → IsHistory c
-    → IsHistory (with_entry c (entries.Commit editor edits (outcome_of c edits)))
-history_more c editor edits e h = record {
+pub history_more : (c : CatalogueState) (new : Entry) → new ≡ entry_after c new → IsEntered new → draws_of (with_entry c new) ≤ 16777216
+    → ArePublishable c.carousel (trees_of (with_entry c new)) → IsHistory c → IsHistory (with_entry c new)
+history_more c new itself e few published h = record {
   entered = All-push IsEntered c.entries new h.entered e;
   each = λ k x g. by_place k x (get_push c.entries new x k g);
+  draws = few;
+  published = published;
 } where
-  new : Entry
-  new = entries.Commit editor edits (outcome_of c edits)
+  after_first : ℕ → Entry → Entry
+  after_first k x = entry_after (record c { entries = take k (c.entries ++ new ∷ []) }) x
 
-  after_front : ℕ → Entry → Entry
-  after_front k x = entry_after (record c { entries = take k (c.entries ++ new ∷ []) }) x
-
-  by_place : (k : ℕ) (x : Entry) → ((k < length c.entries) × (slice_get c.entries k ≡ Some x)) ⊎ ((k ≡ length c.entries) × (new ≡ x)) → x ≡ after_front k x
+  by_place : (k : ℕ) (x : Entry) → ((k < length c.entries) × (slice_get c.entries k ≡ Some x)) ⊎ ((k ≡ length c.entries) × (new ≡ x)) → x ≡ after_first k x
   by_place k x (inl old) =
-      let front : take k (c.entries ++ new ∷ []) ≡ take k c.entries = take-append-le k c.entries (new ∷ []) (omega (arith, old.0)) in
-      h.each k x old.1 ∙ ap (λ (es : List Entry). entry_after (record c { entries = es }) x) (sym front)
+      let before : take k (c.entries ++ new ∷ []) ≡ take k c.entries = take-append-le k c.entries (new ∷ []) (omega (arith, old.0)) in
+      h.each k x old.1 ∙ ap (λ (es : List Entry). entry_after (record c { entries = es }) x) (sym before)
   by_place k x (inr last) =
-      let front : take k (c.entries ++ new ∷ []) ≡ c.entries = ap (λ (n : ℕ). take n (c.entries ++ new ∷ [])) last.0 ∙ take_at c.entries (new ∷ []) (length c.entries) refl in
-      let itself : new ≡ entry_after (record c { entries = take k (c.entries ++ new ∷ []) }) new = ap (λ (es : List Entry). entry_after (record c { entries = es }) new) (sym front) in
-      let P : Entry → Type 0 = λ z. z ≡ after_front k z in
-      subst P last.1 itself
+      let before : take k (c.entries ++ new ∷ []) ≡ c.entries = ap (λ (n : ℕ). take n (c.entries ++ new ∷ [])) last.0 ∙ take_at c.entries (new ∷ []) (length c.entries) refl in
+      let here : new ≡ entry_after (record c { entries = take k (c.entries ++ new ∷ []) }) new = itself ∙ ap (λ (es : List Entry). entry_after (record c { entries = es }) new) (sym before) in
+      let P : Entry → Type 0 = λ z. z ≡ after_first k z in
+      subst P last.1 here
 
-journal_more : (c : CatalogueState) (editor : ℕ) (edits : List Edit) (o : Result ℕ Refusal) → journal_of (with_entry c (entries.Commit editor edits o)) ≡ journal_of c + put_bytes edits
-journal_more c editor edits o = sum_by_push put_bytes_of c.entries (entries.Commit editor edits o)
+journal_more : (c : CatalogueState) (e : Entry) → journal_of (with_entry c e) ≡ journal_of c + put_bytes_of e
+journal_more c e = sum_by_push put_bytes_of c.entries e
+
+same_published : (carousel : ℕ) (ts us : List Tree) → ts ≡ us → ArePublishable carousel us → ArePublishable carousel ts
+same_published carousel ts us e p = subst (ArePublishable carousel) (sym e) p
 
 -- ---- what is kept beside the entries follows from them
 
-pub record Follows (c : CatalogueState) (now : GenerationState) (bytes : ℕ) : Type 0 where
+pub record Follows (c : CatalogueState) (now : GenerationState) (bytes many place : ℕ) : Type 0 where
   pub current : now ≡ current_of c
   pub put_bytes : bytes ≡ journal_of c
+  pub draws : many ≡ draws_of c
+  pub cursor : place ≡ cursor_of c
   pub number : (current_of c).number ≤ 16383
   pub history : IsHistory c
 
-pub follows_accepted : (c : CatalogueState) (editor : ℕ) (edits : List Edit) (n total : ℕ) (now next : GenerationState) (bytes : ℕ)
-    → outcome_of c edits ≡ Ok n → next ≡ generation_after c edits → total ≡ capped (journal_of c + put_bytes edits) → Follows c now bytes
-    → Follows (with_entry c (entries.Commit editor edits (Ok n))) next total
-follows_accepted c editor edits n total now next bytes o g t f =
+pub follows_accepted : (c : CatalogueState) (editor : ℕ) (edits : List Edit) (n total : ℕ) (now next : GenerationState) (bytes draws cursor : ℕ)
+    → outcome_of c edits ≡ Ok n → next ≡ generation_after c edits → total ≡ capped (journal_of c + put_bytes edits) → IsPublishable next.tree → Follows c now bytes draws cursor
+    → Follows (with_entry c (entries.Commit editor edits (Ok n))) next total draws 0
+follows_accepted c editor edits n total now next bytes draws cursor o g t whole_tree f =
+    let new = entries.Commit editor edits (Ok n) in
     let entered : is_entered (outcome_of c edits) ≡ true = rw o refl in
     let within = admitted c edits entered in
     let whole : total ≡ journal_of c + put_bytes edits = omega (arith, t, within.1) in
+    let counted : draws_of (with_entry c new) ≡ draws_of c = draws_more c new ∙ add-zero (draws_of c) in
+    let more : journal_of (with_entry c new) ≡ journal_of c + put_bytes edits = journal_more c new in
+    let was : length (trees_of c) ≤ 16382 = let e = number_is c in omega (arith, e, f.number, within.0) in
+    let published : ArePublishable c.carousel (trees_of (with_entry c new)) = same_published c.carousel (trees_of (with_entry c new)) (with_tree (trees_of c) edits) (trees_accepted c.entries [] editor edits n) (record {
+      carousel_id = f.history.published.carousel_id;
+      few = let e = length-append (trees_of c) (or_same (last_tree (trees_of c)) (apply_all (last_tree (trees_of c)) edits) ∷ []) in omega (arith, e, was);
+      each = All-push IsPublishable (trees_of c) (or_same (last_tree (trees_of c)) (apply_all (last_tree (trees_of c)) edits)) f.history.published.each (subst (λ (x : GenerationState). IsPublishable x.tree) g whole_tree);
+    }) in
     record {
       current = g ∙ sym (current_accepted c editor edits n);
-      put_bytes = whole ∙ sym (journal_more c editor edits (Ok n));
+      put_bytes = whole ∙ sym more;
+      draws = f.draws ∙ sym counted;
+      cursor = sym (cursor_accepted c editor edits n);
       number = rw (current_accepted c editor edits n) (omega (arith, f.number, within.0));
-      history = subst (λ (x : Result ℕ Refusal). IsHistory (with_entry c (entries.Commit editor edits x))) o (history_more c editor edits entered f.history);
+      history = history_more c new (ap (λ (x : Result ℕ Refusal). entries.Commit editor edits x) (sym o)) refl (subst (λ (x : ℕ). x ≤ 16777216) (sym counted) f.history.draws) published f.history;
     }
 
-pub follows_refused : (c : CatalogueState) (editor : ℕ) (edits : List Edit) (r : Refusal) (total : ℕ) (now : GenerationState) (bytes : ℕ)
-    → outcome_of c edits ≡ Err r → is_entered (Err r) ≡ true → total ≡ capped (journal_of c + put_bytes edits) → Follows c now bytes
-    → Follows (with_entry c (entries.Commit editor edits (Err r))) now total
-follows_refused c editor edits r total now bytes o e t f =
+pub follows_refused : (c : CatalogueState) (editor : ℕ) (edits : List Edit) (r : Refusal) (total : ℕ) (now : GenerationState) (bytes draws cursor : ℕ)
+    → outcome_of c edits ≡ Err r → is_entered (Err r) ≡ true → total ≡ capped (journal_of c + put_bytes edits) → Follows c now bytes draws cursor
+    → Follows (with_entry c (entries.Commit editor edits (Err r))) now total draws cursor
+follows_refused c editor edits r total now bytes draws cursor o e t f =
+    let new = entries.Commit editor edits (Err r) in
     let entered : is_entered (outcome_of c edits) ≡ true = rw o e in
     let within = admitted c edits entered in
     let whole : total ≡ journal_of c + put_bytes edits = omega (arith, t, within.1) in
+    let counted : draws_of (with_entry c new) ≡ draws_of c = draws_more c new ∙ add-zero (draws_of c) in
+    let more : journal_of (with_entry c new) ≡ journal_of c + put_bytes edits = journal_more c new in
     record {
       current = f.current ∙ sym (current_refused c editor edits r);
-      put_bytes = whole ∙ sym (journal_more c editor edits (Err r));
+      put_bytes = whole ∙ sym more;
+      draws = f.draws ∙ sym counted;
+      cursor = f.cursor ∙ sym (cursor_refused c editor edits r);
       number = rw (current_refused c editor edits r) f.number;
-      history = subst (λ (x : Result ℕ Refusal). IsHistory (with_entry c (entries.Commit editor edits x))) o (history_more c editor edits entered f.history);
+      history = history_more c new (ap (λ (x : Result ℕ Refusal). entries.Commit editor edits x) (sym o)) e (subst (λ (x : ℕ). x ≤ 16777216) (sym counted) f.history.draws)
+          (same_published c.carousel (trees_of (with_entry c new)) (trees_of c) (trees_refused c.entries [] editor edits r) f.history.published) f.history;
+    }
+
+pub follows_drawn : (c : CatalogueState) (asked : ℕ) (now : GenerationState) (bytes draws cursor : ℕ)
+    → 1 ≤ asked → asked ≤ 1048576 → draws_of c < 16777216 → Follows c now bytes draws cursor
+    → Follows (drawn c asked) now bytes (draws + 1) (if cursor + count_drawn c asked == length (cycle_in c) then 0 else cursor + count_drawn c asked)
+follows_drawn c asked now bytes draws cursor some most room f =
+    let new = entries.Draw asked (current_of c).number (cursor_of c) (count_drawn c asked) in
+    let same = current_drawn c asked (current_of c).number (cursor_of c) (count_drawn c asked) in
+    let counted : draws_of (with_entry c new) ≡ draws_of c + 1 = draws_more c new in
+    let more : journal_of (with_entry c new) ≡ journal_of c + 0 = journal_more c new in
+    let below = cursor_below c in
+    let within : cursor_of c + count_drawn c asked ≤ length (cycle_in c) = omega (arith, below) in
+    record {
+      current = f.current ∙ sym same;
+      put_bytes = f.put_bytes ∙ sym (more ∙ add-zero (journal_of c));
+      draws = ap (λ (x : ℕ). x + 1) f.draws ∙ sym counted;
+      cursor = ap (λ (x : ℕ). if x + count_drawn c asked == length (cycle_in c) then 0 else x + count_drawn c asked) f.cursor
+          ∙ sym (cursor_drawn c asked (current_of c).number (cursor_of c) (count_drawn c asked) within);
+      number = rw same f.number;
+      history = history_more c new refl (some, most) (omega (arith, counted, room))
+          (same_published c.carousel (trees_of (with_entry c new)) (trees_of c) (trees_drawn c.entries [] asked (current_of c).number (cursor_of c) (count_drawn c asked)) f.history.published) f.history;
     }
 
 -- ---- the same, as the code keeps it
@@ -231,26 +367,46 @@ follows_refused c editor edits r total now bytes o e t f =
 abbrev pub with_entries : ℕ → List Entry → CatalogueState
 with_entries carousel es = record { carousel = carousel; entries = es }
 
-pub follows_same : (carousel : ℕ) (es more : List Entry) (now : GenerationState) (bytes : ℕ) → more ≡ es → Follows (with_entries carousel es) now bytes → Follows (with_entries carousel more) now bytes
-follows_same carousel es more now bytes e f = subst (λ (xs : List Entry). Follows (with_entries carousel xs) now bytes) (sym e) f
+pub follows_same : (carousel : ℕ) (es more : List Entry) (now : GenerationState) (bytes draws cursor : ℕ) → more ≡ es → Follows (with_entries carousel es) now bytes draws cursor
+    → Follows (with_entries carousel more) now bytes draws cursor
+follows_same carousel es more now bytes draws cursor e f = subst (λ (xs : List Entry). Follows (with_entries carousel xs) now bytes draws cursor) (sym e) f
 
-pub follows_next : (carousel : ℕ) (es more : List Entry) (v : CatalogueState) (editor : ℕ) (edits listed : List Edit) (n m total : ℕ) (now next made : GenerationState) (bytes : ℕ)
-    → with_entries carousel es ≡ v → more ≡ es ++ entries.Commit editor edits (Ok n) ∷ [] → outcome_of v edits ≡ Ok m → n ≡ m → made ≡ generation_after v edits → next ≡ made
-    → listed ≡ edits → total ≡ capped (journal_of v + put_bytes listed) → Follows (with_entries carousel es) now bytes
-    → Follows (with_entries carousel more) next total
-follows_next carousel es more v editor edits listed n m total now next made bytes e p o k g h l t f =
+pub follows_next : (carousel : ℕ) (es more : List Entry) (v : CatalogueState) (editor : ℕ) (edits listed : List Edit) (n m total : ℕ) (now next made : GenerationState) (bytes draws cursor : ℕ)
+    → with_entries carousel es ≡ v → more ≡ es ++ entries.Commit editor edits (Ok n) ∷ [] → outcome_of v edits ≡ Ok m → n ≡ m → made ≡ generation_after v edits → IsPublishable made.tree → next ≡ made
+    → listed ≡ edits → total ≡ capped (journal_of v + put_bytes listed) → Follows (with_entries carousel es) now bytes draws cursor
+    → Follows (with_entries carousel more) next total draws 0
+follows_next carousel es more v editor edits listed n m total now next made bytes draws cursor e p o k g w h l t f =
     let c = with_entries carousel es in
     let outcome : outcome_of c edits ≡ Ok n = ap (λ (x : CatalogueState). outcome_of x edits) e ∙ o ∙ ap (λ (x : ℕ). Ok x) (sym k) in
     let generation : next ≡ generation_after c edits = h ∙ g ∙ ap (λ (x : CatalogueState). generation_after x edits) (sym e) in
     let sum : total ≡ capped (journal_of c + put_bytes edits) = t ∙ ap (λ (x : List Edit). capped (journal_of v + put_bytes x)) l ∙ ap (λ (x : CatalogueState). capped (journal_of x + put_bytes edits)) (sym e) in
-    follows_same carousel (es ++ entries.Commit editor edits (Ok n) ∷ []) more next total p (follows_accepted c editor edits n total now next bytes outcome generation sum f)
+    let tree : IsPublishable next.tree = subst (λ (x : GenerationState). IsPublishable x.tree) (sym h) w in
+    follows_same carousel (es ++ entries.Commit editor edits (Ok n) ∷ []) more next total draws 0 p (follows_accepted c editor edits n total now next bytes draws cursor outcome generation sum tree f)
 
-pub follows_entered : (carousel : ℕ) (es more : List Entry) (v : CatalogueState) (editor : ℕ) (edits listed : List Edit) (r : Refusal) (total : ℕ) (now : GenerationState) (bytes : ℕ)
+pub follows_entered : (carousel : ℕ) (es more : List Entry) (v : CatalogueState) (editor : ℕ) (edits listed : List Edit) (r : Refusal) (total : ℕ) (now : GenerationState) (bytes draws cursor : ℕ)
     → with_entries carousel es ≡ v → more ≡ es ++ entries.Commit editor edits (Err r) ∷ [] → outcome_of v edits ≡ Err r → is_entered (Err r) ≡ true
-    → listed ≡ edits → total ≡ capped (journal_of v + put_bytes listed) → Follows (with_entries carousel es) now bytes
-    → Follows (with_entries carousel more) now total
-follows_entered carousel es more v editor edits listed r total now bytes e p o q l t f =
+    → listed ≡ edits → total ≡ capped (journal_of v + put_bytes listed) → Follows (with_entries carousel es) now bytes draws cursor
+    → Follows (with_entries carousel more) now total draws cursor
+follows_entered carousel es more v editor edits listed r total now bytes draws cursor e p o q l t f =
     let c = with_entries carousel es in
     let outcome : outcome_of c edits ≡ Err r = ap (λ (x : CatalogueState). outcome_of x edits) e ∙ o in
     let sum : total ≡ capped (journal_of c + put_bytes edits) = t ∙ ap (λ (x : List Edit). capped (journal_of v + put_bytes x)) l ∙ ap (λ (x : CatalogueState). capped (journal_of x + put_bytes edits)) (sym e) in
-    follows_same carousel (es ++ entries.Commit editor edits (Err r) ∷ []) more now total p (follows_refused c editor edits r total now bytes outcome q sum f)
+    follows_same carousel (es ++ entries.Commit editor edits (Err r) ∷ []) more now total draws cursor p (follows_refused c editor edits r total now bytes draws cursor outcome q sum f)
+
+pub follows_draw : (carousel : ℕ) (es more : List Entry) (v : CatalogueState) (asked number first count next : ℕ) (now : GenerationState) (bytes draws cursor : ℕ)
+    → with_entries carousel es ≡ v → more ≡ es ++ entries.Draw asked number first count ∷ [] → number ≡ now.number → first ≡ cursor → count ≡ count_drawn v asked
+    → next ≡ (if cursor + count == length (cycle_for now) then 0 else cursor + count) → 1 ≤ asked → asked ≤ 1048576 → draws_of v < 16777216 → Follows (with_entries carousel es) now bytes draws cursor
+    → Follows (with_entries carousel more) now bytes (draws + 1) next
+follows_draw carousel es more v asked number first count next now bytes draws cursor e p n g k x some most room f =
+    let c = with_entries carousel es in
+    let same_count : count ≡ count_drawn c asked = k ∙ ap (λ (x : CatalogueState). count_drawn x asked) (sym e) in
+    let entry : entries.Draw asked number first count ≡ entries.Draw asked (current_of c).number (cursor_of c) (count_drawn c asked) =
+    ap (λ (x : ℕ). entries.Draw asked x first count) (n ∙ ap (λ (s : GenerationState). s.number) f.current)
+    ∙ ap (λ (x : ℕ). entries.Draw asked (current_of c).number x count) (g ∙ f.cursor)
+    ∙ ap (λ (x : ℕ). entries.Draw asked (current_of c).number (cursor_of c) x) same_count in
+    let place : next ≡ (if cursor + count_drawn c asked == length (cycle_in c) then 0 else cursor + count_drawn c asked) =
+    x ∙ ap (λ (s : GenerationState). if cursor + count == length (cycle_for s) then 0 else cursor + count) f.current
+    ∙ ap (λ (k : ℕ). if cursor + k == length (cycle_in c) then 0 else cursor + k) same_count in
+    let free : draws_of c < 16777216 = subst (λ (s : CatalogueState). draws_of s < 16777216) (sym e) room in
+    follows_same carousel (drawn c asked).entries more now bytes (draws + 1) next (p ∙ ap (λ (x : Entry). es ++ x ∷ []) entry)
+    (subst (λ (x : ℕ). Follows (drawn c asked) now bytes (draws + 1) x) (sym place) (follows_drawn c asked now bytes draws cursor some most free f))

@@ -1,7 +1,8 @@
--- A history of commits: each entry is what the rules give after those before it. The limits are this project's own rules.
-use Rattle.std.specs.Prelude.{◌≡◌, ℕ, ◌+◌, Bool, true, false, List, [], ◌∷◌, ◌++◌, length, take, Option, Some, None, Result, Ok, Err, slice_get, nat_lt, ◌==◌, if◌then◌else◌}
+-- A history of commits and draws: each entry is what the rules give after those before it. The limits are this project's own
+-- rules.
+use Rattle.std.specs.Prelude.{◌≡◌, ℕ, ◌+◌, ◌-◌, ◌%◌, ◌≤◌, min, drop, Bool, true, false, List, [], ◌∷◌, ◌++◌, length, take, Option, Some, None, Result, Ok, Err, slice_get, nat_lt, ◌==◌, if◌then◌else◌}
 use Rattle.std.specs.Option.{unwrap_or}
-use Rattle.std.specs.List.{All, last_or, sum_by}
+use Rattle.std.specs.List.{All, last_or, sum_by, count_by}
 use Rattle.oc_bytes.specs.Outcome.{capped}
 use Rattle.path_tree.specs.Trees.{Tree}
 use Rattle.path_tree.specs.Edits.{apply_all}
@@ -9,7 +10,10 @@ use Rattle.path_tree.specs.declared.tree.Edit.{Edit}
 use Rattle.path_tree.specs.declared.tree.Edit.TheVariants.{Put, Remove}
 use Rattle.path_tree.specs.declared.tree.EditFault.{EditFault}
 use Rattle.generation.specs.Publication as limits
-use Rattle.generation.specs.Layouts.{GenerationState, generation_of}
+use Rattle.cycle_planner.specs.Cycle.{cycle_of}
+use Rattle.cycle_planner.specs.declared.Item.{Item}
+use Rattle.generation.specs.Lawful.{ArePublishable}
+use Rattle.generation.specs.Layouts.{GenerationState, generation_of, lines_of}
 use Rattle.generation_catalogue.specs.declared.entry.Refusal.{Refusal}
 use Rattle.generation_catalogue.specs.declared.entry.Refusal.TheVariants as refusals
 use Rattle.generation_catalogue.specs.declared.entry.Entry.{Entry}
@@ -30,6 +34,7 @@ put_bytes edits = sum_by put_size edits
 
 abbrev pub put_bytes_of : Entry → ℕ
 put_bytes_of (entries.Commit editor edits outcome) = put_bytes edits
+put_bytes_of (entries.Draw asked generation first count) = 0
 
 abbrev pub or_same : Tree → Result Tree (ℕ × EditFault) → Tree
 or_same t (Ok new) = new
@@ -39,7 +44,7 @@ or_same t (Err fault) = t
 abbrev pub last_tree : List Tree → Tree
 last_tree trees = unwrap_or (last_or None trees) []
 
--- the trees with that of an accepted commit behind them
+-- the trees with that of an accepted commit after them
 abbrev pub with_tree : List Tree → List Edit → List Tree
 with_tree trees edits = trees ++ or_same (last_tree trees) (apply_all (last_tree trees) edits) ∷ []
 
@@ -48,6 +53,7 @@ abbrev pub trees_after : List Tree → List Entry → List Tree
 trees_after trees [] = trees
 trees_after trees (entries.Commit editor edits (Ok number) ∷ es) = trees_after (with_tree trees edits) es
 trees_after trees (entries.Commit editor edits (Err refusal) ∷ es) = trees_after trees es
+trees_after trees (entries.Draw asked generation first count ∷ es) = trees_after trees es
 
 abbrev pub trees_of : CatalogueState → List Tree
 trees_of c = trees_after [] c.entries
@@ -58,6 +64,37 @@ current_of c = generation_of c.carousel (trees_of c)
 -- the bytes that the entries put, of refused commits too
 abbrev pub journal_of : CatalogueState → ℕ
 journal_of c = sum_by put_bytes_of c.entries
+
+-- ---- draws
+
+abbrev pub is_draw : Entry → Bool
+is_draw (entries.Draw asked generation first count) = true
+is_draw (entries.Commit editor edits outcome) = false
+
+abbrev pub draws_of : CatalogueState → ℕ
+draws_of c = count_by is_draw c.entries
+
+-- the items drawn since the last accepted commit
+abbrev pub drawn_since : ℕ → List Entry → ℕ
+drawn_since n [] = n
+drawn_since n (entries.Commit editor edits (Ok number) ∷ es) = drawn_since 0 es
+drawn_since n (entries.Commit editor edits (Err refusal) ∷ es) = drawn_since n es
+drawn_since n (entries.Draw asked generation first count ∷ es) = drawn_since (n + count) es
+
+-- the cycle of the current generation
+abbrev pub cycle_in : CatalogueState → List Item
+cycle_in c = cycle_of (lines_of (current_of c))
+
+-- the place in the cycle at which the next draw begins
+abbrev pub cursor_of : CatalogueState → ℕ
+cursor_of c = drawn_since 0 c.entries % length (cycle_in c)
+
+-- so many items, or as many as are left in the cycle
+abbrev pub count_drawn : CatalogueState → ℕ → ℕ
+count_drawn c asked = min asked (length (cycle_in c) - cursor_of c)
+
+abbrev pub items_drawn : CatalogueState → ℕ → List Item
+items_drawn c asked = take (count_drawn c asked) (drop (cursor_of c) (cycle_in c))
 
 abbrev pub refusal_of : limits.Passed → Refusal
 refusal_of (limits.Objects n) = refusals.TooManyObjects n
@@ -94,14 +131,23 @@ abbrev pub committed : CatalogueState → ℕ → List Edit → CatalogueState
 committed c editor edits =
     if is_entered (outcome_of c edits) then with_entry c (entries.Commit editor edits (outcome_of c edits)) else c
 
+-- the catalogue after a draw
+abbrev pub drawn : CatalogueState → ℕ → CatalogueState
+drawn c asked = with_entry c (entries.Draw asked (current_of c).number (cursor_of c) (count_drawn c asked))
+
 -- the entry that the rules give after these entries, for the same request
 abbrev pub entry_after : CatalogueState → Entry → Entry
 entry_after c (entries.Commit editor edits outcome) = entries.Commit editor edits (outcome_of c edits)
+entry_after c (entries.Draw asked generation first count) = entries.Draw asked (current_of c).number (cursor_of c) (count_drawn c asked)
 
 abbrev pub IsEntered : Entry → Type 0
 IsEntered (entries.Commit editor edits outcome) = is_entered outcome ≡ true
+IsEntered (entries.Draw asked generation first count) = (1 ≤ asked) × (asked ≤ 1048576)
 
--- each entry is what the rules give after those before it, and no entry is of an outcome that makes none
+-- each entry is what the rules give after those before it, no entry is of an outcome that makes none, there are at most so many
+-- draws, and the tree of each accepted commit is one of bytes that passes the limits
 pub record IsHistory (c : CatalogueState) : Type 0 where
   pub entered : All IsEntered c.entries
   pub each : (k : ℕ) (e : Entry) → slice_get c.entries k ≡ Some e → e ≡ entry_after (record c { entries = take k c.entries }) e
+  pub draws : draws_of c ≤ 16777216
+  pub published : ArePublishable c.carousel (trees_of c)

@@ -1,7 +1,7 @@
 -- What is kept beside the entries follows from them.
 use Rattle.std.specs.Prelude.{◌≡◌, ◌≤◌}
 use Rattle.std.specs.Arc.{arc_value}
-use Rattle.generation_catalogue.specs.History.{CatalogueState, IsHistory, current_of, journal_of}
+use Rattle.generation_catalogue.specs.History.{CatalogueState, IsHistory, current_of, cursor_of, draws_of, journal_of}
 use Rattle.generation_catalogue.specs.declared.journal.Journal.TheInside.{Inside}
 
 abbrev pub view_journal : Inside → CatalogueState
@@ -10,5 +10,7 @@ view_journal j = record { carousel = j.carousel; entries = j.entries.items }
 pub record IsJournal (j : Inside) : Type 0 where
   pub current : arc_value j.current ≡ current_of (view_journal j)
   pub put_bytes : j.put_bytes ≡ journal_of (view_journal j)
+  pub draws : j.draws ≡ draws_of (view_journal j)
+  pub cursor : j.cursor ≡ cursor_of (view_journal j)
   pub number : (current_of (view_journal j)).number ≤ 16383
   pub history : IsHistory (view_journal j)

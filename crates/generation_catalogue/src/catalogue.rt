@@ -1,12 +1,16 @@
-ghost use Rattle.std.specs.Prelude.{◌≡◌, [], ◌⊎◌, Err, is_some, IfOk, MatchResult, if◌then◌else◌};
+ghost use Rattle.std.specs.Prelude.{◌≡◌, ◌≤◌, ◌∷◌, [], ◌⊎◌, Err, length, is_some, IfOk, true, if◌then◌else◌};
 ghost use Rattle.std.specs.Arc.{arc_value};
-ghost use Rattle.oc_bytes.specs.Outcome.{Gives};
-ghost use Rattle.generation_catalogue.specs.History.{IsHistory, outcome_of, committed, current_of};
+ghost use Rattle.std.specs.List.{All, Contains};
+ghost use Rattle.generation.specs.Kept.{layouts_of};
+ghost use Rattle.generation.specs.Lawful.{Lawful};
+ghost use Rattle.generation.specs.Layouts.{items_of};
+ghost use Rattle.generation_catalogue.specs.History.{IsHistory, outcome_of, is_entered, committed, current_of, trees_of};
 ghost use Rattle.generation_catalogue.specs.Requests.{commit_cause};
+ghost use Rattle.generation_catalogue.specs.Calls.{IsCommitted, IsDrawn};
 
-use crate::entry::{CommitFault, Entry, Refusal};
+use crate::entry::{Batch, CommitFault, DrawFault, Entry, Refusal};
 use crate::journal::Journal;
-use generation::Generation;
+use generation::{Generation, layouts_are_lawful};
 use oc_bytes::NoMemory;
 use path_tree::{Edit, Edits};
 use std::alloc::Global;
@@ -22,7 +26,7 @@ pub struct Catalogue {
 impl Catalogue {
     ghost use Rattle.generation_catalogue.specs.View.{state};
 
-    /// The catalogue of a carousel, any 32-bit id: without an entry, at generation 0, whose tree is empty. Want of memory
+    /// The catalogue of a carousel, any 32-bit id: without an entry, at generation 0, whose tree is empty. Out of memory
     /// is the only refusal.
     pub fn new(alloc: Global, carousel: u32) -> Result<Catalogue, NoMemory>
         ensures { IfOk result (λ c. state c ≡ record { carousel = carousel; entries = [] }) }
@@ -36,15 +40,19 @@ impl Catalogue {
     ///
     /// The refusals come in the order of `Refusal`, each exactly where its number passes its limit. A commit that is
     /// accepted, or refused by an edit or by one of the limits of a tree, makes one entry; that the season or the journal is
-    /// full makes none. Want of memory makes none, and changes nothing.
+    /// full makes none. Out of memory makes none, and changes nothing; it comes only where neither is full. After an accepted
+    /// commit the next draw begins at the first item of the new generation's cycle.
     pub fn commit(&mut self, editor: u32, edits: Vec<Edit>) -> Result<u64, CommitFault>
-        ensures answer { Gives (λ n. n) commit_cause result (outcome_of (state self.old) edits.items) }
-        ensures entry { MatchResult result (λ _. state self.new ≡ committed (state self.old) editor edits.items)
-            (λ e. state self.new ≡ (if is_some (commit_cause e) then committed (state self.old) editor edits.items else state self.old)) }
+        ensures { IsCommitted (state self.old) editor edits.items result (state self.new) }
     {
-        let judged = self.journal.judge(self.alloc, &edits);
-        let edits = Edits::new(edits);
-        match judged {
+        self.commit_edits(editor, Edits::new(edits))
+    }
+
+    /// The same as `commit`, of edits that are a list already.
+    pub fn commit_edits(&mut self, editor: u32, edits: Edits) -> Result<u64, CommitFault>
+        ensures { IsCommitted (state self.old) editor edits result (state self.new) }
+    {
+        match self.journal.judge(self.alloc, edits.list()) {
             Ok(next) => Ok(self.journal.accept(self.alloc, editor, edits, next)?),
             Err(CommitFault::NoMemory) => Err(CommitFault::NoMemory),
             Err(CommitFault::Refused(refusal)) => Err(self.refused(editor, edits, refusal)),
@@ -56,6 +64,7 @@ impl Catalogue {
         requires { outcome_of (state self.old) edits ≡ Err refusal }
         ensures answer { (result ≡ CommitFault.Refused refusal) ⊎ (result ≡ CommitFault.NoMemory) }
         ensures entry { state self.new ≡ (if is_some (commit_cause result) then committed (state self.old) editor edits else state self.old) }
+        ensures memory { result ≡ CommitFault.NoMemory → is_entered (Err refusal) ≡ true }
     {
         if refusal.is_entered() {
             let entered = match refusal.share() {
@@ -69,11 +78,29 @@ impl Catalogue {
         CommitFault::Refused(refusal)
     }
 
-    /// The entries, the first commit first. Each is what the rules give after the entries before it.
+    /// Draws the items that are to be sent next: those of the current generation's cycle from the end of the last draw on, or
+    /// from the first on where that was the cycle's end, or where the generation is new. They are `n`, 1 to 1,048,576, or as
+    /// many as are left in the cycle, at least one.
+    ///
+    /// `DrawsFull` comes exactly where 16,777,216 draws are entered. Each other draw makes one entry, except out of memory,
+    /// which changes nothing and comes only where there is room for the entry.
+    pub fn draw(&mut self, n: u32) -> Result<Batch, DrawFault>
+        requires { (1 ≤ n) × (n ≤ 1048576) }
+        ensures drawn { IsDrawn (state self.old) n result (state self.new) }
+        ensures some { IfOk result (λ b. (1 ≤ length b.items.items) × (length b.items.items ≤ n)) }
+        ensures items { IfOk result (λ b. All (λ item. Contains (items_of (arc_value b.generation)) item) b.items.items) }
+    {
+        self.journal.draw(self.alloc, n)
+    }
+
+    /// The entries, the oldest first. Each is what the rules give after the entries before it. The trees of the accepted
+    /// commits can be published, so the layouts of the generations, that of the empty tree first, are lawful for them.
     pub fn entries(&self) -> &[Entry]
         ensures entries { result.now ≡ (state self.now).entries }
         ensures history { IsHistory (state self.now) }
+        ensures lawful { Lawful (state self.now).carousel (layouts_of (state self.now).carousel (trees_of (state self.now))) ([] ∷ trees_of (state self.now)) }
     {
+        layouts_are_lawful();
         self.journal.entries()
     }
 

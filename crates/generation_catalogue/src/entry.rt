@@ -2,11 +2,14 @@ ghost use Rattle.std.specs.Prelude.{◌≡◌, Err, IfOk};
 ghost use Rattle.generation_catalogue.specs.History.{is_entered};
 ghost use Rattle.generation_catalogue.specs.Requests.{of_edits, of_limit};
 ghost use Rattle.generation_catalogue.specs.declared.entry.CommitFault.TheVariants.{NoMemory as OutOfMemory};
+ghost use Rattle.generation_catalogue.specs.declared.entry.DrawFault.TheVariants.{NoMemory as NoMemoryToDraw};
 
-use generation::Limit;
+use cycle_planner::Item;
+use generation::{Generation, Limit};
 use oc_bytes::NoMemory;
 use path_tree::{ApplyFault, EditFault, Edits, Path};
 use std::alloc::{AllocError, AllocFailed};
+use std::sync::Arc;
 
 /// Why a commit is refused: the first of these that holds.
 #[derive(Drop)]
@@ -56,7 +59,7 @@ impl Refusal {
 pub enum CommitFault {
     /// The commit is refused.
     Refused(Refusal),
-    /// Memory was wanting.
+    /// Out of memory.
     NoMemory,
 }
 
@@ -107,4 +110,40 @@ pub enum Entry {
         edits: Edits,
         outcome: Result<u64, Refusal>,
     },
+    /// A draw: how many items were asked for, 1 to 1,048,576, the number of the generation of which they are, the place in its
+    /// cycle of the first, counted from 0, and how many were given.
+    Draw {
+        asked: u32,
+        generation: u64,
+        first: u64,
+        count: u64,
+    },
+}
+
+/// Why a draw gives no items.
+#[derive(Debug, Drop)]
+pub enum DrawFault {
+    /// So many draws are entered already, 16,777,216, the most.
+    DrawsFull(u64),
+    /// Out of memory.
+    NoMemory,
+}
+
+impl From<AllocError> for DrawFault {
+    ghost from_gives = { λ _ e. e ≡ NoMemoryToDraw };
+
+    fn from(_e: AllocError) -> DrawFault {
+        DrawFault::NoMemory
+    }
+}
+
+/// Items of a generation that are to be sent next, as they follow each other in its cycle.
+#[derive(Drop)]
+pub struct Batch {
+    /// The generation, the current one at the draw.
+    pub generation: Arc<Generation>,
+    /// The place in the cycle of the first item, counted from 0.
+    pub first: u64,
+    /// The items, at least one.
+    pub items: Vec<Item>,
 }

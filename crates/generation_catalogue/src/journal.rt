@@ -1,10 +1,14 @@
-ghost use Rattle.std.specs.Prelude.{◌≡◌, ◌+◌, ◌∷◌, [], true, Ok, Err, IfOk, OnOk, OnErr};
+ghost use Rattle.std.specs.Prelude.{◌≡◌, ◌+◌, ◌<◌, ◌≤◌, ◌∷◌, [], length, ◌==◌, if◌then◌else◌, true, Ok, Err, IfOk, OnOk, OnErr, IsErrOf};
 ghost use Rattle.std.specs.Arc.{arc_value};
 ghost use Rattle.oc_bytes.specs.Outcome.{Gives, capped};
-ghost use Rattle.generation_catalogue.specs.History.{IsHistory, current_of, journal_of, put_bytes, put_size, outcome_of, is_entered, committed};
+ghost use Rattle.generation.specs.Lawful.{IsPublishable};
+ghost use Rattle.generation_catalogue.specs.History.{IsHistory, current_of, journal_of, put_bytes, put_size, outcome_of, is_entered, committed, draws_of, items_drawn, count_drawn, drawn};
 ghost use Rattle.generation_catalogue.specs.Requests.{commit_cause, generation_after};
+ghost use Rattle.generation_catalogue.specs.Calls.{IsDrawn};
 
-use crate::entry::{CommitFault, Entry, Refusal};
+use crate::bytes::tree_is_of_bytes;
+use crate::entry::{Batch, CommitFault, DrawFault, Entry, Refusal};
+use cycle_planner::{Item, cycle_len, item_at};
 use generation::{Generation, check};
 use oc_bytes::NoMemory;
 use path_tree::{Edit, Edits, apply};
@@ -18,6 +22,9 @@ const LAST_NUMBER: u64 = 16_383;
 /// The most bytes that the entries put.
 const MOST_PUT_BYTES: u64 = 536_870_912;
 
+/// The most draws that are entered.
+const MOST_DRAWS: u64 = 16_777_216;
+
 /// The entries, and what follows from them.
 #[derive(Drop)]
 pub struct Journal {
@@ -25,6 +32,8 @@ pub struct Journal {
     entries: Vec<Entry>,
     current: Arc<Generation>,
     put_bytes: u64,
+    draws: u64,
+    cursor: u64,
 }
 
 impl Model for Journal {
@@ -51,6 +60,8 @@ impl Journal {
             entries: Vec::new(alloc),
             current,
             put_bytes: 0,
+            draws: 0,
+            cursor: 0,
         })
     }
 
@@ -71,6 +82,8 @@ impl Journal {
     pub fn judge(&self, alloc: Global, edits: &[Edit]) -> Result<Generation, CommitFault>
         ensures answer { Gives (λ g. g.number) commit_cause result (outcome_of self.now edits.now) }
         ensures next { IfOk result (λ g. g ≡ generation_after self.now edits.now) }
+        ensures tree { IfOk result (λ g. IsPublishable g.tree) }
+        ensures memory { IsErrOf result CommitFault.NoMemory → is_entered (outcome_of self.now edits.now) ≡ true }
     {
         if self.current.number() == LAST_NUMBER {
             return Err(CommitFault::Refused(Refusal::SeasonFull(LAST_NUMBER)));
@@ -81,6 +94,7 @@ impl Journal {
         }
         let tree = apply(alloc, self.current.tree(), edits)?;
         check(alloc, &tree)?;
+        tree_is_of_bytes(&tree);
         Ok(self.current.next(tree)?)
     }
 
@@ -95,7 +109,7 @@ impl Journal {
         total
     }
 
-    /// Enters a commit that makes the next generation, and answers its number. Want of memory changes nothing.
+    /// Enters a commit that makes the next generation, and answers its number. Out of memory changes nothing.
     pub fn accept(
         &mut self,
         alloc: Global,
@@ -105,6 +119,7 @@ impl Journal {
     ) -> Result<u64, NoMemory>
         requires accepted { outcome_of self.old edits ≡ Ok next.number }
         requires next { next ≡ generation_after self.old edits }
+        requires tree { IsPublishable next.tree }
         ensures number { IfOk result (λ n. n ≡ next.number) }
         ensures entered { OnOk result (self.new ≡ committed self.old editor edits) }
         ensures unchanged { OnErr result (self.new ≡ self.old) }
@@ -119,10 +134,11 @@ impl Journal {
         })?;
         self.current = next;
         self.put_bytes = total;
+        self.cursor = 0;
         Ok(number)
     }
 
-    /// Enters a commit that is refused. Want of memory changes nothing.
+    /// Enters a commit that is refused. Out of memory changes nothing.
     pub fn refuse(&mut self, editor: u32, edits: Edits, refusal: Refusal) -> Result<(), NoMemory>
         requires refused { outcome_of self.old edits ≡ Err refusal }
         requires entered { is_entered (Err refusal) ≡ true }
@@ -138,6 +154,71 @@ impl Journal {
         self.put_bytes = total;
         Ok(())
     }
+
+    /// Enters a draw of at most so many items, and gives them.
+    pub fn draw(&mut self, alloc: Global, asked: u32) -> Result<Batch, DrawFault>
+        requires { (1 ≤ asked) × (asked ≤ 1048576) }
+        ensures { IsDrawn self.old asked result self.new }
+    {
+        if self.draws == MOST_DRAWS {
+            return Err(DrawFault::DrawsFull(MOST_DRAWS));
+        }
+        let items = self.next_items(alloc, asked)?;
+        let generation = Arc::try_clone(&self.current)?;
+        let first = self.cursor;
+        self.enter_draw(asked, items.len() as u64)?;
+        Ok(Batch {
+            generation,
+            first,
+            items,
+        })
+    }
+
+    /// The items of the cycle from the cursor on, at most so many.
+    fn next_items(&self, alloc: Global, asked: u32) -> Result<Vec<Item>, NoMemory>
+        ensures items { IfOk result (λ items. items.items ≡ items_drawn self.now asked) }
+        ensures count { IfOk result (λ items. length items.items ≡ count_drawn self.now asked) }
+    {
+        let lines = self.current.lines();
+        let first = self.cursor;
+        let count = u64::from(asked).min(cycle_len(lines) - first);
+        let mut items = Vec::with_capacity(alloc, count as usize)?;
+        for at in first..first + count {
+            items.push(item_at(lines, at))?;
+        }
+        Ok(items)
+    }
+
+    /// Enters a draw of so many items from the cursor on. Out of memory changes nothing.
+    fn enter_draw(&mut self, asked: u32, count: u64) -> Result<(), NoMemory>
+        requires asked { (1 ≤ asked) × (asked ≤ 1048576) }
+        requires count { count ≡ count_drawn self.old asked }
+        requires room { draws_of self.old < 16777216 }
+        ensures entered { OnOk result (self.new ≡ drawn self.old asked) }
+        ensures unchanged { OnErr result (self.new ≡ self.old) }
+    {
+        let generation = self.current.number();
+        let first = self.cursor;
+        let cursor = place_after(first, count, cycle_len(self.current.lines()));
+        self.entries.push(Entry::Draw {
+            asked,
+            generation,
+            first,
+            count,
+        })?;
+        self.draws += 1;
+        self.cursor = cursor;
+        Ok(())
+    }
+}
+
+/// The place after so many items of a cycle: at its end, that of its first item again.
+fn place_after(first: u64, count: u64, length: u64) -> u64
+    requires { first + count ≤ length }
+    ensures { result ≡ (if first + count == length then 0 else first + count) }
+{
+    let end = first + count;
+    if end == length { 0 } else { end }
 }
 
 /// The bytes that an edit puts.

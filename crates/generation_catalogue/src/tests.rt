@@ -1,7 +1,9 @@
-use crate::{Catalogue, CommitFault, Refusal};
+use crate::{Batch, Catalogue, CommitFault, Entry, Refusal};
+use cycle_planner::Item;
 use oc_bytes::Blob;
 use path_tree::{Edit, EditFault, Path};
 use std::alloc::Global;
+use std::process::Abort;
 use std::test::Fail;
 
 /// Puts of the same bytes as so many files in the root, each with a name of one byte.
@@ -97,5 +99,51 @@ fn a_season_has_16383_commits(rt: HostRuntime) -> Result<(), Fail> {
         )
     );
     assert_eq!(rt; catalogue.entries().len(), 16_383);
+    Ok(())
+}
+
+/// Checks a draw: the number of its generation, the place of its first item in the cycle, and its items.
+fn check_draw(rt: &impl Abort, batch: &Batch, generation: u64, first: u64, items: &[Item]) {
+    assert_eq!(rt; batch.generation.number(), generation);
+    assert_eq!(rt; batch.first, first);
+    assert!(rt; batch.items.as_slice() == items);
+}
+
+// Generation 0 has a cycle of 3 items; a file of 3,906 bytes in the root makes a module of two blocks, and a cycle of 4.
+#[test]
+fn draws_go_through_the_cycle_and_begin_again_with_a_generation(
+    rt: HostRuntime,
+) -> Result<(), Fail> {
+    let alloc = rt.alloc();
+    let mut catalogue = Catalogue::new(alloc, 7)?;
+    let blocks = [Item::Dsi, Item::Dii, Item::Block(1, 0), Item::Block(1, 1)];
+    check_draw(&rt, &catalogue.draw(2)?, 0, 0, &blocks[..2]);
+    check_draw(&rt, &catalogue.draw(2)?, 0, 2, &blocks[2..3]);
+    check_draw(&rt, &catalogue.draw(1)?, 0, 0, &blocks[..1]);
+    let content = Blob::new(alloc, vec![in alloc; 0; 3906]?)?;
+    assert!(rt; matches!(catalogue.commit(1, puts(alloc, 1, &content)?), Ok(1)));
+    check_draw(&rt, &catalogue.draw(3)?, 1, 0, &blocks[..3]);
+    let mut edits = Vec::new(alloc);
+    edits.push(Edit::Remove(Path::parse(alloc, b"/b")?))?;
+    assert!(rt;
+        matches!(
+            catalogue.commit(1, edits),
+            Err(CommitFault::Refused(Refusal::Edit(0, EditFault::NoSuchFile)))
+        )
+    );
+    check_draw(&rt, &catalogue.draw(1_048_576)?, 1, 3, &blocks[3..]);
+    check_draw(&rt, &catalogue.draw(1)?, 1, 0, &blocks[..1]);
+    assert_eq!(rt; catalogue.entries().len(), 8);
+    assert!(rt;
+        matches!(
+            catalogue.entries()[6],
+            Entry::Draw {
+                asked: 1_048_576,
+                generation: 1,
+                first: 3,
+                count: 1
+            }
+        )
+    );
     Ok(())
 }

@@ -5,6 +5,7 @@
 ghost use Rattle.std.specs.Prelude.{◌≡◌, ◌<◌, ◌≤◌, Err, IfOk, MatchResult, Ok, length, slice_index};
 ghost use Rattle.ts_packet.specs.Packets.{view, control, parsed, packet_bytes};
 ghost use Rattle.ts_packet.specs.Packets as packets;
+ghost use Rattle.ts_packet.specs.Fates.{arrived, flipped};
 
 /// The first byte of each packet.
 const SYNC: u8 = 0x47;
@@ -51,6 +52,33 @@ pub enum Fate {
     /// It arrives with one bit inverted: this bit modulo 1,504, counted from the most significant bit
     /// of the packet's first byte.
     Flip(u16),
+}
+
+/// The bits of a packet of 188 bytes.
+const PACKET_BITS: u16 = 1504;
+
+impl Fate {
+    /// What arrives of a packet with this fate, if it arrives. It takes no memory: a packet that is changed is changed in a
+    /// copy, and `packet` stays as it is. Fates are this project's own.
+    pub fn arrived(self, packet: &[u8; 188]) -> Option<[u8; 188]>
+        ensures { result ≡ arrived self packet.now }
+    {
+        match self {
+            Fate::Keep => Some(*packet),
+            Fate::Lose => None,
+            Fate::Flip(bit) => Some(with_bit_flipped(*packet, bit % PACKET_BITS)),
+        }
+    }
+}
+
+/// The packet with one bit inverted, counted from the most significant bit of the first byte.
+fn with_bit_flipped(packet: [u8; 188], bit: u16) -> [u8; 188]
+    requires { bit < 1504 }
+    ensures { result ≡ flipped bit packet }
+{
+    let mut bytes = packet;
+    bytes[usize::from(bit / 8)] ^= 1 << (7 - bit % 8);
+    bytes
 }
 
 /// The fields of the packet in `bytes`, or its first fault in the order of `PacketFault`

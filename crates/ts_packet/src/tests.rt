@@ -60,3 +60,26 @@ fn built_bytes(rt: HostRuntime) -> Result<(), Fail> {
     assert_eq!(rt; &bytes[..5], [0x47, 0x1F, 0xFF, 0x10, 0x00].as_slice());
     Ok(())
 }
+
+// The first and the last bit of a packet of zeros, the first one again by a number past the last bit, and the greatest number,
+// which is 43 whole packets and 863 bits: the last bit of byte 107.
+#[test]
+fn a_flipped_bit_is_counted_from_the_top(rt: HostRuntime) -> Result<(), Fail> {
+    let zeros = [0; 188];
+    let cases = [
+        (0, 0, 0x80),
+        (7, 0, 1),
+        (8, 1, 0x80),
+        (1503, 187, 1),
+        (1504, 0, 0x80),
+        (65535, 107, 1),
+    ];
+    for (bit, place, byte) in cases {
+        let mut flipped = zeros;
+        flipped[place] = byte;
+        assert_eq!(rt; Fate::Flip(bit).arrived(&zeros), Some(flipped), "bit {bit}");
+    }
+    assert_eq!(rt; Fate::Keep.arrived(&zeros), Some(zeros));
+    assert_eq!(rt; Fate::Lose.arrived(&zeros), None);
+    Ok(())
+}
