@@ -1,0 +1,5 @@
+pub mod Listed
+pub mod Calling
+pub mod Closing
+pub mod Ending
+pub mod CallerLemmas

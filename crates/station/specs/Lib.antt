@@ -1,0 +1,4 @@
+pub mod Items
+pub mod Kept
+pub mod Passes
+pub mod Calls

@@ -1,0 +1,110 @@
+ghost use Rattle.std.specs.Prelude.{◌≡◌, ℕ, ◌≤◌, ◌+◌, [], ◌∷◌, length, true, false, IfOk};
+ghost use Rattle.std.specs.Arc.{arc_value};
+ghost use Rattle.std.specs.List.{All, Contains};
+ghost use Rattle.generation.specs.Layouts.{items_of as items_in};
+ghost use Rattle.generation_catalogue.specs.Calls.{IsCommitted, IsDrawn};
+ghost use Rattle.generation_catalogue.specs.History.{outcome_of, is_entered, draws_of};
+ghost use Rattle.generation_catalogue.specs.declared.entry.Entry.TheVariants as entries;
+ghost use Rattle.history_lock.specs.History.{Begins, Each, once_within};
+ghost use Rattle.history_lock.specs.Passes.{number_of, opening_of};
+ghost use Rattle.station.specs.Items.{is_opening};
+ghost use Rattle.station.specs.Kept.{list_of};
+
+use crate::kept::Kept;
+use generation_catalogue::{Batch, Catalogue, CommitFault, DrawFault};
+use history_lock::HistoryLock;
+use oc_bytes::NoMemory;
+use path_tree::Edit;
+use std::alloc::Global;
+use std::sync::Wait;
+
+/// The right to call a station. It knows the entries that it has seen, and the places of its own entries among them,
+/// counted from 0.
+pub type Pass = history_lock::Pass<Kept>;
+
+/// A shared catalogue.
+#[derive(Drop)]
+pub struct Station {
+    lock: HistoryLock<Kept>,
+    ghost opened: { is_opening (opening_of list_of lock) ≡ true },
+}
+
+impl Station {
+    ghost use Rattle.generation_catalogue.specs.View.{state};
+    ghost use Rattle.station.specs.Passes.{IsStationPass, AreNewPasses, AreAllPasses, carousel_of, pass_count, entries_seen, seen_by, owners_of};
+    ghost use Rattle.station.specs.Calls.{InOneHold, IfAnswered, IfFull, EndsWith};
+
+    /// A station of a carousel, any 32-bit id, and a pass for each of the editors, at most 64, and one for the feeder, which
+    /// is the last. They are numbered from 0 on, in order; each has seen no entry and has none of its own. Out of memory is
+    /// the only refusal.
+    pub fn new(alloc: Global, editors: u32, carousel: u32) -> Result<(Station, Vec<Pass>), NoMemory>
+        requires { editors ≤ 64 }
+        ensures carousel { IfOk result (λ made. carousel_of made.0 ≡ carousel) }
+        ensures count { IfOk result (λ made. pass_count made.0 ≡ editors + 1) }
+        ensures all { IfOk result (λ made. length made.1.items ≡ editors + 1) }
+        ensures passes { IfOk result (λ made. AreNewPasses made.0 0 made.1.items) }
+    {
+        let catalogue = Catalogue::new(alloc, carousel)?;
+        let kept = Kept { catalogue };
+        match HistoryLock::new(alloc, kept, editors + 1) {
+            Ok((lock, passes)) => Ok((Station { lock }, passes)),
+            Err((refused, _)) => Err(refused),
+        }
+    }
+
+    /// `Catalogue::commit` in one hold, with the pass's number as the editor, on a catalogue whose entries begin with those
+    /// that the pass had seen. An answer that makes an entry stands at the end of what the pass has seen then, as its own.
+    /// That the season or the journal is full makes none, and is true of the entries that the pass has seen then.
+    pub fn commit<R: Wait>(
+        &self,
+        rt: &R,
+        pass: &mut Pass,
+        edits: Vec<Edit>,
+    ) -> Result<u64, CommitFault>
+        requires { IsStationPass self.now pass.old }
+        ensures pass { IsStationPass self.now pass.new }
+        ensures number { number_of pass.new ≡ number_of pass.old }
+        ensures call { InOneHold (carousel_of self.now) pass.old pass.new (λ c d. IsCommitted c (number_of pass.old) edits.items result d) }
+        ensures entered { IfAnswered result (λ outcome. is_entered outcome ≡ true → EndsWith (entries_seen pass.new) (entries.Commit (number_of pass.old) edits.items outcome)) }
+        ensures full { IfAnswered result (λ outcome. is_entered outcome ≡ false → outcome_of (seen_by self.now pass.new) edits.items ≡ outcome) }
+    {
+        let editor = pass.number();
+        let mut hold = self.lock.hold(rt, pass);
+        let answer = hold.value().commit(editor, edits);
+        hold.put_back();
+        answer
+    }
+
+    /// `Catalogue::draw` in one hold, on a catalogue whose entries begin with those that the pass had seen; `n` is 1 to
+    /// 1,048,576. The draw stands at the end of what the pass has seen then, as its own. That the draws are full makes no
+    /// entry, and is true of the entries that the pass has seen then.
+    pub fn draw<R: Wait>(&self, rt: &R, pass: &mut Pass, n: u32) -> Result<Batch, DrawFault>
+        requires pass { IsStationPass self.now pass.old }
+        requires count { (1 ≤ n) × (n ≤ 1048576) }
+        ensures pass { IsStationPass self.now pass.new }
+        ensures number { number_of pass.new ≡ number_of pass.old }
+        ensures call { InOneHold (carousel_of self.now) pass.old pass.new (λ c d. IsDrawn c n result d) }
+        ensures entered { IfOk result (λ b. EndsWith (entries_seen pass.new) (entries.Draw n (arc_value b.generation).number b.first (length b.items.items))) }
+        ensures full { IfFull result (λ draws. (draws ≡ 16777216) × (16777216 ≤ draws_of (seen_by self.now pass.new))) }
+        ensures some { IfOk result (λ b. (1 ≤ length b.items.items) × (length b.items.items ≤ n)) }
+        ensures items { IfOk result (λ b. All (λ item. Contains (items_in (arc_value b.generation)) item) b.items.items) }
+    {
+        let mut hold = self.lock.hold(rt, pass);
+        let answer = hold.value().draw(n);
+        hold.put_back();
+        answer
+    }
+
+    /// Takes the catalogue out, against all passes of this station. It has the station's carousel; its entries begin with
+    /// those that each pass has seen, and each of them is one pass's own. It takes no memory.
+    pub fn close(self, passes: Vec<Pass>) -> Catalogue
+        requires { AreAllPasses self passes.items }
+        ensures carousel { (state result).carousel ≡ carousel_of self }
+        ensures seen { Each (λ pass. Begins (entries_seen pass) (state result).entries) passes.items }
+        ensures owned { (place : ℕ) → owners_of place passes.items ≡ once_within 0 (length (state result).entries) place }
+    {
+        let Station { lock } = self;
+        let Kept { catalogue } = lock.close(passes);
+        catalogue
+    }
+}
