@@ -1,0 +1,9 @@
+pub mod Numbers
+pub mod Runs
+pub mod Growing
+pub mod Marking
+pub mod Standing
+pub mod Asking
+pub mod Walking
+pub mod Ranging
+pub mod Examples

@@ -1,0 +1,143 @@
+-- The lines of a text, read one after another.
+use Rattle.std.proofs.Common.{◌≡◌, ℕ, ◌+◌, ◌<◌, ◌≤◌, ◌⊎◌, inl, inr, Bool, true, false, List, [], ◌∷◌, ◌++◌, length, map, get_or, take, drop, Option, Some, None, Result, Ok, Err, refl, ap, arith, ◌∙◌, sym}
+use Rattle.std.specs.Slice.Iter as slice
+use Rattle.std.specs.Fn.{CalledAt}
+use Rattle.std.specs.Iterator.{Yields}
+use denote.Param.Members.{Mut}
+use denote.Ref.{Bor}
+use Rattle.std.proofs.lemmas.Iterator.Splits.{YieldsList-from_slice_split}
+use Rattle.std.proofs.lemmas.Iterator.Consumers.{YieldsList-at, YieldsList-turn, YieldsList-end}
+use Rattle.std.proofs.lemmas.List.{take_more, drop_more, take_all, take-append-drop}
+use Rattle.oc_bytes.specs.Outcome.{Gives, capped32}
+use Rattle.path_tree.specs.Paths.{Bytes}
+use Rattle.session_script.specs.declared.reading.Reading.{Reading}
+use Rattle.session_script.specs.declared.script.LineCause.{LineCause}
+use Rattle.session_script.specs.declared.script.Script.{Script}
+use Rattle.session_script.specs.declared.script.ScriptFault.{ScriptFault}
+use Rattle.session_script.specs.declared.script.ScriptFault.TheVariants as faults
+use Rattle.session_script.specs.Scripts.{view, view_line, cause}
+use Rattle.session_script.specs.Grammar.{Saying, Passed, Starts, Does, Ends, part_of, line_by, is_feed, lines_in, or_bad_line, sayings, actors, editor_of, reader_of, script_of, meaning_of, ◌>>=◌}
+use Rattle.session_script.specs.Memory.{is_kept, line_asks, AsksForMemory}
+use Rattle.session_script.specs.Readings.{StandsFor, Reads}
+use Rattle.session_script.proofs.Growing.{actors_more}
+use Rattle.session_script.proofs.Asking.{kept_asks}
+
+-- ---- lines that fit, and those below them
+
+append_by : (a b : List Saying) (n : ℕ) (xs ys : List Bytes) (r : Result Saying LineCause)
+    → ((s : Saying) → sayings (a ++ s ∷ []) xs ≡ Ok b → sayings (a ++ s ∷ []) (xs ++ ys) ≡ sayings b ys)
+    → or_bad_line n (λ s. sayings (a ++ s ∷ []) xs) r ≡ Ok b → or_bad_line n (λ s. sayings (a ++ s ∷ []) (xs ++ ys)) r ≡ sayings b ys
+append_by a b n xs ys (Ok s) rest h = rest s h
+append_by a b n xs ys (Err fault) rest h = cc
+
+sayings-append : (a b : List Saying) (xs ys : List Bytes) → sayings a xs ≡ Ok b → sayings a (xs ++ ys) ≡ sayings b ys
+sayings-append a b [] ys h = let same : a ≡ b = cc in ap (λ s. sayings s ys) same
+sayings-append a b (line ∷ xs) ys h = append_by a b (length a + 1) xs ys (line_by (part_of a) line) (λ s. sayings-append (a ++ s ∷ []) b xs ys) h
+
+one_fits : (said : List Saying) (line : Bytes) (s : Saying) → line_by (part_of said) line ≡ Ok s → sayings said (line ∷ []) ≡ Ok (said ++ s ∷ [])
+one_fits said line s h = ap (or_bad_line (length said + 1) (λ x. Ok (said ++ x ∷ []))) h
+
+one_fails : (said : List Saying) (line : Bytes) (below : List Bytes) (fault : LineCause) → line_by (part_of said) line ≡ Err fault → sayings said (line ∷ below) ≡ Err (capped32 (length said + 1), fault)
+one_fails said line below fault h = ap (or_bad_line (length said + 1) (λ x. sayings (said ++ x ∷ []) below)) h
+
+-- ---- what is known once n lines were read
+
+pub record Walked (text : Bytes) (n : ℕ) (r : Reading) : Type 0 where
+  pub said : List Saying
+  pub fits : sayings [] (take n (lines_in text)) ≡ Ok said
+  pub stands : StandsFor r said
+  pub asked : AsksForMemory text ⊎ ((actors editor_of said ≡ []) × (actors reader_of said ≡ []))
+
+-- the next line of a text is this one
+pub record IsNext (text : Bytes) (n : ℕ) (line : Bytes) : Type 0 where
+  pub within : n < length (lines_in text)
+  pub at : line ≡ get_or (lines_in text) n line
+
+line_drop : (text : Bytes) (n : ℕ) (line : Bytes) → IsNext text n line → drop n (lines_in text) ≡ line ∷ drop (n + 1) (lines_in text)
+line_drop text n line next = drop_more (lines_in text) n line next.within ∙ ap (λ x. x ∷ drop (n + 1) (lines_in text)) (sym next.at)
+
+line_take : (text : Bytes) (n : ℕ) (line : Bytes) → IsNext text n line → take (n + 1) (lines_in text) ≡ take n (lines_in text) ++ line ∷ []
+line_take text n line next = take_more (lines_in text) n line next.within ∙ ap (λ x. take n (lines_in text) ++ x ∷ []) (sym next.at)
+
+cut_at_line : (text : Bytes) (n : ℕ) (line : Bytes) → IsNext text n line → lines_in text ≡ take n (lines_in text) ++ line ∷ drop (n + 1) (lines_in text)
+cut_at_line text n line next = sym (take-append-drop n (lines_in text)) ∙ ap (λ xs. take n (lines_in text) ++ xs) (line_drop text n line next)
+
+pub asks_here : (text : Bytes) (n : ℕ) (r : Reading) (line : Bytes) (w : Walked text n r) → IsNext text n line → line_asks (part_of w.said) line ≡ true → AsksForMemory text
+asks_here text n r line w next h = record {
+  above = take n (lines_in text);
+  line = line;
+  below = drop (n + 1) (lines_in text);
+  cut = cut_at_line text n line next;
+  said = w.said;
+  fits = w.fits;
+  asks = h;
+}
+
+asked_more : (text : Bytes) (n : ℕ) (r : Reading) (line : Bytes) (w : Walked text n r) → IsNext text n line → (s : Saying) → line_by (part_of w.said) line ≡ Ok s
+    → AsksForMemory text ⊎ ((actors editor_of (w.said ++ s ∷ []) ≡ []) × (actors reader_of (w.said ++ s ∷ []) ≡ []))
+asked_more text n r line w next Passed h = elim w.asked [
+  | inl a ↦ inl a
+  | inr e ↦ inr (actors_more editor_of w.said Passed ∙ e.0, actors_more reader_of w.said Passed ∙ e.1)
+]
+asked_more text n r line w next Starts h = elim w.asked [
+  | inl a ↦ inl a
+  | inr e ↦ inr (actors_more editor_of w.said Starts ∙ e.0, actors_more reader_of w.said Starts ∙ e.1)
+]
+asked_more text n r line w next (Does act) h = inl (asks_here text n r line w next (kept_asks (part_of w.said) line (ap is_kept h)))
+asked_more text n r line w next (Ends act) h = inl (asks_here text n r line w next (kept_asks (part_of w.said) line (ap is_kept h)))
+
+-- one line more that fits
+pub walks : (text : Bytes) (n : ℕ) (old new : Reading) (line : Bytes) (w : Walked text n old) → IsNext text n line
+    → ((s : Saying) × (line_by (part_of w.said) line ≡ Ok s) × StandsFor new (w.said ++ s ∷ [])) → Walked text (n + 1) new
+walks text n old new line w next reads = record {
+  said = w.said ++ reads.0 ∷ [];
+  fits = ap (sayings []) (line_take text n line next) ∙ sayings-append [] w.said (take n (lines_in text)) (line ∷ []) w.fits ∙ one_fits w.said line reads.0 reads.1;
+  stands = reads.2;
+  asked = asked_more text n old line w next reads.0 reads.1;
+}
+
+-- the first line that doesn't fit
+pub fails : (text : Bytes) (n : ℕ) (r : Reading) (line : Bytes) (w : Walked text n r) → IsNext text n line → (number : ℕ) (fault : LineCause)
+    → (number ≡ capped32 (length w.said + 1)) × (line_by (part_of w.said) line ≡ Err fault) → meaning_of text ≡ Err (number, fault)
+fails text n r line w next number fault h =
+    ap (λ all. all >>= λ all. Ok (script_of all))
+    (ap (sayings []) (cut_at_line text n line next) ∙ sayings-append [] w.said (take n (lines_in text)) _ w.fits ∙ one_fails w.said line (drop (n + 1) (lines_in text)) fault h.1
+    ∙ ap (λ m. Err (m, fault)) (sym h.0))
+
+-- all lines fit
+pub ends : (text : Bytes) (n : ℕ) (r : Reading) (w : Walked text n r) → length (lines_in text) ≤ n → meaning_of text ≡ Ok (record { editors = r.editors.keys; readers = r.readers.keys; lines = map view_line r.lines.items })
+ends text n r w l =
+    ap (λ all. all >>= λ all. Ok (script_of all)) (ap (sayings []) (sym (take_all n (lines_in text) l)) ∙ w.fits)
+    ∙ sym (rw (w.stands.editors, w.stands.readers, w.stands.lines) refl)
+
+none_listed : (editors readers : List ℕ) → editors ≡ [] → readers ≡ [] → 0 < length editors + length readers → ⊥
+none_listed editors readers e f l = let a = ap length e in let b = ap length f in omega arith
+
+-- actors were mentioned, so memory was asked for
+pub asked_for : (text : Bytes) (n : ℕ) (r : Reading) (w : Walked text n r) → 0 < length r.editors.keys + length r.readers.keys → AsksForMemory text
+asked_for text n r w l = elim w.asked [
+  | inl a ↦ a
+  | inr e ↦ absurd (none_listed r.editors.keys r.readers.keys (w.stands.editors ∙ e.0) (w.stands.readers ∙ e.1) l)
+]
+
+-- a line that was refused is the first that doesn't fit, and the refusal names it
+pub refused : (X : Type 0) (text : Bytes) (n : ℕ) (r new : Reading) (line : Bytes) (w : Walked text n r) → IsNext text n line → (e : ScriptFault) → Reads {X = X} (Err e) w.said line new
+    → Gives {X = Script} view cause (Err e) (meaning_of text)
+refused X text n r new line w next (faults.BadLine number fault) h = fails text n r line w next number fault h
+refused X text n r new line w next faults.NoMemory h = tt
+
+-- ---- the lines that `split` gives
+
+module _ {F : Type 0} (g : Mut F (Bor ℕ × Unit {0}) Bool) (text : Bytes) {f : F} (begun s t u : _) (same : s ≡ begun) (rest : slice.split_rest begun ≡ text) (more : slice.split_done begun ≡ false) (closure : slice.split_callee begun ≡ f)
+    (xs : List (Bor (List ℕ))) (y : Yields (slice.split_steps g) s xs t) (r : Option (Bor (List ℕ))) (steps : slice.split_steps g t r u) (tests : (x : ℕ) (b : Bool) (q : F) → CalledAt g f x b q → (q ≡ f) × (b ≡ is_feed x)) where
+  pub next_line : (x : Bor (List ℕ)) → r ≡ Some x → IsNext text (length xs) x.now
+  next_line x e =
+      let road = YieldsList-at same (YieldsList-from_slice_split g is_feed text rest more closure tests) in
+      let turn = YieldsList-turn road xs t y r u x e steps in
+      record { within = turn.0; at = turn.1 }
+
+  pub no_more_lines : r ≡ None → length (lines_in text) ≤ length xs
+  no_more_lines e =
+      let road = YieldsList-at same (YieldsList-from_slice_split g is_feed text rest more closure tests) in
+      let end = YieldsList-end road xs t y r u e steps in
+      omega arith

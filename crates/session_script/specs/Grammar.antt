@@ -1,0 +1,205 @@
+-- The grammar of scripts: what a line says, which lines may stand where, and the first line that doesn't fit.
+use Rattle.std.specs.Prelude.{ℕ, ◌+◌, Bool, true, false, ◌==◌, not, List, [], ◌∷◌, ◌++◌, length, filter, Option, Some, None, Result, Ok, Err, if◌then◌else◌}
+use Rattle.std.specs.List.{list_any, filter_map, slice_split}
+use Rattle.oc_bytes.specs.Outcome.{capped32}
+use Rattle.oc_bytes.specs.Decimals.{decimal_in}
+use Rattle.path_tree.specs.Paths.{Bytes}
+use Rattle.session_script.specs.declared.keyword.Keyword.{Keyword}
+use Rattle.session_script.specs.declared.keyword.Keyword.TheVariants as keywords
+use Rattle.session_script.specs.declared.line.Part.{Part}
+use Rattle.session_script.specs.declared.line.Part.TheVariants.{Opening, Running, Closing}
+use Rattle.session_script.specs.declared.script.LineCause.{LineCause}
+use Rattle.session_script.specs.declared.script.LineCause.TheVariants.{Unknown, Order, BadNumber, BadPath, BadHex, BadFate, Missing, Extra}
+use Rattle.session_script.specs.declared.script.Stage.{Stage}
+use Rattle.session_script.specs.declared.script.Stage.TheVariants.{Before, During, After}
+use Rattle.session_script.specs.Keywords.{keyword_of}
+use Rattle.session_script.specs.Values.{actor_of, path_in, content_in, fates_of}
+use Rattle.session_script.specs.Scripts.{Fields, LineFields, Act, Put, Fill, Remove, Commit, Draw, Open, Settle}
+
+-- What a line says: nothing; that the session starts below it; what is done; what is done after all others.
+pub data Saying : Type 0 where
+  Passed : Saying
+  Starts : Saying
+  Does : Act → Saying
+  Ends : Act → Saying
+
+-- ---- the words of a line, from left to right
+
+infixl 10 ◌>>=◌
+abbrev pub ◌>>=◌ : {A B E : Type 0} → Result A E → (A → Result B E) → Result B E
+(Ok x) >>= f = f x
+(Err fault) >>= f = Err fault
+
+abbrev pub or_cause : {A : Type 0} → LineCause → List Bytes → Option A → Result (A × List Bytes) LineCause
+or_cause fault words (Some x) = Ok (x, words)
+or_cause fault words None = Err fault
+
+-- the next word, as this reading takes it, and the words after it
+abbrev pub word_by : {A : Type 0} → (Bytes → Option A) → LineCause → List Bytes → Result (A × List Bytes) LineCause
+word_by read fault [] = Err Missing
+word_by read fault (word ∷ words) = or_cause fault words (read word)
+
+abbrev pub no_more : {A : Type 0} → A → List Bytes → Result A LineCause
+no_more x [] = Ok x
+no_more x (word ∷ words) = Err Extra
+
+abbrev pub put_by : List Bytes → Result Act LineCause
+put_by words = do
+  editor ← word_by actor_of BadNumber words
+  path ← word_by path_in BadPath editor.1
+  content ← word_by content_in BadHex path.1
+  no_more (Put editor.0 path.0 content.0) content.1
+
+abbrev pub fill_by : List Bytes → Result Act LineCause
+fill_by words = do
+  editor ← word_by actor_of BadNumber words
+  path ← word_by path_in BadPath editor.1
+  size ← word_by (decimal_in 0 16777217) BadNumber path.1
+  from ← word_by (decimal_in 0 255) BadNumber size.1
+  no_more (Fill editor.0 path.0 size.0 from.0) from.1
+
+abbrev pub remove_by : List Bytes → Result Act LineCause
+remove_by words = do
+  editor ← word_by actor_of BadNumber words
+  path ← word_by path_in BadPath editor.1
+  no_more (Remove editor.0 path.0) path.1
+
+abbrev pub commit_by : List Bytes → Result Act LineCause
+commit_by words = do
+  editor ← word_by actor_of BadNumber words
+  no_more (Commit editor.0) editor.1
+
+abbrev pub draw_by : List Bytes → Result Act LineCause
+draw_by words = do
+  asked ← word_by (decimal_in 1 1048576) BadNumber words
+  fates ← or_cause BadFate [] (fates_of asked.1)
+  Ok (Draw asked.0 fates.0)
+
+abbrev pub open_by : List Bytes → Result Act LineCause
+open_by words = do
+  reader ← word_by actor_of BadNumber words
+  path ← word_by path_in BadPath reader.1
+  no_more (Open reader.0 path.0) path.1
+
+abbrev pub said : {A : Type 0} → (A → Saying) → Result A LineCause → Result Saying LineCause
+said says (Ok x) = Ok (says x)
+said says (Err fault) = Err fault
+
+-- what the words after a line's first one say
+abbrev pub said_by : Keyword → List Bytes → Result Saying LineCause
+said_by keywords.Put words = said Does (put_by words)
+said_by keywords.Fill words = said Does (fill_by words)
+said_by keywords.Remove words = said Does (remove_by words)
+said_by keywords.Commit words = said Does (commit_by words)
+said_by keywords.Draw words = said Does (draw_by words)
+said_by keywords.Open words = said Does (open_by words)
+said_by keywords.Start words = no_more Starts words
+said_by keywords.Settle words = no_more (Ends Settle) words
+said_by keywords.Finale words = said Ends (open_by words)
+
+-- ---- which lines may stand where
+
+abbrev pub is_start : Saying → Bool
+is_start Starts = true
+is_start _ = false
+
+abbrev pub is_end : Saying → Bool
+is_end (Ends act) = true
+is_end _ = false
+
+-- The part of a script that is reached below these lines: its closing part after `settle` or a finale, else the running
+-- part after `start`, else the opening one.
+abbrev pub part_of : List Saying → Part
+part_of above = if list_any is_end above then Closing else (if list_any is_start above then Running else Opening)
+
+-- `start` may stand once, and before the closing part; in that part only finales may stand
+abbrev pub may_stand : Part → Keyword → Bool
+may_stand Opening keyword = true
+may_stand Running keywords.Start = false
+may_stand Running _ = true
+may_stand Closing keywords.Finale = true
+may_stand Closing _ = false
+
+abbrev pub in_order : Part → List Bytes → Option Keyword → Result Saying LineCause
+in_order part words None = Err Unknown
+in_order part words (Some keyword) = if may_stand part keyword then said_by keyword words else Err Order
+
+abbrev pub in_words : Part → List Bytes → Result Saying LineCause
+in_words part [] = Ok Passed
+in_words part (word ∷ words) = in_order part words (keyword_of word)
+
+abbrev pub is_space : ℕ → Bool
+is_space b = b == 32
+
+-- the words of a line, between single spaces
+abbrev pub words_in : Bytes → List Bytes
+words_in line = slice_split is_space line
+
+-- What a line says, or the first cause for which it doesn't fit. An empty line and one that begins with `#` are passed over.
+abbrev pub line_by : Part → Bytes → Result Saying LineCause
+line_by part [] = Ok Passed
+line_by part (c ∷ cs) = if c == 35 then Ok Passed else in_words part (words_in (c ∷ cs))
+
+-- ---- the lines of a text
+
+abbrev pub is_feed : ℕ → Bool
+is_feed b = b == 10
+
+-- The lines of a text. A line feed at its end opens one more line, with nothing in it; that line says nothing.
+abbrev pub lines_in : Bytes → List Bytes
+lines_in text = slice_split is_feed text
+
+abbrev pub or_bad_line : ℕ → (Saying → Result (List Saying) (ℕ × LineCause)) → Result Saying LineCause → Result (List Saying) (ℕ × LineCause)
+or_bad_line number below (Ok saying) = below saying
+or_bad_line number below (Err fault) = Err (capped32 number, fault)
+
+-- What all lines say, where some say `above` and these follow them; or the number of the first of these that doesn't fit
+-- below the lines above it, and its first cause.
+abbrev pub sayings : List Saying → List Bytes → Result (List Saying) (ℕ × LineCause)
+sayings above [] = Ok above
+sayings above (line ∷ lines) = or_bad_line (length above + 1) (λ saying. sayings (above ++ saying ∷ []) lines) (line_by (part_of above) line)
+
+-- ---- what is said as a script
+
+abbrev pub editor_of : Act → Option ℕ
+editor_of (Put editor path content) = Some editor
+editor_of (Fill editor path size from) = Some editor
+editor_of (Remove editor path) = Some editor
+editor_of (Commit editor) = Some editor
+editor_of _ = None
+
+abbrev pub reader_of : Act → Option ℕ
+reader_of (Open reader path) = Some reader
+reader_of _ = None
+
+abbrev pub who : (Act → Option ℕ) → Saying → Option ℕ
+who actor (Does act) = actor act
+who actor (Ends act) = actor act
+who actor _ = None
+
+-- each number once, at its first place
+abbrev pub first_mentions : List ℕ → List ℕ
+first_mentions [] = []
+first_mentions (n ∷ ns) = n ∷ filter (λ m. not (m == n)) (first_mentions ns)
+
+abbrev pub actors : (Act → Option ℕ) → List Saying → List ℕ
+actors actor all = first_mentions (filter_map (who actor) all)
+
+-- the stage of a line that does something, above lines that say `below`
+abbrev pub stage_above : List Saying → Stage
+stage_above below = if list_any is_start below then Before else During
+
+-- the lines that do something; the first of these has number n
+abbrev pub lines_from : ℕ → List Saying → List LineFields
+lines_from n [] = []
+lines_from n (Passed ∷ below) = lines_from (n + 1) below
+lines_from n (Starts ∷ below) = lines_from (n + 1) below
+lines_from n (Does act ∷ below) = record { number = capped32 n; stage = stage_above below; act = act } ∷ lines_from (n + 1) below
+lines_from n (Ends act ∷ below) = record { number = capped32 n; stage = After; act = act } ∷ lines_from (n + 1) below
+
+abbrev pub script_of : List Saying → Fields
+script_of all = record { editors = actors editor_of all; readers = actors reader_of all; lines = lines_from 1 all }
+
+-- What a text says, or its first line that doesn't fit and that line's first cause.
+abbrev pub meaning_of : Bytes → Result Fields (ℕ × LineCause)
+meaning_of text = sayings [] (lines_in text) >>= λ all. Ok (script_of all)

@@ -1,0 +1,10 @@
+pub mod Texts
+pub mod Scripts
+pub mod Keywords
+pub mod Values
+pub mod Grammar
+pub mod Memory
+pub mod Steps
+pub mod Mentions
+pub mod Readings
+pub mod Ranges

@@ -1,0 +1,28 @@
+-- What holds of every script that a text gives.
+use Rattle.std.specs.Prelude.{ℕ, ◌≤◌, ◌<◌, nat_eq, List, length}
+use Rattle.std.specs.List.{All, IsDistinct}
+use Rattle.session_script.specs.Scripts.{Act, Put, Fill, Remove, Commit, Draw, Open, Settle, Fields}
+
+pub record IsActor (n : ℕ) : Type 0 where
+  pub at_least : 1 ≤ n
+  pub at_most : n ≤ 64
+
+abbrev pub IsInRange : Act → Type 0
+IsInRange (Put editor path content) = IsActor editor
+IsInRange (Fill editor path size from) = IsActor editor × (size ≤ 16777217) × (from < 256)
+IsInRange (Remove editor path) = IsActor editor
+IsInRange (Commit editor) = IsActor editor
+IsInRange (Draw asked fates) = (1 ≤ asked) × (asked ≤ 1048576) × (length fates ≤ 65536)
+IsInRange (Open reader path) = IsActor reader
+IsInRange Settle = Unit {0}
+
+-- numbers of editors, or of readers, each once
+pub record AreActors (numbers : List ℕ) : Type 0 where
+  pub each : All IsActor numbers
+  pub once : IsDistinct nat_eq numbers
+  pub most : length numbers ≤ 64
+
+pub record IsInRanges (script : Fields) : Type 0 where
+  pub editors : AreActors script.editors
+  pub readers : AreActors script.readers
+  pub lines : All (λ line. IsInRange line.act) script.lines

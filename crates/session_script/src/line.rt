@@ -1,0 +1,174 @@
+//! What one line says.
+ghost use Rattle.std.specs.Prelude.{◌≡◌, Err, true, is_ok};
+ghost use Rattle.oc_bytes.specs.Outcome.{Gives};
+ghost use Rattle.session_script.specs.Scripts.{view_action};
+ghost use Rattle.session_script.specs.Grammar.{put_by, fill_by, remove_by, commit_by, draw_by, open_by, said_by, may_stand, in_words, line_by, Ends, Starts};
+ghost use Rattle.session_script.specs.Grammar as grammar;
+ghost use Rattle.session_script.specs.Memory.{reaches_path, asks_by, asks_in_words, line_asks};
+ghost use Rattle.session_script.specs.Steps.{left, line_cause, view_said};
+
+use crate::keyword::Keyword;
+use crate::script::{Action, LineCause};
+use crate::values::{actor, content, fates, number, path};
+use crate::words::{LineFault, Words};
+use std::alloc::Global;
+
+/// The most sections of one draw.
+const MOST_ASKED: u32 = 1_048_576;
+
+/// The most bytes that a line fills a file with: one more than a file may have.
+const MOST_FILLED: u32 = 16_777_217;
+
+/// The part of a script that a line stands in.
+#[derive(Clone, Copy, Debug, PartialEq, Eq)]
+pub enum Part {
+    /// Above any `start`, `settle` and `finale`.
+    Opening,
+    /// Below `start`.
+    Running,
+    /// Below `settle` or a `finale`.
+    Closing,
+}
+
+/// What a line says.
+#[derive(Drop)]
+pub enum Said {
+    /// Nothing: it is empty or begins with `#`.
+    Passed,
+    /// The session's threads start below it.
+    Starts,
+    /// What an actor does.
+    Does(Action),
+    /// What is done after all others.
+    Ends(Action),
+}
+
+/// `EDITOR PATH HEX`
+fn put(alloc: Global, mut words: Words) -> Result<Action, LineFault>
+    ensures gives { Gives view_action line_cause result (put_by (left words.entry)) }
+    ensures memory { result ≡ Err LineFault.NoMemory → reaches_path (left words.entry) ≡ true }
+{
+    let editor = actor(&mut words)?;
+    let path = path(alloc, &mut words)?;
+    let content = content(alloc, &mut words)?;
+    words.end()?;
+    Ok(Action::Put(editor, path, content))
+}
+
+/// `EDITOR PATH LENGTH FROM`
+fn fill(alloc: Global, mut words: Words) -> Result<Action, LineFault>
+    ensures gives { Gives view_action line_cause result (fill_by (left words.entry)) }
+    ensures memory { result ≡ Err LineFault.NoMemory → reaches_path (left words.entry) ≡ true }
+{
+    let editor = actor(&mut words)?;
+    let path = path(alloc, &mut words)?;
+    let size = number(&mut words, 0, MOST_FILLED)?;
+    let from = number(&mut words, 0, 255)?;
+    words.end()?;
+    Ok(Action::Fill(editor, path, size, from as u8))
+}
+
+/// `EDITOR PATH`
+fn remove(alloc: Global, mut words: Words) -> Result<Action, LineFault>
+    ensures gives { Gives view_action line_cause result (remove_by (left words.entry)) }
+    ensures memory { result ≡ Err LineFault.NoMemory → reaches_path (left words.entry) ≡ true }
+{
+    let editor = actor(&mut words)?;
+    let path = path(alloc, &mut words)?;
+    words.end()?;
+    Ok(Action::Remove(editor, path))
+}
+
+/// `EDITOR`
+fn commit(mut words: Words) -> Result<Action, LineFault>
+    ensures gives { Gives view_action line_cause result (commit_by (left words.entry)) }
+    ensures plain { result ≡ Err LineFault.NoMemory → ⊥ }
+{
+    let editor = actor(&mut words)?;
+    words.end()?;
+    Ok(Action::Commit(editor))
+}
+
+/// `N FATE..`
+fn draw(alloc: Global, mut words: Words) -> Result<Action, LineFault>
+    ensures gives { Gives view_action line_cause result (draw_by (left words.entry)) }
+    ensures memory { result ≡ Err LineFault.NoMemory → is_ok (draw_by (left words.entry)) ≡ true }
+{
+    let asked = number(&mut words, 1, MOST_ASKED)?;
+    let fates = fates(alloc, words)?;
+    Ok(Action::Draw(asked, fates))
+}
+
+/// `READER PATH`
+fn open(alloc: Global, mut words: Words) -> Result<Action, LineFault>
+    ensures gives { Gives view_action line_cause result (open_by (left words.entry)) }
+    ensures memory { result ≡ Err LineFault.NoMemory → reaches_path (left words.entry) ≡ true }
+{
+    let reader = actor(&mut words)?;
+    let path = path(alloc, &mut words)?;
+    words.end()?;
+    Ok(Action::Open(reader, path))
+}
+
+/// What the words after a line's first one say.
+fn say(alloc: Global, keyword: Keyword, mut words: Words) -> Result<Said, LineFault>
+    ensures gives { Gives view_said line_cause result (said_by keyword (left words.entry)) }
+    ensures memory { result ≡ Err LineFault.NoMemory → asks_by keyword (left words.entry) ≡ true }
+{
+    match keyword {
+        Keyword::Put => Ok(Said::Does(put(alloc, words)?)),
+        Keyword::Fill => Ok(Said::Does(fill(alloc, words)?)),
+        Keyword::Remove => Ok(Said::Does(remove(alloc, words)?)),
+        Keyword::Commit => Ok(Said::Does(commit(words)?)),
+        Keyword::Draw => Ok(Said::Does(draw(alloc, words)?)),
+        Keyword::Open => Ok(Said::Does(open(alloc, words)?)),
+        Keyword::Start => {
+            words.end()?;
+            Ok(Said::Starts)
+        }
+        Keyword::Settle => {
+            words.end()?;
+            Ok(Said::Ends(Action::Settle))
+        }
+        Keyword::Finale => Ok(Said::Ends(open(alloc, words)?)),
+    }
+}
+
+/// Whether a line of this keyword may stand in this part.
+fn may_stand(part: Part, keyword: Keyword) -> bool
+    ensures { result ≡ grammar.may_stand part keyword }
+{
+    match (part, keyword) {
+        (Part::Opening, _) | (Part::Closing, Keyword::Finale) => true,
+        (Part::Running, Keyword::Start) | (Part::Closing, _) => false,
+        (Part::Running, _) => true,
+    }
+}
+
+/// What the words of a line say that isn't passed over.
+fn say_all(alloc: Global, part: Part, mut words: Words) -> Result<Said, LineFault>
+    ensures gives { Gives view_said line_cause result (in_words part (left words.entry)) }
+    ensures memory { result ≡ Err LineFault.NoMemory → asks_in_words part (left words.entry) ≡ true }
+{
+    let Some(first) = words.next() else {
+        return Ok(Said::Passed);
+    };
+    let Some(keyword) = Keyword::parse(first) else {
+        return Err(LineFault::Bad(LineCause::Unknown));
+    };
+    if !may_stand(part, keyword) {
+        return Err(LineFault::Bad(LineCause::Order));
+    }
+    say(alloc, keyword, words)
+}
+
+/// What a line says in this part, or why it doesn't fit.
+pub fn read_line(alloc: Global, part: Part, line: &[u8]) -> Result<Said, LineFault>
+    ensures gives { Gives view_said line_cause result (line_by part line.now) }
+    ensures memory { result ≡ Err LineFault.NoMemory → line_asks part line.now ≡ true }
+{
+    match line {
+        [] | [b'#', ..] => Ok(Said::Passed),
+        _ => say_all(alloc, part, Words::of(line)),
+    }
+}

@@ -1,0 +1,189 @@
+//! A script, read line by line.
+ghost use Rattle.std.specs.Prelude.{◌≡◌, ◌+◌, ◌<◌, true, Ok, Err, [], List, length, map, IfOk, OnOk, OnErr, IsErrOf};
+ghost use Rattle.oc_bytes.specs.Outcome.{Gives};
+ghost use Rattle.session_script.specs.Mentions.{mentioned};
+ghost use Rattle.session_script.specs.Scripts.{cause};
+ghost use Rattle.session_script.specs.Scripts as scripts;
+ghost use Rattle.session_script.specs.Grammar.{meaning_of};
+ghost use Rattle.session_script.specs.Memory.{AsksForMemory};
+ghost use Rattle.session_script.specs.Ranges.{IsInRanges};
+
+use crate::line::{Part, Said, read_line};
+use crate::script::{Action, Line, Script, ScriptFault, Stage};
+use crate::words::LineFault;
+use indexmap::IndexSet;
+use oc_bytes::NoMemory;
+use std::alloc::Global;
+
+/// What the lines so far say.
+#[derive(Drop)]
+struct Reading {
+    alloc: Global,
+    /// How many lines were read, at most the greatest `u32`.
+    number: u32,
+    /// The part of the script that is reached.
+    part: Part,
+    editors: IndexSet<u32>,
+    readers: IndexSet<u32>,
+    lines: Vec<Line>,
+}
+
+impl Reading {
+    ghost use Rattle.session_script.specs.Scripts.{view, view_action, view_line};
+    ghost use Rattle.session_script.specs.Grammar.{Saying, Starts};
+    ghost use Rattle.session_script.specs.Memory.{line_asks, is_kept};
+    ghost use Rattle.session_script.specs.Steps.{view_said};
+    ghost use Rattle.session_script.specs.Readings.{StandsFor, Adds, Keeps, Reads};
+
+    fn new(alloc: Global) -> Reading
+        ensures { StandsFor result [] }
+    {
+        Reading {
+            alloc,
+            number: 0,
+            part: Part::Opening,
+            editors: IndexSet::new(alloc),
+            readers: IndexSet::new(alloc),
+            lines: Vec::new(alloc),
+        }
+    }
+
+    /// Reads one line more. After a refusal it is of no use any more.
+    fn read(&mut self, line: &[u8]) -> Result<(), ScriptFault>
+        ensures says { (above : List Saying) → StandsFor self.old above → Reads result above line.now self.new }
+        ensures memory { result ≡ Err ScriptFault.NoMemory → line_asks self.old.part line.now ≡ true }
+    {
+        let number = self.number.saturating_add(1);
+        match read_line(self.alloc, self.part, line) {
+            Ok(said) => {
+                self.number = number;
+                self.add(said)?;
+                Ok(())
+            }
+            Err(LineFault::Bad(cause)) => Err(ScriptFault::BadLine(number, cause)),
+            Err(LineFault::NoMemory) => Err(ScriptFault::NoMemory),
+        }
+    }
+
+    /// Adds what the line says whose number stands.
+    fn add(&mut self, said: Said) -> Result<(), NoMemory>
+        ensures adds { OnOk result (Adds self.old self.new (view_said said)) }
+        ensures memory { OnErr result (is_kept (Ok (view_said said)) ≡ true) }
+    {
+        match said {
+            Said::Passed => Ok(()),
+            Said::Starts => {
+                self.start();
+                Ok(())
+            }
+            Said::Does(action) => self.keep(Stage::During, action),
+            Said::Ends(action) => {
+                self.part = Part::Closing;
+                self.keep(Stage::After, action)
+            }
+        }
+    }
+
+    /// All lines so far are of the first stage.
+    fn start(&mut self)
+        ensures { Adds self.old self.new Starts }
+    {
+        self.part = Part::Running;
+        for line in self.lines.iter_mut() {
+            line.stage = Stage::Before;
+        }
+    }
+
+    /// Keeps the line that does something and whose number stands.
+    fn keep(&mut self, stage: Stage, action: Action) -> Result<(), NoMemory>
+        ensures { OnOk result (Keeps self.old self.new stage (view_action action)) }
+    {
+        mention(&mut self.editors, action.editor())?;
+        mention(&mut self.readers, action.reader())?;
+        self.lines.push(Line {
+            number: self.number,
+            stage,
+            action,
+        })?;
+        Ok(())
+    }
+
+    /// The script that the lines make.
+    fn finish(self) -> Result<Script, NoMemory>
+        ensures script { IfOk result (λ s. view s ≡ record { editors = self.editors.keys; readers = self.readers.keys; lines = map view_line self.lines.items }) }
+        ensures memory { OnErr result (0 < length self.editors.keys + length self.readers.keys) }
+    {
+        let Reading {
+            alloc,
+            editors,
+            readers,
+            lines,
+            ..
+        } = self;
+        Ok(Script {
+            editors: listed(alloc, &editors)?,
+            readers: listed(alloc, &readers)?,
+            lines,
+        })
+    }
+}
+
+/// Puts an actor last that isn't there.
+fn mention(actors: &mut IndexSet<u32>, actor: Option<u32>) -> Result<(), NoMemory>
+    ensures { OnOk result (actors.new.keys ≡ mentioned actor actors.old.keys) }
+{
+    if let Some(actor) = actor {
+        actors.insert(actor)?;
+    }
+    Ok(())
+}
+
+/// The actors, in their order.
+fn listed(alloc: Global, actors: &IndexSet<u32>) -> Result<Vec<u32>, NoMemory>
+    ensures list { IfOk result (λ list. list.items ≡ actors.now.keys) }
+    ensures memory { OnErr result (0 < length actors.now.keys) }
+{
+    let mut list = Vec::with_capacity(alloc, actors.len())?;
+    list.extend_from_slice(actors.as_slice())?;
+    Ok(list)
+}
+
+/// Reads a script, or names its first line that doesn't fit. The language is this project's own.
+///
+/// A script is lines, each but maybe the last ended by a line feed. An empty line and one that begins with `#` say nothing,
+/// and are counted. The words of a line stand between single spaces, so a second space or one at the end makes an empty
+/// word, which is read as the word that it stands for. EDITOR and READER are 1 to 64. Numbers are decimal digits without a
+/// sign and without a leading zero, `0` itself excepted. PATH is a text that `Path::parse` takes.
+///
+/// | Line | Says |
+/// |---|---|
+/// | `put EDITOR PATH HEX` | an edit: a file of these bytes; HEX is `-` for none, else two hexadecimal digits of either case a byte |
+/// | `fill EDITOR PATH LENGTH FROM` | an edit: a file of LENGTH bytes, 0 to 16,777,217, made from FROM, 0 to 255 |
+/// | `remove EDITOR PATH` | an edit: no file |
+/// | `commit EDITOR` | the editor's edits since its last commit are committed |
+/// | `draw N FATE..` | N sections are sent, 1 to 1,048,576; `kCOUNT` keeps and `dCOUNT` loses COUNT packets, 1 to 65,536, and `fBIT` inverts one bit, 0 to 1,503, of one packet; at most 65,536 packets have a fate |
+/// | `open READER PATH` | a reader opens a path |
+/// | `start` | the lines above are those of the first stage; at most once |
+/// | `settle` | two draws after all others; at most once |
+/// | `finale READER PATH` | an open after all that |
+///
+/// Below `settle` only finales may stand, and below a finale too.
+///
+/// `BadLine` comes exactly where a line doesn't fit. It names the first such line, counted from 1 and at most by the greatest
+/// `u32`, and that line's first cause: an unknown first word, a line that may not stand there, and then word by word from
+/// the left. `NoMemory` comes only below lines that all fit, at a line that asks for memory: one that fits and does
+/// something, or one whose actor fits and which has a word for its path.
+///
+/// The text is read once. Memory is taken for each line that does something, for the names of its path and for its file's
+/// bytes, and 4 bytes for each fate, so a line of 14 bytes can ask for 262,144; the filled files are not made here.
+pub fn parse(alloc: Global, text: &[u8]) -> Result<Script, ScriptFault>
+    ensures grammar { Gives scripts.view cause result (meaning_of text.now) }
+    ensures ranges { IfOk result (λ script. IsInRanges (scripts.view script)) }
+    ensures memory { IsErrOf result ScriptFault.NoMemory → AsksForMemory text.now }
+{
+    let mut reading = Reading::new(alloc);
+    for line in text.split(|byte| *byte == b'\n') {
+        reading.read(line)?;
+    }
+    Ok(reading.finish()?)
+}
