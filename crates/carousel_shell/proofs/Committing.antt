@@ -1,12 +1,10 @@
 -- One commit on a new carousel, and what is sent of the generation that it makes.
-use Rattle.std.proofs.Common.{◌≡◌, ℕ, zero, suc, ◌+◌, ◌≤◌, Bool, true, false, ◌==◌, List, [], ◌∷◌, ◌++◌, map, Option, Some, None, Result, Ok, Err, cond, ◌⊎◌, inl, inr, refl, ◌∙◌, sym, ap, subst, lit≤, append-nil, arith}
+use Rattle.std.proofs.Common.{◌≡◌, ℕ, zero, suc, ◌+◌, ◌≤◌, Bool, true, false, ◌==◌, List, [], ◌∷◌, map, Option, Some, None, Result, Ok, Err, cond, ◌⊎◌, inl, inr, refl, ◌∙◌, sym, ap, subst, lit≤, arith}
 use Rattle.std.specs.Prelude.{nat_lt, MatchOption, ⊤}
 use Rattle.std.specs.List.{All, Contains}
 use Rattle.std.proofs.lemmas.Bool.{cond-true, ltb-false}
 use Rattle.std.proofs.lemmas.List.Elements.{All-append, All-contains_itself, All-head, All-tail, All-nil, All-weaker}
 use Rattle.oc_bytes.specs.Outcome.{capped}
-use Rattle.oc_bytes.specs.declared.sink.WriteFault.{WriteFault}
-use Rattle.oc_bytes.specs.declared.sink.WriteFault.TheVariants as writes
 use Rattle.path_tree.specs.Trees.{Tree, IsTree}
 use Rattle.path_tree.specs.Edits.{apply_all}
 use Rattle.path_tree.specs.declared.tree.Edit.{Edit}
@@ -25,18 +23,26 @@ use Rattle.generation_catalogue.specs.declared.entry.Refusal.TheVariants as refu
 use Rattle.generation_catalogue.specs.declared.entry.Entry.TheVariants as entries
 use Rattle.generation_catalogue.specs.declared.entry.CommitFault.{CommitFault}
 use Rattle.generation_catalogue.specs.declared.entry.CommitFault.TheVariants as commits
-use Rattle.folder_store.specs.Folders.{FolderTree, is_folder_at}
-use Rattle.folder_store.specs.Walk.{Walked, edits_of, EditsMakeTheFiles}
+use Rattle.folder_store.specs.Folders.{FolderTree, is_folder_at, MayFail}
+use Rattle.folder_store.specs.Walk.{Walked, IsTooDeep, IsBadName, edits_of, EditsMakeTheFiles}
 use Rattle.folder_store.specs.declared.reading.TreeFault.{TreeFault}
 use Rattle.folder_store.specs.declared.reading.ReadTree.{ReadTree}
 use Rattle.folder_store.specs.declared.reading.ReadTree.TheVariants as reads
-use Rattle.carousel_world.specs.Publishing.{repeated, published, items_sent, publication, layouts_for}
-use Rattle.carousel_world.specs.Air.{sections}
-use Rattle.carousel_shell.specs.Cuts.{Bytes}
-use Rattle.carousel_shell.specs.Extents.{Extent, Whole, Front, Nothing, IsFront, IsWritten, Writes, WritesPart, extent_of, IsDue}
-use Rattle.carousel_shell.specs.Sending.{IsSending, HasStopped}
-use Rattle.carousel_shell.specs.Recording.{write_status}
-use Rattle.carousel_shell.specs.Publishing.{packed, new_carousel, unless_refused, end_by, publish_end, accepted_tree, tree_by, published_of, publish_output, commit_status, IsOfFolder, IsRefusal, HasPublished, HasBegun}
+use Rattle.carousel_world.specs.Publishing.{repeated, published, publication, layouts_for}
+use Rattle.carousel_world.specs.Broadcasts.{sections}
+use Rattle.carousel_world.proofs.CallerLemmas.{published_sections}
+use Rattle.shell_streams.specs.Cuts.{Bytes}
+use Rattle.shell_streams.specs.Sending.{OutputState, Puts, HasPut}
+use Rattle.shell_streams.specs.declared.output.OutputFault.{OutputFault}
+use Rattle.shell_streams.specs.declared.output.OutputFault.TheVariants as outputs
+use Rattle.shell_streams.proofs.CallerLemmas.{puts_as}
+use Rattle.carousel_shell.specs.Over.{Over, sent, Failed, IsUntouched}
+use Rattle.carousel_shell.specs.Publishing.{new_carousel, unless_refused, end_by, publish_end, accepted_tree, tree_by}
+use Rattle.carousel_shell.specs.Publish.{IsTreeOf, EndsPublish, NeedsFolder, Publishes}
+use Rattle.carousel_shell.specs.Cycles.{packed, IsOfFolder, Refused}
+use Rattle.carousel_shell.specs.Reception.{Receptions}
+use Rattle.carousel_shell.specs.Statuses.{output_status, walk_status, commit_status}
+use Rattle.carousel_shell.proofs.Writing.{writes_all, writes_prefix}
 use Rattle.carousel_shell.specs.declared.status.Status.{Status}
 use Rattle.carousel_shell.specs.declared.status.Status.TheVariants as status
 
@@ -46,10 +52,6 @@ map_same : {X Y : Type 0} (f h : X → Y) (xs : List X) → All (λ x. f x ≡ h
 map_same f h [] e = refl
 map_same f h (x ∷ xs) e =
     ap (λ y. y ∷ map f xs) (All-head (λ y. f y ≡ h y) x xs e) ∙ ap (λ ys. h x ∷ ys) (map_same f h xs (All-tail (λ y. f y ≡ h y) x xs e))
-
-map_sent : (f : ℕ → Item → Bytes) (g : ℕ) (xs : List Item) → map (λ (s : ℕ × Item). f s.0 s.1) (map (λ item. (g, item)) xs) ≡ map (f g) xs
-map_sent f g [] = refl
-map_sent f g (x ∷ xs) = ap (λ ys. f g x ∷ ys) (map_sent f g xs)
 
 All-repeated : {X : Type 0} (P : X → Type 0) (n : ℕ) (xs : List X) → All P xs → All P (repeated n xs)
 All-repeated P zero xs h = All-nil P
@@ -68,7 +70,7 @@ sent_sections : (carousel cycles : ℕ) (t : Tree) (g : GenerationState) → IsG
 sent_sections carousel cycles t g is =
     sent_items carousel cycles (layouts_for carousel t) g is.sections
     ∙ ap (λ (l : Layout). map (section_in carousel (layouts_for carousel t) 1) (repeated cycles (cycle_of (lines_in l)))) is.layout
-    ∙ sym (map_sent (section_in carousel (layouts_for carousel t)) 1 (items_sent carousel cycles t))
+    ∙ sym (published_sections carousel cycles t)
 
 -- the packets of the cycles of generation 1 are those that are published
 pub published_is : (carousel cycles : ℕ) (t : Tree) (g : GenerationState) → GenerationsAreOfTheLists → g ≡ generation_of carousel (t ∷ [])
@@ -123,13 +125,13 @@ made_of_folder law folder carousel editor n told edits before after g b o a e va
     record {
       tree = applied.0;
       is = is;
-      publishable = record { tree = subst IsTree (tree_is carousel applied.0 g is) valid; bytes = subst HasBytes (tree_is carousel applied.0 g is) bytes; within = applied.2 };
-      accepted = λ t h. (
-        ap (λ v. cond v (end_by carousel (edits_of t folder)) status.FolderFault) (there t h) ∙ ap (end_by carousel) (is_edits t h) ∙ ap unless_refused out,
-        ap (λ v. cond v (tree_by carousel (edits_of t folder)) None) (there t h) ∙ ap (tree_by carousel) (is_edits t h)
-            ∙ ap (λ r. accepted_tree r (apply_all [] edits)) out ∙ ap (accepted_tree (Ok n)) applied.1,
-      );
-      files = λ t h valid_folder. law t folder edits applied.0 valid_folder (is_edits t h) applied.3 applied.1;
+      of = record {
+        publishable = record { tree = subst IsTree (tree_is carousel applied.0 g is) valid; bytes = subst HasBytes (tree_is carousel applied.0 g is) bytes; within = applied.2 };
+        of_folder = λ t h. ap (λ v. cond v (tree_by carousel (edits_of t folder)) None) (there t h) ∙ ap (tree_by carousel) (is_edits t h)
+            ∙ ap (λ r. accepted_tree r (apply_all [] edits)) out ∙ ap (accepted_tree (Ok n)) applied.1;
+        accepted = λ t h. ap (λ v. cond v (end_by carousel (edits_of t folder)) status.FolderFault) (there t h) ∙ ap (end_by carousel) (is_edits t h) ∙ ap unless_refused out;
+        files = λ t h valid_folder. law t folder edits applied.0 valid_folder (is_edits t h) applied.3 applied.1;
+      };
     }
 
 -- ---- where no generation is made
@@ -145,55 +147,34 @@ folder_there false r a b h = absurd (elim (h refl) [ inl e ↦ a e | inr e ↦ b
 pub folder_found : {T : Type 0} (there : Bool) (x : T) → (there ≡ false → NoFolder {T = T} (Ok x)) → there ≡ true
 folder_found there x h = folder_there there (Ok x) (λ e. cc) (λ e. cc) h
 
+there_by : (b : Bool) → (b ≡ false → ⊥) → b ≡ true
+there_by true h = refl
+there_by false h = absurd (h refl)
+
 end_there : (folder : Bytes) (carousel : ℕ) (t : FolderTree) (w : Walked) → is_folder_at t folder ≡ true → edits_of t folder ≡ w → publish_end folder carousel t ≡ end_by carousel w
 end_there folder carousel t w there e = cond-true (is_folder_at t folder) (end_by carousel (edits_of t folder)) status.FolderFault there ∙ ap (end_by carousel) e
 
-pub due_commit : (folder : Bytes) (carousel : ℕ) (t : FolderTree) (edits : List Edit) (before : CatalogueState) (f : CommitFault) → before ≡ new_carousel carousel → is_folder_at t folder ≡ true
-    → edits_of t folder ≡ Ok edits → MatchOption (commit_cause f) ⊤ (λ r. outcome_of before edits ≡ Err r) → IsDue (commit_status f) (publish_end folder carousel t)
-due_commit folder carousel t edits before commits.NoMemory b there e out = inr tt
-due_commit folder carousel t edits before (commits.Refused refusal) b there e out =
-    inl (sym (end_there folder carousel t (Ok edits) there e ∙ ap unless_refused (ap (λ c. outcome_of c edits) (sym b) ∙ out)))
+-- the walk's own fault
+pub refused_walk : (folder : Bytes) (carousel : ℕ) (folders : Over FolderTree) (fault : ReadTree)
+    → ((t : FolderTree) → folders.before ≡ Some t → is_folder_at t folder ≡ false → (fault ≡ reads.FolderFault) ⊎ (fault ≡ reads.NoMemory))
+    → (fault ≡ reads.FolderFault → MayFail (Failed folders) folders.before (λ t. is_folder_at t folder ≡ false))
+    → (fault ≡ reads.TooDeep → (t : FolderTree) → folders.before ≡ Some t → edits_of t folder ≡ Err IsTooDeep)
+    → (fault ≡ reads.BadName → (t : FolderTree) → folders.before ≡ Some t → edits_of t folder ≡ Err IsBadName)
+    → Refused folder carousel folders (walk_status fault)
+refused_walk folder carousel folders reads.FolderFault needs failed deep bad = failed refl
+refused_walk folder carousel folders reads.TooDeep needs failed deep bad = λ t h.
+    end_there folder carousel t (Err IsTooDeep) (there_by (is_folder_at t folder) (λ e. elim (needs t h e) [ inl x ↦ cc | inr x ↦ cc ])) (deep refl t h)
+refused_walk folder carousel folders reads.BadName needs failed deep bad = λ t h.
+    end_there folder carousel t (Err IsBadName) (there_by (is_folder_at t folder) (λ e. elim (needs t h e) [ inl x ↦ cc | inr x ↦ cc ])) (bad refl t h)
+refused_walk folder carousel folders reads.NoMemory needs failed deep bad = tt
 
--- ---- what was written
-
--- the packets of all cycles are the output
-pub output_is : (folder : Bytes) (carousel cycles : ℕ) (told : Option FolderTree) (g : GenerationState) → GenerationsAreOfTheLists → IsOfFolder folder carousel told g
-    → (t : FolderTree) → told ≡ Some t → packed (map (section_of g) (repeated cycles (cycle_of (lines_of g)))) ≡ publish_output folder carousel cycles t
-output_is folder carousel cycles told g law of t h = published_is carousel cycles of.tree g law of.is ∙ sym (ap (published_of carousel cycles) (of.accepted t h).1)
-
-pub written_whole : (start now : Option Bytes) (output : Bytes) → IsSending start now [] output → (before after : Bytes) → start ≡ Some before → now ≡ Some after → Writes status.Done output before after
-written_whole start now output sending before after b a =
-    let s = sending.each before after b a in
-    record { written = s.sent; after_is = s.after_is; extent = sym (append-nil s.sent) ∙ sym s.output_is }
-
-pub written_front : (f : WriteFault) (start now : Option Bytes) (output : Bytes) → HasStopped start now output → (before after : Bytes) → start ≡ Some before → now ≡ Some after
-    → Writes (write_status f) output before after
-written_front writes.Failed start now output stopped before after b a =
-    let s = stopped.each before after b a in record { written = s.sent; after_is = s.after_is; extent = s.front }
-written_front writes.NoMemory start now output stopped before after b a =
-    let s = stopped.each before after b a in record { written = s.sent; after_is = s.after_is; extent = s.front }
-
--- where no output is told, what is written stands behind what was there
-forget : (e : Extent) (output written : Bytes) → IsWritten e (Some output) written → IsWritten e None written
-forget Whole output written w = tt
-forget Front output written w = tt
-forget Nothing output written w = w
-
-pub written_behind : (s : Status) (output before after : Bytes) → Writes s output before after → WritesPart (extent_of s) None before after
-written_behind s output before after w = record { written = w.written; after_is = w.after_is; extent = forget (extent_of s) output w.written w.extent }
-
-pub published_whole : (folder : Bytes) (carousel cycles : ℕ) (told : Option FolderTree) (g : GenerationState) → GenerationsAreOfTheLists → IsOfFolder folder carousel told g
-    → (start now : Option Bytes) → IsSending start now [] (packed (map (section_of g) (repeated cycles (cycle_of (lines_of g)))))
-    → (before after : Bytes) → start ≡ Some before → now ≡ Some after → HasPublished folder carousel cycles told before after
-published_whole folder carousel cycles told g law of start now sending before after b a =
-    let w = written_whole start now _ sending before after b a in
-    record {
-      tree = of.tree;
-      publishable = of.publishable;
-      of_folder = λ t h. (of.accepted t h).1;
-      files = of.files;
-      after_is = w.after_is ∙ ap (λ bs. before ++ bs) (w.extent ∙ published_is carousel cycles of.tree g law of.is);
-    }
+-- the commit's refusal
+pub refused_commit : (folder : Bytes) (carousel : ℕ) (folders : Over FolderTree) (edits : List Edit) (before : CatalogueState) (f : CommitFault) → before ≡ new_carousel carousel
+    → ((t : FolderTree) → folders.before ≡ Some t → is_folder_at t folder ≡ true) → ((t : FolderTree) → folders.before ≡ Some t → edits_of t folder ≡ Ok edits)
+    → MatchOption (commit_cause f) ⊤ (λ r. outcome_of before edits ≡ Err r) → Refused folder carousel folders (commit_status f)
+refused_commit folder carousel folders edits before commits.NoMemory b there is out = tt
+refused_commit folder carousel folders edits before (commits.Refused refusal) b there is out = λ t h.
+    end_there folder carousel t (Ok edits) (there t h) (is t h) ∙ ap unless_refused (ap (λ c. outcome_of c edits) (sym b) ∙ out)
 
 -- ---- the folder that isn't there
 
@@ -203,47 +184,61 @@ done_is_no_fault e = cc
 pub wrong_folder : (folder : Bytes) (carousel : ℕ) (told : Option FolderTree) (g : GenerationState) → IsOfFolder folder carousel told g
     → (t : FolderTree) → told ≡ Some t → is_folder_at t folder ≡ false → ⊥
 wrong_folder folder carousel told g of t h e =
-    done_is_no_fault (sym (of.accepted t h).0 ∙ ap (λ v. cond v (end_by carousel (edits_of t folder)) status.FolderFault) e)
+    done_is_no_fault (sym (of.of.accepted t h) ∙ ap (λ v. cond v (end_by carousel (edits_of t folder)) status.FolderFault) e)
 
 refusal_is_no_fault : (fault : TreeFault) → status.TreeRefused fault ≡ status.FolderFault → ⊥
 refusal_is_no_fault fault e = cc
 
-fault_or_memory : (s : Status) → IsRefusal s → IsDue s status.FolderFault → (s ≡ status.FolderFault) ⊎ (s ≡ status.NoMemory)
-fault_or_memory status.FolderFault r d = inl refl
-fault_or_memory status.NoMemory r d = inr refl
-fault_or_memory (status.TreeRefused fault) r d = absurd (elim d [ inl e ↦ refusal_is_no_fault fault e | inr x ↦ x ])
-fault_or_memory _ r d = absurd r
+-- a folder that gives a tree is there
+needs_made : (folder : Bytes) (carousel : ℕ) (folders : Over FolderTree) (g : GenerationState) (s : Status) → IsOfFolder folder carousel folders.before g → NeedsFolder folder folders s
+needs_made folder carousel folders g s of t h e = absurd (wrong_folder folder carousel folders.before g of t h e)
 
-pub refused_folder : (folder : Bytes) (carousel : ℕ) (t : FolderTree) (s : Status) → IsRefusal s → IsDue s (publish_end folder carousel t) → is_folder_at t folder ≡ false
-    → (s ≡ status.FolderFault) ⊎ (s ≡ status.NoMemory)
-refused_folder folder carousel t s r d e =
-    fault_or_memory s r (subst (λ due. IsDue s due) (ap (λ v. cond v (end_by carousel (edits_of t folder)) status.FolderFault) e) d)
+needs_refused : (folder : Bytes) (carousel : ℕ) (folders : Over FolderTree) (s : Status) → Refused folder carousel folders s → NeedsFolder folder folders s
+needs_refused folder carousel folders status.FolderFault r t h e = inl refl
+needs_refused folder carousel folders status.NoMemory r t h e = inr refl
+needs_refused folder carousel folders (status.TreeRefused fault) r t h e =
+    absurd (refusal_is_no_fault fault (sym (r t h) ∙ ap (λ v. cond v (end_by carousel (edits_of t folder)) status.FolderFault) e))
+needs_refused folder carousel folders _ r t h e = absurd r
 
--- ---- a front of what is sent
+-- ---- how it ends
 
-pub begun_whole : (folder : Bytes) (carousel cycles : ℕ) (told : Option FolderTree) (before after : Bytes)
-    → HasPublished folder carousel cycles told before after → HasBegun folder carousel cycles told before after
-begun_whole folder carousel cycles told before after p = record {
-  tree = p.tree;
-  publishable = p.publishable;
-  of_folder = p.of_folder;
-  files = p.files;
-  written = published carousel cycles p.tree;
-  after_is = p.after_is;
-  front = record { rest = []; whole_is = sym (append-nil (published carousel cycles p.tree)) };
+ends_refused : (folder : Bytes) (carousel cycles : ℕ) (sink : Over Bytes) (folders : Over FolderTree) (s : Status) → Refused folder carousel folders s → IsUntouched sink
+    → EndsPublish folder carousel cycles sink folders s
+ends_refused folder carousel cycles sink folders status.FolderFault r none = (r, none)
+ends_refused folder carousel cycles sink folders (status.TreeRefused fault) r none = (r, none)
+ends_refused folder carousel cycles sink folders status.NoMemory r none = inl none
+ends_refused folder carousel cycles sink folders _ r none = absurd r
+
+-- the folder gives no generation
+pub publishes_none : (folder : Bytes) (carousel cycles : ℕ) (sink : Over Bytes) (folders : Over FolderTree) (s : Status) → Receptions → Refused folder carousel folders s → IsUntouched sink
+    → Publishes folder carousel cycles s sink folders
+publishes_none folder carousel cycles sink folders s law r none = record {
+  ends = ends_refused folder carousel cycles sink folders s r none;
+  needs = needs_refused folder carousel folders s r;
+  heard = law.sent carousel cycles;
 }
 
-pub begun_front : (folder : Bytes) (carousel cycles : ℕ) (told : Option FolderTree) (g : GenerationState) → GenerationsAreOfTheLists → IsOfFolder folder carousel told g
-    → (start now : Option Bytes) → HasStopped start now (packed (map (section_of g) (repeated cycles (cycle_of (lines_of g)))))
-    → (before after : Bytes) → start ≡ Some before → now ≡ Some after → HasBegun folder carousel cycles told before after
-begun_front folder carousel cycles told g law of start now stopped before after b a =
-    let s = stopped.each before after b a in
-    record {
-      tree = of.tree;
-      publishable = of.publishable;
-      of_folder = λ t h. (of.accepted t h).1;
-      files = of.files;
-      written = s.sent;
-      after_is = s.after_is;
-      front = subst (λ (o : Bytes). IsFront s.sent o) (published_is carousel cycles of.tree g law of.is) s.front;
-    }
+-- all cycles of it were put
+pub publishes_all : (folder : Bytes) (carousel cycles : ℕ) (old new : OutputState) (folders : Over FolderTree) (g : GenerationState) → Receptions → GenerationsAreOfTheLists
+    → IsOfFolder folder carousel folders.before g → old.pending ≡ [] → new.pending ≡ [] → HasPut old new (packed (map (section_of g) (repeated cycles (cycle_of (lines_of g)))))
+    → Publishes folder carousel cycles status.Done (sent old new) folders
+publishes_all folder carousel cycles old new folders g law lists of begin empty puts = record {
+  ends = record { tree = of.tree; of = of.of; writes = writes_all begin empty (puts_as (published_is carousel cycles of.tree g lists of.is) puts) };
+  needs = needs_made folder carousel folders g status.Done of;
+  heard = law.sent carousel cycles;
+}
+
+ends_part : (folder : Bytes) (carousel cycles : ℕ) (old new : OutputState) (folders : Over FolderTree) (tree : Tree) (f : OutputFault) → IsTreeOf folder carousel folders.before tree
+    → old.pending ≡ [] → Puts {T = Unit {0}} (Err f) old new (published carousel cycles tree) → EndsPublish folder carousel cycles (sent old new) folders (output_status f)
+ends_part folder carousel cycles old new folders tree outputs.Failed of begin puts = (puts.cause refl, record { tree = tree; of = of; writes = writes_prefix begin puts })
+ends_part folder carousel cycles old new folders tree outputs.NoMemory of begin puts = inr (record { tree = tree; of = of; writes = writes_prefix begin puts })
+
+-- a fault stopped the writing
+pub publishes_part : (folder : Bytes) (carousel cycles : ℕ) (old new : OutputState) (folders : Over FolderTree) (g : GenerationState) (f : OutputFault) → Receptions → GenerationsAreOfTheLists
+    → IsOfFolder folder carousel folders.before g → old.pending ≡ [] → Puts {T = Unit {0}} (Err f) old new (packed (map (section_of g) (repeated cycles (cycle_of (lines_of g)))))
+    → Publishes folder carousel cycles (output_status f) (sent old new) folders
+publishes_part folder carousel cycles old new folders g f law lists of begin puts = record {
+  ends = ends_part folder carousel cycles old new folders of.tree f of.of begin (puts_as (published_is carousel cycles of.tree g lists of.is) puts);
+  needs = needs_made folder carousel folders g (output_status f) of;
+  heard = law.sent carousel cycles;
+}

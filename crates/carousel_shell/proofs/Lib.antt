@@ -1,16 +1,13 @@
-pub mod Holding
-pub mod Cutting
-pub mod Offering
-pub mod Joining
-pub mod Putting
-pub mod Packeting
-pub mod Accepting
-pub mod Walking
-pub mod Halting
-pub mod Opening
-pub mod Resending
-pub mod Nothing
-pub mod Cycling
-pub mod Bytewise
-pub mod Committing
-pub mod Kinding
+mod Bytewise
+mod Joining
+mod Offering
+mod Parts
+mod Walking
+mod Receiving
+mod Writing
+mod Answering
+mod Assembling
+mod Recording
+mod Committing
+mod Cycling
+mod Declining

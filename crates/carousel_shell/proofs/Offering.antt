@@ -8,7 +8,7 @@ use Rattle.std.proofs.lemmas.List.FromFn.{get_or-map-range_with_len, length-map-
 use Rattle.std.proofs.lemmas.List.Elements.{filter_map-append}
 use Rattle.ddb_block.specs.Blocks as ddb
 use Rattle.block_assembler.specs.Blocks.{AssemblerState, empty_of, offered, after_offer, fits, first_of, is_new}
-use Rattle.carousel_shell.specs.Cuts.{Bytes}
+use Rattle.shell_streams.specs.Cuts.{Bytes}
 use Rattle.carousel_shell.specs.Input.{Asked, block_heard, if_asked, in_place, fitting, first_fitting, blocks_among}
 use Rattle.carousel_shell.specs.Gathering.{HasBlocks}
 

@@ -1,5 +1,5 @@
 -- A listing in parts: the paths below a path by more and more of its folder's names.
-use Rattle.std.proofs.Common.{◌≡◌, ℕ, zero, suc, ◌+◌, ◌-◌, ◌<◌, ◌≤◌, Bool, true, false, cond, not, ◌&&◌, ◌||◌, nat_le, nat_lt, List, [], ◌∷◌, ◌++◌, length, take, drop, Option, Some, None, Ok, refl, sym, ap, ◌∙◌, subst, arith, append_assoc, append-nil, length-append}
+use Rattle.std.proofs.Common.{◌≡◌, ℕ, zero, suc, ◌+◌, ◌-◌, ◌<◌, ◌≤◌, Bool, true, false, cond, not, ◌&&◌, ◌||◌, nat_le, nat_lt, List, [], ◌∷◌, ◌++◌, length, take, drop, Some, None, Result, Ok, Err, refl, sym, ap, ◌∙◌, subst, arith, append-nil, length-append}
 use Rattle.std.specs.Prelude.{slice_get}
 use Rattle.std.specs.List.{flat_map, list_any, filter}
 use Rattle.std.specs.Cmp.Lexicographic.{pointwise}
@@ -15,11 +15,12 @@ use Rattle.path_tree.specs.Paths.{PathNames, same_name}
 use Rattle.path_tree.specs.Texts.{is_name, with_below, path_of}
 use Rattle.path_resolver.specs.declared.answer.Answer.{Answer}
 use Rattle.path_resolver.specs.declared.answer.Answer.TheVariants as answers
-use Rattle.carousel_shell.specs.Cuts.{Bytes}
-use Rattle.carousel_shell.specs.Sending.{IsSending, HasStopped}
+use Rattle.shell_streams.specs.Cuts.{Bytes}
+use Rattle.shell_streams.specs.Sending.{OutputState, Puts}
+use Rattle.shell_streams.specs.declared.output.OutputFault.{OutputFault}
 use Rattle.carousel_shell.specs.Texts.{is_found}
 use Rattle.carousel_shell.specs.Listing.{first_only, names_in, folder_in, walk, list_line, lines_in, are_found, paths_below, paths_by, Lists, list_text, more_unless, all_listed}
-use Rattle.carousel_shell.proofs.Putting.{stopped_more}
+use Rattle.shell_streams.proofs.CallerLemmas.{puts_as, puts_then, puts_stop}
 
 pub same_as : (m n : Bytes) → same_name m n ≡ pointwise eqb m n
 same_as [] [] = refl
@@ -68,6 +69,9 @@ lists_nothing answer l a = record {
   whole_is = sym (le-leb 0 l (omega arith));
 }
 
+pub lines_nothing : (answer : PathNames → Answer) (l : ℕ) → lines_in answer l [] ≡ []
+lines_nothing answer l = ap (flat_map (list_line answer)) (take_all l [] (omega arith))
+
 pub lists_then : (answer : PathNames → Answer) (ps qs : List PathNames) (l : ℕ) (a : Bool) (m : ℕ) (b : Bool) (n : ℕ) (c w : Bool) → Lists answer ps l a m b true → Lists answer qs m b n c w → Lists answer (ps ++ qs) l a n c w
 lists_then answer ps qs l a m b n c w s t =
     let within : length ps ≤ l = leb-true (length ps) l (sym s.whole_is) in
@@ -99,24 +103,14 @@ lines_full answer ps qs l a m b s =
 
 -- ---- output
 
-pub sending_then : (answer : PathNames → Answer) (start w : Option Bytes) (pending output : Bytes) (n m : ℕ) (ps qs : List PathNames) → m ≡ n - length ps → IsSending start w pending ((output ++ lines_in answer n ps) ++ lines_in answer m qs) → IsSending start w pending (output ++ lines_in answer n (ps ++ qs))
-sending_then answer start w pending output n m ps qs e s =
-    let all : (output ++ lines_in answer n ps) ++ lines_in answer m qs ≡ output ++ lines_in answer n (ps ++ qs) = together answer output n m ps qs e in
-    subst (IsSending start w pending) all s
-  where
-    together : (answer : PathNames → Answer) (output : Bytes) (n m : ℕ) (ps qs : List PathNames) → m ≡ n - length ps → (output ++ lines_in answer n ps) ++ lines_in answer m qs ≡ output ++ lines_in answer n (ps ++ qs)
-    together answer output n m ps qs e =
-        append_assoc output (lines_in answer n ps) (lines_in answer m qs) ∙ ap (λ k. output ++ (lines_in answer n ps ++ lines_in answer k qs)) e ∙ ap (λ bs. output ++ bs) (sym (lines_both answer n ps qs))
+-- the lines of some paths and then those of others
+pub lines_then : (answer : PathNames → Answer) (n m : ℕ) (ps qs : List PathNames) → m ≡ n - length ps → lines_in answer n ps ++ lines_in answer m qs ≡ lines_in answer n (ps ++ qs)
+lines_then answer n m ps qs e = ap (λ k. lines_in answer n ps ++ lines_in answer k qs) e ∙ sym (lines_both answer n ps qs)
 
-pub stopped_then : (answer : PathNames → Answer) (start w : Option Bytes) (output : Bytes) (n m : ℕ) (ps qs : List PathNames) → m ≡ n - length ps → HasStopped start w ((output ++ lines_in answer n ps) ++ lines_in answer m qs) → HasStopped start w (output ++ lines_in answer n (ps ++ qs))
-stopped_then answer start w output n m ps qs e s =
-    let all : (output ++ lines_in answer n ps) ++ lines_in answer m qs ≡ output ++ lines_in answer n (ps ++ qs) =
-    append_assoc output (lines_in answer n ps) (lines_in answer m qs) ∙ ap (λ k. output ++ (lines_in answer n ps ++ lines_in answer k qs)) e ∙ ap (λ bs. output ++ bs) (sym (lines_both answer n ps qs)) in
-    subst (HasStopped start w) all s
-
--- a front of the paths' lines was to be written
-pub stopped_front : (answer : PathNames → Answer) (start w : Option Bytes) (output : Bytes) (n : ℕ) (ps qs : List PathNames) → HasStopped start w (output ++ lines_in answer n ps) → HasStopped start w (output ++ lines_in answer n (ps ++ qs))
-stopped_front answer start w output n ps qs s = stopped_then answer start w output n (n - length ps) ps qs refl (stopped_more start w (output ++ lines_in answer n ps) (lines_in answer (n - length ps) qs) s)
+-- a prefix of the paths' lines was to be put
+pub stops_front : {T U : Type 0} {f : OutputFault} {a b : OutputState} (answer : PathNames → Answer) (n : ℕ) (ps qs : List PathNames) → Puts {T = T} (Err f) a b (lines_in answer n ps)
+    → Puts {T = U} (Err f) a b (lines_in answer n (ps ++ qs))
+stops_front answer n ps qs p = puts_as (sym (lines_both answer n ps qs)) (puts_stop (lines_in answer (n - length ps) qs) p)
 
 -- ---- the names of a folder, one after another
 
@@ -253,27 +247,25 @@ lists_none answer room p l a e =
       whole_is = sym (lt-leb (length (walk answer room p)) l (omega (arith, e, long)));
     }
 
--- the line of a path was to be written
-pub stopped_at : (answer : PathNames → Answer) (start w : Option Bytes) (output : Bytes) (room l : ℕ) (p : PathNames) → 0 < l → HasStopped start w (output ++ list_line answer p) → HasStopped start w (output ++ lines_in answer l (walk answer room p))
-stopped_at answer start w output room l p h s =
+-- the line of a path was to be put
+pub stops_at : {T U : Type 0} {f : OutputFault} {a b : OutputState} (answer : PathNames → Answer) (room l : ℕ) (p : PathNames) → 0 < l → Puts {T = T} (Err f) a b (list_line answer p)
+    → Puts {T = U} (Err f) a b (lines_in answer l (walk answer room p))
+stops_at answer room l p h s =
     let some = walk_some answer room p in
-    let one : HasStopped start w (output ++ lines_in answer l (p ∷ [])) = rw (lines_one answer l p h) s in
-    rw some.1 (stopped_front answer start w output l (p ∷ []) some.0 one)
+    rw some.1 (stops_front answer l (p ∷ []) some.0 (puts_as (sym (lines_one answer l p h)) s))
 
-pub sending_one : (answer : PathNames → Answer) (start w : Option Bytes) (pending output : Bytes) (room l : ℕ) (p : PathNames) → 0 < l → walk answer room p ≡ p ∷ [] → IsSending start w pending (output ++ list_line answer p) → IsSending start w pending (output ++ lines_in answer l (walk answer room p))
-sending_one answer start w pending output room l p h e s = rw (e, lines_one answer l p h) s
+-- the line of a path alone
+pub puts_one : {T : Type 0} {r : Result T OutputFault} {a b : OutputState} (answer : PathNames → Answer) (room l : ℕ) (p : PathNames) → 0 < l → walk answer room p ≡ p ∷ []
+    → Puts r a b (list_line answer p) → Puts r a b (lines_in answer l (walk answer room p))
+puts_one answer room l p h e s = rw e (puts_as (sym (lines_one answer l p h)) s)
 
-pub sending_folder : (answer : PathNames → Answer) (start w : Option Bytes) (pending output : Bytes) (l m : ℕ) (p : PathNames) (ns : List Bytes) → length p < 16 → folder_in (answer p) ≡ Some ns → m + 1 ≡ l
-    → IsSending start w pending ((output ++ list_line answer p) ++ lines_in answer m (paths_below answer (15 - length p) p ns)) → IsSending start w pending (output ++ lines_in answer l (walk answer (16 - length p) p))
-sending_folder answer start w pending output l m p ns few e f s =
+-- the line of a folder, and then those below it
+pub puts_folder : {T U : Type 0} {x : T} {r : Result U OutputFault} {a b c : OutputState} (answer : PathNames → Answer) (l m : ℕ) (p : PathNames) (ns : List Bytes) → length p < 16
+    → folder_in (answer p) ≡ Some ns → m + 1 ≡ l → Puts (Ok x) a b (list_line answer p) → Puts r b c (lines_in answer m (paths_below answer (15 - length p) p ns))
+    → Puts r a c (lines_in answer l (walk answer (16 - length p) p))
+puts_folder answer l m p ns few e f s t =
     rw (walk_folder answer p ns few (folder_is (answer p) ns e))
-    (sending_then answer start w pending output l m (p ∷ []) (paths_below answer (15 - length p) p ns) (omega (arith, f)) (rw (lines_one answer l p (omega (arith, f))) s))
-
-pub stopped_folder : (answer : PathNames → Answer) (start w : Option Bytes) (output : Bytes) (l m : ℕ) (p : PathNames) (ns : List Bytes) → length p < 16 → folder_in (answer p) ≡ Some ns → m + 1 ≡ l
-    → HasStopped start w ((output ++ list_line answer p) ++ lines_in answer m (paths_below answer (15 - length p) p ns)) → HasStopped start w (output ++ lines_in answer l (walk answer (16 - length p) p))
-stopped_folder answer start w output l m p ns few e f s =
-    rw (walk_folder answer p ns few (folder_is (answer p) ns e))
-    (stopped_then answer start w output l m (p ∷ []) (paths_below answer (15 - length p) p ns) (omega (arith, f)) (rw (lines_one answer l p (omega (arith, f))) s))
+    (puts_as (lines_then answer l m (p ∷ []) (paths_below answer (15 - length p) p ns) (omega (arith, f))) (puts_then (puts_as (sym (lines_one answer l p (omega (arith, f)))) s) t))
 
 pub lists_folder : (answer : PathNames → Answer) (p : PathNames) (ns : List Bytes) (l : ℕ) (a : Bool) (m : ℕ) (b : Bool) (n : ℕ) (c w : Bool) → length p < 16 → folder_in (answer p) ≡ Some ns → m + 1 ≡ l → b ≡ (a && is_found (answer p))
     → Lists answer (paths_below answer (15 - length p) p ns) m b n c w → Lists answer (walk answer (16 - length p) p) l a n c w
@@ -321,12 +313,12 @@ next_lists answer room p xs i n l a m b k c e new s t =
     subst (λ (ps : List PathNames). Lists answer ps l a k c true) (sym (below_new answer room p xs i n e new))
     (lists_then answer (paths_below answer room p (take i xs)) (paths_by answer room p n) l a m b k c true s t)
 
-pub next_sending : (answer : PathNames → Answer) (room : ℕ) (p : PathNames) (xs : List Bytes) (i : ℕ) (n : Bytes) (l m : ℕ) (start w : Option Bytes) (pending output : Bytes) → slice_get xs i ≡ Some n → list_any (λ m. same_name m n) (take i xs) ≡ false
-    → m ≡ l - length (paths_below answer room p (take i xs)) → IsSending start w pending ((output ++ lines_in answer l (paths_below answer room p (take i xs))) ++ lines_in answer m (paths_by answer room p n))
-    → IsSending start w pending (output ++ lines_in answer l (paths_below answer room p (take (i + 1) xs)))
-next_sending answer room p xs i n l m start w pending output e new left s =
-    subst (λ (ps : List PathNames). IsSending start w pending (output ++ lines_in answer l ps)) (sym (below_new answer room p xs i n e new))
-    (sending_then answer start w pending output l m (paths_below answer room p (take i xs)) (paths_by answer room p n) left s)
+pub next_puts : {T U : Type 0} {x : T} {r : Result U OutputFault} {s t u : OutputState} (answer : PathNames → Answer) (room : ℕ) (p : PathNames) (xs : List Bytes) (i : ℕ) (n : Bytes) (l m : ℕ)
+    → slice_get xs i ≡ Some n → list_any (λ m. same_name m n) (take i xs) ≡ false → m ≡ l - length (paths_below answer room p (take i xs))
+    → Puts (Ok x) s t (lines_in answer l (paths_below answer room p (take i xs))) → Puts r t u (lines_in answer m (paths_by answer room p n))
+    → Puts r s u (lines_in answer l (paths_below answer room p (take (i + 1) xs)))
+next_puts answer room p xs i n l m e new left a b =
+    puts_as (lines_then answer l m (paths_below answer room p (take i xs)) (paths_by answer room p n) left ∙ ap (lines_in answer l) (sym (below_new answer room p xs i n e new))) (puts_then a b)
 
 pub full_lists : (answer : PathNames → Answer) (room : ℕ) (p : PathNames) (xs : List Bytes) (i : ℕ) (n : Bytes) (l : ℕ) (a : Bool) (m : ℕ) (b : Bool) (k : ℕ) (c : Bool) → slice_get xs i ≡ Some n → list_any (λ m. same_name m n) (take i xs) ≡ false
     → Lists answer (paths_below answer room p (take i xs)) l a m b true → Lists answer (paths_by answer room p n) m b k c false → Lists answer (paths_below answer room p xs) l a k c false
@@ -336,36 +328,37 @@ full_lists answer room p xs i n l a m b k c e new s t =
     subst (λ (ps : List PathNames). Lists answer ps l a k c false) (sym rest.1)
     (lists_full answer front rest.0 l a k c (lists_then answer (paths_below answer room p (take i xs)) (paths_by answer room p n) l a m b k c false s t))
 
-pub full_sending : (answer : PathNames → Answer) (room : ℕ) (p : PathNames) (xs : List Bytes) (i : ℕ) (n : Bytes) (l : ℕ) (a : Bool) (m : ℕ) (b : Bool) (k : ℕ) (c : Bool) (start w : Option Bytes) (pending output : Bytes) → slice_get xs i ≡ Some n → list_any (λ m. same_name m n) (take i xs) ≡ false
+pub full_puts : {T U : Type 0} {x : T} {r : Result U OutputFault} {s t u : OutputState} (answer : PathNames → Answer) (room : ℕ) (p : PathNames) (xs : List Bytes) (i : ℕ) (n : Bytes) (l : ℕ) (a : Bool) (m : ℕ) (b : Bool) (k : ℕ) (c : Bool)
+    → slice_get xs i ≡ Some n → list_any (λ m. same_name m n) (take i xs) ≡ false
     → Lists answer (paths_below answer room p (take i xs)) l a m b true → Lists answer (paths_by answer room p n) m b k c false
-    → IsSending start w pending ((output ++ lines_in answer l (paths_below answer room p (take i xs))) ++ lines_in answer m (paths_by answer room p n))
-    → IsSending start w pending (output ++ lines_in answer l (paths_below answer room p xs))
-full_sending answer room p xs i n l a m b k c start w pending output e new s t sent =
+    → Puts (Ok x) s t (lines_in answer l (paths_below answer room p (take i xs))) → Puts r t u (lines_in answer m (paths_by answer room p n))
+    → Puts r s u (lines_in answer l (paths_below answer room p xs))
+full_puts answer room p xs i n l a m b k c e new before here first then =
     let rest = front_by answer room p xs i n e new in
     let front = paths_below answer room p (take i xs) ++ paths_by answer room p n in
-    let whole = lists_then answer (paths_below answer room p (take i xs)) (paths_by answer room p n) l a m b k c false s t in
-    subst (λ (ps : List PathNames). IsSending start w pending (output ++ lines_in answer l ps)) (sym rest.1)
-    (subst (λ (bs : Bytes). IsSending start w pending (output ++ bs)) (sym (lines_full answer front rest.0 l a k c whole))
-    (sending_then answer start w pending output l m (paths_below answer room p (take i xs)) (paths_by answer room p n) s.left_is sent))
+    let whole = lists_then answer (paths_below answer room p (take i xs)) (paths_by answer room p n) l a m b k c false before here in
+    let all : lines_in answer l (paths_below answer room p xs) ≡ lines_in answer l front = ap (lines_in answer l) rest.1 ∙ lines_full answer front rest.0 l a k c whole in
+    puts_as (lines_then answer l m (paths_below answer room p (take i xs)) (paths_by answer room p n) before.left_is ∙ sym all) (puts_then first then)
 
-pub next_stopped : (answer : PathNames → Answer) (room : ℕ) (p : PathNames) (xs : List Bytes) (i : ℕ) (n : Bytes) (l m : ℕ) (start w : Option Bytes) (output : Bytes) → slice_get xs i ≡ Some n → list_any (λ m. same_name m n) (take i xs) ≡ false
-    → m ≡ l - length (paths_below answer room p (take i xs)) → HasStopped start w ((output ++ lines_in answer l (paths_below answer room p (take i xs))) ++ lines_in answer m (paths_by answer room p n))
-    → HasStopped start w (output ++ lines_in answer l (paths_below answer room p xs))
-next_stopped answer room p xs i n l m start w output e new left s =
+pub next_stops : {T U V : Type 0} {x : T} {f : OutputFault} {s t u : OutputState} (answer : PathNames → Answer) (room : ℕ) (p : PathNames) (xs : List Bytes) (i : ℕ) (n : Bytes) (l m : ℕ)
+    → slice_get xs i ≡ Some n → list_any (λ m. same_name m n) (take i xs) ≡ false → m ≡ l - length (paths_below answer room p (take i xs))
+    → Puts (Ok x) s t (lines_in answer l (paths_below answer room p (take i xs))) → Puts {T = U} (Err f) t u (lines_in answer m (paths_by answer room p n))
+    → Puts {T = V} (Err f) s u (lines_in answer l (paths_below answer room p xs))
+next_stops answer room p xs i n l m e new left a b =
     let rest = front_by answer room p xs i n e new in
     let front = paths_below answer room p (take i xs) ++ paths_by answer room p n in
-    subst (λ (ps : List PathNames). HasStopped start w (output ++ lines_in answer l ps)) (sym rest.1)
-    (stopped_front answer start w output l front rest.0 (stopped_then answer start w output l m (paths_below answer room p (take i xs)) (paths_by answer room p n) left s))
+    puts_as (ap (lines_in answer l) (sym rest.1)) (stops_front answer l front rest.0
+    (puts_as (lines_then answer l m (paths_below answer room p (take i xs)) (paths_by answer room p n) left) (puts_then a b)))
 
 -- ---- the whole listing, from the root on
 
 pub root_is : (root : PathNames) → path_of (47 ∷ []) ≡ Ok root → root ≡ []
 root_is root e = cc
 
-pub all_stopped : (answer : PathNames → Answer) (start w : Option Bytes) (root : PathNames) → root ≡ [] → HasStopped start w (lines_in answer 65536 (walk answer (16 - length root) root)) → HasStopped start w (list_text answer)
-all_stopped answer start w root e s =
-    stopped_more start w (lines_in answer 65536 (walk answer 16 [])) (more_unless (nat_le (length (walk answer 16 [])) 65536))
-    (subst (λ (r : PathNames). HasStopped start w (lines_in answer 65536 (walk answer (16 - length r) r))) e s)
+pub all_stops : {T U : Type 0} {f : OutputFault} {a b : OutputState} (answer : PathNames → Answer) (root : PathNames) → root ≡ [] → Puts {T = T} (Err f) a b (lines_in answer 65536 (walk answer (16 - length root) root))
+    → Puts {T = U} (Err f) a b (list_text answer)
+all_stops answer root e s =
+    puts_stop (more_unless (nat_le (length (walk answer 16 [])) 65536)) (puts_as (ap (λ (r : PathNames). lines_in answer 65536 (walk answer (16 - length r) r)) e) s)
 
 pub all_text : (answer : PathNames → Answer) (root : PathNames) (m : ℕ) (b whole : Bool) → root ≡ [] → Lists answer (walk answer (16 - length root) root) 65536 true m b whole → lines_in answer 65536 (walk answer (16 - length root) root) ++ more_unless whole ≡ list_text answer
 all_text answer root m b whole e s =

@@ -1,10 +1,9 @@
 -- The sections that are recorded.
-use Rattle.std.specs.Prelude.{ℕ, Bool, List, [], if◌then◌else◌}
+use Rattle.std.specs.Prelude.{Bool, List, [], if◌then◌else◌}
 use Rattle.std.specs.List.{concat, filter}
 use Rattle.std.specs.Result.{is_ok}
 use Rattle.dsmcc_section.specs.Sections as sections
-use Rattle.carousel_shell.specs.Cuts.{Bytes}
-use Rattle.carousel_shell.specs.Packets.{candidates_of}
+use Rattle.shell_streams.specs.Cuts.{Bytes}
 
 -- a section that reads
 abbrev pub is_accepted : Bytes → Bool
@@ -16,7 +15,3 @@ accepted_one candidate = if is_accepted candidate then candidate else []
 -- those that read, unchanged and in order
 abbrev pub accepted : List Bytes → Bytes
 accepted candidates = concat (filter is_accepted candidates)
-
--- what is written of the whole input
-abbrev pub recorded : ℕ → Bytes → Bytes
-recorded pid input = accepted (candidates_of pid input)

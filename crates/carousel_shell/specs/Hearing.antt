@@ -1,22 +1,13 @@
--- What a receiver holds at the end of an input.
-use Rattle.std.specs.Prelude.{◌≡◌, Bool, List, map, Option}
-use Rattle.oc_bytes.specs.Outcome.{Told}
+-- What a receiver holds that heard all sections of an input.
+use Rattle.std.specs.Prelude.{◌≡◌, map, Option}
 use Rattle.path_resolver.specs.declared.shot.Shot.{Shot}
 use Rattle.path_resolver.specs.Shots.{held_of}
 use Rattle.tuner_core.specs.Heard.{heard}
 use Rattle.tuner_core.specs.LookBack.{held_after}
-use Rattle.tuner_core.specs.Stands.{TunerState, StandsFor}
-use Rattle.carousel_shell.specs.Cuts.{Bytes}
-use Rattle.carousel_shell.specs.Held.{AllTaken}
+use Rattle.shell_streams.specs.Cuts.{Bytes}
+use Rattle.shell_streams.specs.Carriers.{HeardAll}
+use Rattle.shell_streams.specs.declared.carrier.Carrier.{Carrier}
 
--- the receiver heard all candidates of the input, which was read to its end and within its limit
-pub record HearsAll (candidates_in : Bytes → List Bytes) (over : Bytes → Bool) (t : TunerState) (before after : Option Bytes) : Type 0 where
-  pub candidates : List Bytes
-  pub told : Told before after (AllTaken candidates_in over candidates)
-  pub stands : StandsFor t candidates
-
--- the shot is of what was held then
-pub record IsHeard (candidates_in : Bytes → List Bytes) (over : Bytes → Bool) (shot : Shot) (before after : Option Bytes) : Type 0 where
-  pub candidates : List Bytes
-  pub told : Told before after (AllTaken candidates_in over candidates)
-  pub held : held_of shot ≡ held_after (map heard candidates)
+-- the shot is of what is held then
+abbrev pub HearsShot : Carrier → Shot → Option Bytes → Option Bytes → Type 0
+HearsShot carrier shot = HeardAll carrier (λ sections. held_of shot ≡ held_after (map heard sections))

@@ -1,14 +1,14 @@
--- One module out of the sections of an input.
-use Rattle.std.specs.Prelude.{ℕ, Bool, ◌&&◌, List, length, map, take, Option, Some, None, Result, Ok, Err, nat_lt, ◌==◌, if◌then◌else◌}
+-- One module out of sections.
+use Rattle.std.specs.Prelude.{ℕ, Bool, ◌&&◌, List, map, Option, Some, None, Result, Ok, Err, ◌==◌, if◌then◌else◌}
 use Rattle.std.specs.Result.{result_ok}
-use Rattle.std.specs.List.{filter_map, range_with_len, concat}
+use Rattle.std.specs.List.{filter_map, range_with_len}
 use Rattle.ddb_block.specs.Blocks as ddb
-use Rattle.block_assembler.specs.Blocks.{joined, first_of, fits}
+use Rattle.block_assembler.specs.Blocks.{first_of, fits}
 use Rattle.dsmcc_section.specs.Sections as sections
 use Rattle.dsmcc_section.specs.declared.Table.{Table}
 use Rattle.dsmcc_section.specs.declared.Table.TheVariants.{Control, Blocks}
 use Rattle.dsmcc_section.specs.declared.Skip.{Skip}
-use Rattle.carousel_shell.specs.Cuts.{Bytes, back_to_back}
+use Rattle.shell_streams.specs.Cuts.{Bytes}
 
 -- the module that a command asks for: its id, version and size, and the download that carries it
 pub record Asked : Type 0 where
@@ -16,6 +16,9 @@ pub record Asked : Type 0 where
   pub version : ℕ
   pub size : ℕ
   pub download : ℕ
+
+abbrev pub asked : (id version size download : ℕ) → Asked
+asked id version size download = record { id = id; version = version; size = size; download = download }
 
 -- the block message that a section carries, where it is one
 abbrev pub block_in_table : Table → Bytes → Option ddb.Block
@@ -52,14 +55,3 @@ first_fitting m candidates b = first_of (filter_map (fitting m b) candidates)
 -- the blocks of the module by rising number, where they are there
 abbrev pub blocks_among : Asked → List Bytes → List (Option Bytes)
 blocks_among m candidates = map (first_fitting m candidates) (range_with_len 0 (ddb.block_count_of m.size 4066))
-
-abbrev pub blocks_in : Asked → Bytes → List (Option Bytes)
-blocks_in m input = blocks_among m (back_to_back input)
-
--- the module's bytes, where each block is there
-abbrev pub assembled : Asked → Bytes → Option Bytes
-assembled m input = joined (blocks_in m input)
-
--- so many sections stand at the front of the input, and at least a byte behind them
-abbrev pub is_over_sections : ℕ → Bytes → Bool
-is_over_sections n input = let front = take n (back_to_back input) in (length front == n) && nat_lt (length (concat front)) (length input)

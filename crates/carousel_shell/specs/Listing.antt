@@ -5,7 +5,7 @@ use Rattle.path_tree.specs.Paths.{PathNames, same_name}
 use Rattle.path_tree.specs.Texts.{is_name}
 use Rattle.path_resolver.specs.declared.answer.Answer.{Answer}
 use Rattle.path_resolver.specs.declared.answer.Answer.TheVariants as answers
-use Rattle.carousel_shell.specs.Cuts.{Bytes}
+use Rattle.shell_streams.specs.Cuts.{Bytes}
 use Rattle.carousel_shell.specs.Texts.{line, is_found, answered_line}
 
 -- ---- the paths

@@ -1,10 +1,18 @@
--- The number and the line of a status. The line is what stands on standard error, without its line feed.
-use Rattle.std.specs.Prelude.{ℕ, ◌++◌, codes, Option, Some, None}
+-- The number and the line of a status, and the statuses of faults. The line is what stands on standard error, without its line feed.
+use Rattle.std.specs.Prelude.{ℕ, Bool, true, false, ◌++◌, codes, Option, Some, None, Result, Ok, Err}
 use Rattle.std.specs.Fmt.{decimal}
 use Rattle.folder_store.specs.declared.reading.TreeFault.{TreeFault}
 use Rattle.folder_store.specs.declared.reading.TreeFault.TheVariants as trees
+use Rattle.folder_store.specs.declared.reading.ReadTree.{ReadTree}
+use Rattle.folder_store.specs.declared.reading.ReadTree.TheVariants as reads
+use Rattle.generation_catalogue.specs.declared.entry.CommitFault.{CommitFault}
+use Rattle.generation_catalogue.specs.declared.entry.CommitFault.TheVariants as commits
+use Rattle.shell_streams.specs.declared.input.InputFault.{InputFault}
+use Rattle.shell_streams.specs.declared.input.InputFault.TheVariants as inputs
+use Rattle.shell_streams.specs.declared.output.OutputFault.{OutputFault}
+use Rattle.shell_streams.specs.declared.output.OutputFault.TheVariants as outputs
 use Rattle.shell_words.specs.Texts.{refusal_line}
-use Rattle.carousel_shell.specs.Cuts.{Bytes}
+use Rattle.shell_streams.specs.Cuts.{Bytes}
 use Rattle.carousel_shell.specs.declared.status.Status.{Status}
 use Rattle.carousel_shell.specs.declared.status.Status.TheVariants as status
 
@@ -39,3 +47,36 @@ line_of (status.TreeRefused fault) = fault_line (codes "tree refused: " ++ tree_
 line_of status.InputTooLong = fault_line (codes "input too long")
 line_of status.NoMemory = fault_line (codes "no memory")
 line_of (status.Incomplete b) = fault_line (codes "block " ++ decimal b ++ codes " is missing")
+
+-- ---- the statuses of faults
+
+abbrev pub input_status : InputFault → Status
+input_status inputs.Failed = status.ReadFault
+input_status inputs.TooLong = status.InputTooLong
+input_status inputs.NoMemory = status.NoMemory
+
+abbrev pub output_status : OutputFault → Status
+output_status outputs.Failed = status.WriteFault
+output_status outputs.NoMemory = status.NoMemory
+
+-- of answers that were written, each a file or a folder or not, or a fault
+abbrev pub answer_status : Result Bool OutputFault → Status
+answer_status (Ok true) = status.Done
+answer_status (Ok false) = status.NotAll
+answer_status (Err fault) = output_status fault
+
+-- of a command that was done, or stopped with a status
+abbrev pub end_status : Result (Unit {0}) Status → Status
+end_status (Ok done) = status.Done
+end_status (Err s) = s
+
+-- of a walk, and of a commit, that gave nothing
+abbrev pub walk_status : ReadTree → Status
+walk_status reads.FolderFault = status.FolderFault
+walk_status reads.TooDeep = status.TreeRefused trees.TooDeep
+walk_status reads.BadName = status.TreeRefused trees.BadName
+walk_status reads.NoMemory = status.NoMemory
+
+abbrev pub commit_status : CommitFault → Status
+commit_status (commits.Refused refusal) = status.TreeRefused (trees.Commit refusal)
+commit_status commits.NoMemory = status.NoMemory

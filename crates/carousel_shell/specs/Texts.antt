@@ -6,7 +6,7 @@ use Rattle.path_tree.specs.Texts.{text_of, printed_byte}
 use Rattle.path_resolver.specs.declared.answer.Answer.{Answer}
 use Rattle.path_resolver.specs.declared.answer.Answer.TheVariants as answers
 use Rattle.shell_words.specs.Texts.{answer_line}
-use Rattle.carousel_shell.specs.Cuts.{Bytes}
+use Rattle.shell_streams.specs.Cuts.{Bytes}
 
 abbrev pub line : Bytes → Bytes
 line text = text ++ 10 ∷ []

@@ -1,23 +1,19 @@
-ghost use Rattle.std.specs.Prelude.{◌≡◌, ◌≤◌, ◌++◌, ◌∷◌, ℕ, List, [], length, Some, None, is_some, IfErr, OnOk};
-ghost use Rattle.std.specs.List.{position};
-ghost use Rattle.std.specs.Option.{option_map, unwrap_or, is_none};
-ghost use Rattle.oc_bytes.specs.Outcome.{Rose, Told};
+ghost use Rattle.std.specs.Prelude.{◌≡◌, ◌≤◌, ◌++◌, ◌∷◌, List, [], OnOk};
+ghost use Rattle.std.specs.Option.{option_map};
 ghost use Rattle.ddb_block.specs.Blocks as ddb;
-ghost use Rattle.block_assembler.specs.Blocks.{empty_of, joined};
-ghost use Rattle.carousel_shell.specs.Cuts.{Bytes};
-ghost use Rattle.carousel_shell.specs.Input.{block_heard, if_asked, is_over_sections};
-ghost use Rattle.carousel_shell.specs.Ends.{end_of, unless_missing};
-ghost use Rattle.carousel_shell.specs.Kinds.{IsAssembleStatus};
-ghost use Rattle.carousel_shell.specs.Owed.{IsDue, EndsAs, Owes, Writes};
-ghost use Rattle.carousel_shell.specs.Gathering.{asked_of, named_of, HasBlocks, Ends, IsStop, Stopped};
+ghost use Rattle.shell_streams.specs.Cuts.{Bytes};
+ghost use Rattle.carousel_shell.specs.Over.{over, sent};
+ghost use Rattle.carousel_shell.specs.Input.{block_heard, if_asked};
+ghost use Rattle.carousel_shell.specs.Gathering.{asked_of, HasBlocks};
+ghost use Rattle.shell_streams.specs.Sending.{Puts};
+ghost use Rattle.carousel_shell.specs.Assemble.{Assembles, IsModule};
 
-use crate::sections::{goes_on, next_section};
 use crate::status::Status;
-use crate::unread::Unread;
 use block_assembler::{Assembler, NewFault};
 use ddb_block::{Parts, parts_of};
 use dsmcc_section::{Table, payload_of};
-use oc_bytes::{Sink, Source, WriteFault, write_all};
+use oc_bytes::{NoMemory, Source};
+use shell_streams::{Carrier, Listener, Output, OutputFault, hear_all};
 use std::alloc::Global;
 
 /// The size of a module's blocks, in bytes; the last block may be shorter.
@@ -35,93 +31,77 @@ pub struct Wanted {
     pub download: u32,
 }
 
+/// The blocks of the module so far.
+#[derive(Drop)]
+struct Gatherer {
+    wanted: Wanted,
+    assembler: Assembler,
+}
+
+impl Listener for Gatherer {
+    ghost use Rattle.carousel_shell.specs.Gatherers.{Gathers};
+
+    ghost heard = { Gathers };
+
+    fn hear(&mut self, section: &[u8]) -> Result<(), NoMemory> {
+        offer_section(self.wanted, section, &mut self.assembler);
+        Ok(())
+    }
+}
+
 /// Writes the module that the sections of the source carry.
-pub fn assemble<S: Source, K: Sink>(
+pub fn assemble<S: Source, O: Output>(
     alloc: Global,
     wanted: Wanted,
     source: &mut S,
-    sink: &mut K,
+    out: &mut O,
 ) -> Status
-    requires { wanted.size ≤ 16842752 }
-    ensures words { result ≡ Status.Words → ⊥ }
-    ensures no_folder { result ≡ Status.FolderFault → ⊥ }
-    ensures due { (input : Bytes) → S.left source.old ≡ Some input → EndsAs result (end_of (named_of wanted) None input) }
-    ensures owes { (input left before after : Bytes) → S.left source.old ≡ Some input → S.left source.new ≡ Some left
-        → K.written sink.old ≡ Some before → K.written sink.new ≡ Some after → Owes (named_of wanted) None result input left before after }
-    ensures read_fault { result ≡ Status.ReadFault → Rose (S.faults source.old) (S.faults source.new) }
-    ensures write_fault { result ≡ Status.WriteFault → Rose (K.faults sink.old) (K.faults sink.new) }
-    ensures kinds { IsAssembleStatus (ddb.block_count_of wanted.size 4066) result }
-    ensures kept { is_some (S.left source.new) ≡ is_some (S.left source.old) }
+    requires size { wanted.size ≤ 16842752 }
+    requires pending { (O.state out.old).pending ≡ [] }
+    ensures assembles { Assembles (asked_of wanted) result (over S.left S.faults source.old source.new) (sent (O.state out.old) (O.state out.new)) }
+    ensures same { (O.state out.new).name ≡ (O.state out.old).name }
 {
-    let mut assembler = match Assembler::new(alloc, wanted.size, BLOCK_SIZE) {
+    let assembler = match Assembler::new(alloc, wanted.size, BLOCK_SIZE) {
         Ok(assembler) => assembler,
         Err(NewFault::NoMemory) => return Status::NoMemory,
         Err(_) => unreachable!(),
     };
-    match gather(alloc, wanted, source, &mut assembler) {
-        Ok(()) => write_module(&assembler, sink),
-        Err(status) => status,
+    let mut gatherer = Gatherer { wanted, assembler };
+    match hear_all(
+        alloc,
+        Carrier::Sections(MOST_SECTIONS),
+        source,
+        &mut gatherer,
+    ) {
+        Ok(()) => write_module(&gatherer.assembler, out),
+        Err(fault) => Status::from(fault),
     }
 }
 
 /// Writes the module where no block of it is missing.
-fn write_module<K: Sink>(assembler: &Assembler, sink: &mut K) -> Status
-    ensures due { IsDue result (unless_missing (position is_none assembler.now.blocks)) }
-    ensures no_read { result ≡ Status.ReadFault → ⊥ }
-    ensures no_folder { result ≡ Status.FolderFault → ⊥ }
-    ensures writes { Told (K.written sink.old) (K.written sink.new) (λ before after. Writes result (unwrap_or (joined assembler.now.blocks) []) before after) }
-    ensures write_fault { result ≡ Status.WriteFault → Rose (K.faults sink.old) (K.faults sink.new) }
+fn write_module<O: Output>(assembler: &Assembler, out: &mut O) -> Status
+    requires { (O.state out.old).pending ≡ [] }
+    ensures writes { IsModule assembler.now.blocks (sent (O.state out.old) (O.state out.new)) result }
+    ensures same { (O.state out.new).name ≡ (O.state out.old).name }
 {
     if let Some(block) = assembler.first_missing() {
         return Status::Incomplete(u32::from(block));
     }
     match assembler.whole() {
-        Some(bytes) => write_output(sink, bytes),
+        Some(bytes) => match write_all(bytes, out) {
+            Ok(()) => Status::Done,
+            Err(fault) => Status::from(fault),
+        },
         None => unreachable!(),
     }
 }
 
-fn write_output<K: Sink>(sink: &mut K, bytes: &[u8]) -> Status
-    ensures due { IsDue result Status.Done }
-    ensures no_read { result ≡ Status.ReadFault → ⊥ }
-    ensures no_folder { result ≡ Status.FolderFault → ⊥ }
-    ensures writes { Told (K.written sink.old) (K.written sink.new) (λ before after. Writes result bytes.now before after) }
-    ensures write_fault { result ≡ Status.WriteFault → Rose (K.faults sink.old) (K.faults sink.new) }
+fn write_all<O: Output>(bytes: &[u8], out: &mut O) -> Result<(), OutputFault>
+    ensures puts { Puts result (O.state out.old) (O.state out.new) bytes.now }
+    ensures empty { OnOk result ((O.state out.new).pending ≡ []) }
 {
-    match write_all(sink, bytes) {
-        Ok(()) => Status::Done,
-        Err(WriteFault::Failed) => Status::WriteFault,
-        Err(WriteFault::NoMemory) => Status::NoMemory,
-    }
-}
-
-/// Offers the module's blocks out of the source's sections, up to the end of the input.
-fn gather<S: Source>(
-    alloc: Global,
-    wanted: Wanted,
-    source: &mut S,
-    assembler: &mut Assembler,
-) -> Result<(), Status>
-    requires { assembler.old ≡ empty_of wanted.size 4066 }
-    ensures done { OnOk result (Told (S.left source.old) (S.left source.new) (Ends (asked_of wanted) assembler.new)) }
-    ensures stop { IfErr result IsStop }
-    ensures stopped { IfErr result (λ s. Told (S.left source.old) (S.left source.new) (Stopped (is_over_sections 65536) s)) }
-    ensures read_fault { IfErr result (λ s. s ≡ Status.ReadFault → Rose (S.faults source.old) (S.faults source.new)) }
-    ensures number { OnOk result (length assembler.new.blocks ≡ ddb.block_count_of wanted.size 4066) }
-{
-    let mut unread = Unread::new(alloc)?;
-    for taken in 0..MOST_SECTIONS {
-        let Some(len) = next_section(&mut unread, source)? else {
-            return Ok(());
-        };
-        offer_section(wanted, &unread.held()[..len], assembler);
-        unread.pass(len);
-    }
-    if goes_on(&mut unread, source)? {
-        Err(Status::InputTooLong)
-    } else {
-        Ok(())
-    }
+    out.put(bytes)?;
+    out.flush()
 }
 
 /// Offers the block that a section carries, where it is one of the wanted. The block's bytes are lent up to the assembler.

@@ -4,18 +4,15 @@
 
 mod answers;
 mod assemble;
-mod hearing;
+mod law;
 mod listing;
 mod octets;
 mod open;
-mod packets;
-mod pending;
 mod plain;
 mod publish;
+mod receiver;
 mod record;
-mod sections;
 mod status;
-mod unread;
 
 pub use plain::run_plain;
 pub use status::Status;

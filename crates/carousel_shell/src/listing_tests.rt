@@ -1,10 +1,11 @@
 use super::*;
-use crate::listing::list_all;
+use crate::listing::write_list;
 use biop_object::Module;
 use dsi_dii::ModuleLine;
 use ior_tap::{Key, Location};
 use oc_bytes::MemSink;
 use path_resolver::{Gateway, Held, Shot};
+use shell_streams::{Buffered, OutputFault, room};
 use std::alloc::{AllocError, Global};
 use std::sync::Arc;
 use std::test::Fail;
@@ -135,16 +136,27 @@ fn lists(rt: HostRuntime) -> Result<(), Fail> {
         (b"a/b", 1, 2),
         (b"x", 9, 2),
     ];
-    let rows: [(Option<u64>, &[(&[u8], u8, u8)], &[u8], u8); 3] = [
-        (Some(0), &self_led, DEEP, 0),
-        (Some(0), &odd, b"/ folder 5\n/f file 5\n/x dangling 9\n", 1),
-        (None, &self_led, b"/ no-carousel\n", 1),
+    let rows: [(
+        Option<u64>,
+        &[(&[u8], u8, u8)],
+        &[u8],
+        Result<bool, OutputFault>,
+    ); 3] = [
+        (Some(0), &self_led, DEEP, Ok(true)),
+        (
+            Some(0),
+            &odd,
+            b"/ folder 5\n/f file 5\n/x dangling 9\n",
+            Ok(false),
+        ),
+        (None, &self_led, b"/ no-carousel\n", Ok(false)),
     ];
-    for (label, bindings, text, code) in rows {
+    for (label, bindings, text, all) in rows {
         let shot = shot_of(alloc, label, bindings)?;
         let mut sink = MemSink::new(alloc, Vec::new(alloc), 65536);
-        let status = list_all(alloc, &shot, &mut sink);
-        assert_eq!(rt; status.code(), code);
+        let mut pending = room(alloc)?;
+        let mut out = Buffered::new(&mut sink, &mut pending);
+        assert_eq!(rt; write_list(alloc, &shot, &mut out), all);
         assert_eq!(rt; sink.written(), text);
     }
     Ok(())

@@ -1,5 +1,6 @@
 use super::record::record;
 use oc_bytes::{MemSink, MemSource};
+use shell_streams::{Buffered, room};
 use std::alloc::Global;
 use std::test::Fail;
 
@@ -78,14 +79,18 @@ fn sections_are_recorded(rt: HostRuntime) -> Result<(), Fail> {
     for (pid, input, output) in rows {
         let mut source = MemSource::new(input, Vec::new(alloc), 100);
         let mut sink = MemSink::new(alloc, Vec::new(alloc), 50);
-        let status = record(alloc, pid, &mut source, &mut sink);
+        let mut pending = room(alloc)?;
+        let mut out = Buffered::new(&mut sink, &mut pending);
+        let status = record(alloc, pid, &mut source, &mut out);
         assert_eq!(rt; status.code(), 0);
         assert_eq!(rt; sink.written(), output.as_slice());
     }
 
     let mut source = MemSource::new(packets(alloc, &all)?, Vec::from_slice(alloc, &[2])?, 100);
     let mut sink = MemSink::new(alloc, Vec::new(alloc), 50);
-    let status = record(alloc, 256, &mut source, &mut sink);
+    let mut pending = room(alloc)?;
+    let mut out = Buffered::new(&mut sink, &mut pending);
+    let status = record(alloc, 256, &mut source, &mut out);
     assert_eq!(rt; status.code(), 4);
     let whole = joined(alloc, &[&DSI, &DII, &DDB])?;
     assert_eq!(rt; whole.len(), 254);

@@ -3,8 +3,10 @@ ghost use Rattle.std.specs.String.{string_bytes};
 ghost use Rattle.std.specs.Option.{option_map};
 ghost use Rattle.carousel_shell.specs.Statuses.{code_of, line_of, tree_text as text_of_tree};
 
-use folder_store::TreeFault;
-use oc_bytes::{Failed, NoMemory};
+use folder_store::{ReadTree, TreeFault};
+use generation_catalogue::CommitFault;
+use oc_bytes::NoMemory;
+use shell_streams::{InputFault, OutputFault};
 use shell_words::refusal_text;
 use std::alloc::{AllocError, Global};
 
@@ -96,12 +98,57 @@ impl From<AllocError> for Status {
     }
 }
 
-impl From<Failed> for Status {
-    ghost use Rattle.carousel_shell.specs.declared.status.Status.TheVariants as status;
+impl From<InputFault> for Status {
+    ghost use Rattle.carousel_shell.specs.Statuses.{input_status};
 
-    ghost from_gives = { λ _ s. s ≡ status.ReadFault };
+    ghost from_gives = { λ fault s. s ≡ input_status fault };
 
-    fn from(_e: Failed) -> Status {
-        Status::ReadFault
+    fn from(fault: InputFault) -> Status {
+        match fault {
+            InputFault::Failed => Status::ReadFault,
+            InputFault::TooLong => Status::InputTooLong,
+            InputFault::NoMemory => Status::NoMemory,
+        }
+    }
+}
+
+impl From<OutputFault> for Status {
+    ghost use Rattle.carousel_shell.specs.Statuses.{output_status};
+
+    ghost from_gives = { λ fault s. s ≡ output_status fault };
+
+    fn from(fault: OutputFault) -> Status {
+        match fault {
+            OutputFault::Failed => Status::WriteFault,
+            OutputFault::NoMemory => Status::NoMemory,
+        }
+    }
+}
+
+impl From<ReadTree> for Status {
+    ghost use Rattle.carousel_shell.specs.Statuses.{walk_status};
+
+    ghost from_gives = { λ fault s. s ≡ walk_status fault };
+
+    fn from(fault: ReadTree) -> Status {
+        match fault {
+            ReadTree::FolderFault => Status::FolderFault,
+            ReadTree::TooDeep => Status::TreeRefused(TreeFault::TooDeep),
+            ReadTree::BadName => Status::TreeRefused(TreeFault::BadName),
+            ReadTree::NoMemory => Status::NoMemory,
+        }
+    }
+}
+
+impl From<CommitFault> for Status {
+    ghost use Rattle.carousel_shell.specs.Statuses.{commit_status};
+
+    ghost from_gives = { λ fault s. s ≡ commit_status fault };
+
+    fn from(fault: CommitFault) -> Status {
+        match fault {
+            CommitFault::Refused(refusal) => Status::TreeRefused(TreeFault::Commit(refusal)),
+            CommitFault::NoMemory => Status::NoMemory,
+        }
     }
 }

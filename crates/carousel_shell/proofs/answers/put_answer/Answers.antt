@@ -1,19 +1,21 @@
 use Rattle.std.proofs.lemmas.Result.{err_from_is_err_and}
-use Rattle.carousel_shell.proofs.Putting.{stopped_more, stopped_here, stopped_join, sending_join}
+use Rattle.shell_streams.proofs.CallerLemmas.{puts_none, puts_then, puts_stop, puts_ok, puts_err}
 use Rattle.carousel_shell.proofs.answers.put_answer.Goals as goal
 
-pub returns-in_default-clause-err : goal.returns-in_default-clause-err
-returns-in_default-clause-err g c = λ start output s. stopped_more start _ output _ (stopped_here start _ _ output s)
-
-pub returns-in_err-put_line-clause-err : goal.returns-in_err-put_line-clause-err
-returns-in_err-put_line-clause-err g c =
+pub returns-in_err-answer-clause-puts : goal.returns-in_err-answer-clause-puts
+returns-in_err-answer-clause-puts g c =
     let p = err_from_is_err_and c.from_residual.result c.from_residual.ensures.1 in
-    rw p.1 (λ start output s. stopped_join start _ output _ _ (stopped_more start _ _ _ (rw c.in-Ok.ensures at (c.in_err-put_line.ensures.err start output s))))
+    rw (p.1, p.2) (puts_none _ _)
 
-pub returns-in_err-put_tail-clause-err : goal.returns-in_err-put_tail-clause-err
-returns-in_err-put_tail-clause-err g c =
+pub returns-in_err-put_line-clause-puts : goal.returns-in_err-put_line-clause-puts
+returns-in_err-put_line-clause-puts g c =
+    let p = err_from_is_err_and c.from_residual-in_err-put_line.result c.from_residual-in_err-put_line.ensures.1 in
+    rw (p.1, p.2) (puts_stop _ (rw c.in_ok-answer.ensures.answer at c.in_err-put_line.ensures))
+
+pub returns-in_err-put_tail-clause-puts : goal.returns-in_err-put_tail-clause-puts
+returns-in_err-put_tail-clause-puts g c =
     let p = err_from_is_err_and c.from_residual-in_err-put_tail.result c.from_residual-in_err-put_tail.ensures.1 in
-    rw p.1 (λ start output s. stopped_join start _ output _ _ (rw c.in-Ok.ensures at (c.in_err-put_tail.ensures.err start _ (c.in_ok-put_line.ensures.ok start output s))))
+    rw (p.1, p.2) (puts_err (puts_then (rw c.in_ok-answer.ensures.answer at c.in_ok-put_line.ensures) (rw c.in_ok-answer.ensures.answer at c.in_err-put_tail.ensures)))
 
-pub returns-clause-ok : goal.returns-clause-ok
-returns-clause-ok g c = λ start output s. sending_join start _ _ output _ _ (rw c.in-Ok.ensures at (c.in_ok-put_tail.ensures.ok start _ (c.in_ok-put_line.ensures.ok start output s)))
+pub returns-clause-puts : goal.returns-clause-puts
+returns-clause-puts g c = puts_ok _ (puts_then (rw c.in_ok-answer.ensures.answer at c.in_ok-put_line.ensures) (rw c.in_ok-answer.ensures.answer at c.in_ok-put_tail.ensures))

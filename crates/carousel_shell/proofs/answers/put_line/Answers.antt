@@ -1,11 +1,11 @@
-use Rattle.carousel_shell.proofs.Putting.{stopped_more, stopped_here}
+use Rattle.std.proofs.lemmas.Result.{err_from_is_err_and}
+use Rattle.shell_streams.proofs.CallerLemmas.{puts_none}
 use Rattle.carousel_shell.proofs.answers.put_line.Goals as goal
 
-pub returns-in_default-clause-err : goal.returns-in_default-clause-err
-returns-in_default-clause-err g c = λ start output s. stopped_more start _ output _ (stopped_here start _ _ output s)
+pub returns-in_err-line : goal.returns-in_err-line
+returns-in_err-line g c =
+    let p = err_from_is_err_and c.from_residual.result c.from_residual.ensures.1 in
+    rw (p.1, p.2) (puts_none _ _)
 
-pub returns-clause-ok : goal.returns-clause-ok
-returns-clause-ok g c = rw (c.as_bytes.ensures.value, c.in-Ok.ensures) at c.put.ensures.ok
-
-pub returns-clause-err : goal.returns-clause-err
-returns-clause-err g c = rw (c.as_bytes.ensures.value, c.in-Ok.ensures) at c.put.ensures.err
+pub returns : goal.returns
+returns g c = rw (c.as_bytes.ensures.value, c.in_ok-line.ensures) at c.put.ensures.puts

@@ -1,29 +1,33 @@
-use Rattle.std.proofs.Common.{◌≤◌, ◌+◌, length, arith}
+use Rattle.std.proofs.Common.{◌≤◌, ◌+◌, length, drop, arith, ap}
+use Rattle.std.specs.List.{flat_map}
 use Rattle.std.proofs.lemmas.Result.{err_from_is_err_and}
 use Rattle.std.proofs.lemmas.List.{take_all}
+use Rattle.shell_streams.proofs.CallerLemmas.{puts_nothing, puts_none, puts_then, puts_stop, puts_as}
 use Rattle.carousel_shell.specs.Texts.{name_line}
-use Rattle.carousel_shell.proofs.Putting.{stopped_here, stopped_part, parts_more}
+use Rattle.carousel_shell.proofs.Parts.{parts_more, parts_all}
 use Rattle.carousel_shell.proofs.answers.put_names.Goals as goal
 
-pub returns-in_default-clause-err : goal.returns-in_default-clause-err
-returns-in_default-clause-err g c = λ start output s. stopped_part name_line start _ output c.args.folder.now c.loop-i.i (stopped_here start _ _ _ (c.loop-i.invariant.sending start output s))
+pub loop-i-init : goal.loop-i-init
+loop-i-init g c = puts_nothing tt _
 
-pub returns-in_err-put_bytes_line-clause-err : goal.returns-in_err-put_bytes_line-clause-err
-returns-in_err-put_bytes_line-clause-err g c =
+pub returns-in_err-text : goal.returns-in_err-text
+returns-in_err-text g c =
     let p = err_from_is_err_and c.from_residual.result c.from_residual.ensures.1 in
-    rw p.1 (λ start output s. stopped_part name_line start _ output c.args.folder.now (c.loop-i.i + 1)
-    (rw (parts_more name_line c.args.folder.now c.loop-i.i c.name.result.now output c.name.ensures)
-    at (rw (c.as_bytes.ensures.value, c.in-Ok.ensures) at (c.in_err-put_bytes_line.ensures.err start _ (c.loop-i.invariant.sending start output s)))))
+    rw (p.1, p.2) (puts_as (parts_all name_line c.args.folder.now c.loop-i.i) (puts_then c.loop-i.invariant (puts_none _ (flat_map name_line (drop c.loop-i.i c.args.folder.now)))))
+
+pub returns-in_err-put_bytes_line : goal.returns-in_err-put_bytes_line
+returns-in_err-put_bytes_line g c =
+    let p = err_from_is_err_and c.from_residual-in_err-put_bytes_line.result c.from_residual-in_err-put_bytes_line.ensures.1 in
+    rw (p.1, p.2) (puts_as (parts_all name_line c.args.folder.now (c.loop-i.i + 1)) (puts_stop _
+    (puts_as (parts_more name_line c.args.folder.now c.loop-i.i c.name.result.now c.name.ensures)
+    (puts_then c.loop-i.invariant (rw (c.as_bytes.ensures.value, c.in_ok-text.ensures) at c.in_err-put_bytes_line.ensures)))))
 
 pub loop-i-preserved : goal.loop-i-preserved
-loop-i-preserved g c = record {
-  sending = λ start output s.
-      rw (parts_more name_line c.args.folder.now c.loop-i.i c.name.result.now output c.name.ensures)
-      at (rw (c.as_bytes.ensures.value, c.in-Ok.ensures) at (c.in_ok-put_bytes_line.ensures.ok start _ (c.loop-i.invariant.sending start output s)));
-  later = omega (arith, c.loop-i.invariant.later, c.in_ok-put_bytes_line.ensures.later);
-}
+loop-i-preserved g c =
+    puts_as (parts_more name_line c.args.folder.now c.loop-i.i c.name.result.now c.name.ensures)
+    (puts_then c.loop-i.invariant (rw (c.as_bytes.ensures.value, c.in_ok-text.ensures) at c.in_ok-put_bytes_line.ensures))
 
-pub returns-clause-ok : goal.returns-clause-ok
-returns-clause-ok g c = λ start output s.
+pub returns : goal.returns
+returns g c =
     let all : length c.args.folder.now ≤ c.loop-i.i = omega (arith, c.count-i-end.ensures, c.loop-i-test.false) in
-    rw (take_all c.loop-i.i c.args.folder.now all) at (c.loop-i.invariant.sending start output s)
+    puts_as (ap (flat_map name_line) (take_all c.loop-i.i c.args.folder.now all)) c.loop-i.invariant

@@ -1,13 +1,8 @@
-use Rattle.std.proofs.Common.{◌≤◌, ◌++◌, take, Option}
+use Rattle.std.proofs.Common.{take}
 use Rattle.std.specs.List.{flat_map}
-use Rattle.carousel_shell.specs.Cuts.{Bytes}
-use Rattle.carousel_shell.specs.Sending.{IsSending}
+use Rattle.shell_streams.specs.Sending.{HasPut}
 use Rattle.carousel_shell.specs.Texts.{name_line}
 use Rattle.carousel_shell.proofs.answers.put_names.Given as goal
 
 abbrev pub invariant-loop-i : goal.invariant-loop-i
-invariant-loop-i g l = record {
-  sending : (start : Option Bytes) (output : Bytes) → IsSending start (g.K.Sink.written l.fn.sink) l.fn.out output
-      → IsSending start (g.K.Sink.written l.sink) l.out (output ++ flat_map name_line (take l.i l.folder));
-  later : g.K.Sink.faults l.fn.sink ≤ g.K.Sink.faults l.sink;
-}
+invariant-loop-i g l = HasPut (g.O.Output.state l.fn.out) (g.O.Output.state l.out) (flat_map name_line (take l.i l.folder))

@@ -1,19 +1,26 @@
-use Rattle.std.proofs.Common.{◌∙◌, ap, subst}
+use Rattle.std.proofs.Common.{◌∙◌, ap, subst, Err, inl, inr}
 use Rattle.std.proofs.lemmas.Result.{err_from_is_err_and}
 use Rattle.std.specs.Arc.{arc_value}
 use Rattle.path_tree.specs.Trees.{IsTree}
 use Rattle.folder_store.specs.Folders.{is_folder_at}
 use Rattle.generation.specs.Layouts.{GenerationState}
 use Rattle.generation.specs.Lawful.{HasBytes}
-use Rattle.carousel_shell.proofs.Committing.{due_commit, folder_found, made_of_folder}
+use Rattle.carousel_shell.specs.Over.{over}
+use Rattle.carousel_shell.proofs.Committing.{refused_walk, refused_commit, folder_found, made_of_folder}
 use Rattle.carousel_shell.proofs.publish.first_generation.Goals as goal
 
-pub returns-in_err-commit-clause-due : goal.returns-in_err-commit-clause-due
-returns-in_err-commit-clause-due g c =
+pub returns-in_err-edits-clause-refused : goal.returns-in_err-edits-clause-refused
+returns-in_err-edits-clause-refused g c =
+    let p = err_from_is_err_and c.from_residual.result c.from_residual.ensures.1 in
+    rw (p.1, p.2) (refused_walk c.args.folder.now c.args.carousel (over g.F.Folders.tree g.F.Folders.faults c.args.folders.now c.read_tree.new.folders) c.in_err-edits.field-0.0
+    (λ t h e. elim (c.in_err-edits.ensures.no_folder t h e) [ inl x ↦ inl (cc) | inr x ↦ inr (cc) ])
+    (λ e. c.in_err-edits.ensures.fault (ap Err e)) (λ e. c.in_err-edits.ensures.too_deep (ap Err e)) (λ e. c.in_err-edits.ensures.bad_name (ap Err e)))
+
+pub returns-in_err-commit-clause-refused : goal.returns-in_err-commit-clause-refused
+returns-in_err-commit-clause-refused g c =
     let p = err_from_is_err_and c.from_residual-in_err-commit.result c.from_residual-in_err-commit.ensures.1 in
-    rw (p.1, p.2) (λ t h.
-    due_commit c.args.folder.now c.args.carousel t c.in_ok-edits.edits.items _ c.in_err-commit.field-0.0 c.in_ok-catalogue.ensures
-    (folder_found (is_folder_at t c.args.folder.now) c.in_ok-edits.edits (c.in_ok-edits.ensures.no_folder t h)) (c.in_ok-edits.ensures.edits t h) c.in_err-commit.ensures.answer)
+    rw (p.1, p.2) (refused_commit c.args.folder.now c.args.carousel (over g.F.Folders.tree g.F.Folders.faults c.args.folders.now c.read_tree.new.folders) c.in_ok-edits.edits.items _ c.in_err-commit.field-0.0 c.in_ok-catalogue.ensures
+    (λ t h. folder_found (is_folder_at t c.args.folder.now) c.in_ok-edits.edits (c.in_ok-edits.ensures.no_folder t h)) c.in_ok-edits.ensures.edits c.in_err-commit.ensures.answer)
 
 pub returns-clause-made : goal.returns-clause-made
 returns-clause-made g c =

@@ -1,31 +1,30 @@
-use Rattle.std.proofs.Common.{◌≡◌, ◌+◌, ◌++◌, take, drop, map, ap, ◌∙◌, arith}
+use Rattle.std.proofs.Common.{◌≡◌, ◌+◌, take, arith, ap, map}
 use Rattle.std.proofs.lemmas.Result.{err_from_is_err_and}
 use Rattle.std.proofs.lemmas.List.{take_all}
 use Rattle.section_stream.specs.Kept.{view_bytes}
-use Rattle.carousel_shell.specs.Accepted.{accepted, accepted_one}
-use Rattle.carousel_shell.proofs.Accepting.{accepted_next, accepted_parts, sending_next, stopped_next}
+use Rattle.shell_streams.proofs.CallerLemmas.{puts_nothing, puts_then, puts_stop, puts_as}
+use Rattle.carousel_shell.specs.Accepted.{accepted}
+use Rattle.carousel_shell.proofs.Recording.{accepted_next, accepted_all}
 use Rattle.carousel_shell.proofs.record.put_accepted.Goals as goal
 
-pub returns-in_err-put_one-clause-err : goal.returns-in_err-put_one-clause-err
-returns-in_err-put_one-clause-err g c =
+pub loop-candidate-init : goal.loop-candidate-init
+loop-candidate-init g c = record { puts = puts_nothing tt _; few = λ h. h }
+
+pub returns-in_err-put_one-clause-puts : goal.returns-in_err-put_one-clause-puts
+returns-in_err-put_one-clause-puts g c =
     let p = err_from_is_err_and c.from_residual.result c.from_residual.ensures.1 in
-    let next = accepted_next c.args.candidates.now c.loop-candidate.candidate-index c.candidate-item.result c.deref.result.now c.loop-candidate-test.true c.candidate-item.is c.deref.ensures.value in
-    let rest = accepted (map view_bytes (drop (c.loop-candidate.candidate-index + 1) c.args.candidates.now)) in
-    rw p.1 (λ start output s.
-    stopped_next start _ output (accepted (map view_bytes (take c.loop-candidate.candidate-index c.args.candidates.now))) (accepted_one c.deref.result.now) rest _
-    (accepted_parts c.args.candidates.now (c.loop-candidate.candidate-index + 1) ∙ ap (λ bs. bs ++ rest) next)
-    (c.in_err-put_one.ensures.err start _ (c.loop-candidate.invariant.sending start output s)))
+    rw (p.1, p.2) (puts_as (accepted_all c.args.candidates.now (c.loop-candidate.candidate-index + 1)) (puts_stop _
+    (puts_as (accepted_next c.args.candidates.now c.loop-candidate.candidate-index c.candidate-item.result c.deref.result.now c.loop-candidate-test.true c.candidate-item.is c.deref.ensures.value)
+    (puts_then c.loop-candidate.invariant.puts c.in_err-put_one.ensures.puts))))
 
 pub loop-candidate-preserved : goal.loop-candidate-preserved
 loop-candidate-preserved g c = record {
-  sending = λ start output s.
-      sending_next start _ _ output (accepted (map view_bytes (take c.loop-candidate.candidate-index c.args.candidates.now))) (accepted_one c.deref.result.now) _
-      (accepted_next c.args.candidates.now c.loop-candidate.candidate-index c.candidate-item.result c.deref.result.now c.loop-candidate-test.true c.candidate-item.is c.deref.ensures.value)
-      (c.in_ok-put_one.ensures.ok start _ (c.loop-candidate.invariant.sending start output s));
-  later = omega (arith, c.loop-candidate.invariant.later, c.put_one.ensures.later);
+  puts = puts_as (accepted_next c.args.candidates.now c.loop-candidate.candidate-index c.candidate-item.result c.deref.result.now c.loop-candidate-test.true c.candidate-item.is c.deref.ensures.value)
+      (puts_then c.loop-candidate.invariant.puts c.in_ok-put_one.ensures.puts);
+  few = λ h. c.in_ok-put_one.ensures.few (c.loop-candidate.invariant.few h);
 }
 
-pub returns-clause-ok : goal.returns-clause-ok
-returns-clause-ok g c =
+pub returns-clause-puts : goal.returns-clause-puts
+returns-clause-puts g c =
     let all : take c.loop-candidate.candidate-index c.args.candidates.now ≡ c.args.candidates.now = take_all c.loop-candidate.candidate-index c.args.candidates.now (omega (arith, c.loop-candidate-test.false)) in
-    λ start output s. rw all at (c.loop-candidate.invariant.sending start output s)
+    puts_as (ap (λ vs. accepted (map view_bytes vs)) all) c.loop-candidate.invariant.puts

@@ -1,13 +1,11 @@
-use Rattle.std.proofs.Common.{◌≤◌, ◌++◌, Option, map, take}
+use Rattle.std.proofs.Common.{◌≤◌, length, map, take}
 use Rattle.section_stream.specs.Kept.{view_bytes}
-use Rattle.carousel_shell.specs.Cuts.{Bytes}
-use Rattle.carousel_shell.specs.Sending.{IsSending}
+use Rattle.shell_streams.specs.Sending.{HasPut}
 use Rattle.carousel_shell.specs.Accepted.{accepted}
 use Rattle.carousel_shell.proofs.record.put_accepted.Given as goal
 
 abbrev pub invariant-loop-candidate : goal.invariant-loop-candidate
 invariant-loop-candidate g l = record {
-  sending : (start : Option Bytes) (output : Bytes) → IsSending start (g.K.Sink.written l.fn.sink) l.fn.out output
-      → IsSending start (g.K.Sink.written l.sink) l.out (output ++ accepted (map view_bytes (take l.candidate-index l.candidates)));
-  later : g.K.Sink.faults l.fn.sink ≤ g.K.Sink.faults l.sink;
+  puts : HasPut (g.O.Output.state l.fn.out) (g.O.Output.state l.out) (accepted (map view_bytes (take l.candidate-index l.candidates)));
+  few : length (g.O.Output.state l.fn.out).pending ≤ 65536 → length (g.O.Output.state l.out).pending ≤ 65536;
 }

@@ -1,8 +1,7 @@
-use Rattle.std.proofs.Common.{◌*◌, ◌+◌, ◌-◌, ◌≤◌, true, take, length, ◌++◌, Option}
+use Rattle.std.proofs.Common.{◌*◌, ◌+◌, ◌-◌, true, take, length}
 use Rattle.path_resolver.specs.Resolving.{answer_of}
 use Rattle.path_resolver.specs.Shots.{held_of}
-use Rattle.carousel_shell.specs.Cuts.{Bytes}
-use Rattle.carousel_shell.specs.Sending.{IsSending}
+use Rattle.shell_streams.specs.Sending.{HasPut}
 use Rattle.carousel_shell.specs.Listing.{Lists, paths_below, lines_in}
 use Rattle.carousel_shell.proofs.listing.Progress.+list.Given as goal
 
@@ -18,7 +17,5 @@ decreases-list_below g l = 3 * (16 - length l.path.now) + 1
 abbrev pub invariant-list_names-loop-i : goal.invariant-list_names-loop-i
 invariant-list_names-loop-i g l = record {
   lists : Lists (answer_of (held_of l.shot)) (paths_below (answer_of (held_of l.shot)) (15 - length l.path) l.path (take l.i l.folder)) l.fn.self.left l.fn.self.all l.self.left l.self.all true;
-  sending : (start : Option Bytes) (output : Bytes) → IsSending start (g.K.Sink.written l.fn.sink) l.fn.self.out output
-      → IsSending start (g.K.Sink.written l.sink) l.self.out (output ++ lines_in (answer_of (held_of l.shot)) l.fn.self.left (paths_below (answer_of (held_of l.shot)) (15 - length l.path) l.path (take l.i l.folder)));
-  later : g.K.Sink.faults l.fn.sink ≤ g.K.Sink.faults l.sink;
+  puts : HasPut (g.O.Output.state l.fn.out) (g.O.Output.state l.out) (lines_in (answer_of (held_of l.shot)) l.fn.self.left (paths_below (answer_of (held_of l.shot)) (15 - length l.path) l.path (take l.i l.folder)));
 }

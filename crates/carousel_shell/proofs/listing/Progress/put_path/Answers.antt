@@ -1,14 +1,16 @@
 use Rattle.std.proofs.lemmas.Result.{err_from_is_err_and}
-use Rattle.carousel_shell.proofs.Putting.{stopped_more, stopped_here}
+use Rattle.shell_streams.proofs.CallerLemmas.{puts_none, puts_ok, puts_err}
 use Rattle.carousel_shell.proofs.listing.Progress.put_path.Goals as goal
 
-pub returns-in_default-clause-err : goal.returns-in_default-clause-err
-returns-in_default-clause-err g c = λ start output s. stopped_more start _ output _ (stopped_here start _ _ output s)
-
-pub returns-in_err-put_line-clause-err : goal.returns-in_err-put_line-clause-err
-returns-in_err-put_line-clause-err g c =
+pub returns-in_err-answer-clause-puts : goal.returns-in_err-answer-clause-puts
+returns-in_err-answer-clause-puts g c =
     let p = err_from_is_err_and c.from_residual.result c.from_residual.ensures.1 in
-    rw p.1 (λ start output s. rw c.in-Ok.ensures at (c.in_err-put_line.ensures.err start output s))
+    rw (p.1, p.2) (puts_none _ _)
 
-pub returns-clause-ok : goal.returns-clause-ok
-returns-clause-ok g c = λ start output s. rw c.in-Ok.ensures at (c.in_ok-put_line.ensures.ok start output s)
+pub returns-in_err-put_line-clause-puts : goal.returns-in_err-put_line-clause-puts
+returns-in_err-put_line-clause-puts g c =
+    let p = err_from_is_err_and c.from_residual-in_err-put_line.result c.from_residual-in_err-put_line.ensures.1 in
+    rw (p.1, p.2) (puts_err (rw c.in_ok-answer.ensures.answer at c.in_err-put_line.ensures))
+
+pub returns-clause-puts : goal.returns-clause-puts
+returns-clause-puts g c = puts_ok _ (rw c.in_ok-answer.ensures.answer at c.in_ok-put_line.ensures)

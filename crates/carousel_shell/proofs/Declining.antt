@@ -1,0 +1,73 @@
+-- What is promised where nothing was done.
+use Rattle.std.proofs.Common.{◌≡◌, ℕ, [], Option, Result, Ok, Err, inl, inr, refl, sym, append-nil, subst}
+use Rattle.oc_bytes.specs.Outcome.{Told}
+use Rattle.folder_store.specs.Folders.{FolderTree}
+use Rattle.shell_words.specs.Words as commands
+use Rattle.shell_streams.specs.Cuts.{Bytes}
+use Rattle.shell_streams.specs.Held.{IsRear}
+use Rattle.shell_streams.specs.Sending.{OutputState}
+use Rattle.shell_streams.specs.declared.carrier.Carrier.{Carrier}
+use Rattle.shell_streams.specs.declared.carrier.Carrier.TheVariants as carriers
+use Rattle.shell_streams.proofs.CallerLemmas.{told_same}
+use Rattle.carousel_shell.specs.Over.{Over, sent, IsUntouched, TakesPrefix, Appends}
+use Rattle.carousel_shell.specs.Record.{AreFirst, Records}
+use Rattle.carousel_shell.specs.Open.{Question, Answers, asks_paths, asks_all}
+use Rattle.carousel_shell.specs.Reception.{Receptions}
+use Rattle.carousel_shell.specs.Promises.{Promises, Keeps}
+use Rattle.carousel_shell.specs.declared.status.Status.{Status}
+use Rattle.carousel_shell.specs.declared.status.Status.TheVariants as status
+use Rattle.carousel_shell.proofs.Recording.{first_none}
+
+takes_nothing : (source : Over Bytes) → IsUntouched source → TakesPrefix source
+takes_nothing source e = let P : Option Bytes → Type 0 = λ a. Told source.before a IsRear in subst P (sym e) (told_same source.before (λ x. record { taken = []; whole = refl }))
+
+answers_nothing : (carrier : Carrier) (question : Question) (source sink : Over Bytes) → Receptions → IsUntouched source → IsUntouched sink → Answers carrier question status.NoMemory source sink
+answers_nothing carrier question source sink law e f = record { ends = inl f; takes = takes_nothing source e; reception = λ input _. law.each carrier input }
+
+records_nothing : (pid : ℕ) (source sink : Over Bytes) → IsUntouched source → IsUntouched sink → Records pid status.NoMemory source sink
+records_nothing pid source sink e f =
+    let P : Option Bytes → Type 0 = λ a. Told source.before a (AreFirst pid []) in
+    let Q : Option Bytes → Type 0 = λ a. Told sink.before a (Appends []) in
+    record {
+      ends = record {
+        sections = [];
+        first = subst P (sym e) (first_none pid source.before);
+        writes = subst Q (sym f) (told_same sink.before (λ x. record { part = []; after_is = sym (append-nil x); prefix = record { rest = []; whole_is = refl } }));
+      };
+      takes = takes_nothing source e;
+    }
+
+-- memory was wanting before a command began
+memory_promises : (c : commands.Named) (source sink : Over Bytes) (folders : Over FolderTree) → Receptions → IsUntouched source → IsUntouched sink → Promises c status.NoMemory source sink folders
+memory_promises (commands.Assemble id version size download) source sink folders law e f = record { ends = inl f; takes = takes_nothing source e }
+memory_promises (commands.OpenSections paths) source sink folders law e f = answers_nothing (carriers.Sections 16777216) (asks_paths paths) source sink law e f
+memory_promises (commands.Open pid paths) source sink folders law e f = answers_nothing (carriers.Packets pid) (asks_paths paths) source sink law e f
+memory_promises (commands.Record pid) source sink folders law e f = records_nothing pid source sink e f
+memory_promises (commands.ListAll pid) source sink folders law e f = answers_nothing (carriers.Packets pid) asks_all source sink law e f
+memory_promises (commands.Publish folder carousel cycles) source sink folders law e f =
+    record { unread = e; keeps = record { ends = inl f; needs = λ t h n. inr refl; heard = law.sent carousel cycles } }
+memory_promises commands.Rehearse source sink folders law e f = record { ends = inr refl; unread = e; unwritten = f }
+memory_promises commands.Session source sink folders law e f = record { ends = inr refl; unread = e; unwritten = f }
+memory_promises (commands.Big n) source sink folders law e f = record { ends = inr refl; unread = e; unwritten = f }
+
+pub memory_keeps : (r : Result commands.Named commands.Misfit) (source sink : Over Bytes) (folders : Over FolderTree) → Receptions → IsUntouched source → IsUntouched sink
+    → Keeps r status.NoMemory source sink folders
+memory_keeps (Ok c) source sink folders law e f = memory_promises c source sink folders law e f
+memory_keeps (Err misfit) source sink folders law e f = record { ends = inr refl; unread = e; unwritten = f }
+
+-- the words don't fit
+pub words_keep : (r : Result commands.Named commands.Misfit) (source sink : Over Bytes) (folders : Over FolderTree) → r ≡ Err commands.Words → IsUntouched source → IsUntouched sink
+    → Keeps r status.Words source sink folders
+words_keep r source sink folders is e f =
+    let P : Result commands.Named commands.Misfit → Type 0 = λ x. Keeps x status.Words source sink folders in
+    subst P (sym is) (record { ends = inl refl; unread = e; unwritten = f })
+
+-- the output's ends are those of the sink
+pub promises_to : (c : commands.Named) (s : Status) (source sink : Over Bytes) (folders : Over FolderTree) (old new : OutputState) → old.written ≡ sink.before → new.written ≡ sink.after
+    → old.faults ≡ sink.faults → new.faults ≡ sink.faults_after → Promises c s source (sent old new) folders → Promises c s source sink folders
+promises_to c s source sink folders old new a b x y p =
+    let P : Option Bytes → Type 0 = λ w. Promises c s source (record { before = w; after = new.written; faults = old.faults; faults_after = new.faults }) folders in
+    let Q : Option Bytes → Type 0 = λ w. Promises c s source (record { before = sink.before; after = w; faults = old.faults; faults_after = new.faults }) folders in
+    let R : ℕ → Type 0 = λ n. Promises c s source (record { before = sink.before; after = sink.after; faults = n; faults_after = new.faults }) folders in
+    let S : ℕ → Type 0 = λ n. Promises c s source (record { before = sink.before; after = sink.after; faults = sink.faults; faults_after = n }) folders in
+    subst S y (subst R x (subst Q b (subst P a p)))

@@ -1,0 +1,86 @@
+-- The law of receptions, for every input and every publication.
+use Rattle.std.proofs.Common.{◌≡◌, ℕ, zero, suc, ◌+◌, ◌≤◌, ◌%◌, Bool, true, false, List, [], ◌∷◌, ◌++◌, length, take, drop, refl, sym, ap, ◌∙◌, arith, append-nil, length-append}
+use Rattle.std.proofs.lemmas.List.{length-take, length-replicate}
+use Rattle.std.specs.List.{concat}
+use Rattle.path_tree.specs.Paths.{PathNames}
+use Rattle.path_tree.specs.Trees.{Tree, Node, File, Folder, NoSuch, node_at}
+use Rattle.generation.specs.Lawful.{tree_at}
+use Rattle.path_resolver.specs.declared.answer.Answer.{Answer}
+use Rattle.path_resolver.specs.declared.answer.Answer.TheVariants as answers
+use Rattle.section_stream.specs.Cuts.{candidates}
+use Rattle.section_stream.specs.Packing as packing
+use Rattle.tuner_core.specs.LookBack.{answer_after}
+use Rattle.carousel_world.specs.Broadcasts.{sections}
+use Rattle.carousel_world.specs.Headline.{IsNodeAnswer}
+use Rattle.carousel_world.specs.Receptions.{EveryReceptionMeets}
+use Rattle.carousel_world.specs.Publishing.{EveryPublicationMeets, EachCycleOpens, publication, packets_sent, published}
+use Rattle.shell_streams.specs.Cuts.{Bytes, back_to_back}
+use Rattle.shell_streams.specs.Packets.{AreSized, packets_of, candidates_of}
+use Rattle.shell_streams.specs.declared.carrier.Carrier.{Carrier}
+use Rattle.shell_streams.specs.declared.carrier.Carrier.TheVariants as carriers
+use Rattle.shell_streams.proofs.Packeting.{packets_before}
+use Rattle.carousel_shell.specs.Reception.{Reception, SentOpens, Receptions, node_answer, answer_in}
+
+same_answer : (a : Answer) (n : Node) → IsNodeAnswer a n → a ≡ node_answer n
+same_answer (answers.File b) (File c) h = ap answers.File h
+same_answer (answers.Folder ns) (Folder ms) h = ap answers.Folder h
+same_answer answers.NoSuch NoSuch h = refl
+same_answer _ _ h = absurd h
+
+all_same : (heard : List Bytes) (t : Tree) → ((p : PathNames) → IsNodeAnswer (answer_after heard p) (node_at t p)) → answer_after heard ≡ answer_in t
+all_same heard t h =
+    let each : (p : PathNames) → answer_after heard p ≡ answer_in t p = λ p. same_answer (answer_after heard p) (node_at t p) (h p) in
+    λ i p. each p i
+
+received : EveryReceptionMeets → EveryPublicationMeets → (carrier : Carrier) (input : Bytes) → Reception carrier input
+received law one (carriers.Sections most) input = record {
+  meets = law.sections (back_to_back input);
+  whole = λ b from g never heard whole.
+      all_same (back_to_back input) (tree_at b.trees g) (λ p. (law.sections (back_to_back input) b from never heard).opens g p whole);
+  meets_published = one.sections (back_to_back input);
+  whole_published = λ carousel cycles t from never small publishable accepted whole.
+      all_same (back_to_back input) t (λ p. (one.sections (back_to_back input) carousel cycles t from never small publishable accepted).opens p whole);
+}
+received law one (carriers.Packets pid) input = record {
+  meets = law.packets pid (packets_of input);
+  whole = λ b from g never heard whole.
+      all_same (candidates_of pid input) (tree_at b.trees g) (λ p. (law.packets pid (packets_of input) b from never heard).opens g p whole);
+  meets_published = one.packets pid (packets_of input);
+  whole_published = λ carousel cycles t from never small publishable accepted whole.
+      all_same (candidates_of pid input) t (λ p. (one.packets pid (packets_of input) carousel cycles t from never small publishable accepted).opens p whole);
+}
+
+-- ---- the packets of what was published are those that were sent
+
+filled_sized : (piece : Bytes) → length piece ≤ 184 → length (packing.filled piece) ≡ 184
+filled_sized piece h = simp (length-append, length-replicate) (omega arith)
+
+pieces_sized : (n pid : ℕ) (start : Bool) (counter : ℕ) (bytes : Bytes) → AreSized (packing.pieces n pid start counter bytes)
+pieces_sized zero pid start counter bytes = tt
+pieces_sized (suc n) pid start counter bytes = (omega (arith, filled_sized (take 184 bytes) (take_short bytes)), pieces_sized n pid false ((counter + 1) % 16) (drop 184 bytes))
+  where
+    take_short : (bytes : Bytes) → length (take 184 bytes) ≤ 184
+    take_short bytes = omega (arith, length-take 184 bytes)
+
+sized-append : (xs ys : List Bytes) → AreSized xs → AreSized ys → AreSized (xs ++ ys)
+sized-append [] ys a b = b
+sized-append (x ∷ xs) ys a b = (a.0, sized-append xs ys a.1 b)
+
+all_sized : (m : packing.MuxState) (sections : List Bytes) → AreSized (packing.packets_of_all m sections)
+all_sized m [] = tt
+all_sized m (s ∷ ss) = sized-append (packing.packets_of m s) (packing.packets_of_all (packing.past m s) ss)
+    (pieces_sized (packing.packet_count s) m.pid true m.counter (0 ∷ s)) (all_sized (packing.past m s) ss)
+
+packets_back : (packets : List Bytes) → AreSized packets → packets_of (concat packets) ≡ packets
+packets_back packets h = ap packets_of (sym (append-nil (concat packets))) ∙ packets_before packets [] h ∙ append-nil packets
+
+-- whoever hears all packets of a publication has each path of its tree
+sent_opens : EachCycleOpens → (carousel cycles : ℕ) → SentOpens carousel cycles
+sent_opens law carousel zero t p some small publishable = absurd (omega arith)
+sent_opens law carousel (suc cycles) t p some small publishable =
+    let back : candidates_of 256 (published carousel (suc cycles) t) ≡ candidates 256 (packets_sent carousel (suc cycles) t) =
+    ap (candidates 256) (packets_back (packets_sent carousel (suc cycles) t) (all_sized (record { pid = 256; counter = 0 }) (sections (publication carousel (suc cycles) t)))) in
+    rw back (law carousel cycles t p small publishable)
+
+pub all_laws : EveryReceptionMeets → EveryPublicationMeets → EachCycleOpens → Receptions
+all_laws law one cycle = record { each = received law one; sent = sent_opens cycle }

@@ -1,7 +1,0 @@
-use Rattle.std.proofs.Common.{refl, sym, ◌∙◌}
-use Rattle.carousel_shell.proofs.Holding.{goes_on_held}
-use Rattle.carousel_shell.proofs.sections.goes_on.Goals as goal
-
-pub returns-then-not-is_empty-clause-more : goal.returns-then-not-is_empty-clause-more
-returns-then-not-is_empty-clause-more g c = λ rest e.
-    (λ _. goes_on_held c.args.unread.now _ rest (rw c.held.ensures at (sym c.is_empty.ensures ∙ c.if-not-is_empty.true)) e, λ _. refl)

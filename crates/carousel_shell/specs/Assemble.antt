@@ -1,0 +1,61 @@
+-- What `assemble ID VERSION SIZE DOWNLOAD` promises: the first fitting blocks of the input's sections make the module.
+use Rattle.std.specs.Prelude.{◌≡◌, ◌⊎◌, ℕ, List, Option, Some}
+use Rattle.std.specs.List.{position}
+use Rattle.std.specs.Option.{is_none}
+use Rattle.block_assembler.specs.Blocks.{joined}
+use Rattle.shell_streams.specs.Cuts.{Bytes}
+use Rattle.shell_streams.specs.declared.carrier.Carrier.{Carrier}
+use Rattle.shell_streams.specs.declared.carrier.Carrier.TheVariants as carriers
+use Rattle.carousel_shell.specs.Over.{Over, Failed, IsUntouched, TakesPrefix, WritesAll, WritesPrefix}
+use Rattle.carousel_shell.specs.Input.{Asked, blocks_among}
+use Rattle.carousel_shell.specs.Open.{Hears, GoesOn}
+use Rattle.carousel_shell.specs.declared.status.Status.{Status}
+use Rattle.carousel_shell.specs.declared.status.Status.TheVariants as status
+
+-- at most 65,536 sections, back to back
+abbrev pub module_carrier : Carrier
+module_carrier = carriers.Sections 65536
+
+-- the module was written: each block of it is there
+pub record Assembled (m : Asked) (source sink : Over Bytes) : Type 0 where
+  pub sections : List Bytes
+  pub hears : Hears module_carrier source sections
+  pub bytes : Bytes
+  pub joins : joined (blocks_among m sections) ≡ Some bytes
+  pub writes : WritesAll sink bytes
+
+-- a prefix of it was
+pub record Assembling (m : Asked) (source sink : Over Bytes) : Type 0 where
+  pub sections : List Bytes
+  pub hears : Hears module_carrier source sections
+  pub bytes : Bytes
+  pub joins : joined (blocks_among m sections) ≡ Some bytes
+  pub writes : WritesPrefix sink bytes
+
+-- this is the least number of a block that isn't there, and nothing was written
+pub record Misses (m : Asked) (block : ℕ) (source sink : Over Bytes) : Type 0 where
+  pub sections : List Bytes
+  pub hears : Hears module_carrier source sections
+  pub first : position is_none (blocks_among m sections) ≡ Some block
+  pub nothing : IsUntouched sink
+
+-- what is written of blocks that were gathered, with nothing to be read any more
+abbrev pub IsModule : List (Option Bytes) → Over Bytes → Status → Type 0
+IsModule blocks sink status.Done = (bytes : Bytes) × (joined blocks ≡ Some bytes) × WritesAll sink bytes
+IsModule blocks sink (status.Incomplete block) = (position is_none blocks ≡ Some block) × IsUntouched sink
+IsModule blocks sink status.WriteFault = Failed sink × ((bytes : Bytes) × (joined blocks ≡ Some bytes) × WritesPrefix sink bytes)
+IsModule blocks sink status.NoMemory = (bytes : Bytes) × (joined blocks ≡ Some bytes) × WritesPrefix sink bytes
+IsModule blocks sink _ = ⊥
+
+abbrev pub EndsModule : Asked → Over Bytes → Over Bytes → Status → Type 0
+EndsModule m source sink status.Done = Assembled m source sink
+EndsModule m source sink (status.Incomplete block) = Misses m block source sink
+EndsModule m source sink status.ReadFault = Failed source × IsUntouched sink
+EndsModule m source sink status.InputTooLong = GoesOn module_carrier source × IsUntouched sink
+EndsModule m source sink status.WriteFault = Failed sink × Assembling m source sink
+EndsModule m source sink status.NoMemory = IsUntouched sink ⊎ Assembling m source sink
+EndsModule m source sink _ = ⊥
+
+pub record Assembles (m : Asked) (s : Status) (source sink : Over Bytes) : Type 0 where
+  pub ends : EndsModule m source sink s
+  pub takes : TakesPrefix source

@@ -1,0 +1,33 @@
+-- A generation that is made of a folder, and its cycles on their way to the sink.
+use Rattle.std.specs.Prelude.{◌≡◌, ℕ, false, List, [], ◌∷◌, Option}
+use Rattle.std.specs.List.{concat}
+use Rattle.path_tree.specs.Trees.{Tree}
+use Rattle.generation.specs.Layouts.{GenerationState, generation_of}
+use Rattle.folder_store.specs.Folders.{FolderTree, is_folder_at, MayFail}
+use Rattle.section_stream.specs.Packing.{MuxState, packets_of_all}
+use Rattle.shell_streams.specs.Cuts.{Bytes}
+use Rattle.carousel_shell.specs.Over.{Over, Failed}
+use Rattle.carousel_shell.specs.Publish.{IsTreeOf, Refuses}
+use Rattle.carousel_shell.specs.declared.status.Status.{Status}
+use Rattle.carousel_shell.specs.declared.status.Status.TheVariants as status
+
+-- why a folder gives no generation
+abbrev pub Refused : Bytes → ℕ → Over FolderTree → Status → Type 0
+Refused folder carousel folders status.FolderFault = MayFail (Failed folders) folders.before (λ t. is_folder_at t folder ≡ false)
+Refused folder carousel folders (status.TreeRefused fault) = Refuses folder carousel folders fault
+Refused folder carousel folders status.NoMemory = Unit {0}
+Refused folder carousel folders _ = ⊥
+
+-- generation 1 of the carousel, of a tree that is the folder's where the folders are told
+pub record IsOfFolder (folder : Bytes) (carousel : ℕ) (told : Option FolderTree) (g : GenerationState) : Type 0 where
+  pub tree : Tree
+  pub is : g ≡ generation_of carousel (tree ∷ [])
+  pub of : IsTreeOf folder carousel told tree
+
+-- the PID, and the counter of the first packet
+abbrev pub mux_start : MuxState
+mux_start = record { pid = 256; counter = 0 }
+
+-- the bytes of all packets of these sections
+abbrev pub packed : List Bytes → Bytes
+packed sections = concat (packets_of_all mux_start sections)

@@ -1,0 +1,57 @@
+-- What `publish FOLDER CAROUSEL CYCLES` promises: the folder's files are one commit on generation 0, and whole cycles of generation 1 are
+-- written as packets.
+use Rattle.std.specs.Prelude.{◌≡◌, ◌⊎◌, ℕ, false, Option, Some}
+use Rattle.path_tree.specs.Trees.{Tree}
+use Rattle.generation.specs.Lawful.{IsPublishable}
+use Rattle.folder_store.specs.Folders.{FolderTree, IsFolderTree, is_folder_at, MayFail}
+use Rattle.folder_store.specs.Walk.{HasFiles}
+use Rattle.folder_store.specs.declared.reading.TreeFault.{TreeFault}
+use Rattle.carousel_world.specs.Publishing.{published}
+use Rattle.shell_streams.specs.Cuts.{Bytes}
+use Rattle.carousel_shell.specs.Over.{Over, Failed, IsUntouched, WritesAll, WritesPrefix}
+use Rattle.carousel_shell.specs.Publishing.{publish_end, tree_of_folder}
+use Rattle.carousel_shell.specs.Reception.{SentOpens}
+use Rattle.carousel_shell.specs.declared.status.Status.{Status}
+use Rattle.carousel_shell.specs.declared.status.Status.TheVariants as status
+
+-- A tree that can be published. Where the folders are told, it is that of the folder's files, which has a file of these bytes at a path
+-- exactly where the folder has it at the path's text; and nothing refuses it.
+pub record IsTreeOf (folder : Bytes) (carousel : ℕ) (told : Option FolderTree) (tree : Tree) : Type 0 where
+  pub publishable : IsPublishable tree
+  pub of_folder : (t : FolderTree) → told ≡ Some t → tree_of_folder folder carousel t ≡ Some tree
+  pub accepted : (t : FolderTree) → told ≡ Some t → publish_end folder carousel t ≡ status.Done
+  pub files : (t : FolderTree) → told ≡ Some t → IsFolderTree t → HasFiles t folder tree
+
+-- all cycles of such a tree were written
+pub record Published (folder : Bytes) (carousel cycles : ℕ) (sink : Over Bytes) (folders : Over FolderTree) : Type 0 where
+  pub tree : Tree
+  pub of : IsTreeOf folder carousel folders.before tree
+  pub writes : WritesAll sink (published carousel cycles tree)
+
+-- a prefix of them was
+pub record Sending (folder : Bytes) (carousel cycles : ℕ) (sink : Over Bytes) (folders : Over FolderTree) : Type 0 where
+  pub tree : Tree
+  pub of : IsTreeOf folder carousel folders.before tree
+  pub writes : WritesPrefix sink (published carousel cycles tree)
+
+-- the walk's first fault refuses the told tree, or else the commit's refusal
+abbrev pub Refuses : Bytes → ℕ → Over FolderTree → TreeFault → Type 0
+Refuses folder carousel folders fault = (t : FolderTree) → folders.before ≡ Some t → publish_end folder carousel t ≡ status.TreeRefused fault
+
+abbrev pub EndsPublish : (folder : Bytes) (carousel cycles : ℕ) → Over Bytes → Over FolderTree → Status → Type 0
+EndsPublish folder carousel cycles sink folders status.Done = Published folder carousel cycles sink folders
+EndsPublish folder carousel cycles sink folders (status.TreeRefused fault) = Refuses folder carousel folders fault × IsUntouched sink
+EndsPublish folder carousel cycles sink folders status.FolderFault =
+    MayFail (Failed folders) folders.before (λ t. is_folder_at t folder ≡ false) × IsUntouched sink
+EndsPublish folder carousel cycles sink folders status.WriteFault = Failed sink × Sending folder carousel cycles sink folders
+EndsPublish folder carousel cycles sink folders status.NoMemory = IsUntouched sink ⊎ Sending folder carousel cycles sink folders
+EndsPublish folder carousel cycles sink folders _ = ⊥
+
+-- a told tree without the folder always answers so, want of memory aside
+abbrev pub NeedsFolder : Bytes → Over FolderTree → Status → Type 0
+NeedsFolder folder folders s = (t : FolderTree) → folders.before ≡ Some t → is_folder_at t folder ≡ false → (s ≡ status.FolderFault) ⊎ (s ≡ status.NoMemory)
+
+pub record Publishes (folder : Bytes) (carousel cycles : ℕ) (s : Status) (sink : Over Bytes) (folders : Over FolderTree) : Type 0 where
+  pub ends : EndsPublish folder carousel cycles sink folders s
+  pub needs : NeedsFolder folder folders s
+  pub heard : SentOpens carousel cycles

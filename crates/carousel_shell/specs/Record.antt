@@ -1,0 +1,48 @@
+-- What `record PID` promises: the sections of one PID that read are written, unchanged and in order, as the packets are read.
+use Rattle.std.specs.Prelude.{◌≡◌, ℕ, List, ◌++◌}
+use Rattle.oc_bytes.specs.Outcome.{Told}
+use Rattle.shell_streams.specs.Cuts.{Bytes}
+use Rattle.shell_streams.specs.Packets.{candidates_of}
+use Rattle.shell_streams.specs.declared.carrier.Carrier.TheVariants as carriers
+use Rattle.carousel_shell.specs.Over.{Over, Failed, TakesPrefix, WritesAll, WritesPrefix, WritesBut}
+use Rattle.carousel_shell.specs.Open.{Hears, GoesOn}
+use Rattle.carousel_shell.specs.Accepted.{accepted}
+use Rattle.carousel_shell.specs.declared.status.Status.{Status}
+use Rattle.carousel_shell.specs.declared.status.Status.TheVariants as status
+
+-- all sections of the input were cut out, and those that read were written
+pub record Recorded (pid : ℕ) (source sink : Over Bytes) : Type 0 where
+  pub sections : List Bytes
+  pub hears : Hears (carriers.Packets pid) source sections
+  pub writes : WritesAll sink (accepted sections)
+
+-- these are the first sections of what was taken of an input
+pub record AreFirst (pid : ℕ) (sections : List Bytes) (input left : Bytes) : Type 0 where
+  pub taken : Bytes
+  pub input_is : input ≡ taken ++ left
+  pub others : List Bytes
+  pub all : candidates_of pid taken ≡ sections ++ others
+
+-- the first sections of what was taken were cut out, and a prefix of those that read was written
+pub record Recording (pid : ℕ) (source sink : Over Bytes) : Type 0 where
+  pub sections : List Bytes
+  pub first : Told source.before source.after (AreFirst pid sections)
+  pub writes : WritesPrefix sink (accepted sections)
+
+-- the same, and all but at most 65,536 bytes of those that read was written: no write failed
+pub record RecordedBut (pid : ℕ) (source sink : Over Bytes) : Type 0 where
+  pub sections : List Bytes
+  pub first : Told source.before source.after (AreFirst pid sections)
+  pub writes : WritesBut sink (accepted sections) 65536
+
+abbrev pub EndsRecord : ℕ → Over Bytes → Over Bytes → Status → Type 0
+EndsRecord pid source sink status.Done = Recorded pid source sink
+EndsRecord pid source sink status.ReadFault = Failed source × RecordedBut pid source sink
+EndsRecord pid source sink status.InputTooLong = GoesOn (carriers.Packets pid) source × RecordedBut pid source sink
+EndsRecord pid source sink status.WriteFault = Failed sink × Recording pid source sink
+EndsRecord pid source sink status.NoMemory = Recording pid source sink
+EndsRecord pid source sink _ = ⊥
+
+pub record Records (pid : ℕ) (s : Status) (source sink : Over Bytes) : Type 0 where
+  pub ends : EndsRecord pid source sink s
+  pub takes : TakesPrefix source

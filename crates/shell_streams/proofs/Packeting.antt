@@ -1,0 +1,233 @@
+-- Packets that are taken from the front of an input, one after another.
+use Rattle.std.proofs.Common.{◌≡◌, ◌≢◌, ℕ, zero, suc, ◌+◌, ◌*◌, ◌<◌, ◌≤◌, ◌↔◌, IsTrue, Bool, true, false, nat_le, nat_lt, cond, List, [], ◌∷◌, ◌++◌, length, take, drop, Option, Some, None, refl, arith, ◌∙◌, sym, ap, append_assoc, append-nil, length-drop, length-append}
+use Rattle.std.specs.Option.{is_some}
+use Rattle.std.specs.List.{concat}
+use Rattle.std.proofs.lemmas.Bool.{cond-true, cond-false, le-leb, lt-leb, lt-ltb, le-ltb, ltb-true, ltb-false, true≢false}
+use Rattle.std.proofs.lemmas.Option.{same_Some}
+use Rattle.std.proofs.lemmas.List.{take-append-drop, take_at, drop_at, length-take-le}
+use Rattle.std.proofs.lemmas.List.Folds.{concat-append}
+use Rattle.oc_bytes.specs.Outcome.{Told}
+use Rattle.section_stream.specs.Cuts.{candidates}
+use Rattle.section_stream.specs.Rules.{DemuxState, StandsFor}
+use Rattle.shell_streams.specs.Cuts.{Bytes}
+use Rattle.shell_streams.specs.Held.{onto_left, IsDry, AllTaken}
+use Rattle.shell_streams.specs.Packets.{packets_in, packets_of, is_over_packets, AreSized, AreTaken, HasCut, Halts, HasEnded}
+use Rattle.shell_streams.specs.declared.packets.PacketReader.{PacketReader}
+use Rattle.shell_streams.specs.declared.input.InputFault.{InputFault}
+use Rattle.shell_streams.specs.declared.input.InputFault.TheVariants as faults
+use Rattle.shell_streams.proofs.Cutting.{dry_end, nil_by_cases}
+use Rattle.shell_streams.proofs.CallerLemmas.{told_here}
+
+-- ---- the packets at the front of some bytes
+
+-- too few bytes for a packet
+none_in : (steps : ℕ) (bytes : Bytes) → length bytes < 188 → packets_in steps bytes ≡ []
+none_in zero bytes h = refl
+none_in (suc steps) bytes h = cond-false (nat_le 188 (length bytes)) (take 188 bytes ∷ packets_in steps (drop 188 bytes)) [] (lt-leb 188 (length bytes) h)
+
+pub packet_none : (bytes : Bytes) → length bytes < 188 → packets_of bytes ≡ []
+packet_none bytes h = none_in (length bytes) bytes h
+
+-- enough steps give the same packets
+split_steps : (m n : ℕ) (bytes : Bytes) → length bytes ≤ m → length bytes ≤ n → packets_in m bytes ≡ packets_in n bytes
+split_steps zero n bytes h k = sym (none_in n bytes (omega arith))
+split_steps (suc m) zero bytes h k = none_in (suc m) bytes (omega arith)
+split_steps (suc m) (suc n) bytes h k = both m n bytes h k (split_steps m n (drop 188 bytes))
+  where
+    both : (m n : ℕ) (bytes : Bytes) → length bytes ≤ suc m → length bytes ≤ suc n
+        → (length (drop 188 bytes) ≤ m → length (drop 188 bytes) ≤ n → packets_in m (drop 188 bytes) ≡ packets_in n (drop 188 bytes)) → packets_in (suc m) bytes ≡ packets_in (suc n) bytes
+    both m n bytes h k rest = ap (λ t. cond (nat_le 188 (length bytes)) (take 188 bytes ∷ t) []) (rest (omega (arith, length-drop 188 bytes)) (omega (arith, length-drop 188 bytes)))
+
+some_in : (steps : ℕ) (bytes : Bytes) → 188 ≤ length bytes → packets_in (suc steps) bytes ≡ take 188 bytes ∷ packets_in steps (drop 188 bytes)
+some_in steps bytes h = cond-true (nat_le 188 (length bytes)) (take 188 bytes ∷ packets_in steps (drop 188 bytes)) [] (le-leb 188 (length bytes) h)
+
+pub packet_some : (bytes : Bytes) → 188 ≤ length bytes → packets_of bytes ≡ take 188 bytes ∷ packets_of (drop 188 bytes)
+packet_some bytes h =
+    split_steps (length bytes) (suc (length bytes)) bytes (omega arith) (omega arith)
+    ∙ some_in (length bytes) bytes h
+    ∙ ap (λ t. take 188 bytes ∷ t) (split_steps (length bytes) (length (drop 188 bytes)) (drop 188 bytes) (omega (arith, length-drop 188 bytes)) (omega arith))
+
+packet_at : (p rest : Bytes) → length p ≡ 188 → packets_of (p ++ rest) ≡ p ∷ packets_of rest
+packet_at p rest h =
+    let long : 188 ≤ length (p ++ rest) = omega (arith, length-append p rest) in
+    packet_some (p ++ rest) long
+    ∙ ap (λ t. t ∷ packets_of (drop 188 (p ++ rest))) (take_at p rest 188 h)
+    ∙ ap (λ t. p ∷ packets_of t) (drop_at p rest 188 h)
+
+-- packets in front of other bytes
+pub packets_before : (packets : List Bytes) (bytes : Bytes) → AreSized packets → packets_of (concat packets ++ bytes) ≡ packets ++ packets_of bytes
+packets_before [] bytes h = refl
+packets_before (p ∷ ps) bytes h =
+    ap packets_of (append_assoc p (concat ps) bytes) ∙ packet_at p (concat ps ++ bytes) h.0 ∙ ap (λ t. p ∷ t) (packets_before ps bytes h.1)
+
+pub sizes_all : (packets : List Bytes) → AreSized packets → length (concat packets) ≡ 188 * length packets
+sizes_all [] h = refl
+sizes_all (p ∷ ps) h = omega (arith, length-append p (concat ps), h.0, sizes_all ps h.1)
+
+sized_more : (packets : List Bytes) (p : Bytes) → AreSized packets → length p ≡ 188 → AreSized (packets ++ p ∷ [])
+sized_more [] p h e = (e, tt)
+sized_more (q ∷ qs) p h e = (h.0, sized_more qs p h.1 e)
+
+-- ---- one packet more
+
+taken_next : (packets : List Bytes) (input held rest : Bytes) → 188 ≤ length held → AreTaken packets input (held ++ rest)
+    → AreTaken (packets ++ take 188 held ∷ []) input (drop 188 held ++ rest)
+taken_next packets input held rest h t = record {
+  whole = t.whole ∙ sym (rw (concat-append packets (take 188 held ∷ []), append_assoc) (ap (λ bs. concat packets ++ bs)
+      (rw (append-nil (take 188 held), ← append_assoc) (ap (λ bs. bs ++ rest) (take-append-drop 188 held)))));
+  sizes = sized_more packets (take 188 held) t.sizes (length-take-le 188 held h);
+}
+
+told_both : (held : Bytes) (left : Option Bytes) → is_some (onto_left held left) ≡ is_some left
+told_both held (Some l) = refl
+told_both held None = refl
+
+told_taken : (a : Option Bytes) (held : Bytes) (left : Option Bytes) (packets : List Bytes) → 188 ≤ length held
+    → Told a (onto_left held left) (AreTaken packets) → Told a (onto_left (drop 188 held) left) (AreTaken (packets ++ take 188 held ∷ []))
+told_taken a held left packets h t = record {
+  kept = told_both (drop 188 held) left ∙ sym (told_both held left) ∙ t.kept;
+  each = λ x y i o. next left x y i o t;
+}
+  where
+    next : (left : Option Bytes) (x y : Bytes) → a ≡ Some x → onto_left (drop 188 held) left ≡ Some y → Told a (onto_left held left) (AreTaken packets) → AreTaken (packets ++ take 188 held ∷ []) x y
+    next (Some l) x y i o t = rw (sym (same_Some _ y o)) (taken_next packets x held l h (t.each x (held ++ l) i refl))
+    next None x y i o t = cc
+
+told_begin : (a : Option Bytes) → Told a (onto_left [] a) (AreTaken [])
+told_begin a = record { kept = told_both [] a; each = λ x y e g. begin a x y e g }
+  where
+    begin : (a : Option Bytes) (x y : Bytes) → a ≡ Some x → onto_left [] a ≡ Some y → AreTaken [] x y
+    begin (Some l) x y e g = record { whole = sym (same_Some l x e) ∙ same_Some l y g; sizes = tt }
+    begin None x y e g = cc
+
+-- ---- the reader
+
+no_candidates : (pid : ℕ) → candidates pid [] ≡ []
+no_candidates pid = refl
+
+pub reader_begin : (pid : ℕ) (reader : PacketReader) (start : Option Bytes) → reader.unread ≡ [] → reader.most ≡ 16777216 → reader.demux.pid ≡ pid → StandsFor reader.demux []
+    → HasCut pid reader start start []
+reader_begin pid reader start u m p s = record {
+  packets = [];
+  number = rw m refl;
+  pid_is = p;
+  stands = s;
+  taken = rw u (told_begin start);
+  all = no_candidates pid;
+}
+
+-- what feeding one packet shows, whatever came before it
+pub record IsFed (old new : DemuxState) (packet : Bytes) (out : List Bytes) : Type 0 where
+  pub stands : (packets : List Bytes) → StandsFor old packets → StandsFor new (packets ++ packet ∷ [])
+  pub same_pid : new.pid ≡ old.pid
+  pub cuts : (packets : List Bytes) → StandsFor old packets → candidates old.pid (packets ++ packet ∷ []) ≡ candidates old.pid packets ++ out
+
+pub reader_next : (pid : ℕ) (old new : PacketReader) (held : Bytes) (start before after : Option Bytes) (out cs : List Bytes)
+    → onto_left held after ≡ onto_left old.unread before → 188 ≤ length held → new.unread ≡ drop 188 held → new.most + 1 ≡ old.most
+    → IsFed old.demux new.demux (take 188 held) out → HasCut pid old start before cs → HasCut pid new start after (cs ++ out)
+reader_next pid old new held start before after out cs rest h u m f c = record {
+  packets = c.packets ++ take 188 held ∷ [];
+  number = omega (arith, length-append c.packets (take 188 held ∷ []), c.number, m);
+  pid_is = f.same_pid ∙ c.pid_is;
+  stands = f.stands c.packets c.stands;
+  taken = rw u (told_taken start held after c.packets h (rw rest c.taken));
+  all = ap (λ p. candidates p (c.packets ++ take 188 held ∷ [])) (sym c.pid_is) ∙ f.cuts c.packets c.stands
+      ∙ ap (λ p. candidates p c.packets ++ out) c.pid_is ∙ ap (λ t. t ++ out) c.all;
+}
+
+-- ---- the end of an input
+
+-- what is left of the input behind the packets is held, and is no packet
+ended : (pid : ℕ) (input held : Bytes) (packets cs : List Bytes) → AreTaken packets input held → length held < 188 → 188 * length packets + length held ≤ 3154116608
+    → candidates pid packets ≡ cs → AllTaken (λ i. candidates pid (packets_of i)) (is_over_packets 16777216) cs input []
+ended pid input held packets cs t short within all = record {
+  to_end = refl;
+  within = le-ltb 3154116608 (length input) (omega (arith, ap length t.whole, length-append (concat packets) held, sizes_all packets t.sizes));
+  all = ap (candidates pid) (ap packets_of t.whole ∙ packets_before packets held t.sizes ∙ ap (λ ps. packets ++ ps) (packet_none held short) ∙ append-nil packets) ∙ all;
+}
+
+told_ended : (pid : ℕ) (start left : Option Bytes) (held : Bytes) (packets cs : List Bytes) → Told start (onto_left held left) (AreTaken packets) → IsDry left
+    → length held < 188 → 188 * length packets + length held ≤ 3154116608 → candidates pid packets ≡ cs → Told start left (HasEnded pid cs)
+told_ended pid start left held packets cs t dry short within all = record {
+  kept = sym (told_both held left) ∙ t.kept;
+  each = λ x y i o. end left x y i o dry t;
+}
+  where
+    end : (left : Option Bytes) (x y : Bytes) → start ≡ Some x → left ≡ Some y → IsDry left → Told start (onto_left held left) (AreTaken packets) → HasEnded pid cs x y
+    end (Some l) x y i o d t =
+        let none : y ≡ [] = sym (same_Some l y o) ∙ d in
+        let taken : AreTaken packets x held = rw (append-nil held) at (rw d at (t.each x (held ++ l) i refl)) in
+        rw none (ended pid x held packets cs taken short within all)
+    end None x y i o d t = cc
+
+-- the input ended within a packet
+pub reader_ended : (pid : ℕ) (old : PacketReader) (held : Bytes) (start before after : Option Bytes) (cs : List Bytes)
+    → onto_left held after ≡ onto_left old.unread before → IsDry after → length held < 188 → 0 < old.most → HasCut pid old start before cs
+    → Told start after (HasEnded pid cs)
+reader_ended pid old held start before after cs rest dry short some c =
+    told_ended pid start after held c.packets cs (rw rest c.taken) dry short (omega (arith, c.number)) c.all
+
+-- the input ended at the limit
+pub reader_full : (pid : ℕ) (old : PacketReader) (held : Bytes) (start before after : Option Bytes) (cs : List Bytes)
+    → onto_left held after ≡ onto_left old.unread before → IsDry after → old.most ≡ 0 → ((rest : Bytes) → onto_left old.unread before ≡ Some rest → rest ≢ [] → ⊥)
+    → HasCut pid old start before cs → Told start after (HasEnded pid cs)
+reader_full pid old held start before after cs rest dry full none c = record {
+  kept = sym (told_both held after) ∙ ap is_some rest ∙ c.taken.kept;
+  each = λ x y i o.
+      let r = told_here start (onto_left old.unread before) x c.taken i in
+      let z = nil_by_cases r.0 (none r.0 r.1) in
+      let t : AreTaken c.packets x [] = rw z at r.2 in
+      rw (dry_end after y dry o) (ended pid x [] c.packets cs t (omega arith) (omega (arith, c.number, full)) c.all);
+}
+
+-- ---- stopping
+
+halted : (pid : ℕ) (start left : Option Bytes) (held : Bytes) (packets cs : List Bytes) (s : InputFault) → Told start (onto_left held left) (AreTaken packets)
+    → candidates pid packets ≡ cs → ((x : Bytes) → start ≡ Some x → s ≡ faults.TooLong → is_over_packets 16777216 x ≡ true) → Told start left (Halts pid cs s)
+halted pid start left held packets cs s t all long = record {
+  kept = sym (told_both held left) ∙ t.kept;
+  each = λ x y i o. halt left x y i o t;
+}
+  where
+    halt : (left : Option Bytes) (x y : Bytes) → start ≡ Some x → left ≡ Some y → Told start (onto_left held left) (AreTaken packets) → Halts pid cs s x y
+    halt (Some l) x y i o t =
+        let r = t.each x (held ++ l) i refl in
+        record {
+          taken = concat packets ++ held;
+          whole = r.whole ∙ rw (append_assoc, same_Some l y o) refl;
+          packets = packets;
+          others = packets_of held;
+          split = packets_before packets held r.sizes;
+          all = all;
+          too_long = long x i;
+        }
+    halt None x y i o t = cc
+
+-- a fault or want of memory stopped reading
+pub reader_stopped : (pid : ℕ) (old : PacketReader) (held : Bytes) (start before after : Option Bytes) (cs : List Bytes) (s : InputFault)
+    → (s ≡ faults.TooLong → ⊥) → onto_left held after ≡ onto_left old.unread before → HasCut pid old start before cs → Told start after (Halts pid cs s)
+reader_stopped pid old held start before after cs s n rest c = halted pid start after held c.packets cs s (rw rest c.taken) c.all (λ x i e. absurd (n e))
+
+over : (packets : List Bytes) (input rest : Bytes) → AreTaken packets input rest → length packets ≡ 16777216 → rest ≢ [] → is_over_packets 16777216 input ≡ true
+over packets input rest t n some =
+    lt-ltb 3154116608 (length input) (omega (arith, ap length t.whole, length-append (concat packets) rest, sizes_all packets t.sizes, longer rest some))
+  where
+    longer : (rest : Bytes) → rest ≢ [] → 0 < length rest
+    longer [] h = absurd (h refl)
+    longer (c ∷ cs) h = omega arith
+
+-- at least a byte more stands behind the limit
+pub reader_over : (pid : ℕ) (old : PacketReader) (held : Bytes) (start before after : Option Bytes) (cs : List Bytes)
+    → onto_left held after ≡ onto_left old.unread before → old.most ≡ 0 → ((rest : Bytes) → onto_left old.unread before ≡ Some rest → rest ≢ [])
+    → HasCut pid old start before cs → Told start after (Halts pid cs faults.TooLong)
+reader_over pid old held start before after cs rest full some c =
+    halted pid start after held c.packets cs faults.TooLong (rw rest c.taken) c.all
+    (λ x i e. let r = told_here start (onto_left old.unread before) x c.taken i in over c.packets x r.0 r.2 (omega (arith, c.number, full)) (some r.0 r.1))
+
+-- what the test for a whole packet shows
+pub short_of : (b : Bool) (n : ℕ) → IsTrue b ↔ (188 ≤ n) → b ≡ false → n < 188
+short_of b n w e = by (nat_lt n 188) refl
+  where
+    by : (t : Bool) → nat_lt n 188 ≡ t → n < 188
+    by true q = ltb-true n 188 q
+    by false q = absurd (true≢false (sym (w.1 (ltb-false n 188 q)) ∙ e))

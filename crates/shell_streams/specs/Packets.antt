@@ -1,0 +1,61 @@
+-- The packets of an input, and what was cut out of those that were taken. A packet has 188 bytes (ISO/IEC 13818-1, 2.4.3.2).
+use Rattle.std.specs.Prelude.{◌≡◌, ℕ, zero, suc, ◌+◌, ◌*◌, Bool, true, List, [], ◌∷◌, ◌++◌, length, take, drop, Option, nat_le, nat_lt, if◌then◌else◌}
+use Rattle.std.specs.List.{concat}
+use Rattle.oc_bytes.specs.Outcome.{Told}
+use Rattle.section_stream.specs.Cuts.{candidates}
+use Rattle.section_stream.specs.Rules.{StandsFor}
+use Rattle.shell_streams.specs.Cuts.{Bytes}
+use Rattle.shell_streams.specs.Held.{onto_left, AllTaken}
+use Rattle.shell_streams.specs.declared.packets.PacketReader.{PacketReader}
+use Rattle.shell_streams.specs.declared.input.InputFault.{InputFault}
+use Rattle.shell_streams.specs.declared.input.InputFault.TheVariants as faults
+
+-- packets of 188 bytes; a last piece that is shorter is passed over
+abbrev pub packets_in : ℕ → Bytes → List Bytes
+packets_in zero input = []
+packets_in (suc steps) input = if nat_le 188 (length input) then take 188 input ∷ packets_in steps (drop 188 input) else []
+
+abbrev pub packets_of : Bytes → List Bytes
+packets_of input = packets_in (length input) input
+
+-- the sections of one PID that are cut out of the input's packets
+abbrev pub candidates_of : ℕ → Bytes → List Bytes
+candidates_of pid input = candidates pid (packets_of input)
+
+-- at least a byte stands behind the first n packets
+abbrev pub is_over_packets : ℕ → Bytes → Bool
+is_over_packets n input = nat_lt (188 * n) (length input)
+
+-- each has the size of a packet
+abbrev pub AreSized : List Bytes → Type 0
+AreSized [] = Unit {0}
+AreSized (p ∷ ps) = (length p ≡ 188) × AreSized ps
+
+-- these packets were taken from the front of the input, and this is the rest
+pub record AreTaken (packets : List Bytes) (input rest : Bytes) : Type 0 where
+  pub whole : input ≡ concat packets ++ rest
+  pub sizes : AreSized packets
+
+-- the reader took packets from the front of an input, and these are all their candidates
+pub record HasCut (pid : ℕ) (reader : PacketReader) (start left : Option Bytes) (candidates_so_far : List Bytes) : Type 0 where
+  pub packets : List Bytes
+  pub number : length packets + reader.most ≡ 16777216
+  pub pid_is : reader.demux.pid ≡ pid
+  pub stands : StandsFor reader.demux packets
+  pub taken : Told start (onto_left reader.unread left) (AreTaken packets)
+  pub all : candidates pid packets ≡ candidates_so_far
+
+-- what was taken of the input when a command stopped: its packets are those of which these are the candidates, and perhaps
+-- others behind them; where it stopped at the limit, the input goes on behind that
+pub record Halts (pid : ℕ) (candidates_so_far : List Bytes) (s : InputFault) (input left : Bytes) : Type 0 where
+  pub taken : Bytes
+  pub whole : input ≡ taken ++ left
+  pub packets : List Bytes
+  pub others : List Bytes
+  pub split : packets_of taken ≡ packets ++ others
+  pub all : candidates pid packets ≡ candidates_so_far
+  pub too_long : s ≡ faults.TooLong → is_over_packets 16777216 input ≡ true
+
+-- all candidates of the input, which was read to its end and within the limit
+abbrev pub HasEnded : ℕ → List Bytes → Bytes → Bytes → Type 0
+HasEnded pid candidates_so_far = AllTaken (candidates_of pid) (is_over_packets 16777216) candidates_so_far

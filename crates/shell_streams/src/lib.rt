@@ -1,0 +1,14 @@
+//! The input that a command reads and the output that it writes, in large pieces.
+#![tactic(auto)]
+
+mod carrier;
+mod input;
+mod output;
+mod packets;
+mod sections;
+mod unread;
+
+pub use carrier::{Carrier, Listener, hear_all};
+pub use input::InputFault;
+pub use output::{Buffered, Output, OutputFault, room};
+pub use packets::PacketReader;

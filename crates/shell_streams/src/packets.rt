@@ -1,0 +1,95 @@
+ghost use Rattle.std.specs.Prelude.{◌≡◌, ◌+◌, ◌<◌, ◌≤◌, ◌↔◌, ◌++◌, ℕ, List, Option, [], map, length, IsTrue, Ok, None, false, IfOk, IfErr, IfSome, OnErr};
+ghost use Rattle.oc_bytes.specs.Outcome.{Rose, Told};
+ghost use Rattle.section_stream.specs.Kept.{view_bytes};
+ghost use Rattle.shell_streams.specs.Cuts.{Bytes};
+ghost use Rattle.shell_streams.specs.Held.{onto_left, IsDry};
+ghost use Rattle.shell_streams.specs.Packets.{HasCut, Halts, HasEnded};
+
+use crate::input::InputFault;
+use crate::sections::goes_on;
+use crate::unread::Unread;
+use oc_bytes::{Failed, NoMemory, Source};
+use section_stream::Demux;
+use std::alloc::Global;
+
+/// The most packets that are taken.
+const MOST_PACKETS: u32 = 16_777_216;
+
+/// The size of a packet in bytes (ISO/IEC 13818-1, 2.4.3.2).
+const PACKET: usize = 188;
+
+/// Reads an input packet by packet, and cuts the sections of one PID out of it.
+#[derive(Drop)]
+pub struct PacketReader {
+    unread: Unread,
+    demux: Demux,
+    /// How many packets may still be taken.
+    most: u32,
+}
+
+impl PacketReader {
+    /// A reader of the PID `pid`, 0 to 8,191, that has taken no packet.
+    pub fn new(alloc: Global, pid: u16) -> Result<PacketReader, NoMemory>
+        ensures { IfOk result (λ r. (start : Option Bytes) → HasCut pid r start start []) }
+    {
+        Ok(PacketReader {
+            unread: Unread::new(alloc)?,
+            demux: Demux::new(alloc, pid)?,
+            most: MOST_PACKETS,
+        })
+    }
+
+    /// Takes the next packet, and gives the sections that it completes, in order; `None` where the input has ended. A last
+    /// piece of fewer than 188 bytes is counted and passed over.
+    ///
+    /// `TooLong` comes exactly where 16,777,216 packets were taken and at least a byte more is read, `Failed` where
+    /// the source fails, and `NoMemory` where the sections find no memory.
+    pub fn next<S: Source>(&mut self, source: &mut S) -> Result<Option<Vec<Vec<u8>>>, InputFault>
+        ensures next { IfOk result (λ out. IfSome out (λ out. (pid : ℕ) (start : Option Bytes) (cs : List Bytes) → HasCut pid self.old start (S.left source.old) cs
+            → HasCut pid self.new start (S.left source.new) (cs ++ map view_bytes out.items))) }
+        ensures fewer { IfOk result (λ out. IfSome out (λ _. self.new.most < self.old.most)) }
+        ensures ended { result ≡ Ok None → (pid : ℕ) (start : Option Bytes) (cs : List Bytes) → HasCut pid self.old start (S.left source.old) cs
+            → Told start (S.left source.new) (HasEnded pid cs) }
+        ensures stopped { IfErr result (λ s. (pid : ℕ) (start : Option Bytes) (cs : List Bytes) → HasCut pid self.old start (S.left source.old) cs
+            → Told start (S.left source.new) (Halts pid cs s)) }
+        ensures later { S.faults source.old ≤ S.faults source.new }
+        ensures read_fault { IfErr result (λ s. s ≡ InputFault.Failed → Rose (S.faults source.old) (S.faults source.new)) }
+    {
+        if self.most == 0 {
+            return if goes_on(&mut self.unread, source)? {
+                Err(InputFault::TooLong)
+            } else {
+                Ok(None)
+            };
+        }
+        if !has_packet(&mut self.unread, source)? {
+            if !self.unread.held().is_empty() {
+                self.demux.short();
+            }
+            return Ok(None);
+        }
+        let Some(packet) = self.unread.held().first_chunk::<PACKET>() else {
+            unreachable!();
+        };
+        let sections = self.demux.feed(packet)?;
+        self.unread.pass(PACKET);
+        self.most -= 1;
+        Ok(Some(sections))
+    }
+}
+
+/// Reads until a whole packet is held, and says whether there is one.
+fn has_packet<S: Source>(unread: &mut Unread, source: &mut S) -> Result<bool, Failed>
+    ensures whole { IfOk result (λ whole. IsTrue whole ↔ (188 ≤ length unread.new)) }
+    ensures ended { result ≡ Ok false → IsDry (S.left source.new) }
+    ensures rest { onto_left unread.new (S.left source.new) ≡ onto_left unread.old (S.left source.old) }
+    ensures later { S.faults source.old ≤ S.faults source.new }
+    ensures cause { OnErr result (Rose (S.faults source.old) (S.faults source.new)) }
+{
+    loop {
+        let whole = unread.held().len() >= PACKET;
+        if whole || !unread.more(source)? {
+            return Ok(whole);
+        }
+    }
+}

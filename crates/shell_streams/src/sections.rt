@@ -1,0 +1,49 @@
+ghost use Rattle.std.specs.Prelude.{◌≡◌, ◌≢◌, ◌<◌, ◌≤◌, ◌↔◌, ℕ, [], Ok, Some, None, false, IsTrue, length, IfOk, OnErr};
+ghost use Rattle.oc_bytes.specs.Outcome.{Rose};
+ghost use Rattle.shell_streams.specs.Cuts.{Bytes, front_len};
+ghost use Rattle.shell_streams.specs.Held.{onto_left, IsDry};
+
+use crate::unread::Unread;
+use oc_bytes::{Failed, Source};
+
+/// The length of the section at the front of the bytes, its three first bytes included, where it is whole there.
+fn section_len(bytes: &[u8]) -> Option<usize>
+    ensures len { result ≡ front_len bytes.now }
+    ensures short { result ≡ None → length bytes.now < 4098 }
+{
+    if bytes.len() < 3 {
+        return None;
+    }
+    let len = 3 + (usize::from(bytes[1] % 16) * 256 + usize::from(bytes[2]));
+    if len <= bytes.len() { Some(len) } else { None }
+}
+
+/// The length of the next section, which then is held; none where the input ended before its end.
+pub fn next_section<S: Source>(unread: &mut Unread, source: &mut S) -> Result<Option<usize>, Failed>
+    ensures len { IfOk result (λ len. len ≡ front_len unread.new) }
+    ensures ended { result ≡ Ok None → IsDry (S.left source.new) }
+    ensures rest { onto_left unread.new (S.left source.new) ≡ onto_left unread.old (S.left source.old) }
+    ensures later { S.faults source.old ≤ S.faults source.new }
+    ensures cause { OnErr result (Rose (S.faults source.old) (S.faults source.new)) }
+{
+    loop {
+        let len = section_len(unread.held());
+        if len.is_some() || !unread.more(source)? {
+            return Ok(len);
+        }
+    }
+}
+
+/// Whether at least one byte more is there.
+pub fn goes_on<S: Source>(unread: &mut Unread, source: &mut S) -> Result<bool, Failed>
+    ensures more { IfOk result (λ more. (rest : Bytes) → onto_left unread.old (S.left source.old) ≡ Some rest → IsTrue more ↔ (rest ≢ [])) }
+    ensures ended { result ≡ Ok false → IsDry (S.left source.new) }
+    ensures rest { onto_left unread.new (S.left source.new) ≡ onto_left unread.old (S.left source.old) }
+    ensures later { S.faults source.old ≤ S.faults source.new }
+    ensures cause { OnErr result (Rose (S.faults source.old) (S.faults source.new)) }
+{
+    if !unread.held().is_empty() {
+        return Ok(true);
+    }
+    unread.more(source)
+}
