@@ -1,4 +1,4 @@
-"""An independent writer of carousels, for tests and benchmarks alone: a tree of files as transport packets.
+"""An independent writer of carousels, for tests and benchmarks alone: trees of files as transport packets.
 
 It shares no code with the crates, so that what they read of its streams says something. As a program:
 
@@ -9,11 +9,17 @@ It shares no code with the crates, so that what they read of its streams says so
 
 import os
 import struct
+import subprocess
 import sys
 import zlib
+from dataclasses import dataclass, field
 
 BLOCK = 4066
 ROOM = 65536
+MOST_MODULES = 139
+DSI, DII = "dsi", "dii"
+COMPRESSED = b"\x09\x05\x01\0\0\0\0"
+GATEWAY_KEY = 1
 
 
 REVERSED = bytes(int(f"{byte:08b}"[::-1], 2) for byte in range(256))
@@ -37,9 +43,9 @@ def message(kind, transaction, body):
     return struct.pack(">BBHIBBH", 0x11, 0x03, kind, transaction, 0xFF, 0, len(body)) + body
 
 
-def ior(kind, carousel, module, key):
+def ior(kind, carousel, module, key, transaction=0x80000002):
     location = struct.pack(">IHBBB", carousel, module, 1, 0, len(key)) + key
-    binder = struct.pack(">BHHHBHII", 1, 0, 0x16, 1, 10, 1, 0x80000002, 0xFFFFFFFF)
+    binder = struct.pack(">BHHHBHII", 1, 0, 0x16, 1, 10, 1, transaction, 0xFFFFFFFF)
     components = struct.pack(">BB", 0, 2)
     components += struct.pack(">IB", 0x49534F50, len(location)) + location
     components += struct.pack(">IB", 0x49534F40, len(binder)) + binder
@@ -56,6 +62,10 @@ def file_message(key, content):
     return biop(key, b"fil\0", struct.pack(">Q", len(content)), struct.pack(">I", len(content)) + content)
 
 
+def folder_message(key, bindings, kind=b"dir\0"):
+    return biop(key, kind, b"", struct.pack(">H", len(bindings)) + b"".join(bindings))
+
+
 def binding(name, is_file, reference, size):
     kind = b"fil\0" if is_file else b"dir\0"
     info = struct.pack(">Q", size) if is_file else b""
@@ -66,8 +76,12 @@ def binding(name, is_file, reference, size):
     )
 
 
+def key_bytes(key):
+    return struct.pack(">I", key)
+
+
 def folders_of(files):
-    """The root and each folder on the way to a file, in the order of paths."""
+    """The root and each folder on the way to a file."""
     found = {()}
     for path in files:
         for n in range(1, len(path)):
@@ -77,8 +91,15 @@ def folders_of(files):
 
 def objects_of(files):
     """All objects in order: the gateway, and then by path."""
-    folders = folders_of(files)
-    return [()] + sorted((set(files) | folders) - {()})
+    return [()] + sorted((set(files) | folders_of(files)) - {()})
+
+
+def children_of(files):
+    """The names right below each folder, in order."""
+    children = {folder: [] for folder in folders_of(files)}
+    for path in objects_of(files)[1:]:
+        children[path[:-1]].append(path[-1])
+    return children
 
 
 def size_of(path, files, children):
@@ -87,83 +108,237 @@ def size_of(path, files, children):
     return 34 + sum(len(n) + (82 if path + (n,) in files else 74) for n in children[path])
 
 
-def placement(sizes):
-    """The fresh rule: a module of its own above ROOM bytes, else the open module while there is room."""
-    modules, count, open_module, room = [], 0, None, 0
+def fresh_placement(sizes, old=None, room=ROOM):
+    """The fresh rule: a module of its own above `room` bytes, else the open module while there is room."""
+    modules, count, open_module, left = [], 0, None, 0
     for size in sizes:
-        if size > ROOM:
+        if size > room:
             count += 1
             modules.append(count)
-        elif open_module is not None and size <= room:
-            room -= size
+        elif open_module is not None and size <= left:
+            left -= size
             modules.append(open_module)
         else:
             count += 1
-            open_module, room = count, ROOM - size
+            open_module, left = count, room - size
             modules.append(count)
     return modules
 
 
-def generation(files, carousel=1, number=1):
-    """The modules of a tree, by id."""
-    children = {folder: [] for folder in folders_of(files)}
-    for path in objects_of(files)[1:]:
-        children[path[:-1]].append(path[-1])
-    objects = objects_of(files)
-    where = dict(zip(objects, placement([size_of(p, files, children) for p in objects])))
-    keys = {path: struct.pack(">I", k + 1) for k, path in enumerate(objects)}
+def kept_placement(sizes, old, room=ROOM):
+    """The kept rule: what still has room stays in its old module, and the rest takes the least module with room."""
+    placed, filled = [None] * len(sizes), {}
+
+    def has_room(place, module):
+        return module not in filled or (sizes[place] <= room and filled[module] + sizes[place] <= room)
+
+    def put(place, module):
+        placed[place] = module
+        filled[module] = filled.get(module, 0) + sizes[place]
+
+    put(0, 1)
+    for place in range(1, len(sizes)):
+        if old[place] is not None and has_room(place, old[place]):
+            put(place, old[place])
+    for place in range(len(sizes)):
+        if placed[place] is None:
+            in_use = sorted(filled) if sizes[place] <= room else []
+            unused = next(m for m in range(1, len(filled) + 2) if m not in filled)
+            put(place, next((m for m in in_use if has_room(place, m)), unused))
+    return fresh_placement(sizes, room=room) if max(placed) > MOST_MODULES else placed
+
+
+@dataclass(frozen=True)
+class Generation:
+    """One published tree: files by path, key and module of each object, modules by id, and how often each id has changed."""
+
+    carousel: int
+    number: int
+    files: dict
+    keys: dict
+    places: dict
+    modules: dict
+    counts: dict
+
+    def lines(self):
+        """The number of blocks of each module, by rising id."""
+        return [(m, -(-len(data) // BLOCK)) for m, data in self.modules.items()]
+
+    def cycle(self, weights=None):
+        """The items of a cycle in order. A module weighs 1 where `weights` doesn't say more."""
+        weights = weights or {}
+        lines = self.lines()
+        items = [DSI]
+        for turn in range(max(weights.get(m, 1) for m, _ in lines)):
+            items.append(DII)
+            items += [(m, b) for m, blocks in lines if weights.get(m, 1) > turn for b in range(blocks)]
+        return items
+
+    def section(self, item):
+        if item == DSI:
+            return dsi(self.carousel)
+        if item == DII:
+            lines = [(m, len(data), self.counts[m] % 256) for m, data in self.modules.items()]
+            return dii(self.carousel, lines, self.number)
+        m, b = item
+        return ddb(self.carousel, m, self.counts[m], b, self.modules[m])
+
+
+def was_there(path, files, before):
+    """Whether an object of the same path and kind was in the generation before."""
+    return path in before.keys and (path in files) == (path in before.files)
+
+
+def keys_of(objects, files, before):
+    """An object that was there keeps its key; the others take the least free numbers from 2 on."""
+    keys = {path: before.keys[path] for path in objects if was_there(path, files, before)}
+    taken, free = set(keys.values()), 2
+    for path in objects:
+        if path not in keys:
+            while free in taken:
+                free += 1
+            keys[path] = free
+            free += 1
+    return keys
+
+
+def modules_of(objects, files, children, keys, places, carousel):
     modules = {}
     for path in objects:
         if path in files:
-            written = file_message(keys[path], files[path])
+            written = file_message(key_bytes(keys[path]), files[path])
         else:
-            body = struct.pack(">H", len(children[path]))
+            bindings = []
             for name in children[path]:
                 child = path + (name,)
                 is_file = child in files
-                reference = ior(b"fil\0" if is_file else b"dir\0", carousel, where[child], keys[child])
-                body += binding(name, is_file, reference, len(files[child]) if is_file else 0)
-            written = biop(keys[path], b"dir\0" if path else b"srg\0", b"", body)
-        modules.setdefault(where[path], []).append(written)
+                reference = ior(b"fil\0" if is_file else b"dir\0", carousel, places[child], key_bytes(keys[child]))
+                bindings.append(binding(name, is_file, reference, len(files[child]) if is_file else 0))
+            written = folder_message(key_bytes(keys[path]), bindings, b"dir\0" if path else b"srg\0")
+        modules.setdefault(places[path], []).append(written)
     return {m: b"".join(parts) for m, parts in sorted(modules.items())}
 
 
-def dsi(carousel):
-    gateway = ior(b"srg\0", carousel, 1, struct.pack(">I", 1)) + b"\0\0\0\0"
+def first_generation(carousel=1, number=0):
+    """The generation of the empty tree, from which all begins."""
+    modules = {1: folder_message(key_bytes(GATEWAY_KEY), [], b"srg\0")}
+    return Generation(carousel, number, {}, {(): GATEWAY_KEY}, {(): 1}, modules, {1: 0})
+
+
+def next_generation(before, files, place=fresh_placement):
+    """The generation of a tree after another one, its objects placed by the rule `place` of their sizes and old modules."""
+    if files == before.files:
+        return Generation(before.carousel, before.number + 1, files, before.keys, before.places, before.modules, before.counts)
+    objects, children = objects_of(files), children_of(files)
+    keys = keys_of(objects, files, before)
+    sizes = [size_of(path, files, children) for path in objects]
+    old = [before.places[path] if was_there(path, files, before) else None for path in objects]
+    places = dict(zip(objects, place(sizes, old)))
+    modules = modules_of(objects, files, children, keys, places, before.carousel)
+    counts = dict(before.counts)
+    for m, data in modules.items():
+        counts[m] = counts.get(m, 0) + (before.modules.get(m) != data)
+    return Generation(before.carousel, before.number + 1, dict(files), keys, places, modules, counts)
+
+
+def generation(files, carousel=1):
+    """The first generation of a tree, after the empty one."""
+    return next_generation(first_generation(carousel), files)
+
+
+def dsi(carousel, gateway=None):
+    gateway = (gateway or ior(b"srg\0", carousel, 1, key_bytes(GATEWAY_KEY))) + b"\0\0\0\0"
     body = b"\xFF" * 20 + b"\0\0" + struct.pack(">H", len(gateway)) + gateway
     return section(0x3B, 0, 0, 0, 0, message(0x1006, 0x80000000, body))
 
 
-def dii(carousel, modules, number):
-    transaction = 0x80000002 + number * 65536 + number % 2
-    body = struct.pack(">IHBBIIHH", carousel, BLOCK, 0, 0, 0, 0, 0, len(modules))
-    info = struct.pack(">IIIBHHHBB", 0xFFFFFFFF, 0xFFFFFFFF, 0, 1, 0, 0x17, 1, 0, 0)
-    for m, data in modules.items():
-        body += struct.pack(">HIBB", m, len(data), number % 256, len(info)) + info
-    body += b"\0\0"
-    return section(0x3B, transaction & 0xFFFF, 0, 0, 0, message(0x1002, transaction, body))
+def transaction_of(number, identification=1):
+    return 0x80000000 | number % 16384 << 16 | identification << 1 | number % 2
 
 
-def cycle(modules, carousel=1, number=1):
+def module_info(is_compressed):
+    user = COMPRESSED if is_compressed else b""
+    return struct.pack(">IIIBHHHBB", 0xFFFFFFFF, 0xFFFFFFFF, 0, 1, 0, 0x17, 1, 0, len(user)) + user
+
+
+def dii(download, lines, number, identification=1, block_size=BLOCK, compressed=()):
+    """A DII of the version `number` modulo 16,384. A line is a module's id, size and version."""
+    body = struct.pack(">IHBBIIHH", download, block_size, 0, 0, 0, 0, 0, len(lines))
+    for m, size, version in lines:
+        info = module_info(m in compressed)
+        body += struct.pack(">HIBB", m, size, version, len(info)) + info
+    transaction = transaction_of(number, identification)
+    return section(0x3B, transaction & 0xFFFF, 0, 0, 0, message(0x1002, transaction, body + b"\0\0"))
+
+
+def ddb(download, module, version, block, data, block_size=BLOCK):
+    """A block of a module's bytes."""
+    blocks = -(-len(data) // block_size)
+    head = struct.pack(">HBBH", module, version % 256, 0xFF, block)
+    body = message(0x1003, download, head + data[block * block_size:(block + 1) * block_size])
+    return section(0x3C, module, version % 32, block % 256, max(min(blocks - 1, 255), 0), body)
+
+
+def cycle(generation, weights=None):
     """The sections of a cycle, one after another."""
-    yield dsi(carousel)
-    yield dii(carousel, modules, number)
-    for m, data in modules.items():
-        blocks = -(-len(data) // BLOCK)
-        for b in range(blocks):
-            head = struct.pack(">HBBH", m, number % 256, 0xFF, b)
-            body = message(0x1003, carousel, head + data[b * BLOCK:(b + 1) * BLOCK])
-            yield section(0x3C, m, number % 32, b % 256, min(blocks - 1, 255), body)
+    return map(generation.section, generation.cycle(weights))
+
+
+def packet(pid, start, counter, payload):
+    return struct.pack(">BHB", 0x47, (0x4000 if start else 0) | pid, 0x10 | counter) + payload + b"\xFF" * (184 - len(payload))
 
 
 def packets(sections, pid=256, counter=0):
+    """Each section in packets of its own. The counter rises with each packet."""
     for each in sections:
         data, start = b"\0" + each, True
         for at in range(0, len(data), 184):
-            piece = data[at:at + 184]
-            head = struct.pack(">BHB", 0x47, (0x4000 if start else 0) | pid, 0x10 | counter)
-            yield head + piece + b"\xFF" * (184 - len(piece))
+            yield packet(pid, start, counter, data[at:at + 184])
             counter, start = (counter + 1) % 16, False
+
+
+def packed(sections, pid=256, counter=0):
+    """The sections of a group back to back: a packet in which one begins says where."""
+    sections = [*sections]
+    stream, starts, at = b"".join(sections), [], 0
+    for each in sections:
+        starts.append(at)
+        at += len(each)
+    starts.append(at)
+    done, following = 0, 0
+    while done < len(stream):
+        begun = starts[following] - done
+        if begun >= 184:
+            start, taken, payload = False, 184, stream[done:done + 184]
+        elif begun == 183 or following == len(sections):
+            start, taken, payload = False, begun, stream[done:done + begun]
+        else:
+            start, taken, payload = True, 183, bytes([begun]) + stream[done:done + 183]
+        yield packet(pid, start, counter, payload)
+        counter = (counter + 1) % 16
+        done += taken
+        while following < len(sections) and starts[following] < done:
+            following += 1
+
+
+@dataclass(frozen=True)
+class Rules:
+    """What a broadcaster may choose: the weights of modules, how sections are laid into packets, where objects are placed."""
+
+    weights: dict = field(default_factory=dict)
+    lay: object = packets
+    place: object = fresh_placement
+
+
+# What the program does today. Weights of modules, sections packed back to back and objects kept in their modules stand
+# ready: Rules({1: 2}, packed, kept_placement) is all three.
+BUILT = Rules()
+
+
+def published(files, cycles, carousel=1, rules=BUILT):
+    """The packets of so many cycles of the first generation of a tree, as `publish` writes them."""
+    first = generation(files, carousel)
+    return rules.lay([section for _ in range(cycles) for section in cycle(first, rules.weights)])
 
 
 def files_in(folder):
@@ -186,15 +361,26 @@ def made(megabytes):
     return files
 
 
+def large_stream(folder, megabytes):
+    """The file in `folder` with the packets of about so many megabytes of made files. Where it isn't there, another
+    process makes it: what a process had resident counts as its children's too."""
+    os.makedirs(folder, exist_ok=True)
+    path = os.path.join(folder, f"stream-{megabytes}.ts")
+    if not os.path.exists(path):
+        with open(f"{path}.part", "wb") as out:
+            subprocess.run([sys.executable, "-B", __file__, "--made", str(megabytes)], stdout=out, check=True)
+        os.rename(f"{path}.part", path)
+    return path
+
+
 def main(words):
     out = sys.stdout.buffer
     if words[:1] == ["--made"]:
-        parts = packets(cycle(generation(made(int(words[1])))))
+        parts = published(made(int(words[1])), 1)
     elif words[:1] == ["--sections"]:
-        parts = cycle(generation(files_in(words[1])))
+        parts = cycle(generation(files_in(words[1])), BUILT.weights)
     else:
-        modules = generation(files_in(words[0]))
-        parts = packets(s for _ in range(int(words[1])) for s in cycle(modules))
+        parts = published(files_in(words[0]), int(words[1]))
     for part in parts:
         out.write(part)
 

@@ -1,0 +1,39 @@
+"""How long a command takes, and what memory it needs, for the scripts of this folder that measure."""
+
+import os
+import subprocess
+import time
+from collections import namedtuple
+
+# Seconds by the clock and of the processor, the most bytes resident, and the bytes written where they were counted. The
+# system counts what this process has resident (about 20 MiB) for its children too, so less than that isn't seen.
+Measured = namedtuple("Measured", "taken processor resident written")
+
+
+def measured(words, source=None, counts=False):
+    """Runs a command whose input comes through a pipe from a file, or is empty. Its output is passed over, or
+    counted by `wc` at the other end of a pipe."""
+    feeder = subprocess.Popen(["cat", source], stdout=subprocess.PIPE) if source else None
+    began = time.monotonic()
+    child = subprocess.Popen(words, stdin=feeder.stdout if feeder else subprocess.DEVNULL, stdout=subprocess.PIPE if counts else subprocess.DEVNULL)
+    if feeder:
+        feeder.stdout.close()
+    counter = subprocess.Popen(["wc", "-c"], stdin=child.stdout, stdout=subprocess.PIPE) if counts else None
+    if counter:
+        child.stdout.close()
+    _, status, usage = os.wait4(child.pid, 0)
+    taken = time.monotonic() - began
+    written = int(counter.communicate()[0]) if counter else None
+    if feeder:
+        feeder.wait()
+    child.returncode = os.waitstatus_to_exitcode(status)
+    if child.returncode:
+        raise SystemExit(f"status {child.returncode} of {' '.join(words)[:200]}")
+    return Measured(taken, usage.ru_utime + usage.ru_stime, usage.ru_maxrss * 1024, written)
+
+
+def best(words, source=None, counts=False, runs=3):
+    """The least time and the most memory of some runs."""
+    every = [measured(words, source, counts) for _ in range(runs)]
+    least = min(every)
+    return least._replace(processor=min(it.processor for it in every), resident=max(it.resident for it in every))

@@ -1,0 +1,80 @@
+"""What the scripts of this folder share: where the program is, how it is run, and how differences are reported.
+
+The program is the one that ./carousel builds, or the one that the environment variable CAROUSEL names.
+"""
+
+import os
+import subprocess
+import sys
+import tempfile
+from collections import namedtuple
+
+TOP = os.path.dirname(os.path.dirname(os.path.abspath(__file__)))
+WORK = os.path.join(TOP, "bench", "work")
+MOST_SHOWN = 10
+
+Ended = namedtuple("Ended", "status out error")
+
+
+def find():
+    """The program's file. The launcher builds it first where it is missing or old."""
+    given = os.environ.get("CAROUSEL")
+    if given:
+        return given
+    built = os.path.join(TOP, "crates", "carousel", "out", "carousel")
+    if subprocess.run([os.path.join(TOP, "carousel"), "record", "256"], stdin=subprocess.DEVNULL).returncode or not os.path.exists(built):
+        sys.exit("the program isn't there")
+    return built
+
+
+def run(program, stream, *words):
+    """Status, output and line on standard error of a command on some input."""
+    done = subprocess.run([program, *words], input=stream, capture_output=True)
+    return Ended(done.returncode, done.stdout, done.stderr)
+
+
+def excerpt(wanted, got):
+    """Both texts from the first line in which they differ."""
+    for line, (a, b) in enumerate(zip(wanted.split(b"\n"), got.split(b"\n")), 1):
+        if a != b:
+            return f"  line {line}, the model: {shortened(a)}\n  line {line}, the program: {shortened(b)}"
+    return f"  the model wrote {len(wanted)} bytes, the program {len(got)}"
+
+
+def shortened(line):
+    text = ascii(line)[1:]
+    return text if len(text) <= 200 else f"{text[:200]}.. of {len(line)} bytes"
+
+
+class Tally:
+    """Counts what was compared and what differed, and keeps the input of each of the first differences."""
+
+    def __init__(self):
+        self.compared, self.differences, self.folder = 0, 0, None
+
+    def compare(self, again, words, stream, wanted, got):
+        """Compares the model's ending with the program's. `again` is the command that makes this case once more."""
+        self.compared += 1
+        if wanted == got:
+            return
+        what = ", ".join(name for name in Ended._fields if getattr(wanted, name) != getattr(got, name))
+        self.differ(f"{again}: {what} of {' '.join(words)[:200]}, input {{}}", stream)
+        if self.differences <= MOST_SHOWN:
+            print(f"  the model: status {wanted.status} {wanted.error.decode()!r}, the program: {got.status} {got.error.decode()!r}")
+            print(excerpt(wanted.out, got.out), flush=True)
+
+    def differ(self, text, stream):
+        """Reports a difference. In its text {} is the file in which its input is kept."""
+        self.differences += 1
+        if self.differences > MOST_SHOWN:
+            return
+        self.folder = self.folder or tempfile.mkdtemp(prefix="carousel-bench-")
+        kept = os.path.join(self.folder, f"input-{self.differences}")
+        with open(kept, "wb") as out:
+            out.write(stream)
+        print(f"difference {self.differences}: {text.format(kept)}", flush=True)
+
+    def end(self, said):
+        """Prints the counts and ends, with 1 where something differed."""
+        print(f"{said}, {self.compared} answers compared, {self.differences} differences")
+        sys.exit(1 if self.differences else 0)

@@ -1,0 +1,421 @@
+"""An independent model of the command `rehearse`, for tests alone: a script in, the report out.
+
+It shares no code with the crates. Commits go by streams.py, and what a receiver makes of the packets by receiver.py.
+Here the receiver goes on from candidate to candidate, for speed; the models' own tests hold it against the look back.
+"""
+
+import re
+from collections import namedtuple
+
+import receiver
+import streams
+from paths import BadPath, parsed, printed
+from receiver import Ddb, Dii, Dsi
+
+PID = 256
+MOST_ACTOR = 64
+MOST_DRAW = 1_048_576
+MOST_FATES = 65_536
+MOST_FILE = 16_777_216
+MOST_NUMBER = 16_383
+MOST_PUT = 536_870_912
+MOST_OBJECTS = 8_192
+MOST_FOLDER = 1_048_576
+MOST_BYTES = 268_435_456
+
+
+# Scripts
+
+Put = namedtuple("Put", "path content")
+Remove = namedtuple("Remove", "path")
+Commit = namedtuple("Commit", "editor edits")
+Draw = namedtuple("Draw", "asked fates")
+Open = namedtuple("Open", "reader path")
+
+KEEP, LOSE = "keep", "lose"
+
+
+class BadLine(Exception):
+    def __init__(self, line, cause):
+        super().__init__(f"script line {line}: {cause}")
+        self.line, self.cause = line, cause
+
+
+class BadWord(Exception):
+    pass
+
+
+def number(least, most):
+    def reads(word):
+        if not re.fullmatch(rb"0|[1-9][0-9]*", word) or len(word) > 20 or not least <= int(word) <= most:
+            raise BadWord("bad number")
+        return int(word)
+
+    return reads
+
+
+def path(word):
+    try:
+        return parsed(word)
+    except BadPath:
+        raise BadWord("bad path") from None
+
+
+def content(word):
+    if word == b"-":
+        return b""
+    if not re.fullmatch(rb"([0-9A-Fa-f]{2})+", word):
+        raise BadWord("bad hex")
+    return bytes.fromhex(word.decode())
+
+
+ACTOR = number(1, MOST_ACTOR)
+WORDS = {
+    b"put": [ACTOR, path, content],
+    b"fill": [ACTOR, path, number(0, MOST_FILE + 1), number(0, 255)],
+    b"remove": [ACTOR, path],
+    b"commit": [ACTOR],
+    b"draw": [number(1, MOST_DRAW)],
+    b"open": [ACTOR, path],
+    b"start": [],
+    b"settle": [],
+    b"finale": [ACTOR, path],
+}
+
+
+def fate(word):
+    """A run of fates: what befalls a packet, and how many of them."""
+    kind, rest = word[:1], word[1:]
+    try:
+        if kind in (b"k", b"d"):
+            return (KEEP if kind == b"k" else LOSE), number(1, MOST_FATES)(rest)
+        if kind == b"f":
+            return number(0, 1503)(rest), 1
+    except BadWord:
+        pass
+    raise BadWord("bad fate")
+
+
+def fates_of(words):
+    fates = []
+    for word in words:
+        what, count = fate(word)
+        if len(fates) + count > MOST_FATES:
+            raise BadWord("bad fate")
+        fates += [what] * count
+    return fates
+
+
+ROUND = bytes(range(256)) * 2
+
+
+def filled(length, begin):
+    """Byte i is begin + 7 * i + i / 256, so each 256 bytes are those before them raised by one, round and round."""
+    row = bytes((begin + 7 * i) % 256 for i in range(256))
+    rows = b"".join(row.translate(ROUND[q:q + 256]) for q in range(min(256, -(-length // 256))))
+    return (rows * (length // 65536 + 1))[:length]
+
+
+def values_of(words):
+    """The first word and the values of the others."""
+    keyword, rest = words[0], words[1:]
+    readers = WORDS[keyword]
+    values = []
+    for place, reads in enumerate(readers):
+        if place >= len(rest):
+            raise BadWord("word missing")
+        values.append(reads(rest[place]))
+    more = rest[len(readers):]
+    if keyword == b"draw":
+        values.append(fates_of(more))
+    elif more:
+        raise BadWord("extra word")
+    return values
+
+
+class Order:
+    """Which lines may still come."""
+
+    def __init__(self):
+        self.seen = set()
+
+    def admits(self, keyword):
+        if self.seen & {b"settle", b"finale"} and keyword != b"finale":
+            return False
+        if keyword in (b"start", b"settle") and keyword in self.seen:
+            return False
+        self.seen.add(keyword)
+        return True
+
+
+def lines_of(text):
+    """Each line that isn't passed over, as its number, first word and values."""
+    order = Order()
+    lines = text.split(b"\n")
+    if lines[-1] == b"":
+        lines.pop()
+    for at, line in enumerate(lines, 1):
+        if line == b"" or line.startswith(b"#"):
+            continue
+        words = line.split(b" ")
+        if words[0] not in WORDS:
+            raise BadLine(at, "unknown word")
+        if not order.admits(words[0]):
+            raise BadLine(at, "out of order")
+        try:
+            yield at, words[0], values_of(words)
+        except BadWord as fault:
+            raise BadLine(at, str(fault)) from None
+
+
+def events_of(text):
+    """The events of a script, in written order."""
+    edits, events = {}, []
+    for _, keyword, values in [*lines_of(text)]:
+        if keyword == b"put":
+            edits.setdefault(values[0], []).append(Put(*values[1:]))
+        elif keyword == b"fill":
+            edits.setdefault(values[0], []).append(Put(values[1], filled(*values[2:])))
+        elif keyword == b"remove":
+            edits.setdefault(values[0], []).append(Remove(values[1]))
+        elif keyword == b"commit":
+            events.append(Commit(values[0], edits.pop(values[0], [])))
+        elif keyword == b"draw":
+            events.append(Draw(*values))
+        elif keyword in (b"open", b"finale"):
+            events.append(Open(*values))
+        elif keyword == b"settle":
+            events += [Draw(MOST_DRAW, [])] * 2
+    return events
+
+
+# Trees and commits
+
+class Refused(Exception):
+    """A commit's refusal, as its text."""
+
+
+def fault_of(files, above, edit):
+    """Why an edit is refused, or None. `above` counts the files below each folder."""
+    if isinstance(edit, Remove):
+        return None if edit.path in files else "no-such-file"
+    if edit.path in above or not edit.path:
+        return "folder-there"
+    if any(edit.path[:n] in files for n in range(1, len(edit.path))):
+        return "through-file"
+    return "file-too-large" if len(edit.content) > MOST_FILE else None
+
+
+def applied(files, edits):
+    """The tree after the edits."""
+    files, above = dict(files), {}
+
+    def count(file, by):
+        for n in range(len(file)):
+            above[file[:n]] = above.get(file[:n], 0) + by
+            if not above[file[:n]]:
+                del above[file[:n]]
+
+    for file in files:
+        count(file, 1)
+    for place, edit in enumerate(edits):
+        fault = fault_of(files, above, edit)
+        if fault:
+            raise Refused(f"edit {place} {fault}")
+        if isinstance(edit, Remove):
+            del files[edit.path]
+            count(edit.path, -1)
+        else:
+            if edit.path not in files:
+                count(edit.path, 1)
+            files[edit.path] = edit.content
+    return files
+
+
+def check(files):
+    """Refuses a tree that passes a limit, by the first that it passes."""
+    objects, children = streams.objects_of(files), streams.children_of(files)
+    if len(objects) > MOST_OBJECTS:
+        raise Refused(f"too-many-objects {len(objects)}")
+    sizes = [streams.size_of(it, files, children) for it in objects]
+    for it, size in zip(objects, sizes):
+        if it not in files and size > MOST_FOLDER:
+            raise Refused(f"folder-too-large {printed(it).decode()}")
+    if sum(sizes) > MOST_BYTES:
+        raise Refused(f"too-many-bytes {sum(sizes)}")
+    need = max(streams.fresh_placement(sizes))
+    if need > streams.MOST_MODULES:
+        raise Refused(f"too-many-modules {need}")
+
+
+class Station:
+    """Commits and draws, one after another."""
+
+    def __init__(self, rules=streams.BUILT):
+        self.rules, self.put, self.cursor = rules, 0, 0
+        self.generations = [streams.first_generation()]
+
+    @property
+    def current(self):
+        return self.generations[-1]
+
+    def commit(self, edits):
+        """The new generation's number, or Refused."""
+        if self.current.number == MOST_NUMBER:
+            raise Refused(f"season-full {MOST_NUMBER}")
+        put = self.put + sum(len(it.content) for it in edits if isinstance(it, Put))
+        if put > MOST_PUT:
+            raise Refused(f"journal-full {put}")
+        self.put = put
+        files = self.current.files
+        if edits:
+            files = applied(files, edits)
+            check(files)
+        self.generations.append(streams.next_generation(self.current, files, self.rules.place))
+        self.cursor = 0
+        return self.current.number
+
+    def draw(self, asked):
+        """The generation, the place of the first item in its cycle, and the items."""
+        cycle = self.current.cycle(self.rules.weights)
+        first = self.cursor
+        items = cycle[first:first + asked]
+        self.cursor = (first + len(items)) % len(cycle)
+        return self.current, first, items
+
+
+# The way to the receiver
+
+class Tuner:
+    """What is held, taken on from candidate to candidate: a turn keeps the blocks of each module that stays as it was."""
+
+    def __init__(self):
+        self.dii = self.label = self.gateway = None
+        self.epoch, self.blocks, self.whole = 0, {}, {}
+
+    def feed(self, candidate):
+        heard = receiver.read(candidate)
+        if isinstance(heard, Dsi):
+            self.gateway = heard.gateway or self.gateway
+        elif isinstance(heard, Dii):
+            self.control(heard)
+        elif isinstance(heard, Ddb) and self.dii:
+            self.block(heard)
+
+    def control(self, dii):
+        if not dii.identification or not receiver.is_within(dii):
+            return
+        if self.dii is None:
+            self.label = dii.version
+            self.turn(dii, {})
+            return
+        step = receiver.distance(self.dii.version, dii.version)
+        if dii.identification != self.dii.identification or step == 0:
+            return
+        self.label += step
+        self.epoch += step >= 256
+        stay = {} if step >= 256 else {m: it for m, it in self.blocks.items() if receiver.agrees(self.dii, dii, m)}
+        self.turn(dii, stay)
+
+    def turn(self, dii, stay):
+        self.dii = dii
+        self.lines = {line.id: line for line in dii.lines}
+        self.blocks = {m: stay.get(m, {}) for m, line in self.lines.items() if not line.compressed}
+        self.whole = {m: self.whole[m] for m in stay if m in self.whole and m in self.blocks}
+        for m in self.blocks:
+            self.join(m)
+
+    def block(self, it):
+        line = self.lines.get(it.module)
+        if line is None or line.compressed or (it.download, it.version) != (self.dii.download, line.version):
+            return
+        size = self.dii.block_size
+        fits = it.block < receiver.block_count(line.size, size) and len(it.data) == receiver.block_span(line.size, size, it.block)
+        if fits and it.block not in self.blocks[it.module]:
+            self.blocks[it.module][it.block] = it.data
+            self.join(it.module)
+
+    def join(self, m):
+        """Makes the module's bytes with its last block."""
+        count = receiver.block_count(self.lines[m].size, self.dii.block_size)
+        if len(self.blocks[m]) == count and m not in self.whole:
+            self.whole[m] = b"".join(self.blocks[m][b] for b in range(count))
+
+    def held(self):
+        if self.dii is None:
+            return receiver.Held(None, 0, None, self.gateway, {}, {})
+        modules = {m: self.whole.get(m) for m in self.blocks}
+        return receiver.Held(self.label, self.epoch, self.dii.identification, self.gateway, self.lines, modules)
+
+
+def flipped(packet, bit):
+    packet = bytearray(packet)
+    packet[bit // 8] ^= 0x80 >> bit % 8
+    return bytes(packet)
+
+
+class Downlink:
+    """A multiplexer, what befalls the packets, a demultiplexer and a tuner."""
+
+    def __init__(self, rules=streams.BUILT):
+        self.lay = rules.lay
+        self.counter, self.demux, self.tuner = 0, receiver.Demux(PID), Tuner()
+        self.heard = []
+
+    def carry(self, sections, fates):
+        packets = [*self.lay(sections, PID, self.counter)]
+        self.counter = (self.counter + len(packets)) % 16
+        for number, packet in enumerate(packets):
+            what = fates[number % len(fates)] if fates else KEEP
+            if what == LOSE:
+                continue
+            for _, candidate in self.demux.feed(packet if what == KEEP else flipped(packet, what)):
+                self.heard.append(candidate)
+                self.tuner.feed(candidate)
+
+
+# The report
+
+def answer_text(answer):
+    """An answer as the report has it: a file with its bytes, a folder with its names."""
+    words = [answer.text]
+    if answer.content is not None:
+        words.append(answer.content.hex() or "-")
+    return " ".join(words + [receiver.escaped(name).decode() for name in answer.names or []])
+
+
+class World:
+    """A station and a receiver, and one event after another."""
+
+    def __init__(self, rules=streams.BUILT):
+        self.station, self.downlink = Station(rules), Downlink(rules)
+
+    def step(self, event):
+        """The event's line of the report."""
+        if isinstance(event, Commit):
+            try:
+                return f"commit {event.editor} generation {self.station.commit(event.edits)}"
+            except Refused as refusal:
+                return f"commit {event.editor} refused {refusal}"
+        if isinstance(event, Draw):
+            generation, first, items = self.station.draw(event.asked)
+            self.downlink.carry(map(generation.section, items), event.fates)
+            return f"draw {generation.number} {first} {len(items)}"
+        held = self.downlink.tuner.held()
+        label = "-" if held.label is None else held.label
+        answer = answer_text(receiver.resolve(held, event.path))
+        return f"open {event.reader} {label} {printed(event.path).decode()} {answer}"
+
+
+Rehearsed = namedtuple("Rehearsed", "status report error")
+
+
+def rehearse(text, rules=streams.BUILT):
+    """The status, the report and the line on standard error of a script."""
+    try:
+        events = events_of(text)
+    except BadLine as fault:
+        return Rehearsed(3, b"", f"carousel: {fault}\n".encode())
+    world = World(rules)
+    return Rehearsed(0, b"".join(world.step(event).encode() + b"\n" for event in events), b"")
+

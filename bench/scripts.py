@@ -1,0 +1,148 @@
+"""Random scripts for bench/rehearse and the models' own tests, each by its number."""
+
+import random
+
+# Paths of which some lie below others, so that edits are refused now and then.
+PATHS = [b"/a", b"/b", b"/d", b"/d/x", b"/d/y", b"/d/x/z", b"/index.html", b"/news/today.txt", b"/a%20b", b"/%41", b"/\xC3\xA9", b"/" + b"n" * 254]
+ASKED = PATHS + [b"/", b"/news", b"/no/such", b"/a/b", b"/" + b"/".join([b"p"] * 16)]
+
+# A line of each way to be wrong. The cause is the model's own to find; the models' tests have it beside the line.
+WRONG = {
+    b"unknown word": [b"frobnicate 1", b" commit 1", b"PUT 1 /a -", b" ", b"commit1", b"\r", b"finale\t1 /a", b"put\x00"],
+    b"bad number": [
+        b"commit 0", b"commit 65", b"commit 01", b"commit +1", b"commit 1\r", b"commit ", b"commit x", b"commit  1", b"put a b c",
+        b"draw 0", b"draw 1048577", b"draw 99999999999999999999999", b"fill 1 /a 16777218 0", b"fill 1 /a 1 256", b"fill 1 /a -1 0",
+        b"open 1\xFF /a", b"put /a 1 00",
+    ],
+    b"bad path": [
+        b"open 1 relative", b"open 1 ", b"put 1 /a//b 00", b"remove 1 /a/", b"open 1 /%2f", b"open 1 /%00", b"open 1 /%4", b"open 1 /%zz",
+        b"put 1 " + b"/a" * 17 + b" -", b"open 1 /" + b"n" * 255, b"put 1  /a 00", b"open 1 //", b"fill 1 a x y",
+    ],
+    b"bad hex": [b"put 1 /a 0", b"put 1 /a 0g", b"put 1 /a --", b"put 1 /a ", b"put 1 /a 00-", b"put 1 /a +1", b"put 1 /a 0_0_"],
+    b"bad fate": [
+        b"draw 5 x1", b"draw 5 k0", b"draw 5 d65537", b"draw 5 f1504", b"draw 5 f01", b"draw 5 k", b"draw 5 ", b"draw 5 k1  d1",
+        b"draw 5 k65536 k1", b"draw 5 k1 K1", b"draw 5 d65535 f3 f3", b"draw 5 k1 ", b"draw 5 k+1",
+    ],
+    b"word missing": [b"put", b"put 1", b"put 1 /a", b"fill 1 /a", b"fill 1 /a 3", b"remove 2", b"commit", b"draw", b"open", b"open 3"],
+    b"extra word": [b"commit 1 2", b"commit 1 ", b"put 1 /a 00 00", b"open 1 /a /b", b"remove 1 /a ", b"fill 1 /a 3 4 5", b"start now", b"settle "],
+}
+
+
+def pick(chance, paths=PATHS):
+    return chance.choice(paths)
+
+
+def fates(chance):
+    """Some words of fates, or none."""
+    kinds = [b"k%d" % chance.randrange(1, 60), b"d%d" % chance.choice([1, 1, 1, 2, 15, 16, 17]), b"f%d" % chance.randrange(1504)]
+    if chance.random() < 0.4:
+        return []
+    return [chance.choice(kinds) if chance.random() < 0.6 else b"k%d" % chance.randrange(1, 400) for _ in range(chance.randrange(1, 6))]
+
+
+def edit(chance):
+    editor, kind = chance.randrange(1, 4), chance.random()
+    if kind < 0.5:
+        content = chance.randbytes(chance.choice([0, 1, 3, 30])).hex().encode() or b"-"
+        return b"put %d %s %s" % (editor, pick(chance), content.upper() if chance.random() < 0.2 else content)
+    if kind < 0.8:
+        length = chance.choice([0, 1, 500, 3905, 3906, 4066, 9000, 40_000, 65_492, 65_493, 70_000])
+        return b"fill %d %s %d %d" % (editor, pick(chance), length, chance.randrange(256))
+    return b"remove %d %s" % (editor, pick(chance))
+
+
+def draw(chance):
+    asked = chance.choice([1, 1, 2, 3, 5, 20, 256, 1_048_576, 1_048_576])
+    return b" ".join([b"draw %d" % asked, *fates(chance)])
+
+
+def opened(chance, word=b"open"):
+    return b"%s %d %s" % (word, chance.choice([1, 2, 3, 64]), pick(chance, ASKED))
+
+
+def line(chance):
+    kind = chance.random()
+    if kind < 0.35:
+        return edit(chance)
+    if kind < 0.55:
+        return b"commit %d" % chance.randrange(1, 5)
+    if kind < 0.7:
+        return draw(chance)
+    if kind < 0.97:
+        return opened(chance)
+    return chance.choice([b"", b"# nothing", b"#put", b"# \xFF"])
+
+
+def many_commits(chance):
+    """Commits of one file, as many as make its module's version begin again, with some sections heard on the way."""
+    path = pick(chance)
+    far = chance.choice([3, 100, 254, 255, 256, 257, 300, 512])
+    lines = [b"put 1 /keep 6b656570", b"fill 2 /large 70000 3", b"commit 1", b"commit 2", draw(chance), b"draw 1048576"]
+    for _ in range(chance.randrange(1, 4)):
+        kind = chance.choice([b"put 1 %s %02x", b"fill 1 %s 66000 %d", b"#%s %d"])
+        for k in range(far + chance.choice([-1, 0, 0, 0, 1])):
+            lines += [kind % (path, k % 256), b"commit 1"]
+        lines += [opened(chance), draw(chance), opened(chance), b"open 1 /keep", b"open 1 /large", b"open 2 " + path, b"draw 1048576", b"open 1 " + path]
+    return lines
+
+
+def ending(chance):
+    lines = [b"settle"] if chance.random() < 0.5 else []
+    return lines + [opened(chance, b"finale") for _ in range(chance.randrange(4))]
+
+
+def right(chance):
+    """The lines of a script in which all is right."""
+    lines = [line(chance) for _ in range(chance.choice([0, 1, 10, 60, 150, 300]))]
+    if chance.random() < 0.15:
+        lines += many_commits(chance)
+    if chance.random() < 0.3:
+        lines.insert(chance.randrange(len(lines) + 1), b"start")
+    return lines + ending(chance)
+
+
+def wrong(chance):
+    """A script with a line that is wrong, or in which a byte or a line is another one."""
+    lines, kind = right(chance), chance.random()
+    place = chance.randrange(len(lines) + 1)
+    if kind < 0.5:
+        lines.insert(place, chance.choice(WRONG[chance.choice(sorted(WRONG))]))
+    elif kind < 0.65:
+        lines[place:place] = chance.sample([b"start", b"start", b"settle", b"settle", b"finale 1 /a", b"draw 1"], 3)
+    elif lines and kind < 0.8:
+        words = lines[place - 1].split(b" ")
+        words.insert(chance.randrange(len(words) + 1), words[chance.randrange(len(words))])
+        lines[place - 1] = b" ".join(words)
+    elif lines:
+        text = bytearray(lines[place - 1] or b"#")
+        text[chance.randrange(len(text))] = chance.choice(b" 0/%-kz\r\xFF")
+        lines[place - 1] = bytes(text)
+    return lines
+
+
+def script(number):
+    chance = random.Random(number)
+    lines = wrong(chance) if number % 4 == 3 else right(chance)
+    return b"\n".join(lines) + (b"\n" if lines and chance.random() < 0.9 else b"")
+
+
+# Scripts at the limits. Each is large, or takes a while.
+
+def limits():
+    """Each script beside its name: what is just within a limit, and what passes it."""
+    deep = [b"put 1 /deep/%d/%d -" % (n // 91, n % 91) for n in range(8192)]
+    flat = [b"put 1 /%d -" % n for n in range(8192)]
+    yield "objects", [*flat[:8191], b"commit 1", flat[8191], b"commit 1", *deep, b"commit 1", b"draw 1048576", b"open 1 /3"]
+    # names of 254 bytes and one of 140 fill a folder of 1,048,576 bytes
+    names = [b"put 1 /d/%s -" % (b"%04d" % n).rjust(254, b"x") for n in range(4096)]
+    full = [*names[:3120], b"put 1 /d/%s -" % (b"y" * 140), b"commit 1"]
+    over = [b"remove 1 /d/" + b"y" * 140, b"put 1 /d/%s -" % (b"y" * 141), b"commit 1"]
+    yield "a folder", [*full, *over, *names, b"commit 1", b"draw 1048576 k400 d1", b"open 1 /d", b"draw 1048576", b"open 1 /d"]
+    modules = [b"fill 1 /%d 65493 %d" % (n, n % 256) for n in range(139)]
+    yield "modules", [*modules, b"commit 1", *modules[1:], b"commit 1", b"draw 1048576", b"open 1 /138"]
+    yield "a file", [b"fill 1 /a 16777217 0", b"commit 1", b"fill 1 /a 16777216 0", b"commit 1", b"draw 1048576", b"finale 1 /a"]
+    yield "generations", [*[b"commit 1"] * 16_384, b"draw 1", b"put 1 /a -", b"commit 1", b"draw 1048576", b"open 1 /"]
+    # fifteen files of 16,777,216 bytes and one of 16,775,150 have 268,435,456 bytes with their headers
+    large = [b"fill 1 /%c 16777216 %d" % (97 + n, n) for n in range(15)]
+    yield "bytes", [*large, b"fill 1 /p 16775150 0", b"commit 1", b"fill 1 /p 16775151 0", b"commit 1"]
+    yield "what is put", [*[b"fill 1 /a 16777216 1"] * 32, b"commit 1", b"put 2 /b 00", b"commit 2", b"commit 3"]
