@@ -139,3 +139,28 @@ fn a_dii_of_another_version_turns(rt: HostRuntime) -> Result<(), Fail> {
     assert_eq!(rt; shot.label, Some(1));
     Ok(())
 }
+
+// A module stays over 250 turns, and is dropped where its version rises.
+#[test]
+fn a_module_is_fetched_anew(rt: HostRuntime) -> Result<(), Fail> {
+    let alloc = rt.alloc();
+    let mut tuner = Tuner::new(alloc);
+    let mut message = DII;
+    let block = section(alloc, Table::Blocks, &BLOCK)?;
+    for version in 1..252u8 {
+        message[5] = version;
+        let dii = section(alloc, Table::Control, &message)?;
+        assert!(rt; tuner.feed(&dii)? == Fed::Changed);
+        assert!(rt; (tuner.feed(&block)? == Fed::Changed) == (version == 1));
+    }
+    message[5] = 252;
+    message[38] = 1;
+    let dii = section(alloc, Table::Control, &message)?;
+    assert!(rt; tuner.feed(&dii)? == Fed::Changed);
+    assert!(rt; tuner.feed(&block)? != Fed::Changed);
+    let mut anew = BLOCK;
+    anew[14] = 1;
+    let anew = section(alloc, Table::Blocks, &anew)?;
+    assert!(rt; tuner.feed(&anew)? == Fed::Changed);
+    Ok(())
+}
