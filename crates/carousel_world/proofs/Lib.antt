@@ -24,3 +24,10 @@ mod Premised
 mod Damaged
 mod Carried
 mod Reaching
+mod Carrying
+mod Sending
+mod Drawn
+mod Arriving
+mod Promised
+mod Happening
+mod Lossy

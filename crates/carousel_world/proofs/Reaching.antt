@@ -12,6 +12,7 @@ use Rattle.carousel_world.specs.Instances.{tree_of}
 use Rattle.carousel_world.proofs.Instances.{letter, first_content, first_node, first_publishable}
 use Rattle.carousel_world.proofs.Damaged.{damage}
 use Rattle.carousel_world.proofs.Carried.{carrying}
+use Rattle.carousel_world.proofs.Lossy.{run_is_premised}
 use Rattle.carousel_world.proofs.Opening.{whole_cycles}
 use Rattle.carousel_world.proofs.Saying.{Spelled}
 use Rattle.carousel_world.proofs.Single.{second_of, in_order}
@@ -31,4 +32,5 @@ can_be_met spelled lawful meets = record {
   waits = waits spelled lawful meets;
   damage = damage lawful;
   carrying = carrying lawful;
+  run = run_is_premised lawful;
 }

@@ -17,6 +17,7 @@ use Rattle.carousel_world.specs.Broadcasts.{Broadcast, SendsInOrder, sections, N
 use Rattle.carousel_world.specs.Premises.{AcceptedAreSent, IsHeardOf, IsWhole}
 use Rattle.carousel_world.specs.Receptions.{label_after}
 use Rattle.carousel_world.specs.Publishing.{layouts_for, publication}
+use Rattle.carousel_world.specs.Runs.{RunIsPremised}
 
 -- a tree with a file, which can be published
 pub record HasFile (t : Tree) : Type 0 where
@@ -127,3 +128,5 @@ pub record PremisesCanBeMet : Type 0 where
   pub damage : DamageIsPremised
   -- a block that is carried over a turn
   pub carrying : CarryingIsPremised
+  -- a list of events of a world, with losses and damage
+  pub run : RunIsPremised

@@ -4,3 +4,10 @@ pub mod Headline
 pub mod Receptions
 pub mod Publishing
 pub mod Instances
+pub mod Fates
+pub mod Events
+pub mod World
+pub mod Promises
+pub mod DownView
+pub mod View
+pub mod Runs

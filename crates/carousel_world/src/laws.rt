@@ -1,6 +1,7 @@
 //! The laws, as functions that do nothing.
 ghost use Rattle.carousel_world.specs.Instances.{PremisesCanBeMet};
 ghost use Rattle.carousel_world.specs.Publishing.{EachCycleOpens, EveryPublicationMeets};
+ghost use Rattle.carousel_world.specs.Promises.{EveryRunMeetsTheHeadline};
 ghost use Rattle.carousel_world.specs.Receptions.{EveryReceptionMeets, LabelsNeverFall};
 
 /// Whatever a receiver hears of a carousel whose tree changes from generation to generation, lost, damaged, repeated or interleaved
@@ -49,6 +50,22 @@ pub fn each_cycle_opens()
     section_stream::packets_give_the_sections();
 }
 
+/// Every list of events of a world keeps what is promised, after each of them: the layouts carry the trees, what is sent are
+/// sections of the published generations, in order, and what is received keeps that order, whatever its fates. While damaged
+/// sections fail their CRC, and fewer than 256 commits separate a heard block from the DII heard before it, each open tells of one
+/// published generation, and after a whole cycle of a generation every path of it opens. The generation that is held never goes back.
+///
+/// It holds of each list whose published trees are of bytes and within the limits, as those of a `World` and of a `Catalogue` are.
+pub fn every_run_meets_the_headline()
+    ensures { EveryRunMeetsTheHeadline }
+{
+    generation_catalogue::histories_grow();
+    generation::generations_are_of_the_lists();
+    generation::layouts_are_lawful();
+    every_reception_meets();
+    labels_never_fall();
+}
+
 /// The premises of the other laws can be met, and the answers differ: some tree of a file can be published; what is published
 /// are items of its generation, in order; its sections, as they were sent, are ascribed to themselves, and from one cycle on they
 /// are a whole one. Who has heard the control sections alone waits for module 1, in which the gateway lies, whatever the path.
@@ -56,6 +73,9 @@ pub fn each_cycle_opens()
 /// All premises hold together of two receptions of packets, of a whole cycle of the later of two generations each. In one the
 /// first packet is lost, one comes twice and a byte of a block is changed; in the other a block is heard before the DII of its
 /// generation and carried over that DII. Both answer that a module isn't whole before they answer the file.
+///
+/// They hold too after a list of events of a world: two editors' commits, and draws of which a packet is lost and a bit is inverted.
+/// Its opens are answered that there is no carousel, that a module isn't whole, and then the file.
 pub fn premises_can_be_met()
     ensures { PremisesCanBeMet }
 {

@@ -1,0 +1,125 @@
+-- The run with losses and damage meets the premises.
+use Rattle.std.proofs.Common.{◌≡◌, ℕ, zero, suc, ◌<◌, true, false, List, [], ◌∷◌, take, refl, sym, subst, slice_index_or, IsTrue, arith, lit<, lit≤}
+use Rattle.std.specs.List.{Contains}
+use Rattle.std.specs.Option.{unwrap_or}
+use Rattle.std.proofs.lemmas.Option.{same_Some}
+use Rattle.std.proofs.lemmas.List.Elements.{All-nil, All-cons}
+use Rattle.path_tree.specs.Paths.{Bytes}
+use Rattle.biop_object.specs.Names.{module_in}
+use Rattle.cycle_planner.specs.declared.Item.{Item}
+use Rattle.cycle_planner.specs.declared.Item.TheVariants.{Dsi, Dii, Block}
+use Rattle.ddb_block.specs.Message.{message_at}
+use Rattle.ddb_block.specs.Blocks.{block_at}
+use Rattle.ior_tap.specs.IorReading.{each_at, tap_at, component_at, location_at, taps_at, components_at, profile_at, ior_at}
+use Rattle.dsi_dii.specs.ControlReading.{info_at, line_at, dii_at, dsi_at, head_at, sized_at, frame_at, private_at}
+use Rattle.biop_object.specs.ObjectReading.{binding_at, context_at, file_at, folder_at, object_at, inside_at}
+use Rattle.generation.specs.Kept.{LayoutsAreLawful}
+use Rattle.generation.specs.Lawful.{ArePublishable, IsPublishable, layout_at, section_in}
+use Rattle.tuner_core.specs.Heard.{is_accepted}
+use Rattle.carousel_world.specs.Broadcasts.{Broadcast}
+use Rattle.carousel_world.specs.Premises.{AcceptedAreSent, IsHeardOf, IsWhole}
+use Rattle.carousel_world.specs.Instances.{tree_of, cycles_of}
+use Rattle.carousel_world.specs.World.{WorldState, candidates_in}
+use Rattle.carousel_world.specs.Promises.{broadcast_of, IsAscribedIn, IsUndamaged, world_after}
+use Rattle.carousel_world.specs.Runs.{lossy_run, RunIsPremised}
+use Rattle.carousel_world.proofs.Instances.{first_content, second_content, first_publishable, second_publishable}
+use Rattle.carousel_world.proofs.Premised.{heard_by, its_blocks}
+
+abbrev pub after_run : WorldState
+after_run = world_after 1 lossy_run
+
+-- it sends three whole cycles
+abbrev pub sent : Broadcast
+sent = cycles_of (tree_of first_content ∷ tree_of second_content ∷ []) (1 ∷ 2 ∷ 2 ∷ [])
+
+same_broadcast : broadcast_of after_run ≡ sent
+same_broadcast = refl
+
+abbrev pub section : ℕ → Item → Bytes
+section g item = section_in 1 sent.layouts g item
+
+abbrev pub all : List Bytes
+all = candidates_in after_run
+
+-- ---- each accepted candidate was sent
+
+abbrev pub From : ℕ → ℕ → Type 0
+From = IsAscribedIn after_run
+
+of_first_dii : From 0 1
+of_first_dii = record { cut = record { packet = 0; offset = 5; bytes = section 1 Dii }; is = refl; packet = 1; came = refl; begins = refl }
+
+of_first_block : From 1 2
+of_first_block = record { cut = record { packet = 1; offset = 5; bytes = section 1 (Block 1 0) }; is = refl; packet = 2; came = refl; begins = refl }
+
+of_dsi : From 2 3
+of_dsi = record { cut = record { packet = 3; offset = 5; bytes = section 2 Dsi }; is = refl; packet = 4; came = refl; begins = refl }
+
+of_dii : From 3 4
+of_dii = record { cut = record { packet = 4; offset = 5; bytes = section 2 Dii }; is = refl; packet = 5; came = refl; begins = refl }
+
+of_last_dsi : From 5 6
+of_last_dsi = record { cut = record { packet = 7; offset = 5; bytes = section 2 Dsi }; is = refl; packet = 8; came = refl; begins = refl }
+
+of_last_dii : From 6 7
+of_last_dii = record { cut = record { packet = 8; offset = 5; bytes = section 2 Dii }; is = refl; packet = 9; came = refl; begins = refl }
+
+of_block : From 7 8
+of_block = record { cut = record { packet = 9; offset = 5; bytes = section 2 (Block 1 0) }; is = refl; packet = 10; came = refl; begins = refl }
+
+fails : is_accepted (slice_index_or all 4 []) ≡ false
+fails = refl
+
+accepted_are_sent : AcceptedAreSent (broadcast_of after_run) all From
+accepted_are_sent zero bytes e accepted = (1, of_first_dii, e)
+accepted_are_sent (suc zero) bytes e accepted = (2, of_first_block, e)
+accepted_are_sent (suc (suc zero)) bytes e accepted = (3, of_dsi, e)
+accepted_are_sent (suc (suc (suc zero))) bytes e accepted = (4, of_dii, e)
+accepted_are_sent (suc (suc (suc (suc zero)))) bytes e accepted =
+    let is : slice_index_or all 4 [] ≡ bytes = same_Some (slice_index_or all 4 []) bytes e in
+    let bad : false ≡ true = subst IsTrue fails (subst (λ y. IsTrue (is_accepted y)) (sym is) accepted) in cc
+accepted_are_sent (suc (suc (suc (suc (suc zero))))) bytes e accepted = (6, of_last_dsi, e)
+accepted_are_sent (suc (suc (suc (suc (suc (suc zero)))))) bytes e accepted = (7, of_last_dii, e)
+accepted_are_sent (suc (suc (suc (suc (suc (suc (suc zero))))))) bytes e accepted = (8, of_block, e)
+accepted_are_sent (suc (suc (suc (suc (suc (suc (suc (suc i)))))))) bytes e accepted = cc
+
+-- ---- a whole cycle
+
+abbrev module_bytes : Bytes
+module_bytes = unwrap_or (module_in (layout_at sent.layouts 2) 1) []
+
+the_block : (b : ℕ) → b < 1 → Contains (section 2 (Block 1 0) ∷ []) (section 2 (Block 1 b))
+the_block zero lt = (0, lit< tt, refl)
+the_block (suc b) lt = absurd (omega (arith, lt))
+
+whole : IsWhole 1 (broadcast_of after_run).layouts 2 all
+whole = record {
+  generation = lit< tt;
+  gateway = (2, lit< tt, refl);
+  round = record {
+    before = take 6 all;
+    after = section 2 (Block 1 0) ∷ [];
+    place = refl;
+    blocks = λ m b every item. its_blocks sent.layouts 2 module_bytes (section 2 (Block 1 0) ∷ []) 1 1 refl refl the_block m b item;
+  };
+  no_later = λ h above below has. let few : h < 3 = below in absurd (omega (arith, above, few));
+}
+
+both : ArePublishable 1 (tree_of first_content ∷ tree_of second_content ∷ [])
+both = record {
+  carousel_id = lit< tt;
+  few = lit≤ tt;
+  each = All-cons IsPublishable (tree_of first_content) (tree_of second_content ∷ []) first_publishable
+      (All-cons IsPublishable (tree_of second_content) [] second_publishable (All-nil IsPublishable));
+}
+
+-- ---- the premises
+
+undamaged : LayoutsAreLawful → IsUndamaged after_run
+undamaged lawful =
+    let heard : IsHeardOf sent all From = heard_by lawful (tree_of first_content ∷ tree_of second_content ∷ []) (1 ∷ 2 ∷ 2 ∷ []) all From both refl refl refl accepted_are_sent in
+    record { accepted = accepted_are_sent; near = heard.near }
+
+pub run_is_premised : LayoutsAreLawful → RunIsPremised
+unfolding message_at block_at each_at tap_at component_at location_at taps_at components_at profile_at ior_at info_at line_at dii_at dsi_at binding_at context_at file_at folder_at object_at head_at sized_at frame_at private_at inside_at
+run_is_premised lawful = record { published = both; undamaged = undamaged lawful; whole = whole; replies = refl }

@@ -1,0 +1,207 @@
+ghost use Rattle.std.specs.Prelude.{◌≡◌, ◌<◌, ◌≤◌, ◌^◌, ◌*◌, ◌+◌, ◌++◌, ◌∷◌, [], List, ℕ, false, true, map, length, IfOk, IsErr, OnOk, OnErr};
+ghost use Rattle.std.specs.Arc.{arc_value};
+ghost use Rattle.std.specs.List.{All, fold};
+ghost use Rattle.path_tree.specs.Paths.{Bytes};
+ghost use Rattle.path_resolver.specs.Shots as shots;
+ghost use Rattle.section_stream.specs.Kept.{view_bytes};
+ghost use Rattle.section_stream.specs.Packing.{IsSectionLike, packets_of_all, past};
+ghost use Rattle.section_stream.specs.Cuts.{candidates};
+ghost use Rattle.tuner_core.specs.Stands as tuning;
+ghost use Rattle.tuner_core.specs.LookBack.{snapshot_after};
+ghost use Rattle.carousel_world.specs.Fates.{fate_of, received_under};
+ghost use Rattle.carousel_world.specs.DownView.{DownlinkStands, Hears};
+
+use oc_bytes::NoMemory;
+use path_resolver::Shot;
+use section_stream::{Demux, Mux};
+use std::alloc::{AllocError, Global};
+use std::marker::Model;
+use std::sync::Arc;
+use ts_packet::Fate;
+use tuner_core::Tuner;
+
+/// The way from a broadcaster to a receiver, and that receiver: sections are packed, each packet meets its fate, and what arrives
+/// is cut into candidates and held. In memory, and this project's own.
+///
+/// Contracts see its packer, its demultiplexer, its receiver and whether it is spent. The relation `DownlinkStands` says of which
+/// sections and received packets that is.
+#[derive(Drop)]
+pub struct Downlink {
+    alloc: Global,
+    mux: Mux,
+    demux: Demux,
+    tuner: Tuner,
+    spent: bool,
+}
+
+impl Model for Downlink {
+    ghost use Rattle.carousel_world.specs.DownView.{DownlinkState};
+
+    ghost Value = { DownlinkState };
+
+    ghost view = { λ d. record { mux = d.mux; demux = d.demux; tuner = d.tuner; spent = d.spent } };
+}
+
+/// The fate of a packet by its number in a draw, counted from 0: the list goes round, and an empty one keeps all.
+fn fate_at(fates: &[Fate], number: u64) -> Fate
+    ensures { result ≡ fate_of fates.now number }
+{
+    if fates.is_empty() {
+        return Fate::Keep;
+    }
+    fates[(number % fates.len() as u64) as usize]
+}
+
+impl Downlink {
+    /// A downlink on the PID `pid`, 0 to 8,191, over which nothing was carried. Out of memory is the only refusal.
+    pub fn new(alloc: Global, pid: u16) -> Result<Downlink, NoMemory>
+        requires { pid < 8192 }
+        ensures { IfOk result (λ d. DownlinkStands d pid [] []) }
+    {
+        Ok(Downlink {
+            alloc,
+            mux: Mux::new(alloc, pid),
+            demux: Demux::new(alloc, pid)?,
+            tuner: Tuner::new(alloc),
+            spent: false,
+        })
+    }
+
+    /// Answers out of memory from now on.
+    pub(crate) fn spend(&mut self)
+        ensures { self.new ≡ record self.old { spent = true } }
+    {
+        self.spent = true;
+    }
+
+    pub(crate) fn is_spent(&self) -> bool
+        ensures { result ≡ self.now.spent }
+    {
+        self.spent
+    }
+
+    /// Sends sections of a draw: makes their packets, the first of which is packet number `from` of the draw, gives each its fate,
+    /// and receives what arrives. Packet number i has the fate at place i modulo the number of fates, and is kept where there are
+    /// none. Answers the number of the packet after them. `last` says that no further section of the draw follows.
+    ///
+    /// There are at most 1,048,576 sections, each as `Mux::packets` asks, and `from` is at most 2^40. Nothing is asked for a packet
+    /// but what it completes. Out of memory is the only refusal; the downlink is spent then, and each later call answers it.
+    pub fn carry(
+        &mut self,
+        sections: &[Vec<u8>],
+        fates: &[Fate],
+        from: u64,
+        last: bool,
+    ) -> Result<u64, NoMemory>
+        requires few { length sections.now ≤ 1048576 }
+        requires sections { All (λ s. IsSectionLike s.items) sections.now }
+        requires from { from ≤ 2 ^ 40 }
+        ensures number { IfOk result (λ n. n ≡ from + length (packets_of_all self.old.mux (map view_bytes sections.now))) }
+        ensures stands { OnOk result ((pid : ℕ) (sent packets : List Bytes) → DownlinkStands self.old pid sent packets
+            → DownlinkStands self.new pid (sent ++ map view_bytes sections.now) (packets ++ received_under fates.now from (packets_of_all self.old.mux (map view_bytes sections.now)))) }
+        ensures mux { OnOk result (self.new.mux ≡ fold past self.old.mux (map view_bytes sections.now)) }
+        ensures spent { OnErr result (self.new.spent ≡ true) }
+        ensures stays { self.old.spent ≡ true → IsErr result }
+    {
+        if self.spent {
+            return Err(AllocError);
+        }
+        let carried = self.send(sections, fates, from, last);
+        if carried.is_err() {
+            self.spent = true;
+        }
+        carried
+    }
+
+    /// The same of a downlink that works.
+    fn send(
+        &mut self,
+        sections: &[Vec<u8>],
+        fates: &[Fate],
+        from: u64,
+        last: bool,
+    ) -> Result<u64, NoMemory>
+        requires few { length sections.now ≤ 1048576 }
+        requires sections { All (λ s. IsSectionLike s.items) sections.now }
+        requires from { from ≤ 2 ^ 40 }
+        ensures number { IfOk result (λ n. n ≡ from + length (packets_of_all self.old.mux (map view_bytes sections.now))) }
+        ensures mux { OnOk result (self.new.mux ≡ fold past self.old.mux (map view_bytes sections.now)) }
+        ensures hears { OnOk result (Hears self.old self.new (received_under fates.now from (packets_of_all self.old.mux (map view_bytes sections.now)))) }
+    {
+        let mut packets = Vec::new(self.alloc);
+        let mut number = from;
+        for section in sections {
+            packets.clear();
+            self.mux.packets(section, &mut packets)?;
+            number = self.receive(&packets, fates, number)?;
+        }
+        if last {
+            self.send_rest(&mut packets, fates, number)
+        } else {
+            Ok(number)
+        }
+    }
+
+    /// Sends what the packer held back of a draw, in these packets, and answers the number of the packet after it. Nothing is held
+    /// back, since each section begins a packet.
+    fn send_rest(
+        &mut self,
+        packets: &mut Vec<[u8; 188]>,
+        fates: &[Fate],
+        from: u64,
+    ) -> Result<u64, NoMemory>
+        ensures number { IfOk result (λ n. n ≡ from) }
+        ensures mux { OnOk result (self.new.mux ≡ self.old.mux) }
+        ensures hears { OnOk result (Hears self.old self.new []) }
+    {
+        packets.clear();
+        self.mux.finish(packets)?;
+        self.receive(packets, fates, from)
+    }
+
+    /// Receives what arrives of packets, the first of which has this number, and answers the number after them.
+    fn receive(&mut self, packets: &[[u8; 188]], fates: &[Fate], from: u64) -> Result<u64, NoMemory>
+        requires { from + length packets.now < 2 ^ 64 }
+        ensures number { IfOk result (λ n. n ≡ from + length packets.now) }
+        ensures mux { OnOk result (self.new.mux ≡ self.old.mux) }
+        ensures hears { OnOk result (Hears self.old self.new (received_under fates.now from packets.now)) }
+    {
+        let mut number = from;
+        for packet in packets {
+            if let Some(arrived) = fate_at(fates, number).arrived(packet) {
+                self.hear(&arrived)?;
+            }
+            number += 1;
+        }
+        Ok(number)
+    }
+
+    /// Receives one packet.
+    fn hear(&mut self, packet: &[u8; 188]) -> Result<(), NoMemory>
+        ensures mux { OnOk result (self.new.mux ≡ self.old.mux) }
+        ensures hears { OnOk result (Hears self.old self.new (packet.now ∷ [])) }
+    {
+        let candidates = self.demux.feed(packet)?;
+        listen(&mut self.tuner, &candidates)
+    }
+
+    /// A shot of what is held, with the caller's own counts `number` and `draws`. The modules are shared and not copied. Out of
+    /// memory is the only refusal, and changes nothing.
+    pub fn shot(&self, number: u64, draws: u64) -> Result<Arc<Shot>, NoMemory>
+        ensures numbers { IfOk result (λ s. ((arc_value s).number ≡ number) × ((arc_value s).draws ≡ draws)) }
+        ensures held { IfOk result (λ s. (pid : ℕ) (sent packets : List Bytes) → DownlinkStands self.now pid sent packets
+            → shots.view (arc_value s) ≡ snapshot_after number draws (candidates pid packets)) }
+    {
+        self.tuner.shot(number, draws)
+    }
+}
+
+/// Feeds candidates to a receiver.
+fn listen(tuner: &mut Tuner, candidates: &[Vec<u8>]) -> Result<(), NoMemory>
+    ensures { OnOk result ((before : List Bytes) → tuning.StandsFor tuner.old before → tuning.StandsFor tuner.new (before ++ map view_bytes candidates.now)) }
+{
+    for candidate in candidates {
+        tuner.feed(candidate)?;
+    }
+    Ok(())
+}

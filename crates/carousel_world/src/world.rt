@@ -1,0 +1,235 @@
+ghost use Rattle.std.specs.Prelude.{◌≡◌, ◌<◌, ◌≤◌, ◌*◌, ◌++◌, ◌∷◌, [], List, ℕ, map, length, vec_len, true, IfOk, IsErr, OnOk, OnErr};
+ghost use Rattle.std.specs.Arc.{arc_value};
+ghost use Rattle.std.specs.List.{All, Contains, fold};
+ghost use Rattle.path_tree.specs.Paths.{Bytes};
+ghost use Rattle.generation.specs.Layouts.{items_of, section_of};
+ghost use Rattle.section_stream.specs.Kept.{view_bytes};
+ghost use Rattle.section_stream.specs.Packing.{IsSectionLike, packets_of_all, past};
+ghost use Rattle.carousel_world.specs.DownView.{DownlinkStands};
+ghost use Rattle.carousel_world.specs.Events.{view, Step, Commit, Draw, Open};
+ghost use Rattle.carousel_world.specs.Promises.{MeetsHeadline, world_after};
+ghost use Rattle.carousel_world.specs.Fates.{received_under};
+ghost use Rattle.carousel_world.specs.World.{WorldState, InRange, AsksForMemory, opening, reply_to, happens, replies_to, after_all};
+
+use crate::downlink::Downlink;
+use crate::event::{Event, Reply};
+use crate::laws::every_run_meets_the_headline;
+use cycle_planner::Item;
+use generation::Generation;
+use generation_catalogue::{Batch, Catalogue, CommitFault, DrawFault};
+use oc_bytes::NoMemory;
+use path_resolver::resolve;
+use path_tree::{Edits, Path};
+use std::alloc::{AllocError, Global};
+use ts_packet::Fate;
+
+/// The PID on which a world sends.
+const PID: u16 = 256;
+
+/// The most items of a draw whose sections are in memory at once.
+const PIECE: usize = 1024;
+
+/// A broadcaster of one carousel and a receiver, one event after another.
+#[derive(Drop)]
+pub struct World {
+    alloc: Global,
+    catalogue: Catalogue,
+    downlink: Downlink,
+}
+
+impl World {
+    ghost use Rattle.carousel_world.specs.View.{kept, StandsFor, IsLeft};
+
+    /// The world of a carousel, any 32-bit id, in which nothing has happened: generation 0 with the empty tree, and a receiver that
+    /// has heard nothing. Out of memory is the only refusal.
+    pub fn new(alloc: Global, carousel: u32) -> Result<World, NoMemory>
+        ensures { IfOk result (λ w. StandsFor (kept w) (opening carousel)) }
+    {
+        Ok(World {
+            alloc,
+            catalogue: Catalogue::new(alloc, carousel)?,
+            downlink: Downlink::new(alloc, PID)?,
+        })
+    }
+
+    /// Makes one event happen, and gives its reply. Editors and readers are numbered 1 to 64, and a draw asks for 1 to 1,048,576
+    /// items.
+    ///
+    /// Out of memory is the only refusal, and a world that works answers it only of an event that asks for memory: an open, a commit where
+    /// neither the season nor the journal is full, and a draw where there is room for its entry. After it in a draw the world is spent:
+    /// each later call answers it. In another event it changes nothing.
+    pub fn step(&mut self, event: Event) -> Result<Reply, NoMemory>
+        requires { InRange (view event) }
+        ensures reply { IfOk result (λ r. (w : WorldState) → StandsFor (kept self.old) w → r ≡ reply_to w (view event)) }
+        ensures stands { OnOk result ((w : WorldState) → StandsFor (kept self.old) w → StandsFor (kept self.new) (happens w (view event))) }
+        ensures left { OnErr result (IsLeft (view event) (kept self.old) (kept self.new)) }
+        ensures memory { OnErr result ((w : WorldState) → StandsFor (kept self.old) w → AsksForMemory w (view event)) }
+        ensures stays { (kept self.old).down.spent ≡ true → IsErr result × ((kept self.new).down.spent ≡ true) }
+    {
+        if self.downlink.is_spent() {
+            return Err(AllocError);
+        }
+        match event {
+            Event::Commit { editor, edits } => self.commit(editor, edits),
+            Event::Draw { asked, fates } => self.draw(asked, &fates),
+            Event::Open { reader: _, path } => self.open(&path),
+        }
+    }
+
+    /// A commit.
+    fn commit(&mut self, editor: u32, edits: Edits) -> Result<Reply, NoMemory>
+        ensures reply { IfOk result (λ r. (w : WorldState) → StandsFor (kept self.old) w → r ≡ reply_to w (Commit editor edits)) }
+        ensures stands { OnOk result ((w : WorldState) → StandsFor (kept self.old) w → StandsFor (kept self.new) (happens w (Commit editor edits))) }
+        ensures left { OnErr result (kept self.new ≡ kept self.old) }
+        ensures memory { OnErr result ((w : WorldState) → StandsFor (kept self.old) w → AsksForMemory w (Commit editor edits)) }
+    {
+        match self.catalogue.commit_edits(editor, edits) {
+            Ok(number) => Ok(Reply::Committed(number)),
+            Err(CommitFault::Refused(refusal)) => Ok(Reply::Refused(refusal)),
+            Err(CommitFault::NoMemory) => Err(AllocError),
+        }
+    }
+
+    /// A draw. Out of memory spends the world.
+    fn draw(&mut self, asked: u32, fates: &[Fate]) -> Result<Reply, NoMemory>
+        requires { (1 ≤ asked) × (asked ≤ 1048576) }
+        ensures reply { IfOk result (λ r. (w : WorldState) → StandsFor (kept self.old) w → r ≡ reply_to w (Draw asked fates.now)) }
+        ensures stands { OnOk result ((w : WorldState) → StandsFor (kept self.old) w → StandsFor (kept self.new) (happens w (Draw asked fates.now))) }
+        ensures left { OnErr result ((kept self.new).down.spent ≡ true) }
+        ensures memory { OnErr result ((w : WorldState) → StandsFor (kept self.old) w → AsksForMemory w (Draw asked fates.now)) }
+    {
+        let drawn = self.draw_and_send(asked, fates);
+        if drawn.is_err() {
+            self.downlink.spend();
+        }
+        drawn
+    }
+
+    /// The same of a world that works.
+    fn draw_and_send(&mut self, asked: u32, fates: &[Fate]) -> Result<Reply, NoMemory>
+        requires { (1 ≤ asked) × (asked ≤ 1048576) }
+        ensures reply { IfOk result (λ r. (w : WorldState) → StandsFor (kept self.old) w → r ≡ reply_to w (Draw asked fates.now)) }
+        ensures stands { OnOk result ((w : WorldState) → StandsFor (kept self.old) w → StandsFor (kept self.new) (happens w (Draw asked fates.now))) }
+        ensures memory { OnErr result ((w : WorldState) → StandsFor (kept self.old) w → AsksForMemory w (Draw asked fates.now)) }
+    {
+        let batch = match self.catalogue.draw(asked) {
+            Ok(batch) => batch,
+            Err(DrawFault::DrawsFull(draws)) => return Ok(Reply::DrawsFull(draws)),
+            Err(DrawFault::NoMemory) => return Err(AllocError),
+        };
+        send(
+            self.alloc,
+            &mut self.downlink,
+            &batch.generation,
+            &batch.items,
+            fates,
+        )?;
+        Ok(Reply::Drawn {
+            generation: batch.generation.number(),
+            first: batch.first,
+            count: batch.items.len() as u64,
+        })
+    }
+
+    /// An open.
+    fn open(&self, path: &Path) -> Result<Reply, NoMemory>
+        ensures { IfOk result (λ r. (w : WorldState) (reader : ℕ) → StandsFor (kept self.now) w → r ≡ reply_to w (Open reader path.now)) }
+    {
+        let shot = self.downlink.shot(0, 0)?;
+        let answer = resolve(&shot, path)?;
+        Ok(Reply::Opened {
+            label: shot.label,
+            answer,
+        })
+    }
+
+    /// Makes events happen in turn, and gives their replies, or out of memory at the first that finds none.
+    fn run_all(&mut self, events: Vec<Event>) -> Result<Vec<Reply>, NoMemory>
+        requires { All InRange (map view events.items) }
+        ensures replies { IfOk result (λ rs. (w : WorldState) → StandsFor (kept self.old) w → rs.items ≡ replies_to w (map view events.items)) }
+        ensures stands { OnOk result ((w : WorldState) → StandsFor (kept self.old) w → StandsFor (kept self.new) (after_all w (map view events.items))) }
+    {
+        let mut replies = Vec::with_capacity(self.alloc, events.len())?;
+        for event in events {
+            replies.push(self.step(event)?)?;
+        }
+        Ok(replies)
+    }
+
+    /// Makes events happen in turn, and gives the reply of each. Editors and readers are numbered 1 to 64, and each draw asks for 1
+    /// to 1,048,576 items.
+    ///
+    /// What is promised of every list of events holds of all that happened in this world: `every_run_meets_the_headline` says it.
+    ///
+    /// Out of memory is the only refusal. The world is spent after it, and each later call answers it.
+    pub fn run(&mut self, events: Vec<Event>) -> Result<Vec<Reply>, NoMemory>
+        requires { All InRange (map view events.items) }
+        ensures replies { IfOk result (λ rs. (w : WorldState) → StandsFor (kept self.old) w → rs.items ≡ replies_to w (map view events.items)) }
+        ensures stands { OnOk result ((w : WorldState) → StandsFor (kept self.old) w → StandsFor (kept self.new) (after_all w (map view events.items))) }
+        ensures headline { IfOk result (λ _. (carousel : ℕ) (before : List Step) → StandsFor (kept self.old) (world_after carousel before)
+            → MeetsHeadline carousel (before ++ map view events.items)) }
+        ensures spent { OnErr result ((kept self.new).down.spent ≡ true) }
+        ensures stays { (kept self.old).down.spent ≡ true → IsErr result }
+    {
+        if self.downlink.is_spent() {
+            return Err(AllocError);
+        }
+        match self.run_all(events) {
+            Ok(replies) => {
+                self.keeps_the_headline();
+                Ok(replies)
+            }
+            Err(fault) => {
+                self.downlink.spend();
+                Err(fault)
+            }
+        }
+    }
+
+    /// What is promised of every list of events holds of all that happened in this world, so of each list of events after which the
+    /// world stands as it does. Nothing is done.
+    pub fn keeps_the_headline(&self)
+        ensures { (carousel : ℕ) (events : List Step) → StandsFor (kept self.now) (world_after carousel events) → MeetsHeadline carousel events }
+    {
+        every_run_meets_the_headline();
+        self.catalogue.entries();
+    }
+}
+
+/// The sections of some items of a generation.
+fn encode(alloc: Global, generation: &Generation, items: &[Item]) -> Result<Vec<Vec<u8>>, NoMemory>
+    requires { All (λ item. Contains (items_of generation.now) item) items.now }
+    ensures sections { IfOk result (λ ss. map view_bytes ss.items ≡ map (section_of generation.now) items.now) }
+    ensures like { IfOk result (λ ss. All (λ s. IsSectionLike s.items) ss.items) }
+{
+    let mut sections = Vec::with_capacity(alloc, items.len())?;
+    for item in items {
+        sections.push(generation.section(*item)?)?;
+    }
+    Ok(sections)
+}
+
+/// Sends the items of a draw, at most so many sections at once.
+fn send(
+    alloc: Global,
+    downlink: &mut Downlink,
+    generation: &Generation,
+    items: &[Item],
+    fates: &[Fate],
+) -> Result<(), NoMemory>
+    requires items { All (λ item. Contains (items_of generation.now) item) items.now }
+    requires few { length items.now ≤ 1048576 }
+    ensures { OnOk result ((pid : ℕ) (sent packets : List Bytes) → DownlinkStands downlink.old pid sent packets
+        → (let sections = map (section_of generation.now) items.now in
+        DownlinkStands downlink.new pid (sent ++ sections) (packets ++ received_under fates.now 0 (packets_of_all downlink.old.mux sections)))) }
+{
+    let mut number = 0;
+    let mut sent = 0;
+    while sent < items.len() {
+        let end = items.len().min(sent + PIECE);
+        let sections = encode(alloc, generation, &items[sent..end])?;
+        number = downlink.carry(&sections, fates, number, end == items.len())?;
+        sent = end;
+    }
+    Ok(())
+}
