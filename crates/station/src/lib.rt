@@ -16,3 +16,6 @@ mod threads;
 pub use kept::{Kept, KeptItem};
 pub use station::{Pass, Station};
 pub use threads::cross_threads;
+
+#[cfg(test)]
+mod tests;

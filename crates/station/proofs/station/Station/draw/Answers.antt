@@ -14,12 +14,12 @@ use Rattle.station.proofs.station.Station.draw.Goals as goal
 pub put_back-requires-clause-grows : goal.put_back-requires-clause-grows
 put_back-requires-clause-grows g c κs =
     grows_from c.hold-hold.result.value c.value.result.now (state c.draw-answer.new.self.catalogue) _ c.hold-hold.ensures.taken c.value.ensures.value
-    (drawn_grows _ _ c.args.n c.draw-answer.result c.draw-answer.ensures.call)
+    (drawn_grows _ _ _ c.draw-answer.result c.draw-answer.ensures.call)
 
 pub returns-clause-pass : goal.returns-clause-pass
 returns-clause-pass g c =
     let known = still_pass c.args.self.now c.hold-hold.result.lock.now c.args.pass.now c.put_back.new.self.0 c.hold-hold.result.value c.value.result.now (state c.draw-answer.new.self.catalogue)
-    c.hold-hold.ensures.own.0 c.put_back.ensures.pass c.requires.pass.1 c.hold-hold.ensures.seen c.value.ensures.value (drawn_grows _ _ c.args.n c.draw-answer.result c.draw-answer.ensures.call) c.put_back.ensures.seen in
+    c.hold-hold.ensures.own.0 c.put_back.ensures.pass c.requires.pass.1 c.hold-hold.ensures.seen c.value.ensures.value (drawn_grows _ _ _ c.draw-answer.result c.draw-answer.ensures.call) c.put_back.ensures.seen in
     search (rules, known)
 
 pub returns-clause-call : goal.returns-clause-call
