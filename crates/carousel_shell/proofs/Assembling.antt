@@ -21,7 +21,7 @@ use Rattle.carousel_shell.specs.declared.status.Status.TheVariants as status
 use Rattle.carousel_shell.proofs.Answering.{goes_on}
 use Rattle.carousel_shell.proofs.Writing.{writes_prefix}
 
--- nothing was done, since memory was wanting
+-- nothing was done, since there was no memory
 pub assembles_nothing : (m : Asked) (source sink : Over Bytes) → TakesPrefix source → IsUntouched sink → Assembles m status.NoMemory source sink
 assembles_nothing m source sink takes none = record { ends = inl none; takes = takes }
 

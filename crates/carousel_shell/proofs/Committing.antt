@@ -5,7 +5,7 @@ use Rattle.std.specs.List.{All, Contains}
 use Rattle.std.proofs.lemmas.Bool.{cond-true, ltb-false}
 use Rattle.std.proofs.lemmas.List.Elements.{All-append, All-contains_itself, All-head, All-tail, All-nil, All-weaker}
 use Rattle.oc_bytes.specs.Outcome.{capped}
-use Rattle.path_tree.specs.Trees.{Tree, IsTree}
+use Rattle.path_tree.specs.Trees.{Tree}
 use Rattle.path_tree.specs.Edits.{apply_all}
 use Rattle.path_tree.specs.declared.tree.Edit.{Edit}
 use Rattle.path_tree.specs.declared.tree.EditFault.{EditFault}
@@ -13,10 +13,9 @@ use Rattle.cycle_planner.specs.Cycle.{cycle_of}
 use Rattle.cycle_planner.specs.declared.Item.{Item}
 use Rattle.biop_object.specs.Names.{Layout}
 use Rattle.generation.specs.Layouts.{GenerationState, generation_of, lines_of, lines_in, items_of, section_of}
-use Rattle.generation.specs.Publication.{Passed, limit_of}
-use Rattle.generation.specs.Lawful.{HasBytes, section_in}
+use Rattle.generation.specs.Lawful.{IsPublishable, section_in}
 use Rattle.generation.specs.Kept.{IsGenerationOf, GenerationsAreOfTheLists}
-use Rattle.generation_catalogue.specs.History.{CatalogueState, current_of, journal_of, put_bytes, outcome_of, unless_edit, unless_limit, or_same, is_entered, with_entry, committed}
+use Rattle.generation_catalogue.specs.History.{CatalogueState, current_of, trees_of, journal_of, put_bytes, outcome_of, unless_edit, or_same, is_entered, with_entry, committed}
 use Rattle.generation_catalogue.specs.Requests.{commit_cause}
 use Rattle.generation_catalogue.specs.declared.entry.Refusal.{Refusal}
 use Rattle.generation_catalogue.specs.declared.entry.Refusal.TheVariants as refusals
@@ -81,26 +80,27 @@ published_is carousel cycles t g law e =
 
 -- ---- one commit on a new carousel
 
--- a tree within the limits
-no_limit : (k n : ℕ) (l : Option Passed) → unless_limit k l ≡ Ok n → l ≡ None
-no_limit k n None e = refl
-no_limit k n (Some p) e = absurd (cc)
-
--- a commit that is accepted had edits that make such a tree
+-- a commit that is accepted had edits that make a tree
 by_outcome : (a b : Bool) (x y : Refusal) (k n : ℕ) (r : Result Tree (ℕ × EditFault)) → cond a (Err x) (cond b (Err y) (unless_edit k r)) ≡ Ok n
-    → (tree : Tree) × (r ≡ Ok tree) × (limit_of tree ≡ None) × (b ≡ false)
+    → (tree : Tree) × (r ≡ Ok tree) × (b ≡ false)
 by_outcome true b x y k n r e = absurd (cc)
 by_outcome false true x y k n r e = absurd (cc)
 by_outcome false false x y k n (Err fault) e = absurd (cc)
-by_outcome false false x y k n (Ok tree) e = (tree, refl, no_limit k n (limit_of tree) e, refl)
+by_outcome false false x y k n (Ok tree) e = (tree, refl, refl)
 
-tree_accepted : (carousel n : ℕ) (edits : List Edit) → outcome_of (new_carousel carousel) edits ≡ Ok n → (tree : Tree) × (apply_all [] edits ≡ Ok tree) × (limit_of tree ≡ None) × (put_bytes edits ≤ 536870912)
+tree_accepted : (carousel n : ℕ) (edits : List Edit) → outcome_of (new_carousel carousel) edits ≡ Ok n → (tree : Tree) × (apply_all [] edits ≡ Ok tree) × (put_bytes edits ≤ 536870912)
 tree_accepted carousel n edits e =
     let c = new_carousel carousel in
     let r = by_outcome ((current_of c).number == 16383) (nat_lt 536870912 (journal_of c + put_bytes edits)) (refusals.SeasonFull 16383) (refusals.JournalFull (capped (journal_of c + put_bytes edits)))
     ((current_of c).number + 1) n (apply_all [] edits) e in
-    let most : journal_of c + put_bytes edits ≤ 536870912 = ltb-false _ _ r.3 in
-    (r.0, r.1, r.2, omega arith)
+    let most : journal_of c + put_bytes edits ≤ 536870912 = ltb-false _ _ r.2 in
+    (r.0, r.1, omega arith)
+
+-- the one tree after it
+trees_entered : (carousel editor n : ℕ) (edits : List Edit) (r : Result ℕ Refusal) → r ≡ Ok n
+    → trees_of (cond (is_entered r) (with_entry (new_carousel carousel) (entries.Commit editor edits r)) (new_carousel carousel)) ≡ or_same [] (apply_all [] edits) ∷ []
+trees_entered carousel editor n edits (Ok m) e = refl
+trees_entered carousel editor n edits (Err refusal) e = absurd (cc)
 
 -- the generation after it is the first one's next, of that tree
 entered : (carousel editor n : ℕ) (edits : List Edit) (r : Result ℕ Refusal) → r ≡ Ok n
@@ -108,29 +108,29 @@ entered : (carousel editor n : ℕ) (edits : List Edit) (r : Result ℕ Refusal)
 entered carousel editor n edits (Ok m) e = refl
 entered carousel editor n edits (Err refusal) e = absurd (cc)
 
-tree_is : (carousel : ℕ) (t : Tree) (g : GenerationState) → g ≡ generation_of carousel (t ∷ []) → g.tree ≡ t
-tree_is carousel t g e = ap (λ (s : GenerationState). s.tree) e
-
 pub made_of_folder : EditsMakeTheFiles → (folder : Bytes) (carousel editor n : ℕ) (told : Option FolderTree) (edits : List Edit) (before after : CatalogueState) (g : GenerationState)
-    → before ≡ new_carousel carousel → outcome_of before edits ≡ Ok n → after ≡ committed before editor edits → g ≡ current_of after → IsTree g.tree → HasBytes g.tree
+    → before ≡ new_carousel carousel → outcome_of before edits ≡ Ok n → after ≡ committed before editor edits → g ≡ current_of after → All IsPublishable (trees_of after)
     → ((t : FolderTree) → told ≡ Some t → edits_of t folder ≡ Ok edits) → ((t : FolderTree) → told ≡ Some t → is_folder_at t folder ≡ true)
     → IsOfFolder folder carousel told g
-made_of_folder law folder carousel editor n told edits before after g b o a e valid bytes is_edits there =
+made_of_folder law folder carousel editor n told edits before after g b o a e published is_edits there =
     let C : CatalogueState → Type 0 = λ c. outcome_of c edits ≡ Ok n in
     let out : outcome_of (new_carousel carousel) edits ≡ Ok n = subst C b o in
     let applied = tree_accepted carousel n edits out in
+    let commit : after ≡ committed (new_carousel carousel) editor edits = a ∙ ap (λ c. committed c editor edits) b in
+    let trees : trees_of after ≡ applied.0 ∷ [] =
+    ap trees_of commit ∙ trees_entered carousel editor n edits (outcome_of (new_carousel carousel) edits) out ∙ ap (λ r. or_same [] r ∷ []) applied.1 in
     let is : g ≡ generation_of carousel (applied.0 ∷ []) =
-    e ∙ ap current_of (a ∙ ap (λ c. committed c editor edits) b) ∙ entered carousel editor n edits (outcome_of (new_carousel carousel) edits) out
+    e ∙ ap current_of commit ∙ entered carousel editor n edits (outcome_of (new_carousel carousel) edits) out
     ∙ ap (λ r. generation_of carousel (or_same [] r ∷ [])) applied.1 in
     record {
       tree = applied.0;
       is = is;
       of = record {
-        publishable = record { tree = subst IsTree (tree_is carousel applied.0 g is) valid; bytes = subst HasBytes (tree_is carousel applied.0 g is) bytes; within = applied.2 };
+        publishable = All-head IsPublishable applied.0 [] (subst (All IsPublishable) trees published);
         of_folder = λ t h. ap (λ v. cond v (tree_by carousel (edits_of t folder)) None) (there t h) ∙ ap (tree_by carousel) (is_edits t h)
             ∙ ap (λ r. accepted_tree r (apply_all [] edits)) out ∙ ap (accepted_tree (Ok n)) applied.1;
         accepted = λ t h. ap (λ v. cond v (end_by carousel (edits_of t folder)) status.FolderFault) (there t h) ∙ ap (end_by carousel) (is_edits t h) ∙ ap unless_refused out;
-        files = λ t h valid_folder. law t folder edits applied.0 valid_folder (is_edits t h) applied.3 applied.1;
+        files = λ t h valid_folder. law t folder edits applied.0 valid_folder (is_edits t h) applied.2 applied.1;
       };
     }
 

@@ -5,11 +5,10 @@ use Rattle.folder_store.specs.Folders.{FolderTree}
 use Rattle.shell_words.specs.Words as commands
 use Rattle.shell_streams.specs.Cuts.{Bytes}
 use Rattle.shell_streams.specs.Held.{IsRear}
-use Rattle.shell_streams.specs.Sending.{OutputState}
 use Rattle.shell_streams.specs.declared.carrier.Carrier.{Carrier}
 use Rattle.shell_streams.specs.declared.carrier.Carrier.TheVariants as carriers
 use Rattle.shell_streams.proofs.CallerLemmas.{told_same}
-use Rattle.carousel_shell.specs.Over.{Over, sent, IsUntouched, TakesPrefix, Appends}
+use Rattle.carousel_shell.specs.Over.{Over, over, IsUntouched, TakesPrefix, Appends}
 use Rattle.carousel_shell.specs.Record.{AreFirst, Records}
 use Rattle.carousel_shell.specs.Open.{Question, Answers, asks_paths, asks_all}
 use Rattle.carousel_shell.specs.Reception.{Receptions}
@@ -37,7 +36,7 @@ records_nothing pid source sink e f =
       takes = takes_nothing source e;
     }
 
--- memory was wanting before a command began
+-- there was no memory before a command began
 memory_promises : (c : commands.Named) (source sink : Over Bytes) (folders : Over FolderTree) → Receptions → IsUntouched source → IsUntouched sink → Promises c status.NoMemory source sink folders
 memory_promises (commands.Assemble id version size download) source sink folders law e f = record { ends = inl f; takes = takes_nothing source e }
 memory_promises (commands.OpenSections paths) source sink folders law e f = answers_nothing (carriers.Sections 16777216) (asks_paths paths) source sink law e f
@@ -46,7 +45,7 @@ memory_promises (commands.Record pid) source sink folders law e f = records_noth
 memory_promises (commands.ListAll pid) source sink folders law e f = answers_nothing (carriers.Packets pid) asks_all source sink law e f
 memory_promises (commands.Publish folder carousel cycles) source sink folders law e f =
     record { unread = e; keeps = record { ends = inl f; needs = λ t h n. inr refl; heard = law.sent carousel cycles } }
-memory_promises commands.Rehearse source sink folders law e f = record { ends = inr refl; unread = e; unwritten = f }
+memory_promises commands.Rehearse source sink folders law e f = record { ends = inl f; takes = takes_nothing source e }
 memory_promises commands.Session source sink folders law e f = record { ends = inr refl; unread = e; unwritten = f }
 memory_promises (commands.Big n) source sink folders law e f = record { ends = inr refl; unread = e; unwritten = f }
 
@@ -62,12 +61,10 @@ words_keep r source sink folders is e f =
     let P : Result commands.Named commands.Misfit → Type 0 = λ x. Keeps x status.Words source sink folders in
     subst P (sym is) (record { ends = inl refl; unread = e; unwritten = f })
 
--- the output's ends are those of the sink
-pub promises_to : (c : commands.Named) (s : Status) (source sink : Over Bytes) (folders : Over FolderTree) (old new : OutputState) → old.written ≡ sink.before → new.written ≡ sink.after
-    → old.faults ≡ sink.faults → new.faults ≡ sink.faults_after → Promises c s source (sent old new) folders → Promises c s source sink folders
-promises_to c s source sink folders old new a b x y p =
-    let P : Option Bytes → Type 0 = λ w. Promises c s source (record { before = w; after = new.written; faults = old.faults; faults_after = new.faults }) folders in
-    let Q : Option Bytes → Type 0 = λ w. Promises c s source (record { before = sink.before; after = w; faults = old.faults; faults_after = new.faults }) folders in
-    let R : ℕ → Type 0 = λ n. Promises c s source (record { before = sink.before; after = sink.after; faults = n; faults_after = new.faults }) folders in
-    let S : ℕ → Type 0 = λ n. Promises c s source (record { before = sink.before; after = sink.after; faults = sink.faults; faults_after = n }) folders in
-    subst S y (subst R x (subst Q b (subst P a p)))
+-- the sink that the output lends is the one that was handed in
+pub promises_over : {X : Type 0} (c : commands.Named) (s : Status) (source : Over Bytes) (folders : Over FolderTree) (content : X → Option Bytes) (faults : X → ℕ) (begin end first last : X)
+    → begin ≡ first → end ≡ last → Promises c s source (over content faults begin end) folders → Promises c s source (over content faults first last) folders
+promises_over {X} c s source folders content faults begin end first last a b p =
+    let P : X → Type 0 = λ x. Promises c s source (over content faults x end) folders in
+    let Q : X → Type 0 = λ x. Promises c s source (over content faults first x) folders in
+    subst Q b (subst P a p)

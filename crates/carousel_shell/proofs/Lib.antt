@@ -1,4 +1,3 @@
-mod Bytewise
 mod Joining
 mod Offering
 mod Parts
@@ -9,5 +8,6 @@ mod Answering
 mod Assembling
 mod Recording
 mod Committing
+mod Rehearsing
 mod Cycling
 mod Declining

@@ -10,6 +10,7 @@ pub mod Open
 pub mod Assemble
 pub mod Record
 pub mod Publish
+pub mod Rehearse
 pub mod Promises
 pub mod Gathering
 pub mod Gatherers

@@ -10,6 +10,7 @@ use Rattle.carousel_shell.specs.Assemble.{Assembles}
 use Rattle.carousel_shell.specs.Open.{Answers, asks_paths, asks_all}
 use Rattle.carousel_shell.specs.Record.{Records}
 use Rattle.carousel_shell.specs.Publish.{Publishes}
+use Rattle.carousel_shell.specs.Rehearse.{Rehearses}
 use Rattle.carousel_shell.specs.declared.status.Status.{Status}
 use Rattle.carousel_shell.specs.declared.status.Status.TheVariants as status
 
@@ -31,7 +32,7 @@ Promises (commands.Open pid paths) s source sink folders = Answers (carriers.Pac
 Promises (commands.Record pid) s source sink folders = Records pid s source sink
 Promises (commands.ListAll pid) s source sink folders = Answers (carriers.Packets pid) asks_all s source sink
 Promises (commands.Publish folder carousel cycles) s source sink folders = WithoutInput source (Publishes folder carousel cycles s sink folders)
-Promises commands.Rehearse s source sink folders = Declines s source sink
+Promises commands.Rehearse s source sink folders = Rehearses s source sink
 Promises commands.Session s source sink folders = Declines s source sink
 Promises (commands.Big n) s source sink folders = Declines s source sink
 

@@ -47,7 +47,7 @@ EndsPublish folder carousel cycles sink folders status.WriteFault = Failed sink 
 EndsPublish folder carousel cycles sink folders status.NoMemory = IsUntouched sink ⊎ Sending folder carousel cycles sink folders
 EndsPublish folder carousel cycles sink folders _ = ⊥
 
--- a told tree without the folder always answers so, want of memory aside
+-- a known tree without the folder always answers so, except out of memory
 abbrev pub NeedsFolder : Bytes → Over FolderTree → Status → Type 0
 NeedsFolder folder folders s = (t : FolderTree) → folders.before ≡ Some t → is_folder_at t folder ≡ false → (s ≡ status.FolderFault) ⊎ (s ≡ status.NoMemory)
 

@@ -27,7 +27,7 @@ end_by carousel (Err IsTooDeep) = status.TreeRefused trees.TooDeep
 end_by carousel (Err IsBadName) = status.TreeRefused trees.BadName
 end_by carousel (Ok edits) = unless_refused (outcome_of (new_carousel carousel) edits)
 
--- how publishing a folder ends where no fault of the outside and no want of memory is met: the walk's first fault refuses the tree, or
+-- how publishing a folder ends where the outside has no fault and there is memory: the walk's first fault refuses the tree, or
 -- else the commit's refusal
 abbrev pub publish_end : (folder : Bytes) (carousel : ℕ) → FolderTree → Status
 publish_end folder carousel t = if is_folder_at t folder then end_by carousel (edits_of t folder) else status.FolderFault

@@ -7,6 +7,10 @@ use Rattle.folder_store.specs.declared.reading.ReadTree.{ReadTree}
 use Rattle.folder_store.specs.declared.reading.ReadTree.TheVariants as reads
 use Rattle.generation_catalogue.specs.declared.entry.CommitFault.{CommitFault}
 use Rattle.generation_catalogue.specs.declared.entry.CommitFault.TheVariants as commits
+use Rattle.session_script.specs.Texts.{cause_text}
+use Rattle.session_script.specs.declared.script.LineCause.{LineCause}
+use Rattle.session_script.specs.declared.script.ScriptFault.{ScriptFault}
+use Rattle.session_script.specs.declared.script.ScriptFault.TheVariants as scripts
 use Rattle.shell_streams.specs.declared.input.InputFault.{InputFault}
 use Rattle.shell_streams.specs.declared.input.InputFault.TheVariants as inputs
 use Rattle.shell_streams.specs.declared.output.OutputFault.{OutputFault}
@@ -20,6 +24,7 @@ abbrev pub code_of : Status → ℕ
 code_of status.Done = 0
 code_of status.NotAll = 1
 code_of status.Words = 2
+code_of (status.BadLine number cause) = 3
 code_of status.ReadFault = 4
 code_of status.WriteFault = 5
 code_of status.FolderFault = 6
@@ -33,6 +38,10 @@ tree_text trees.TooDeep = codes "too-deep"
 tree_text trees.BadName = codes "bad-name"
 tree_text (trees.Commit refusal) = refusal_line refusal
 
+-- why a text is no script
+abbrev pub script_text : ℕ → LineCause → Bytes
+script_text number cause = codes "script line " ++ decimal number ++ codes ": " ++ cause_text cause
+
 abbrev pub fault_line : Bytes → Option Bytes
 fault_line text = Some (codes "carousel: " ++ text)
 
@@ -40,6 +49,7 @@ abbrev pub line_of : Status → Option Bytes
 line_of status.Done = None
 line_of status.NotAll = None
 line_of status.Words = fault_line (codes "bad words")
+line_of (status.BadLine number cause) = fault_line (script_text number cause)
 line_of status.ReadFault = fault_line (codes "read fault")
 line_of status.WriteFault = fault_line (codes "write fault")
 line_of status.FolderFault = fault_line (codes "folder fault")
@@ -69,6 +79,11 @@ answer_status (Err fault) = output_status fault
 abbrev pub end_status : Result (Unit {0}) Status → Status
 end_status (Ok done) = status.Done
 end_status (Err s) = s
+
+-- of a text that gave no script
+abbrev pub script_status : ScriptFault → Status
+script_status (scripts.BadLine number cause) = status.BadLine number cause
+script_status scripts.NoMemory = status.NoMemory
 
 -- of a walk, and of a commit, that gave nothing
 abbrev pub walk_status : ReadTree → Status

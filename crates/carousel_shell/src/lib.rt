@@ -6,12 +6,12 @@ mod answers;
 mod assemble;
 mod law;
 mod listing;
-mod octets;
 mod open;
 mod plain;
 mod publish;
 mod receiver;
 mod record;
+mod rehearse;
 mod status;
 
 pub use plain::run_plain;
@@ -23,5 +23,7 @@ mod listing_tests;
 mod publish_tests;
 #[cfg(test)]
 mod record_tests;
+#[cfg(test)]
+mod rehearse_tests;
 #[cfg(test)]
 mod tests;

@@ -9,6 +9,7 @@ use crate::law::receptions;
 use crate::open::{list, open};
 use crate::publish::publish;
 use crate::record::record;
+use crate::rehearse::rehearse;
 use crate::status::Status;
 use folder_store::Folders;
 use oc_bytes::{Sink, Source};
@@ -23,7 +24,7 @@ const MOST_SECTIONS: u32 = 16_777_216;
 /// source, the output goes to the sink, and the folders are those that `publish` reads.
 ///
 /// - `Words` comes before all else: where the words name no command with its values, or one that isn't built, which are
-///   `rehearse`, `session` and `big`. Nothing was read or written.
+///   `session` and `big`. Nothing was read or written.
 /// - `assemble`, `open` and `list` read their whole input before they write. While they read come `ReadFault`, and
 ///   `InputTooLong` where a byte is left after 65,536 sections (`assemble`), 16,777,216 sections (`open sections`) or
 ///   16,777,216 packets; nothing was written then. After that `assemble` answers `Incomplete` where a block of the module is
@@ -34,7 +35,11 @@ const MOST_SECTIONS: u32 = 16_777_216;
 /// - `publish` reads no input. While it reads the folder come `FolderFault` and the `TreeRefused` of a name or of depth,
 ///   whichever is met first, and then the `TreeRefused` of the commit; nothing was written. While it writes comes
 ///   `WriteFault`, and a prefix of the packets was written; `Done` comes when all of them were.
-/// - `NoMemory` comes wherever memory is wanting, at any of these steps. A prefix of the output was written, maybe none of it.
+/// - `rehearse` reads its whole input before it does anything else. While it reads come `ReadFault`, and `InputTooLong` where
+///   a byte is left after 16,777,216. Then comes `BadLine` where the input is no script; nothing was written up to there. While
+///   the script's events happen comes `WriteFault`, and a prefix of the report of those that happened was written; `Done`
+///   comes when all did and the whole report was.
+/// - `NoMemory` comes where there is no memory, at any of these steps. A prefix of the output was written, maybe none of it.
 ///
 /// What was written stands after what the sink had. These rules are this project's own.
 pub fn run_plain<S: Source, K: Sink, F: Folders>(
@@ -98,6 +103,7 @@ fn run_command<S: Source, O: Output, F: Folders>(
         Command::Publish(folder, carousel, cycles) => {
             publish(alloc, folder.as_str(), carousel, cycles, out, folders)
         }
-        Command::Rehearse | Command::Session | Command::Big(_) => Status::Words,
+        Command::Rehearse => rehearse(alloc, source, out),
+        Command::Session | Command::Big(_) => Status::Words,
     }
 }

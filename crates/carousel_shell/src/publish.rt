@@ -11,7 +11,6 @@ ghost use Rattle.carousel_shell.specs.Publish.{Publishes};
 ghost use Rattle.carousel_shell.specs.Cycles.{IsOfFolder, Refused, packed, mux_start};
 
 use crate::law::receptions;
-use crate::octets::tree_is_of_octets;
 use crate::status::Status;
 use cycle_planner::{Item, cycle_len, item_at};
 use folder_store::{Folders, edits_make_the_files, read_tree};
@@ -71,8 +70,9 @@ fn first_generation<F: Folders>(
     let edits = read_tree(alloc, folders, folder)?;
     let mut catalogue = Catalogue::new(alloc, carousel)?;
     catalogue.commit(EDITOR, edits)?;
+    // Nothing is done with the entries: they say that the tree of the commit can be published.
+    let _entries = catalogue.entries();
     let generation = Arc::try_clone(catalogue.current())?;
-    tree_is_of_octets(generation.tree());
     Ok(generation)
 }
 

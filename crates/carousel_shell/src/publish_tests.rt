@@ -18,10 +18,15 @@ fn empty_folder(alloc: Global, fail_at: Vec<u64>) -> Result<MemFolders, Fail> {
 
 /// The folder F with the file `a`, which says `hello`.
 fn hello_folder(alloc: Global) -> Result<MemFolders, Fail> {
+    one_file(alloc, b"hello")
+}
+
+/// The folder F with the file `a` of these bytes.
+fn one_file(alloc: Global, content: &[u8]) -> Result<MemFolders, Fail> {
     let mut entries = Vec::new(alloc);
     entries.push((
         String::from_str(alloc, "F/a")?,
-        Blob::new(alloc, Vec::from_slice(alloc, b"hello")?)?,
+        Blob::new(alloc, Vec::from_slice(alloc, content)?)?,
     ))?;
     Ok(MemFolders::new(entries, Vec::new(alloc)))
 }
@@ -120,6 +125,25 @@ fn published_folders_are_received(rt: HostRuntime) -> Result<(), Fail> {
         b"/a file 5\nhello\n/a/b no-such\n".as_slice()
     );
     assert_eq!(rt; code, 1);
+    Ok(())
+}
+
+#[test]
+fn files_of_several_blocks_are_received(rt: HostRuntime) -> Result<(), Fail> {
+    let alloc = rt.alloc();
+    let mut content = Vec::new(alloc);
+    for number in 0..9_000u32 {
+        content.push((number % 251) as u8)?;
+    }
+    let mut folders = one_file(alloc, &content)?;
+    let (status, sink) = outcome(alloc, "publish F 1 1", Vec::new(alloc), &mut folders)?;
+    assert_eq!(rt; status.code(), 0);
+    let (code, answer) = answers(alloc, "open 256 /a", sink.written())?;
+    let mut wanted = Vec::from_slice(alloc, b"/a file 9000\n")?;
+    wanted.extend_from_slice(&content)?;
+    wanted.push(b'\n')?;
+    assert_eq!(rt; answer.written(), wanted.as_slice());
+    assert_eq!(rt; code, 0);
     Ok(())
 }
 

@@ -14,7 +14,15 @@ use shell_streams::{Output, OutputFault, PacketReader};
 use std::alloc::Global;
 
 /// Writes the sections of the PID `pid`, 0 to 8,191, that the packets of the source carry: each that reads as a section of
-/// DSM-CC with its CRC (ISO/IEC 13818-6), unchanged, in the order in which they are cut out of the packets.
+/// DSM-CC with its CRC (ISO/IEC 13818-6), unchanged, in the order in which they are cut out of the packets. A packet has 188
+/// bytes (ISO/IEC 13818-1, 2.4.3.2); a last piece of fewer is passed over.
+///
+/// `Done` comes where the source was read to its end and all of them were written. `ReadFault` comes where the source
+/// fails, and `InputTooLong` exactly where 16,777,216 packets were taken and at least a byte more is read: of the sections
+/// that were complete by then all but at most 65,536 bytes were written. After `WriteFault`, where the sink fails, and after
+/// `NoMemory` a prefix of them was written. No other status comes. These rules are this project's own.
+///
+/// Nothing may be pending in the output when it is called.
 pub fn record<S: Source, O: Output>(alloc: Global, pid: u16, source: &mut S, out: &mut O) -> Status
     requires { (O.state out.old).pending ≡ [] }
     ensures records { Records pid result (over S.left S.faults source.old source.new) (sent (O.state out.old) (O.state out.new)) }

@@ -1,11 +1,12 @@
 ghost use Rattle.std.specs.Prelude.{◌≡◌, IfOk};
 ghost use Rattle.std.specs.String.{string_bytes};
 ghost use Rattle.std.specs.Option.{option_map};
-ghost use Rattle.carousel_shell.specs.Statuses.{code_of, line_of, tree_text as text_of_tree};
+ghost use Rattle.carousel_shell.specs.Statuses.{code_of, line_of, script_text as text_of_script, tree_text as text_of_tree};
 
 use folder_store::{ReadTree, TreeFault};
 use generation_catalogue::CommitFault;
 use oc_bytes::NoMemory;
+use session_script::{LineCause, ScriptFault};
 use shell_streams::{InputFault, OutputFault};
 use shell_words::refusal_text;
 use std::alloc::{AllocError, Global};
@@ -19,6 +20,9 @@ pub enum Status {
     NotAll,
     /// The words don't name a command with its values.
     Words,
+    /// `rehearse`: the number of the script's first line that doesn't fit, counted from 1 and at most the greatest `u32`, and
+    /// that line's first cause.
+    BadLine(u32, LineCause),
     /// The source failed.
     ReadFault,
     /// The sink failed.
@@ -27,9 +31,9 @@ pub enum Status {
     FolderFault,
     /// `publish`: the folder's files make no tree that can be sent.
     TreeRefused(TreeFault),
-    /// The input goes on behind the most that the command takes.
+    /// The input goes on after the most that the command takes.
     InputTooLong,
-    /// Memory was wanting.
+    /// There was no memory.
     NoMemory,
     /// The module isn't whole; this is the least number of a block that is missing, 0 to 4,142.
     Incomplete(u32),
@@ -44,6 +48,7 @@ impl Status {
             Status::Done => 0,
             Status::NotAll => 1,
             Status::Words => 2,
+            Status::BadLine(..) => 3,
             Status::ReadFault => 4,
             Status::WriteFault => 5,
             Status::FolderFault => 6,
@@ -61,6 +66,11 @@ impl Status {
         let text = match self {
             Status::Done | Status::NotAll => return Ok(None),
             Status::Words => String::from_str(alloc, "carousel: bad words")?,
+            Status::BadLine(number, cause) => {
+                let text = script_text(alloc, *number, *cause)?;
+                let text = text.as_str();
+                format!(in alloc; "carousel: {text}")?
+            }
             Status::ReadFault => String::from_str(alloc, "carousel: read fault")?,
             Status::WriteFault => String::from_str(alloc, "carousel: write fault")?,
             Status::FolderFault => String::from_str(alloc, "carousel: folder fault")?,
@@ -75,6 +85,16 @@ impl Status {
         };
         Ok(Some(text))
     }
+}
+
+/// Why a text is no script.
+fn script_text(alloc: Global, number: u32, cause: LineCause) -> Result<String, NoMemory>
+    ensures { IfOk result (λ text. string_bytes text ≡ text_of_script number cause) }
+{
+    let cause = cause.to_string(alloc)?;
+    let mut text = format!(in alloc; "script line {number}: ")?;
+    text.push_str(cause.as_str())?;
+    Ok(text)
 }
 
 /// Why a tree is refused.
@@ -121,6 +141,19 @@ impl From<OutputFault> for Status {
         match fault {
             OutputFault::Failed => Status::WriteFault,
             OutputFault::NoMemory => Status::NoMemory,
+        }
+    }
+}
+
+impl From<ScriptFault> for Status {
+    ghost use Rattle.carousel_shell.specs.Statuses.{script_status};
+
+    ghost from_gives = { λ fault s. s ≡ script_status fault };
+
+    fn from(fault: ScriptFault) -> Status {
+        match fault {
+            ScriptFault::BadLine(number, cause) => Status::BadLine(number, cause),
+            ScriptFault::NoMemory => Status::NoMemory,
         }
     }
 }

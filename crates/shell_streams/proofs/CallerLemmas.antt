@@ -1,5 +1,5 @@
 -- What callers need of outputs: how puts follow one another, and how they end.
-use Rattle.std.proofs.Common.{◌≡◌, ◌≤◌, ℕ, List, [], ◌++◌, Result, Ok, Err, Option, Some, None, Bool, inl, inr, refl, arith, sym, ap, ◌∙◌, append-nil, append_assoc, subst}
+use Rattle.std.proofs.Common.{◌≡◌, ◌≤◌, ℕ, [], ◌++◌, Result, Ok, Err, Option, Some, None, Bool, inl, inr, refl, arith, sym, ap, ◌∙◌, append-nil, append_assoc, subst}
 use Rattle.std.specs.Option.{is_some}
 use Rattle.std.proofs.lemmas.Bool.{true≢false}
 use Rattle.std.proofs.lemmas.Option.{same_Some}
@@ -63,7 +63,7 @@ puts_nothing x o = record {
   cause = λ e. absurd (cc);
 }
 
--- nor was the text, since memory was wanting
+-- nor was the text, since there was no memory
 pub puts_none : {T : Type 0} (o : OutputState) (text : Bytes) → Puts {T = T} (Err faults.NoMemory) o o text
 puts_none o text = record {
   same = refl;
@@ -119,7 +119,7 @@ told_here a (Some y) x t i = (y, refl, t.each x y i refl)
 told_here a None x t i = absurd (true≢false (sym (t.kept ∙ ap is_some i)))
 
 -- an input that was read to its end left a rear of it, which is empty
-pub all_rear : {f : Bytes → List Bytes} {over : Bytes → Bool} {candidates : List Bytes} {a b : Option Bytes} → Told a b (AllTaken f over candidates) → Told a b IsRear
+pub all_rear : {A : Type 0} {f : Bytes → A} {over : Bytes → Bool} {taken : A} {a b : Option Bytes} → Told a b (AllTaken f over taken) → Told a b IsRear
 all_rear t = record {
   kept = t.kept;
   each = λ x y i o. let r = t.each x y i o in record { taken = x; whole = sym (ap (λ bs. x ++ bs) r.to_end ∙ append-nil x) };

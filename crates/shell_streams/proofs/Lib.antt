@@ -4,4 +4,5 @@ mod Cutting
 pub mod Packeting
 mod Halting
 mod Hearing
+mod Gathering
 pub mod CallerLemmas

@@ -203,7 +203,7 @@ halted pid start left held packets cs s t all long = record {
         }
     halt None x y i o t = cc
 
--- a fault or want of memory stopped reading
+-- a fault, or out of memory, stopped reading
 pub reader_stopped : (pid : ℕ) (old : PacketReader) (held : Bytes) (start before after : Option Bytes) (cs : List Bytes) (s : InputFault)
     → (s ≡ faults.TooLong → ⊥) → onto_left held after ≡ onto_left old.unread before → HasCut pid old start before cs → Told start after (Halts pid cs s)
 reader_stopped pid old held start before after cs s n rest c = halted pid start after held c.packets cs s (rw rest c.taken) c.all (λ x i e. absurd (n e))

@@ -19,11 +19,11 @@ pub record AreCut (sections : List Bytes) (input rest : Bytes) : Type 0 where
   pub whole : input ≡ concat sections ++ rest
   pub cuts : back_to_back input ≡ sections ++ back_to_back rest
 
--- all that these candidates are was taken, within the limit that `over` tests, and the input has ended
-pub record AllTaken (candidates_in : Bytes → List Bytes) (over : Bytes → Bool) (candidates : List Bytes) (input left : Bytes) : Type 0 where
+-- the input was taken to its end, within the limit that `over` tests, and this is what stands in it
+pub record AllTaken {A : Type 0} (standing_in : Bytes → A) (over : Bytes → Bool) (taken : A) (input left : Bytes) : Type 0 where
   pub to_end : left ≡ []
   pub within : over input ≡ false
-  pub all : candidates_in input ≡ candidates
+  pub all : standing_in input ≡ taken
 
 -- `left` is what is left of the input behind what was taken of it
 pub record IsRear (input left : Bytes) : Type 0 where
@@ -41,7 +41,11 @@ pub record ReadsBehind (new before after : Bytes) (start n : ℕ) : Type 0 where
 abbrev pub is_over_sections : ℕ → Bytes → Bool
 is_over_sections n input = let front = take n (back_to_back input) in (length front == n) && nat_lt (length (concat front)) (length input)
 
--- a front of the input was taken; where it goes on after the limit, that is so
+-- the input is longer than so many bytes
+abbrev pub is_longer : ℕ → Bytes → Bool
+is_longer most input = nat_lt most (length input)
+
+-- a prefix of the input was taken; where it goes on after the limit, that is so
 pub record Stopped (over : Bytes → Bool) (fault : InputFault) (input left : Bytes) : Type 0 where
   pub rear : IsRear input left
   pub too_long : fault ≡ faults.TooLong → over input ≡ true

@@ -10,7 +10,7 @@ pub enum InputFault {
     Failed,
     /// The input goes on after the most that is taken.
     TooLong,
-    /// Memory was wanting.
+    /// There was no memory.
     NoMemory,
 }
 

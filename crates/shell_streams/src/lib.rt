@@ -7,8 +7,10 @@ mod output;
 mod packets;
 mod sections;
 mod unread;
+mod whole;
 
 pub use carrier::{Carrier, Listener, hear_all};
 pub use input::InputFault;
 pub use output::{Buffered, Output, OutputFault, room};
 pub use packets::PacketReader;
+pub use whole::read_all;

@@ -18,3 +18,6 @@ returns-in-List-clause-promises g c = rw c.in-List.is c.list.ensures.answers
 
 pub returns-in-Publish-clause-promises : goal.returns-in-Publish-clause-promises
 returns-in-Publish-clause-promises g c = rw c.in-Publish.is (record { unread = refl; keeps = rw c.as_str.ensures.value at c.publish.ensures.publishes })
+
+pub returns-in-Rehearse-clause-promises : goal.returns-in-Rehearse-clause-promises
+returns-in-Rehearse-clause-promises g c = rw c.in-Rehearse.is c.rehearse.ensures.rehearses

@@ -1,10 +1,7 @@
-use Rattle.std.proofs.Common.{◌∙◌, ap, subst, Err, inl, inr}
+use Rattle.std.proofs.Common.{◌∙◌, ap, Err, inl, inr}
 use Rattle.std.proofs.lemmas.Result.{err_from_is_err_and}
 use Rattle.std.specs.Arc.{arc_value}
-use Rattle.path_tree.specs.Trees.{IsTree}
 use Rattle.folder_store.specs.Folders.{is_folder_at}
-use Rattle.generation.specs.Layouts.{GenerationState}
-use Rattle.generation.specs.Lawful.{HasBytes}
 use Rattle.carousel_shell.specs.Over.{over}
 use Rattle.carousel_shell.proofs.Committing.{refused_walk, refused_commit, folder_found, made_of_folder}
 use Rattle.carousel_shell.proofs.publish.first_generation.Goals as goal
@@ -24,8 +21,7 @@ returns-in_err-commit-clause-refused g c =
 
 pub returns-clause-made : goal.returns-clause-made
 returns-clause-made g c =
-    let tree = c.tree.ensures ∙ ap (λ (s : GenerationState). s.tree) c.deref.ensures in
     made_of_folder c.edits_make_the_files.ensures c.args.folder.now c.args.carousel 1 c.in_ok-commit.field-0 _ c.in_ok-edits.edits.items _ _ (arc_value c.in_ok-generation.generation)
-    c.in_ok-catalogue.ensures c.in_ok-commit.ensures.answer c.in_ok-commit.ensures.entry (c.in_ok-generation.ensures ∙ c.current.ensures) (subst IsTree tree c.tree_is_of_octets.ensures.tree) (subst HasBytes tree c.tree_is_of_octets.ensures.bytes)
+    c.in_ok-catalogue.ensures c.in_ok-commit.ensures.answer c.in_ok-commit.ensures.entry (c.in_ok-generation.ensures ∙ c.current.ensures) c.entries-entries.ensures.history.published.each
     c.in_ok-edits.ensures.edits
     (λ t h. folder_found (is_folder_at t c.args.folder.now) c.in_ok-edits.edits (c.in_ok-edits.ensures.no_folder t h))

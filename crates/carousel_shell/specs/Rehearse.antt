@@ -1,0 +1,70 @@
+-- What `rehearse` promises: the input is a script, whose events happen in written order in one world of carousel 1, and a line of each is
+-- written. The language of scripts and the lines are this project's own.
+use Rattle.std.specs.Prelude.{◌≡◌, ◌⊎◌, ℕ, true, List, ◌++◌, Some, Ok, Err}
+use Rattle.oc_bytes.specs.Outcome.{Told}
+use Rattle.session_script.specs.Scripts.{Fields}
+use Rattle.session_script.specs.Grammar.{meaning_of}
+use Rattle.session_script.specs.declared.script.LineCause.{LineCause}
+use Rattle.carousel_world.specs.Events.{Step}
+use Rattle.carousel_world.specs.Promises.{MeetsHeadline}
+use Rattle.rehearsal.specs.Lines.{events_of}
+use Rattle.rehearsal.specs.Reports.{report_of}
+use Rattle.shell_streams.specs.Cuts.{Bytes}
+use Rattle.shell_streams.specs.Held.{AllTaken, is_longer}
+use Rattle.carousel_shell.specs.Over.{Over, Failed, IsUntouched, TakesPrefix, WritesAll, WritesPrefix}
+use Rattle.carousel_shell.specs.declared.status.Status.{Status}
+use Rattle.carousel_shell.specs.declared.status.Status.TheVariants as status
+
+-- ---- what was read
+
+-- the whole input, of at most 16,777,216 bytes
+abbrev pub ReadsAll : Over Bytes → Bytes → Type 0
+ReadsAll source text = Told source.before source.after (AllTaken (λ input. input) (is_longer 16777216) text)
+
+-- it is this script
+pub record ReadsScript (source : Over Bytes) (script : Fields) : Type 0 where
+  pub text : Bytes
+  pub reads : ReadsAll source text
+  pub says : meaning_of text ≡ Ok script
+
+-- it is none: this line is the first that doesn't fit, and this is its first cause
+pub record ReadsBadLine (source : Over Bytes) (number : ℕ) (cause : LineCause) : Type 0 where
+  pub text : Bytes
+  pub reads : ReadsAll source text
+  pub says : meaning_of text ≡ Err (number, cause)
+
+-- at least a byte more than the most is there
+abbrev pub GoesOn : Over Bytes → Type 0
+GoesOn source = (input : Bytes) → source.before ≡ Some input → is_longer 16777216 input ≡ true
+
+-- ---- how it ends
+
+-- all events of the script happened, and the whole report was written; what is promised of every list of events holds of them
+pub record Rehearsed (source sink : Over Bytes) : Type 0 where
+  pub script : Fields
+  pub read : ReadsScript source script
+  pub writes : WritesAll sink (report_of (events_of script))
+  pub headline : MeetsHeadline 1 (events_of script)
+
+-- the first of them did, and a prefix of their report was written
+pub record Rehearsing (source sink : Over Bytes) : Type 0 where
+  pub script : Fields
+  pub read : ReadsScript source script
+  pub happened : List Step
+  pub rest : List Step
+  pub events : events_of script ≡ happened ++ rest
+  pub writes : WritesPrefix sink (report_of happened)
+  pub headline : MeetsHeadline 1 happened
+
+abbrev pub EndsRehearse : Over Bytes → Over Bytes → Status → Type 0
+EndsRehearse source sink status.Done = Rehearsed source sink
+EndsRehearse source sink (status.BadLine number cause) = ReadsBadLine source number cause × IsUntouched sink
+EndsRehearse source sink status.ReadFault = Failed source × IsUntouched sink
+EndsRehearse source sink status.InputTooLong = GoesOn source × IsUntouched sink
+EndsRehearse source sink status.WriteFault = Failed sink × Rehearsing source sink
+EndsRehearse source sink status.NoMemory = IsUntouched sink ⊎ Rehearsing source sink
+EndsRehearse source sink _ = ⊥
+
+pub record Rehearses (s : Status) (source sink : Over Bytes) : Type 0 where
+  pub ends : EndsRehearse source sink s
+  pub takes : TakesPrefix source

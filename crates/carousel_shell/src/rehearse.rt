@@ -1,0 +1,43 @@
+ghost use Rattle.std.specs.Prelude.{◌≡◌, []};
+ghost use Rattle.carousel_shell.specs.Over.{over, sent};
+ghost use Rattle.carousel_shell.specs.Rehearse.{Rehearses};
+
+use crate::status::Status;
+use oc_bytes::Source;
+use session_script::parse;
+use shell_streams::{Output, read_all};
+use std::alloc::Global;
+
+/// The most bytes of a script.
+const MOST_BYTES: usize = 16_777_216;
+
+/// Reads a script, runs its events in written order in one world of carousel 1, and writes a line for each commit, draw
+/// and open after it has happened. The language and the lines are this project's own.
+///
+/// `ReadFault` comes where the source fails, and `InputTooLong` exactly where at least a byte more than 16,777,216 is read.
+/// The whole input is read before anything else is done. `BadLine` comes exactly where it is no script; it names the
+/// first line that doesn't fit, and that line's first cause. In these three cases nothing is written. Then the events happen:
+/// `Done` comes where all did and the whole report was written, and after `WriteFault`, where the sink fails, and
+/// `NoMemory` a prefix of the report of those that happened was. No other status comes.
+///
+/// Nothing may be pending in the output when it is called.
+pub fn rehearse<S: Source, O: Output>(alloc: Global, source: &mut S, out: &mut O) -> Status
+    requires { (O.state out.old).pending ≡ [] }
+    ensures rehearses { Rehearses result (over S.left S.faults source.old source.new) (sent (O.state out.old) (O.state out.new)) }
+    ensures same { (O.state out.new).name ≡ (O.state out.old).name }
+{
+    let text = match read_all(alloc, source, MOST_BYTES) {
+        Ok(text) => text,
+        Err(fault) => return Status::from(fault),
+    };
+    let script = match parse(alloc, &text) {
+        Ok(script) => script,
+        Err(fault) => return Status::from(fault),
+    };
+    // The text is of no use any more, and may be large.
+    drop(text);
+    match rehearsal::rehearse(alloc, script, out) {
+        Ok(()) => Status::Done,
+        Err(fault) => Status::from(fault),
+    }
+}

@@ -1,0 +1,46 @@
+-- Scripts whose events are known, and words of a report, computed by the definitions.
+use Rattle.std.proofs.Common.{◌≡◌, List, [], ◌∷◌, map, None, refl, codes}
+use Rattle.hex.specs.Hex.{encode_with}
+use Rattle.path_tree.specs.Paths.{PathNames}
+use Rattle.path_tree.specs.declared.tree.Edit.TheVariants as edits
+use Rattle.path_resolver.specs.declared.answer.Answer.TheVariants as answers
+use Rattle.ts_packet.specs.declared.Fate.TheVariants.{Lose}
+use Rattle.session_script.specs.declared.script.Stage.TheVariants.{During}
+use Rattle.session_script.specs.Scripts.{Act, LineFields}
+use Rattle.session_script.specs.Scripts as lines
+use Rattle.carousel_world.specs.Events.{Commit, Draw, Open}
+use Rattle.carousel_world.specs.declared.event.Reply.TheVariants as replies
+use Rattle.rehearsal.specs.Lines.{events_from, none_pending}
+use Rattle.rehearsal.specs.Reports.{content_word, answer_tail, reply_words}
+
+abbrev a : PathNames
+a = codes "a" ∷ []
+
+abbrev b : PathNames
+b = codes "b" ∷ []
+
+abbrev acts_by : List Act → List LineFields
+acts_by acts = map (λ (act : Act). record { number = 1; stage = During; act = act }) acts
+
+-- a commit takes its editor's edits since the last, and edits that no commit follows are given up
+each_editor : events_from none_pending (acts_by (lines.Put 1 a (49 ∷ []) ∷ lines.Put 2 b [] ∷ lines.Remove 1 b ∷ lines.Commit 1 ∷ lines.Fill 1 a 3 250 ∷ lines.Commit 2 ∷ lines.Commit 1
+    ∷ lines.Commit 1 ∷ lines.Put 2 a [] ∷ [])) ≡
+    Commit 1 (edits.Put a (49 ∷ []) ∷ edits.Remove b ∷ []) ∷ Commit 2 (edits.Put b [] ∷ []) ∷ Commit 1 (edits.Put a (250 ∷ 1 ∷ 8 ∷ []) ∷ []) ∷ Commit 1 [] ∷ []
+each_editor = refl
+
+settles : events_from none_pending (acts_by (lines.Draw 5 (Lose ∷ []) ∷ lines.Settle ∷ lines.Open 3 a ∷ [])) ≡
+    Draw 5 (Lose ∷ []) ∷ Draw 1048576 [] ∷ Draw 1048576 [] ∷ Open 3 a ∷ []
+settles = refl
+
+digits : content_word (codes "one\n") ≡ codes "6f6e650a"
+unfolding encode_with
+digits = refl
+
+no_content : answer_tail (answers.File []) ≡ codes " -"
+no_content = refl
+
+names : answer_tail (answers.Folder (codes "a" ∷ codes " b" ∷ [])) ≡ codes " a %20b"
+names = refl
+
+opens_nothing : reply_words (codes "/a") (replies.Opened None answers.NoCarousel) ≡ codes "- /a no-carousel"
+opens_nothing = refl

@@ -1,0 +1,8 @@
+mod Adding
+mod Digits
+mod Examples
+mod Filled
+mod Lining
+mod Nothing
+mod Running
+mod Texts

@@ -1,0 +1,12 @@
+-- A world in which nothing happened.
+use Rattle.std.proofs.Common.{[], arith}
+use Rattle.std.proofs.lemmas.List.Elements.{All-nil}
+use Rattle.generation.specs.Lawful.{ArePublishable, IsPublishable}
+use Rattle.carousel_world.specs.Promises.{MeetsHeadline, EveryRunMeetsTheHeadline}
+
+no_trees : ArePublishable 1 []
+no_trees = record { carousel_id = omega arith; few = omega arith; each = All-nil IsPublishable }
+
+-- what is promised of every list of events holds of none
+pub meets_nothing : EveryRunMeetsTheHeadline → MeetsHeadline 1 []
+meets_nothing law = law 1 [] no_trees

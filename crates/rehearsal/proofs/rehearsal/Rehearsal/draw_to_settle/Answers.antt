@@ -1,0 +1,14 @@
+use Rattle.std.proofs.Common.{List, [], ◌∷◌, ◌++◌, ap}
+use Rattle.ts_packet.specs.declared.Fate.{Fate}
+use Rattle.carousel_world.specs.Events.{Draw}
+use Rattle.rehearsal.proofs.Running.{runs_as, stands_as, on_ok_map}
+use Rattle.rehearsal.proofs.rehearsal.Rehearsal.draw_to_settle.Goals as goal
+
+pub returns-clause-runs : goal.returns-clause-runs
+returns-clause-runs g c = λ before p st.
+    runs_as before (ap (λ (fates : List Fate). Draw 1048576 fates ∷ []) c.new-fates.ensures.items) (c.happen.ensures.runs before p st)
+
+pub returns-clause-stands : goal.returns-clause-stands
+returns-clause-stands g c =
+    on_ok_map c.happen.result
+    (λ f before p st. stands_as (ap (λ (fates : List Fate). before ++ Draw 1048576 fates ∷ []) c.new-fates.ensures.items) (f before p st)) c.happen.ensures.stands

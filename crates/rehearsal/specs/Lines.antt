@@ -1,0 +1,57 @@
+-- From a script's lines to the events of a world. The language of scripts is this project's own.
+use Rattle.std.specs.Prelude.{ℕ, ◌+◌, ◌*◌, ◌/◌, ◌%◌, ◌==◌, List, [], ◌∷◌, ◌++◌, map, if◌then◌else◌}
+use Rattle.std.specs.List.{range_with_len}
+use Rattle.path_tree.specs.Paths.{Bytes}
+use Rattle.path_tree.specs.declared.tree.Edit.{Edit}
+use Rattle.path_tree.specs.declared.tree.Edit.TheVariants as edits
+use Rattle.session_script.specs.Scripts.{Act, LineFields, Fields}
+use Rattle.session_script.specs.Scripts as lines
+use Rattle.carousel_world.specs.Events.{Step, Commit, Draw, Open}
+
+-- of each editor, the edits of its lines that no commit line of it followed yet
+abbrev pub Pending : Type 0
+Pending = ℕ → List Edit
+
+abbrev pub none_pending : Pending
+none_pending editor = []
+
+abbrev pub with_edit : Pending → ℕ → Edit → Pending
+with_edit p editor edit = λ e. if e == editor then p e ++ edit ∷ [] else p e
+
+abbrev pub without : Pending → ℕ → Pending
+without p editor = λ e. if e == editor then [] else p e
+
+-- byte i of a filled file
+abbrev pub filled_byte : ℕ → ℕ → ℕ
+filled_byte from i = (from + 7 * i + i / 256) % 256
+
+abbrev pub filled : ℕ → ℕ → Bytes
+filled size from = map (filled_byte from) (range_with_len 0 size)
+
+-- what is pending below a line, where this is pending above it: a commit line takes its editor's edits, whatever its reply
+abbrev pub pending_after : Pending → Act → Pending
+pending_after p (lines.Put editor path content) = with_edit p editor (edits.Put path content)
+pending_after p (lines.Fill editor path size from) = with_edit p editor (edits.Put path (filled size from))
+pending_after p (lines.Remove editor path) = with_edit p editor (edits.Remove path)
+pending_after p (lines.Commit editor) = without p editor
+pending_after p _ = p
+
+-- a settling draw asks for the most that one may, and all its packets arrive
+abbrev pub settling : Step
+settling = Draw 1048576 []
+
+-- the events of a line
+abbrev pub events_of_line : Pending → Act → List Step
+events_of_line p (lines.Commit editor) = Commit editor (p editor) ∷ []
+events_of_line p (lines.Draw asked fates) = Draw asked fates ∷ []
+events_of_line p (lines.Open reader path) = Open reader path ∷ []
+events_of_line p lines.Settle = settling ∷ settling ∷ []
+events_of_line p _ = []
+
+abbrev pub events_from : Pending → List LineFields → List Step
+events_from p [] = []
+events_from p (l ∷ ls) = events_of_line p l.act ++ events_from (pending_after p l.act) ls
+
+-- The events of a script, in written order. Edits that no commit line follows are in none.
+abbrev pub events_of : Fields → List Step
+events_of script = events_from none_pending script.lines

@@ -1,0 +1,55 @@
+-- What the steps of a rehearsal say of each other.
+use Rattle.std.specs.Prelude.{◌≡◌, ℕ, List, [], ◌++◌, Option, Some, None, Result, OnOk}
+use Rattle.std.specs.String.{string_bytes}
+use Rattle.std.specs.Ordering.{nat_cmp}
+use Rattle.std.specs.BTreeMap.{get}
+use Rattle.std.specs.declared.vec.Vec.{Vec}
+use Rattle.std.specs.declared.alloc.Global.{Global}
+use Rattle.path_tree.specs.declared.tree.Edit.{Edit}
+use Rattle.session_script.specs.Scripts.{LineFields}
+use Rattle.shell_streams.specs.Sending.{OutputState, Puts, HasPut}
+use Rattle.shell_streams.specs.declared.output.OutputFault.{OutputFault}
+use Rattle.carousel_world.specs.Events.{Step}
+use Rattle.carousel_world.specs.Promises.{MeetsHeadline, world_after}
+use Rattle.carousel_world.specs.View.{kept, StandsFor}
+use Rattle.rehearsal.specs.declared.pending.PendingEdits.{PendingEdits}
+use Rattle.rehearsal.specs.declared.subject.Subject.{Subject}
+use Rattle.rehearsal.specs.declared.rehearsal.Rehearsal.{Rehearsal}
+use Rattle.rehearsal.specs.Lines.{Pending, none_pending, events_from}
+use Rattle.rehearsal.specs.Reports.{subject_words, path_words, report_in, report_of}
+
+-- a subject is that of the event
+pub record Tells (s : Subject) (event : Step) : Type 0 where
+  pub words : string_bytes s.words ≡ subject_words event
+  pub path : string_bytes s.path ≡ path_words event
+
+abbrev pub edits_in : Option (Vec Edit Global) → List Edit
+edits_in (Some edits) = edits.items
+edits_in None = []
+
+-- of each editor, its edits
+abbrev pub Holds : PendingEdits → Pending → Type 0
+Holds e p = (editor : ℕ) → edits_in (get nat_cmp e.by_editor editor) ≡ p editor
+
+-- these events happened in the rehearsal's world, and these edits are pending
+pub record Stands (r : Rehearsal) (before : List Step) (p : Pending) : Type 0 where
+  pub world : StandsFor (kept r.world) (world_after 1 before)
+  pub headline : MeetsHeadline 1 before
+  pub pending : Holds r.pending p
+
+-- below these events, those happened that a line has, or on a fault the first of them, and their report was put
+pub record Runs {T : Type 0} (outcome : Result T OutputFault) (old new : OutputState) (before events : List Step) : Type 0 where
+  pub happened : List Step
+  pub rest : List Step
+  pub split : events ≡ happened ++ rest
+  pub all : OnOk outcome (rest ≡ [])
+  pub puts : Puts outcome old new (report_in (world_after 1 before) happened)
+  pub headline : MeetsHeadline 1 (before ++ happened)
+
+-- of all lines, those above the ones that are left were run, and the report of their events was put
+pub record HasRun (r : Rehearsal) (all left : List LineFields) (old new : OutputState) : Type 0 where
+  pub happened : List Step
+  pub pending : Pending
+  pub split : events_from none_pending all ≡ happened ++ events_from pending left
+  pub stands : Stands r happened pending
+  pub puts : HasPut old new (report_of happened)

@@ -1,0 +1,50 @@
+ghost use Rattle.std.specs.Prelude.{◌≡◌, IfOk};
+ghost use Rattle.std.specs.String.{string_bytes};
+ghost use Rattle.carousel_world.specs.Events.{view};
+ghost use Rattle.rehearsal.specs.Reports as texts;
+
+use carousel_world::Event;
+use oc_bytes::NoMemory;
+use std::alloc::Global;
+
+/// What the line of an event says of the event. It is taken before the event happens, which uses the event up.
+#[derive(Drop)]
+pub(crate) struct Subject {
+    /// The words that the line begins with.
+    pub(crate) words: String,
+    /// The path that is opened, as text, and else nothing.
+    pub(crate) path: String,
+}
+
+impl Subject {
+    ghost use Rattle.rehearsal.specs.Steps.{Tells};
+
+    /// Out of memory is the only refusal.
+    pub(crate) fn of(alloc: Global, event: &Event) -> Result<Subject, NoMemory>
+        ensures { IfOk result (λ s. Tells s (view event.now)) }
+    {
+        Ok(Subject {
+            words: subject_words(alloc, event)?,
+            path: path_words(alloc, event)?,
+        })
+    }
+}
+
+fn subject_words(alloc: Global, event: &Event) -> Result<String, NoMemory>
+    ensures { IfOk result (λ text. string_bytes text ≡ texts.subject_words (view event.now)) }
+{
+    match event {
+        Event::Commit { editor, edits: _ } => format!(in alloc; "commit {editor}"),
+        Event::Draw { .. } => String::from_str(alloc, "draw"),
+        Event::Open { reader, path: _ } => format!(in alloc; "open {reader}"),
+    }
+}
+
+fn path_words(alloc: Global, event: &Event) -> Result<String, NoMemory>
+    ensures { IfOk result (λ text. string_bytes text ≡ texts.path_words (view event.now)) }
+{
+    match event {
+        Event::Open { reader: _, path } => path.print(),
+        _ => Ok(String::new(alloc)),
+    }
+}
