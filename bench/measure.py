@@ -2,6 +2,7 @@
 
 import os
 import subprocess
+import tempfile
 import time
 from collections import namedtuple
 
@@ -37,3 +38,11 @@ def best(words, source=None, counts=False, runs=3):
     every = [measured(words, source, counts) for _ in range(runs)]
     least = min(every)
     return least._replace(processor=min(it.processor for it in every), resident=max(it.resident for it in every))
+
+
+def resident(helper, words, source):
+    """The status of a command whose input is a file, and the most bytes that it had resident, to within 2 MiB. `helper` is
+    the program of resident.rs. The output is passed over."""
+    with tempfile.NamedTemporaryFile("r") as said, open(source, "rb") as stream:
+        status = subprocess.run([helper, said.name, *words], stdin=stream, stdout=subprocess.DEVNULL).returncode
+        return status, int(said.read())

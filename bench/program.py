@@ -27,6 +27,14 @@ def find():
     return built
 
 
+def compiled(name):
+    """The program of a Rust source in this folder, compiled by rustc."""
+    made = os.path.join(WORK, name)
+    os.makedirs(WORK, exist_ok=True)
+    subprocess.run(["rustc", "--edition", "2024", "-O", "-o", made, os.path.join(TOP, "bench", f"{name}.rs")], check=True)
+    return made
+
+
 def run(program, stream, *words):
     """Status, output and line on standard error of a command on some input."""
     done = subprocess.run([program, *words], input=stream, capture_output=True)

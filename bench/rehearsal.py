@@ -13,6 +13,7 @@ from paths import BadPath, parsed, printed
 from receiver import Ddb, Dii, Dsi
 
 PID = 256
+MOST_SCRIPT = 16_777_216
 MOST_ACTOR = 64
 MOST_DRAW = 1_048_576
 MOST_FATES = 65_536
@@ -64,7 +65,7 @@ def path(word):
 def content(word):
     if word == b"-":
         return b""
-    if not re.fullmatch(rb"([0-9A-Fa-f]{2})+", word):
+    if len(word) % 2 or not re.fullmatch(rb"[0-9A-Fa-f]+", word):
         raise BadWord("bad hex")
     return bytes.fromhex(word.decode())
 
@@ -412,6 +413,8 @@ Rehearsed = namedtuple("Rehearsed", "status report error")
 
 def rehearse(text, rules=streams.BUILT):
     """The status, the report and the line on standard error of a script."""
+    if len(text) > MOST_SCRIPT:
+        return Rehearsed(8, b"", b"carousel: input too long\n")
     try:
         events = events_of(text)
     except BadLine as fault:

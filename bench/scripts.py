@@ -120,8 +120,30 @@ def wrong(chance):
     return lines
 
 
+# What scripts are spelled with, so that bytes drawn of it get past the first word now and then.
+LETTERS = [b" ", b"\n", b"#", b"-", b"/a", b"%41", b"\r\n", b"\0", b"\xFF", *(b"%d " % n for n in (0, 1, 2, 64, 65)), *(b"%s " % it for it in (
+    b"put", b"fill", b"remove", b"commit", b"draw", b"open", b"start", b"settle", b"finale", b"k3", b"d1", b"f9",
+))]
+
+
+def any_bytes(chance):
+    """Bytes of no script: any at all, any of a script's words, or a right script that is cut, joined or written over."""
+    text, place = b"\n".join(right(chance)), chance.random()
+    first = int(place * len(text))
+    return chance.choice([
+        chance.randbytes(chance.choice([1, 3, 100, 5000])),
+        b"".join(chance.choices(LETTERS, k=chance.choice([3, 10, 200]))),
+        text[:first],
+        text[:first] + chance.randbytes(chance.choice([1, 2, 30])) + text[first:],
+        text[first:] + text[:first],
+        text.replace(b"\n", b"\r\n", chance.choice([1, -1])),
+    ])
+
+
 def script(number):
     chance = random.Random(number)
+    if number % 10 == 5:
+        return any_bytes(chance)
     lines = wrong(chance) if number % 4 == 3 else right(chance)
     return b"\n".join(lines) + (b"\n" if lines and chance.random() < 0.9 else b"")
 
@@ -146,3 +168,39 @@ def limits():
     large = [b"fill 1 /%c 16777216 %d" % (97 + n, n) for n in range(15)]
     yield "bytes", [*large, b"fill 1 /p 16775150 0", b"commit 1", b"fill 1 /p 16775151 0", b"commit 1"]
     yield "what is put", [*[b"fill 1 /a 16777216 1"] * 32, b"commit 1", b"put 2 /b 00", b"commit 2", b"commit 3"]
+
+
+# Scripts as long as they may be.
+
+def lines_of_all_kinds(count):
+    """So many short lines: mostly opens, as many commits as a season has, draws, and lines that say nothing."""
+    edits = [b"put 1 /a 61", b"remove 1 /a"]
+    for n in range(count):
+        if n % 120 == 0:
+            yield edits[n // 120 % 2]
+        elif n % 120 == 1:
+            yield b"commit 1"
+        elif n % 20 == 3:
+            yield b"draw 1"
+        else:
+            yield b"open 1 /" if n % 5 < 3 else b"#"
+
+
+def filled_up(text, length):
+    """The script with a comment after it that makes it so long."""
+    return text + b"#" * (length - len(text))
+
+
+def long(most):
+    """Scripts of `most` bytes and one more, beside their names, and one of 2,000,000 lines."""
+    right = b"put 1 /a 61\ncommit 1\ndraw 9\nopen 1 /a\n"
+    hexadecimal = (most - len(b"put 1 /a \ncommit 1\n")) // 2 * b"5a"
+    yield "the greatest number of bytes", filled_up(right, most)
+    yield "a byte more", filled_up(right, most + 1)
+    yield "a byte more, after a wrong line", filled_up(b"frobnicate\n" + right, most + 1)
+    yield "a line with as many digits as fit", b"put 1 /a %s\ncommit 1\n" % hexadecimal
+    yield "one word", b"x" * most
+    yield "line feeds alone", b"\n" * most
+    yield "any bytes", random.Random(0).randbytes(most)
+    yield "any bytes, and one more", random.Random(1).randbytes(most + 1)
+    yield "2,000,000 lines", b"\n".join(lines_of_all_kinds(2_000_000)) + b"\n"
