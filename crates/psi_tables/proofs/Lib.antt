@@ -1,0 +1,17 @@
+pub mod Runs
+pub mod Checks
+pub mod Sections
+pub mod Lines
+pub mod Streams
+pub mod Lists
+pub mod Hearing
+pub mod Programs
+pub mod Following
+pub mod Searching
+pub mod Keeping
+pub mod Stepping
+pub mod Usual
+pub mod Early
+pub mod Example
+pub mod Spelled
+pub mod Rows

@@ -1,0 +1,9 @@
+pub mod Frames
+pub mod Pats
+pub mod Pmts
+pub mod Finding
+pub mod Receiving
+pub mod Stands
+pub mod Steps
+pub mod Written
+pub mod Laws

@@ -1,0 +1,63 @@
+ghost use Rattle.std.specs.Prelude.{◌≡◌, ◌++◌, IfOk, OnOk};
+ghost use Rattle.psi_tables.specs.Written.{announced, announcer_start, after_announcing};
+
+use crate::tables::PAT_PID;
+use crate::written::{written_pat, written_pmt};
+use oc_bytes::NoMemory;
+use section_stream::Mux;
+use std::alloc::Global;
+use std::marker::Model;
+
+/// The PID of the map table (this project's own).
+const PMT_PID: u16 = 32;
+
+/// Sends the tables that name a carousel: the PAT on PID 0 and its map table on PID 32, each PID with continuity counters of its own.
+#[derive(Drop)]
+pub struct Announcer {
+    carousel: u32,
+    pat: Vec<u8>,
+    pmt: Vec<u8>,
+    tables: Mux,
+    maps: Mux,
+}
+
+impl Model for Announcer {
+    ghost use Rattle.std.specs.Prelude.{◌≡◌, ◌<◌};
+    ghost use Rattle.psi_tables.specs.Written.{AnnouncerState, pat_spelling, pmt_spelling};
+
+    ghost Value = { AnnouncerState };
+
+    ghost view = { λ a. record { carousel = a.carousel; tables = a.tables; maps = a.maps } };
+
+    ghost invariant = { λ a. (a.carousel < 4294967296) × (a.pat.items ≡ pat_spelling) × (a.pmt.items ≡ pmt_spelling a.carousel) };
+}
+
+impl Announcer {
+    /// An announcer of the carousel of this id, whose first packets have the continuity counter 0. It makes both tables here.
+    pub fn new(alloc: Global, carousel: u32) -> Result<Announcer, NoMemory>
+        ensures { IfOk result (λ a. a ≡ announcer_start carousel) }
+    {
+        let pat = written_pat(alloc)?;
+        let pmt = written_pmt(alloc, carousel)?;
+        Ok(Announcer {
+            carousel,
+            pat,
+            pmt,
+            tables: Mux::new(alloc, PAT_PID),
+            maps: Mux::new(alloc, PMT_PID),
+        })
+    }
+
+    /// Puts the packets of the PAT and then those of the map table behind those in `out`.
+    ///
+    /// After `NoMemory` `out` may have the packets of the PAT, and nothing more is said of the counters.
+    pub fn packets(&mut self, out: &mut Vec<[u8; 188]>) -> Result<(), NoMemory>
+        ensures packets { OnOk result (out.new.items ≡ out.old.items ++ announced self.old) }
+        ensures counters { OnOk result (self.new ≡ after_announcing self.old) }
+    {
+        self.tables.packets(&self.pat, out)?;
+        self.tables.finish(out)?;
+        self.maps.packets(&self.pmt, out)?;
+        self.maps.finish(out)
+    }
+}

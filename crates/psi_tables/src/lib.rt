@@ -1,0 +1,29 @@
+//! Program specific information (ISO/IEC 13818-1, 2.4.4): the program association table, the map tables of programs, and the
+//! PID of the carousel that they name.
+#![tactic(auto)]
+
+mod announcer;
+mod directory;
+mod finder;
+mod followed;
+mod frame;
+mod laws;
+mod pat;
+mod pmt;
+mod receiving;
+mod tables;
+mod written;
+
+pub use announcer::Announcer;
+pub use finder::{Find, Finder};
+pub use laws::{
+    each_listed_pid_is_followed, it_is_found_once_its_tables_came, it_is_nowhere_else,
+    one_section_lists_its_lines, premises_can_be_met,
+};
+pub use pat::decode_pat;
+pub use pmt::decode_pmt;
+pub use tables::{Pat, PatLine, Pmt, PmtLine, PsiFault};
+pub use written::{written_pat, written_pmt};
+
+#[cfg(test)]
+mod tests;

@@ -1,0 +1,69 @@
+ghost use Rattle.std.specs.Prelude.{◌≡◌, ◌%◌, ◌↔◌, Some, None, Ok, Err, length, IfOk, IsErrOf, MatchResult};
+ghost use Rattle.oc_bytes.specs.Outcome.{Gives};
+ghost use Rattle.psi_tables.specs.Frames.{cause, view, fields_of};
+ghost use Rattle.psi_tables.specs.Pats.{PatFields, ReadsPat, view_pat, read_pat, pat_fault, lines_in, line_of};
+
+use crate::frame::{Frame, check_crc, frame_of};
+use crate::{Pat, PatLine, PsiFault};
+use std::alloc::{AllocError, Global};
+
+/// The line that these four bytes are.
+fn line_from(a: u8, b: u8, c: u8, d: u8) -> PatLine
+    ensures { result ≡ line_of a b c d }
+{
+    PatLine {
+        program: u16::from_be_bytes([a, b]),
+        pid: u16::from_be_bytes([c % 32, d]),
+    }
+}
+
+/// The lines that stand one after another in a body.
+fn lines_from(alloc: Global, body: &[u8]) -> Result<Vec<PatLine>, AllocError>
+    ensures { IfOk result (λ v. v.items ≡ lines_in body.now) }
+{
+    let mut lines = Vec::with_capacity(alloc, body.len() / 4)?;
+    let mut rest = body;
+    while let [a, b, c, d, following @ ..] = rest {
+        lines.push(line_from(*a, *b, *c, *d))?;
+        rest = following;
+    }
+    Ok(lines)
+}
+
+/// The frame of a section of the PAT whose bytes read, or the place of the first fault.
+fn checked(bytes: &[u8]) -> Result<Frame<'_>, usize>
+    ensures { MatchResult result (λ f. (pat_fault bytes.now ≡ None) × (view f ≡ fields_of bytes.now)) (λ place. pat_fault bytes.now ≡ Some place) }
+{
+    let frame = frame_of(0x00, bytes)?;
+    let size = frame.body.len();
+    if size % 4 != 0 {
+        return Err(8 + size / 4 * 4);
+    }
+    check_crc(bytes)?;
+    Ok(frame)
+}
+
+/// Reads a section of the program association table, which has to be all of the bytes (ISO/IEC 13818-1, 2.4.4.3).
+///
+/// `NotPsi` comes exactly where a field breaks its rule or is cut, and gives the place of the first such field: table_id 0x00 (place 0);
+/// section_syntax_indicator 1 and section_length, the number of the bytes after it and at most 1,021 (both place 1); current_next_indicator 1
+/// (place 5); a line that doesn't fit, at its first byte; a wrong CRC, at its own place. The private bit, reserved bits,
+/// transport_stream_id, version_number and the section's numbers are read as any. `NoMemory` comes only of bytes that read.
+pub fn decode_pat(alloc: Global, bytes: &[u8]) -> Result<Pat, PsiFault>
+    ensures found { IfOk result (λ p. ReadsPat bytes.now (view_pat p)) }
+    ensures only { (p : PatFields) → ReadsPat bytes.now p → Gives view_pat cause result (Ok p) }
+    ensures exact { Gives view_pat cause result (read_pat bytes.now) }
+    ensures no_memory { IsErrOf result PsiFault.NoMemory → pat_fault bytes.now ≡ None }
+{
+    let frame = match checked(bytes) {
+        Ok(frame) => frame,
+        Err(place) => return Err(PsiFault::NotPsi(place)),
+    };
+    let lines = lines_from(alloc, frame.body)?;
+    Ok(Pat {
+        stream: frame.extension,
+        version: frame.version,
+        number: frame.number,
+        lines,
+    })
+}

@@ -1,0 +1,186 @@
+ghost use Rattle.std.specs.Prelude.{◌≡◌, ◌%◌, ◌↔◌, ◌≤◌, List, ℕ, map, Some, None, Ok, Err, length, IfOk, IsErrOf, MatchResult};
+ghost use Rattle.std.specs.Option.{option_map};
+ghost use Rattle.std.specs.List.{filter_map};
+ghost use Rattle.oc_bytes.specs.Outcome.{Gives};
+ghost use Rattle.psi_tables.specs.Frames.{cause, view, fields_of};
+ghost use Rattle.psi_tables.specs.Pmts as pmts;
+ghost use Rattle.psi_tables.specs.Pmts.{PmtFields, ReadsPmt, view_pmt, view_line, read_pmt, pmt_fault, body_fault, left_fault, stream_bytes, streams_run, lines_of, carousels_in, carousel_of};
+
+use crate::frame::{Frame, check_crc, frame_of};
+use crate::{Pmt, PmtLine, PsiFault};
+use std::alloc::{AllocError, Global};
+
+/// The type of streams that carry DSM-CC messages (ISO/IEC 13818-6, clause 9.2.3): user-to-network messages, among them object carousels.
+const DSM_CC: u8 = 0x0B;
+
+/// The tag of a carousel identifier descriptor (ISO/IEC 13818-6, clause 11.5.1).
+const CAROUSEL_IDENTIFIER: u8 = 0x13;
+
+/// A descriptor's tag and bytes, lent.
+#[derive(Clone, Copy, Debug)]
+struct Descriptor<'a> {
+    tag: u8,
+    bytes: &'a [u8],
+}
+
+/// A stream of a program, lent.
+#[derive(Clone, Copy, Debug)]
+struct Stream<'a> {
+    kind: u8,
+    pid: u16,
+    info: &'a [u8],
+}
+
+/// The descriptor that stands whole at the front, and what follows it.
+fn next_descriptor(bytes: &[u8]) -> Option<(Descriptor<'_>, &[u8])>
+    ensures { option_map (λ x. ((x.0.tag, x.0.bytes.now), x.1.now)) result ≡ pmts.next_descriptor bytes.now }
+{
+    match bytes {
+        [tag, size, following @ ..] if usize::from(*size) <= following.len() => {
+            let size = usize::from(*size);
+            Some((
+                Descriptor {
+                    tag: *tag,
+                    bytes: &following[..size],
+                },
+                &following[size..],
+            ))
+        }
+        _ => None,
+    }
+}
+
+/// The stream that stands whole at the front, and what follows it.
+fn next_stream(bytes: &[u8]) -> Option<(Stream<'_>, &[u8])>
+    ensures { option_map (λ x. (pmts.view_stream x.0, x.1.now)) result ≡ pmts.next_stream bytes.now }
+{
+    let [kind, a, b, c, d, following @ ..] = bytes else {
+        return None;
+    };
+    let size = usize::from(*c) % 16 * 256 + usize::from(*d);
+    if size > following.len() {
+        return None;
+    }
+    let stream = Stream {
+        kind: *kind,
+        pid: u16::from_be_bytes([*a % 32, *b]),
+        info: &following[..size],
+    };
+    Some((stream, &following[size..]))
+}
+
+/// The carousel that a descriptor names.
+fn carousel_named(descriptor: Descriptor<'_>) -> Option<u32>
+    ensures { result ≡ carousel_of (descriptor.entry.tag, descriptor.entry.bytes.now) }
+{
+    match descriptor.bytes {
+        [a, b, c, d, ..] if descriptor.tag == CAROUSEL_IDENTIFIER => {
+            Some(u32::from_be_bytes([*a, *b, *c, *d]))
+        }
+        _ => None,
+    }
+}
+
+/// The carousels that a stream's descriptors name.
+fn carousels_named(alloc: Global, info: &[u8]) -> Result<Vec<u32>, AllocError>
+    ensures { IfOk result (λ v. v.items ≡ carousels_in info.now) }
+{
+    let mut carousels = Vec::new(alloc);
+    let mut rest = info;
+    while let Some((descriptor, following)) = next_descriptor(rest) {
+        if let Some(carousel) = carousel_named(descriptor) {
+            carousels.push(carousel)?;
+        }
+        rest = following;
+    }
+    Ok(carousels)
+}
+
+/// What is left after the last stream that stands whole.
+fn left_after_streams(bytes: &[u8]) -> &[u8]
+    ensures left { result.now ≡ (streams_run bytes.now).1 }
+    ensures within { length result.now ≤ length bytes.now }
+{
+    let mut rest = bytes;
+    while let Some((_, following)) = next_stream(rest) {
+        rest = following;
+    }
+    rest
+}
+
+/// The streams of type 0x0B.
+fn lines_from(alloc: Global, bytes: &[u8]) -> Result<Vec<PmtLine>, AllocError>
+    ensures { IfOk result (λ v. map view_line v.items ≡ lines_of (streams_run bytes.now).0) }
+{
+    let mut lines = Vec::new(alloc);
+    let mut rest = bytes;
+    while let Some((stream, following)) = next_stream(rest) {
+        if stream.kind == DSM_CC {
+            let carousels = carousels_named(alloc, stream.info)?;
+            lines.push(PmtLine {
+                pid: stream.pid,
+                carousels,
+            })?;
+        }
+        rest = following;
+    }
+    Ok(lines)
+}
+
+/// The bytes of the streams, or the place of the first field of the body that doesn't fit.
+fn streams_of(body: &[u8]) -> Result<&[u8], usize>
+    ensures { MatchResult result (λ x. (body_fault body.now ≡ None) × (x.now ≡ stream_bytes body.now)) (λ place. body_fault body.now ≡ Some place) }
+{
+    if body.len() < 2 {
+        return Err(8);
+    }
+    if body.len() < 4 {
+        return Err(10);
+    }
+    let info = usize::from(body[2]) % 16 * 256 + usize::from(body[3]);
+    if body.len() < 4 + info {
+        return Err(12);
+    }
+    let streams = &body[4 + info..];
+    let left = left_after_streams(streams).len();
+    if left == 0 {
+        return Ok(streams);
+    }
+    let place = 8 + body.len() - left;
+    Err(if left < 5 { place } else { place + 5 })
+}
+
+/// The frame of a section of a PMT whose bytes read with the bytes of its streams, or the place of the first fault.
+fn checked(bytes: &[u8]) -> Result<(Frame<'_>, &[u8]), usize>
+    ensures { MatchResult result (λ x. (pmt_fault bytes.now ≡ None) × (view x.0 ≡ fields_of bytes.now) × (x.1.now ≡ stream_bytes (fields_of bytes.now).body)) (λ place. pmt_fault bytes.now ≡ Some place) }
+{
+    let frame = frame_of(0x02, bytes)?;
+    let streams = streams_of(frame.body)?;
+    check_crc(bytes)?;
+    Ok((frame, streams))
+}
+
+/// Reads the map table of a program, which has to be all of the bytes (ISO/IEC 13818-1, 2.4.4.8).
+///
+/// `NotPsi` comes exactly where a field breaks its rule or is cut, and gives the place of the first such field: table_id 0x02 (place 0);
+/// section_syntax_indicator 1 and section_length, the number of the bytes after it and at most 1,021 (both place 1); current_next_indicator 1
+/// (place 5); the program's descriptors, a stream's five bytes or a stream's descriptors that don't fit, at their first byte; a wrong CRC, at
+/// its own place. The private bit, reserved bits, version_number, the section's numbers, the PID of the clock and the program's descriptors are
+/// read as any. Of a stream of type 0x0B each whole descriptor of tag 0x13 with at least 4 bytes names the carousel whose id it begins with;
+/// a descriptor that runs past the end of its stream's descriptors is passed over. `NoMemory` comes only of bytes that read.
+pub fn decode_pmt(alloc: Global, bytes: &[u8]) -> Result<Pmt, PsiFault>
+    ensures found { IfOk result (λ p. ReadsPmt bytes.now (view_pmt p)) }
+    ensures only { (p : PmtFields) → ReadsPmt bytes.now p → Gives view_pmt cause result (Ok p) }
+    ensures exact { Gives view_pmt cause result (read_pmt bytes.now) }
+    ensures no_memory { IsErrOf result PsiFault.NoMemory → pmt_fault bytes.now ≡ None }
+{
+    let (frame, streams) = match checked(bytes) {
+        Ok(checked) => checked,
+        Err(place) => return Err(PsiFault::NotPsi(place)),
+    };
+    let lines = lines_from(alloc, streams)?;
+    Ok(Pmt {
+        program: frame.extension,
+        lines,
+    })
+}
