@@ -1,0 +1,5 @@
+pub mod Prefixes
+pub mod Lists
+pub mod Naming
+pub mod Adding
+pub mod CallerLemmas
