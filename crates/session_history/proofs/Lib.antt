@@ -1,0 +1,12 @@
+pub mod Running
+pub mod Cutting
+pub mod Growing
+pub mod Placing
+pub mod Ordering
+pub mod Numbers
+pub mod Replying
+pub mod Merged
+pub mod Parts
+pub mod Turns
+pub mod Telling
+pub mod Witness

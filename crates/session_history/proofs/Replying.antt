@@ -1,0 +1,233 @@
+-- A session's merge is a run of the world.
+use Rattle.std.proofs.Common.{◌≡◌, ℕ, suc, ◌+◌, ◌<◌, ◌≤◌, Bool, true, false, cond, List, [], ◌∷◌, ◌++◌, length, map, drop, take, get_or, Some, Result, sym, ap, ◌∙◌, refl, subst, arith, append_assoc, append-nil, length-append}
+use Rattle.std.specs.Prelude.{◌==◌, if◌then◌else◌, slice_get, slice_index_or, nat_le}
+use Rattle.std.specs.List.{sum_by}
+use Rattle.std.proofs.lemmas.List.Sums.{sum_by-append, sum_by-cons}
+use Rattle.std.proofs.Math.Seq.{take-append_seam}
+use mathlib.Core.List.{map-append}
+use Rattle.std.proofs.lemmas.Bool.{lt-leb}
+use Rattle.path_tree.specs.declared.tree.Edit.{Edit}
+use Rattle.ts_packet.specs.declared.Fate.{Fate}
+use Rattle.generation_catalogue.specs.History.{CatalogueState, IsHistory, IsEntered, entry_after, is_draw, is_entered, draws_of, drawn, current_of, cursor_of, count_drawn, items_drawn, outcome_of, with_entry}
+use Rattle.generation_catalogue.specs.declared.entry.Refusal.{Refusal}
+use Rattle.generation_catalogue.specs.declared.entry.Entry.{Entry}
+use Rattle.generation_catalogue.specs.declared.entry.Entry.TheVariants as entries
+use Rattle.carousel_world.specs.Events.{Step, Commit, Draw}
+use Rattle.carousel_world.specs.Receptions.{label_after}
+use Rattle.tuner_core.specs.LookBack.{answer_after}
+use Rattle.carousel_world.specs.World.{Drawing, WorldState, arrivals, candidates_in, commit_reply, opening, after_all, replies_to, reply_to, happens}
+use Rattle.section_stream.specs.Cuts.{candidates}
+use Rattle.carousel_world.specs.declared.event.Reply.{Reply}
+use Rattle.carousel_world.specs.declared.event.Reply.TheVariants as replies
+use Rattle.session_history.specs.declared.opens.Open.{Open}
+use Rattle.session_history.specs.Merging.{Each, IsRun, opens_by, merge_of}
+use Rattle.session_history.proofs.Running.{each_append, Machine, IsReplied, IsRunTo, to_run, Ends, merge_runs}
+use Rattle.session_history.specs.Merges.{ReaderFields, event_of, merging, state_of, drawings_after, drawings_of, candidates_after, IsAnswered, AreAnswered, IsRunOfWorld}
+use Rattle.session_history.proofs.Numbers.{numbered, outcome_same, draws_same, current_same, cursor_same, count_drawn_same, items_same}
+
+as_replies : (w : WorldState) (xs : List (Step × Reply)) → IsRun reply_to happens w xs → map (λ x. x.1) xs ≡ replies_to w (map (λ x. x.0) xs)
+as_replies w [] h = refl
+as_replies w (x ∷ xs) h = λ i. h.0 i ∷ as_replies (happens w x.0) xs h.1 i
+
+get_next : {A : Type 0} (xs ys : List A) (e : A) → slice_get (xs ++ e ∷ ys) (length xs) ≡ Some e
+get_next [] ys e = refl
+get_next (x ∷ xs) ys e = get_next xs ys e
+
+index_next : {A : Type 0} (xs ys : List A) (e : A) → slice_index_or (xs ++ e ∷ ys) (length xs) e ≡ e
+index_next [] ys e = refl
+index_next (x ∷ xs) ys e = index_next xs ys e
+
+abbrev outcome_in : Entry → Result ℕ Refusal → Result ℕ Refusal
+outcome_in (entries.Commit editor edits outcome) d = outcome
+outcome_in (entries.Draw asked generation first count) d = d
+
+abbrev reply_in : Entry → Reply
+reply_in (entries.Commit editor edits outcome) = commit_reply outcome
+reply_in (entries.Draw asked generation first count) = replies.Drawn generation first count
+
+-- what the history says of its next entry
+module _ (c : CatalogueState) (history : IsHistory c) where
+  next_is : (before : List Entry) (e : Entry) (es : List Entry) → c.entries ≡ before ++ e ∷ es → e ≡ entry_after (state_of c.carousel before) e
+  next_is before e es all =
+      history.each (length before) e (ap (λ (l : List Entry). slice_get l (length before)) all ∙ get_next before es e)
+      ∙ ap (λ (l : List Entry). entry_after (state_of c.carousel l) e) (ap (take (length before)) all ∙ take-append_seam before (e ∷ es))
+
+  next_entered : (before : List Entry) (e : Entry) (es : List Entry) → c.entries ≡ before ++ e ∷ es → IsEntered e
+  next_entered before e es all =
+      subst IsEntered (ap (λ (l : List Entry). slice_index_or l (length before) e) all ∙ index_next before es e)
+      (history.entered (length before) e (let n = ap length all ∙ length-append before (e ∷ es) in omega arith))
+
+module _ (c : CatalogueState) (history : IsHistory c) (few : draws_of c ≤ 16777216) (editors : List ℕ) (all_fates : List (List Fate)) where
+  abbrev all : List Drawing
+  all = drawings_of c all_fates
+
+  abbrev stored : List Entry → CatalogueState
+  stored before = state_of c.carousel (map (numbered editors) before)
+
+  abbrev world_at : List Entry → List Drawing → WorldState
+  world_at before ds = record { catalogue = stored before; drawings = ds }
+
+  record Stands (w : WorldState) (k : ℕ) (fates : List (List Fate)) (es : List Entry) : Type 0 where
+    before : List Entry
+    drawn : List Drawing
+    entries : c.entries ≡ before ++ es
+    is : w ≡ world_at before drawn
+    many : length drawn ≡ k
+    rest : all ≡ drawn ++ drawings_after c.carousel before fates es
+
+  further : (before es : List Entry) (e : Entry) → c.entries ≡ before ++ e ∷ es → c.entries ≡ (before ++ e ∷ []) ++ es
+  further before es e h = h ∙ sym (append_assoc before (e ∷ []) es)
+
+  stored_next : (before : List Entry) (e : Entry) → record { carousel = c.carousel; entries = map (numbered editors) before ++ numbered editors e ∷ [] } ≡ stored (before ++ e ∷ [])
+  stored_next before e = ap (state_of c.carousel) (sym (map-append (numbered editors) before (e ∷ [])))
+
+  -- a commit
+  same_outcome : (before : List Entry) (editor : ℕ) (edits : List Edit) (outcome : Result ℕ Refusal) (es : List Entry) → c.entries ≡ before ++ entries.Commit editor edits outcome ∷ es → outcome ≡ outcome_of (stored before) edits
+  same_outcome before editor edits outcome es h =
+      ap (λ e. outcome_in e outcome) (next_is c history before (entries.Commit editor edits outcome) es h) ∙ sym (outcome_same editors c.carousel before edits)
+
+  after_commit : (before : List Entry) (ds : List Drawing) (editor : ℕ) (edits : List Edit) (outcome : Result ℕ Refusal) → outcome ≡ outcome_of (stored before) edits → is_entered outcome ≡ true
+      → happens (world_at before ds) (Commit (get_or editors editor 0) edits) ≡ world_at (before ++ entries.Commit editor edits outcome ∷ []) ds
+  after_commit before ds editor edits outcome same entered =
+      let now : is_entered (outcome_of (stored before) edits) ≡ true = ap is_entered (sym same) ∙ entered in
+      ap (λ (b : Bool). record {
+        catalogue = if b then with_entry (stored before) (entries.Commit (get_or editors editor 0) edits (outcome_of (stored before) edits)) else stored before;
+        drawings = ds;
+      }) now
+      ∙ ap (λ (o : Result ℕ Refusal). record { catalogue = with_entry (stored before) (entries.Commit (get_or editors editor 0) edits o); drawings = ds }) (sym same)
+      ∙ ap (λ (s : CatalogueState). record { catalogue = s; drawings = ds }) (stored_next before (entries.Commit editor edits outcome))
+
+  on_commit : (w : WorldState) (k : ℕ) (fates : List (List Fate)) (e : Entry) (es : List Entry) → Stands w k fates (e ∷ es) → is_draw e ≡ false
+      → ((event_of editors e []).1 ≡ reply_to w (event_of editors e []).0) × Stands (happens w (event_of editors e []).0) k fates es
+  on_commit w k fates (entries.Draw asked generation first count) es s no_draw = absurd (cc)
+  on_commit w k fates (entries.Commit editor edits outcome) es s no_draw =
+      let e = entries.Commit editor edits outcome in
+      let step = Commit (get_or editors editor 0) edits in
+      let same = same_outcome s.before editor edits outcome es s.entries in (
+        ap commit_reply same ∙ ap (λ v. reply_to v step) (sym s.is),
+        record {
+          before = s.before ++ e ∷ [];
+          drawn = s.drawn;
+          entries = further s.before es e s.entries;
+          is = ap (λ v. happens v step) s.is ∙ after_commit s.before s.drawn editor edits outcome same (next_entered c history s.before e es s.entries);
+          many = s.many;
+          rest = s.rest;
+        },
+      )
+
+  -- a draw
+  module _ (before : List Entry) (asked generation first count : ℕ) (es : List Entry) (all_entries : c.entries ≡ before ++ entries.Draw asked generation first count ∷ es) where
+    abbrev this : Entry
+    this = entries.Draw asked generation first count
+
+    abbrev plain : CatalogueState
+    plain = state_of c.carousel before
+
+    abbrev given : CatalogueState → Entry
+    given s = entries.Draw asked (current_of s).number (cursor_of s) (count_drawn s asked)
+
+    same_entry : given (stored before) ≡ this
+    same_entry =
+        (λ i. entries.Draw asked (current_same editors c.carousel before i).number (cursor_same editors c.carousel before i) (count_drawn_same editors c.carousel before asked i))
+        ∙ sym (next_is c history before this es all_entries)
+
+    fewer : draws_of (stored before) < 16777216
+    fewer =
+        let f : Entry → ℕ = λ e. cond {A = ℕ} (is_draw e) 1 0 in
+        let a : draws_of (stored before) ≡ sum_by f before = draws_same editors c.carousel before in
+        let b : draws_of c ≡ sum_by f before + sum_by f (this ∷ es) = ap (sum_by f) all_entries ∙ sum_by-append f before (this ∷ es) in
+        let d : sum_by f (this ∷ es) ≡ 1 + sum_by f es = sum_by-cons f this es in
+        omega arith
+
+    not_full : nat_le 16777216 (draws_of (stored before)) ≡ false
+    not_full = lt-leb 16777216 (draws_of (stored before)) fewer
+
+    reply_of_draw : (ds : List Drawing) (fs : List Fate) → replies.Drawn generation first count ≡ reply_to (world_at before ds) (Draw asked fs)
+    reply_of_draw ds fs =
+        ap reply_in (sym same_entry)
+        ∙ ap (λ (b : Bool). if b then replies.DrawsFull 16777216 else replies.Drawn (current_of (stored before)).number (cursor_of (stored before)) (count_drawn (stored before) asked)) (sym not_full)
+
+    after_draw : (ds : List Drawing) (fs : List Fate) → happens (world_at before ds) (Draw asked fs)
+        ≡ world_at (before ++ this ∷ []) (ds ++ record { generation = current_of plain; items = items_drawn plain asked; fates = fs } ∷ [])
+    after_draw ds fs =
+        ap (λ (b : Bool). if b then world_at before ds else record {
+          catalogue = drawn (stored before) asked;
+          drawings = ds ++ record { generation = current_of (stored before); items = items_drawn (stored before) asked; fates = fs } ∷ [];
+        }) not_full
+        ∙ (λ i. record {
+          catalogue = with_entry (stored before) (same_entry i);
+          drawings = ds ++ record { generation = current_same editors c.carousel before i; items = items_same editors c.carousel before asked i; fates = fs } ∷ [];
+        })
+        ∙ (λ i. record {
+          catalogue = stored_next before this i;
+          drawings = ds ++ record { generation = current_of plain; items = items_drawn plain asked; fates = fs } ∷ [];
+        })
+
+  on_draw : (w : WorldState) (k : ℕ) (fates : List (List Fate)) (e : Entry) (es : List Entry) → Stands w k fates (e ∷ es) → is_draw e ≡ true
+      → ((event_of editors e (get_or fates 0 [])).1 ≡ reply_to w (event_of editors e (get_or fates 0 [])).0) × Stands (happens w (event_of editors e (get_or fates 0 [])).0) (suc k) (drop 1 fates) es
+  on_draw w k fates (entries.Commit editor edits outcome) es s is = absurd (cc)
+  on_draw w k fates (entries.Draw asked generation first count) es s is =
+      let e = entries.Draw asked generation first count in
+      let fs = get_or fates 0 [] in
+      let plain = state_of c.carousel s.before in
+      let now : Drawing = record { generation = current_of plain; items = items_drawn plain asked; fates = fs } in (
+        reply_of_draw s.before asked generation first count es s.entries s.drawn fs ∙ ap (λ v. reply_to v (Draw asked fs)) (sym s.is),
+        record {
+          before = s.before ++ e ∷ [];
+          drawn = s.drawn ++ now ∷ [];
+          entries = further s.before es e s.entries;
+          is = ap (λ v. happens v (Draw asked fs)) s.is ∙ after_draw s.before asked generation first count es s.entries s.drawn fs;
+          many = (let n = length-append s.drawn (now ∷ []) in let m = s.many in omega arith);
+          rest = s.rest ∙ sym (append_assoc s.drawn (now ∷ []) (drawings_after c.carousel (s.before ++ e ∷ []) (drop 1 fates) es));
+        },
+      )
+
+  -- opens
+  by_reader : (r : ℕ) (readers : List ReaderFields) → AreAnswered all readers → Each (IsAnswered all) (opens_by (merging editors) r readers)
+  by_reader r [] h = tt
+  by_reader r (p ∷ ps) h = each_append (IsAnswered all) (if p.reader == r then p.opens else []) (opens_by (merging editors) r ps) (chosen (p.reader == r)) (by_reader r ps h.1)
+    where
+      chosen : (b : Bool) → Each (IsAnswered all) (if b then p.opens else [])
+      chosen true = h.0
+      chosen false = tt
+
+  on_open : (w : WorldState) (k : ℕ) (fates : List (List Fate)) (es : List Entry) → Stands w k fates es → (r : ℕ) (o : Open) → IsAnswered all o → o.draws ≡ k → IsReplied reply_to happens (merging editors) w r o
+  on_open w k fates es s r o h e =
+      let cut : take o.draws all ≡ s.drawn = (λ i. take (e i) (s.rest i)) ∙ ap (λ n. take n (s.drawn ++ drawings_after c.carousel s.before fates es)) (sym s.many) ∙ take-append_seam s.drawn (drawings_after c.carousel s.before fates es) in
+      let heard : candidates_after all o.draws ≡ candidates_in w = ap (λ ds. candidates 256 (map (λ a. a.1) (arrivals ds))) cut ∙ ap candidates_in (sym s.is) in
+      let label : o.label ≡ label_after (candidates_in w) = h.0 ∙ ap label_after heard in
+      let answer : o.answer ≡ answer_after (candidates_in w) o.path = h.1 ∙ ap (λ cs. answer_after cs o.path) heard in
+      (λ i. replies.Opened (label i) (answer i), refl)
+
+  each_open : (w : WorldState) (k : ℕ) (fates : List (List Fate)) (es : List Entry) → Stands w k fates es → (r : ℕ) (os : List Open) → Each (IsAnswered all) os → Each (λ o. o.draws ≡ k → IsReplied reply_to happens (merging editors) w r o) os
+  each_open w k fates es s r [] h = tt
+  each_open w k fates es s r (o ∷ os) h = (on_open w k fates es s r o h.0, each_open w k fates es s r os h.1)
+
+  module _ (readers : List ReaderFields) (answered : AreAnswered all readers) where
+    abbrev machine : Machine reply_to happens (merging editors) readers Stands
+    machine = record { commit = on_commit; draw = on_draw; open_of = λ w k fates es s r. each_open w k fates es s r (opens_by (merging editors) r readers) (by_reader r readers answered) }
+
+    abbrev end_of : WorldState → Type 0
+    end_of = Ends reply_to happens (merging editors) readers Stands machine
+
+    runs : IsRunTo reply_to happens end_of (opening c.carousel) (merge_of (merging editors) readers all_fates c.entries)
+    runs = merge_runs reply_to happens (merging editors) readers Stands machine (opening c.carousel) all_fates c.entries
+        (record { before = []; drawn = []; entries = refl; is = refl; many = refl; rest = refl })
+
+    pub run_of : IsRunOfWorld c.carousel (merge_of (merging editors) readers all_fates c.entries)
+    run_of = as_replies (opening c.carousel) (merge_of (merging editors) readers all_fates c.entries)
+        (to_run reply_to happens end_of (opening c.carousel) (merge_of (merging editors) readers all_fates c.entries) runs)
+
+    at_end : (w : WorldState) (xs : List (Step × Reply)) → IsRunTo reply_to happens end_of w xs → end_of (after_all w (map (λ x. x.0) xs))
+    at_end w [] h = h
+    at_end w (x ∷ xs) h = at_end (happens w x.0) xs h.1
+
+    pub drawings_at_end : (after_all (opening c.carousel) (map (λ x. x.0) (merge_of (merging editors) readers all_fates c.entries))).drawings ≡ all
+    drawings_at_end =
+        let s = (at_end (opening c.carousel) (merge_of (merging editors) readers all_fates c.entries) runs).2 in
+        ap (λ (w : WorldState). w.drawings) s.is ∙ sym (append-nil s.drawn) ∙ sym s.rest
+
+    pub catalogue_at_end : (after_all (opening c.carousel) (map (λ x. x.0) (merge_of (merging editors) readers all_fates c.entries))).catalogue ≡ state_of c.carousel (map (numbered editors) c.entries)
+    catalogue_at_end =
+        let s = (at_end (opening c.carousel) (merge_of (merging editors) readers all_fates c.entries) runs).2 in
+        ap (λ (w : WorldState). w.catalogue) s.is ∙ ap (λ (l : List Entry). state_of c.carousel (map (numbered editors) l)) (sym (append-nil s.before) ∙ sym s.entries)

@@ -1,0 +1,114 @@
+-- Such a catalogue, and such opens, can be: those of a run of the world.
+use Rattle.std.proofs.Common.{◌≡◌, ℕ, zero, suc, ◌<◌, ◌≤◌, List, [], ◌∷◌, take, get_or, Some, Ok, refl, subst, arith}
+use Rattle.std.specs.Prelude.{slice_get, slice_index_or}
+use Rattle.ts_packet.specs.declared.Fate.{Fate}
+use Rattle.ts_packet.specs.declared.Fate.TheVariants.{Keep, Lose, Flip}
+use Rattle.ddb_block.specs.Message.{message_at}
+use Rattle.ddb_block.specs.Blocks.{block_at}
+use Rattle.ior_tap.specs.IorReading.{each_at, tap_at, component_at, location_at, taps_at, components_at, profile_at, ior_at}
+use Rattle.dsi_dii.specs.ControlReading.{info_at, line_at, dii_at, dsi_at, head_at, sized_at, frame_at, private_at}
+use Rattle.biop_object.specs.ObjectReading.{binding_at, context_at, file_at, folder_at, object_at, inside_at}
+use Rattle.path_resolver.specs.declared.answer.Answer.TheVariants as answers
+use Rattle.generation.specs.Lawful.{ArePublishable}
+use Rattle.generation_catalogue.specs.History.{CatalogueState, IsHistory, IsEntered, entry_after, trees_of}
+use Rattle.generation_catalogue.specs.declared.entry.Entry.{Entry}
+use Rattle.generation_catalogue.specs.declared.entry.Entry.TheVariants as entries
+use Rattle.carousel_world.specs.Runs.{RunIsPremised, the_path, puts}
+use Rattle.session_history.specs.declared.opens.Open.{Open}
+use Rattle.session_history.specs.Merges.{ReaderFields, state_of, drawings_of, AreAnswered}
+use Rattle.session_history.specs.Merged.{AMergeIsReady, AreParts}
+
+abbrev those : List Entry
+those =
+    entries.Commit 0 (puts (1 ∷ 2 ∷ 3 ∷ [])) (Ok 1) ∷ entries.Draw 1048576 1 0 3 ∷ entries.Commit 1 (puts (4 ∷ 5 ∷ 6 ∷ [])) (Ok 2)
+    ∷ entries.Draw 1048576 2 0 3 ∷ entries.Draw 1048576 2 0 3 ∷ []
+
+abbrev kept : CatalogueState
+kept = state_of 1 those
+
+abbrev all_fates : List (List Fate)
+all_fates = (Lose ∷ Keep ∷ Keep ∷ Keep ∷ []) ∷ (Keep ∷ Keep ∷ Flip 800 ∷ Keep ∷ []) ∷ [] ∷ []
+
+abbrev first_opens : List Open
+first_opens =
+    record { draws = 1; label = Some 1; path = the_path; answer = answers.NoCarousel } ∷ record { draws = 2; label = Some 2; path = the_path; answer = answers.NotYet 1 } ∷ []
+
+abbrev second_opens : List Open
+second_opens = record { draws = 3; label = Some 2; path = the_path; answer = answers.File (4 ∷ 5 ∷ 6 ∷ []) } ∷ []
+
+abbrev readers : List ReaderFields
+readers = record { reader = 1; opens = first_opens } ∷ record { reader = 2; opens = second_opens } ∷ []
+
+at : (k : ℕ) (x e : Entry) → Some x ≡ Some e → x ≡ entry_after (state_of 1 (take k those)) x → e ≡ entry_after (state_of 1 (take k those)) e
+at k x e h is = let s : x ≡ e = cc in subst (λ (y : Entry). y ≡ entry_after (state_of 1 (take k those)) y) s is
+
+each_in : (k : ℕ) (e : Entry) → slice_get those k ≡ Some e → e ≡ entry_after (state_of 1 (take k those)) e
+each_in zero e h = at 0 (entries.Commit 0 (puts (1 ∷ 2 ∷ 3 ∷ [])) (Ok 1)) e h refl
+each_in (suc zero) e h = at 1 (entries.Draw 1048576 1 0 3) e h refl
+each_in (suc (suc zero)) e h = at 2 (entries.Commit 1 (puts (4 ∷ 5 ∷ 6 ∷ [])) (Ok 2)) e h refl
+each_in (suc (suc (suc zero))) e h = at 3 (entries.Draw 1048576 2 0 3) e h refl
+each_in (suc (suc (suc (suc zero)))) e h = at 4 (entries.Draw 1048576 2 0 3) e h refl
+each_in (suc (suc (suc (suc (suc k))))) e h = absurd (cc)
+
+entered_in : (k : ℕ) (d : Entry) → k < 5 → IsEntered (slice_index_or those k d)
+entered_in zero d h = refl
+entered_in (suc zero) d h = (omega arith, omega arith)
+entered_in (suc (suc zero)) d h = refl
+entered_in (suc (suc (suc zero))) d h = (omega arith, omega arith)
+entered_in (suc (suc (suc (suc zero)))) d h = (omega arith, omega arith)
+entered_in (suc (suc (suc (suc (suc k))))) d h = absurd (omega arith)
+
+history : ArePublishable 1 (trees_of kept) → IsHistory kept
+history published = record { entered = entered_in; each = each_in; draws = omega arith; published = published }
+
+abbrev numbers : List ℕ
+numbers = 1 ∷ 2 ∷ []
+
+some_in : (i : ℕ) → i < 2 → 1 ≤ get_or numbers i 0
+some_in zero h = omega arith
+some_in (suc zero) h = omega arith
+some_in (suc (suc i)) h = absurd (omega arith)
+
+most_in : (i : ℕ) → i < 2 → get_or numbers i 0 ≤ 64
+most_in zero h = omega arith
+most_in (suc zero) h = omega arith
+most_in (suc (suc i)) h = absurd (omega arith)
+
+apart_in : (i j : ℕ) → i < 2 → j < 2 → get_or numbers i 0 ≡ get_or numbers j 0 → i ≡ j
+apart_in zero zero h k e = refl
+apart_in zero (suc zero) h k e = absurd (omega arith)
+apart_in (suc zero) zero h k e = absurd (omega arith)
+apart_in (suc zero) (suc zero) h k e = refl
+apart_in zero (suc (suc j)) h k e = absurd (omega arith)
+apart_in (suc zero) (suc (suc j)) h k e = absurd (omega arith)
+apart_in (suc (suc i)) j h k e = absurd (omega arith)
+
+parts : AreParts those all_fates numbers readers
+parts = record {
+  drawn = refl;
+  placed = (omega arith, (tt, (omega arith, (tt, (tt, tt)))));
+  in_order = (
+    record { some = omega arith; most = omega arith; rising = (omega arith, omega arith, (omega arith, omega arith, tt)) },
+    (record { some = omega arith; most = omega arith; rising = (omega arith, omega arith, tt) }, tt),
+  );
+  apart = ((λ e. absurd (omega arith), tt), (tt, tt));
+}
+
+answered : AreAnswered (drawings_of kept all_fates) readers
+unfolding message_at block_at each_at tap_at component_at location_at taps_at components_at profile_at ior_at info_at line_at dii_at dsi_at binding_at context_at file_at folder_at object_at head_at sized_at frame_at private_at inside_at
+answered = (((refl, refl), ((refl, refl), tt)), (((refl, refl), tt), tt))
+
+pub ready : RunIsPremised → AMergeIsReady
+ready run = (
+  kept,
+  numbers,
+  all_fates,
+  readers,
+  record {
+    history = history run.published;
+    parts = parts;
+    numbers = record { some = some_in; most = most_in; apart = apart_in };
+    answered = answered;
+  },
+  refl,
+)

@@ -1,0 +1,5 @@
+pub mod Merging
+pub mod Laws
+pub mod Merges
+pub mod Merged
+pub mod Waiting
