@@ -1,6 +1,6 @@
 //! A plain catalogue under `std::sync::Mutex`, for the comparison in bench/station alone: `EDITORS ROUNDS`. In each round
-//! so many threads make 16,000 commits in all, each a put of 8 bytes as the editor's own file. With 0 editors there is no
-//! lock. What is printed is how many commits were accepted.
+//! so many threads make 16,000 commits in all, each a put of 8 bytes as the same file. With 0 editors there is no lock.
+//! What is printed is how many commits were accepted.
 //!
 //! A commit makes the next tree, a sorted list of paths and bytes behind `Arc`, lays its files and their folder out in a
 //! module as BIOP messages, and enters the edits with the number of the generation.
@@ -120,7 +120,8 @@ impl Catalogue {
 }
 
 fn put(editor: u32, number: u32) -> Vec<Edit> {
-    vec![Edit::Put(parse(&format!("/{editor}")), Arc::from(u64::from(number).to_be_bytes()))]
+    let bytes = [editor.to_be_bytes(), number.to_be_bytes()].concat();
+    vec![Edit::Put(parse("/file"), bytes.into())]
 }
 
 fn accepted_by(editors: u32) -> Catalogue {

@@ -15,14 +15,12 @@ use std::thread::Threads;
 /// How many commits a round has in all. A catalogue takes at most 16,383.
 const COMMITS: u32 = 16_000;
 
-/// The edits of an editor's commit of this number: a put of 8 bytes as a file of its own.
+/// The edits of an editor's commit of this number: a put of 8 bytes, which name both, as the one file that all editors put.
 fn put(alloc: Global, editor: u32, number: u32) -> Option<Vec<Edit>> {
-    let text = format!(in alloc; "/{editor}").ok()?;
-    let path = Path::parse(alloc, text.as_bytes()).ok()?;
+    let path = Path::parse(alloc, b"/file").ok()?;
     let mut bytes = Vec::new(alloc);
-    bytes
-        .extend_from_slice(&u64::from(number).to_be_bytes())
-        .ok()?;
+    bytes.extend_from_slice(&editor.to_be_bytes()).ok()?;
+    bytes.extend_from_slice(&number.to_be_bytes()).ok()?;
     let mut edits = Vec::new(alloc);
     edits
         .push(Edit::Put(path, Blob::new(alloc, bytes).ok()?))

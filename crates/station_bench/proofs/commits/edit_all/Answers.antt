@@ -1,4 +1,4 @@
-use Rattle.std.proofs.Common.{◌<◌, slice_index_or, subst, arith}
+use Rattle.std.proofs.Common.{slice_index_or, subst, arith}
 use Rattle.station.specs.Passes.{IsStationPass}
 use Rattle.station_bench.proofs.commits.edit_all.Goals as goal
 
