@@ -148,6 +148,7 @@ impl World {
         requires { All InRange (map view events.items) }
         ensures replies { IfOk result (λ rs. (w : WorldState) → StandsFor (kept self.old) w → rs.items ≡ replies_to w (map view events.items)) }
         ensures stands { OnOk result ((w : WorldState) → StandsFor (kept self.old) w → StandsFor (kept self.new) (after_all w (map view events.items))) }
+        ensures memory { OnErr result (0 < length events.items) }
     {
         let mut replies = Vec::with_capacity(self.alloc, events.len())?;
         for event in events {
@@ -161,7 +162,8 @@ impl World {
     ///
     /// What is promised of every list of events holds of all that happened in this world: `every_run_meets_the_headline` says it.
     ///
-    /// Out of memory is the only refusal. The world is spent after it, and each later call answers it.
+    /// Out of memory is the only refusal, and a world that works answers it only of a list with an event. The world is spent after
+    /// it, and each later call answers it.
     pub fn run(&mut self, events: Vec<Event>) -> Result<Vec<Reply>, NoMemory>
         requires { All InRange (map view events.items) }
         ensures replies { IfOk result (λ rs. (w : WorldState) → StandsFor (kept self.old) w → rs.items ≡ replies_to w (map view events.items)) }
@@ -169,6 +171,7 @@ impl World {
         ensures headline { IfOk result (λ _. (carousel : ℕ) (before : List Step) → StandsFor (kept self.old) (world_after carousel before)
             → MeetsHeadline carousel (before ++ map view events.items)) }
         ensures spent { OnErr result ((kept self.new).down.spent ≡ true) }
+        ensures memory { OnErr result ((w : WorldState) → StandsFor (kept self.old) w → 0 < length events.items) }
         ensures stays { (kept self.old).down.spent ≡ true → IsErr result }
     {
         if self.downlink.is_spent() {
