@@ -12,7 +12,7 @@ use Rattle.path_tree.specs.Trees.{Tree, IsTree}
 use Rattle.biop_object.specs.Names.{Layout, module_in}
 use Rattle.biop_object.specs.Spelled.{SpellingsReadBack}
 use Rattle.module_packer.specs.Kept.{KeptIsAPlacement}
-use Rattle.generation.specs.Publication.{sizes_of, gateway_spot}
+use Rattle.generation.specs.Publication.{gateway_spot}
 use Rattle.generation.specs.Layouts.{GenerationState, Placed, object_bytes, is_in, module_bytes, listed, layout_of, greatest, first_of, next_of, gateway_before}
 use Rattle.generation.specs.Lawful.{IsLayout, Carries, HasBytes, IsPublishable, layout_at, tree_at}
 use Rattle.generation.specs.Kept.{states_from, layouts_of, LayoutsAreLawful}

@@ -1,5 +1,5 @@
 -- Where the objects of a tree stay after those of another.
-use Rattle.std.proofs.Common.{◌≡◌, ℕ, zero, suc, ◌+◌, ◌<◌, ◌≤◌, Bool, true, false, List, [], ◌∷◌, length, map, Option, Some, None, cond, refl, sym, ◌∙◌, ap, subst, arith, Result, Ok, Err, Vec, Global}
+use Rattle.std.proofs.Common.{◌≡◌, ℕ, ◌≤◌, Bool, true, false, List, [], ◌∷◌, length, map, Option, Some, None, cond, refl, sym, ◌∙◌, ap, subst, arith, Result, Ok, Err, Vec, Global}
 use Rattle.std.specs.Prelude.{slice_get, IfOk}
 use Rattle.std.specs.List.{All, zip}
 use Rattle.std.proofs.lemmas.Option.{same_Some}
@@ -8,10 +8,9 @@ use Rattle.path_tree.specs.Trees.{Tree}
 use Rattle.module_packer.specs.Placement.{needed, IsPlacement}
 use Rattle.module_packer.specs.Kept.{Placed as Sized, sizes_in, kept, AreObjects, KeptIsAPlacement}
 use Rattle.generation.specs.declared.objects.Placed.{Placed as CodePlaced}
-use Rattle.generation.specs.declared.spots.Spot.{Spot as CodeSpot}
 use Rattle.generation.specs.Publication.{Spot, gateway_spot, spots_of, spots_after, sizes_of, size_of, limit_of}
-use Rattle.generation.specs.Layouts.{Placed, placed_all, placed_at, key_in, module_of, old_keys, keys_of, old_modules, modules_for, is_same_spot}
-use Rattle.generation.specs.View.{AreOld, view_spot, view_placed}
+use Rattle.generation.specs.Layouts.{Placed, placed_all, placed_at, key_in, module_of, old_keys, old_modules, modules_for, is_same_spot}
+use Rattle.generation.specs.View.{AreOld, view_placed}
 use Rattle.generation.proofs.Limiting.{len_map}
 use Rattle.generation.proofs.Placing.{within_limits}
 

@@ -3,3 +3,4 @@ pub mod Kept
 pub mod Passing
 pub mod Telling
 pub mod Rows
+pub mod Remaining

@@ -14,7 +14,7 @@ use Rattle.module_packer.specs.Told.{told, Tells, sum_at, stays_by, takes_more, 
 
 -- ---- one module
 
-none_summed : (filled : Filled) (m : ℕ) → in_use filled m ≡ false → sum_in filled m ≡ 0
+pub none_summed : (filled : Filled) (m : ℕ) → in_use filled m ≡ false → sum_in filled m ≡ 0
 none_summed [] m e = refl
 none_summed (x ∷ xs) m e = go (eqb x.0 m) refl e (λ f. none_summed xs m f) where
   go : (b : Bool) → eqb x.0 m ≡ b → (b || in_use xs m) ≡ false → (in_use xs m ≡ false → sum_in xs m ≡ 0) → sum_in (x ∷ xs) m ≡ 0
@@ -58,7 +58,7 @@ stays_told limit sums filled size m tells one most = ap (stays_by size) (told_at
 
 -- ---- one object more
 
-used_push : (filled : Filled) (n size m : ℕ) → in_use (filled ++ (n, size) ∷ []) m ≡ (in_use filled m || eqb n m)
+pub used_push : (filled : Filled) (n size m : ℕ) → in_use (filled ++ (n, size) ∷ []) m ≡ (in_use filled m || eqb n m)
 used_push [] n size m = go (eqb n m) where
   go : (b : Bool) → (b || false) ≡ b
   go true = refl

@@ -1,7 +1,7 @@
 -- A placement that leaves each object in the module where it was, as far as there is room. It is this project's own rule.
-use Rattle.std.specs.Prelude.{◌≡◌, ℕ, zero, suc, ◌+◌, ◌<◌, ◌≤◌, not, ◌&&◌, List, [], ◌∷◌, ◌++◌, length, map, slice_get, Option, Some, None, nat_le, ◌==◌, Bool, if◌then◌else◌}
+use Rattle.std.specs.Prelude.{◌≡◌, ℕ, zero, suc, ◌+◌, ◌<◌, ◌≤◌, not, ◌&&◌, List, [], ◌∷◌, ◌++◌, length, map, take, slice_get, ◌⊎◌, Option, Some, None, nat_le, ◌==◌, Bool, false, if◌then◌else◌}
 use Rattle.std.specs.Option.{unwrap_or, option_and_then}
-use Rattle.std.specs.List.{All, list_all, list_any}
+use Rattle.std.specs.List.{All, list_all, list_any, sum_by, count_by}
 use Rattle.module_packer.specs.Placement.{room, fresh, needed, sum_in, IsPlacement}
 
 -- an object's size, and the module in which it was
@@ -102,3 +102,28 @@ pub record AreObjects (limit : ℕ) (objects : List Placed) : Type 0 where
 
 abbrev pub KeptIsAPlacement : Type 0
 KeptIsAPlacement = (limit : ℕ) (objects : List Placed) → AreObjects limit objects → IsPlacement limit (sizes_in objects) (kept limit objects)
+
+-- ---- who stays
+
+-- the objects with their old modules, where the first one counts as one of module 1
+abbrev pub from_one : List Placed → List Placed
+from_one [] = []
+from_one (o ∷ os) = (o.0, Some 1) ∷ os
+
+abbrev pub is_module : ℕ → Option ℕ → Bool
+is_module m (Some n) = n == m
+is_module m None = false
+
+-- the bytes of the objects that were in a module
+abbrev pub bytes_of : ℕ → List Placed → ℕ
+bytes_of m objects = sum_by (λ o. if is_module m o.1 then o.0 else 0) objects
+
+-- an object of this size has room in a module after the objects before it that were there, or it is the first of these
+abbrev pub HasRoomAfter : ℕ → List Placed → ℕ → Type 0
+HasRoomAfter m before size = (bytes_of m before + size ≤ room) ⊎ (count_by (λ o. is_module m o.1) before ≡ 0)
+
+-- Unless the whole placement is the fresh one, an object stays in its old module where the objects before it that were
+-- there leave room for it.
+abbrev pub ObjectsStay : Type 0
+ObjectsStay = (limit : ℕ) (objects : List Placed) → (kept limit objects ≡ fresh (sizes_in objects))
+    ⊎ ((k m : ℕ) (o : Placed) → slice_get (from_one objects) k ≡ Some o → o.1 ≡ Some m → HasRoomAfter m (take k (from_one objects)) o.0 → slice_get (kept limit objects) k ≡ Some m)

@@ -7,7 +7,7 @@
 
 ghost use Rattle.std.specs.Prelude.{◌≡◌, ◌≤◌, ◌<◌, length, IfOk};
 ghost use Rattle.module_packer.specs.Placement.{fresh, needed, IsPlacement, FreshIsAPlacement};
-ghost use Rattle.module_packer.specs.Kept.{KeptIsAPlacement};
+ghost use Rattle.module_packer.specs.Kept.{KeptIsAPlacement, ObjectsStay};
 
 mod filling;
 mod keeping;
@@ -59,6 +59,13 @@ pub fn place_fresh(alloc: Global, sizes: &[u32]) -> Result<Vec<u16>, NoMemory>
 /// The law behind `place`, for every limit.
 pub fn kept_is_a_placement()
     ensures { KeptIsAPlacement }
+{}
+
+/// Of `place`, for every limit: unless the whole placement is the fresh one, an object stays in its old module where the
+/// objects before it that were there leave room for it. So what changes behind an object in object order never moves it,
+/// and neither does what changes in another module.
+pub fn objects_stay_where_there_is_room()
+    ensures { ObjectsStay }
 {}
 
 /// The law behind `place_fresh`, for every limit: each object has a module from 1 to the limit, the first object is in

@@ -3,7 +3,7 @@ use Rattle.std.specs.List.{zip}
 use Rattle.module_packer.specs.Placement.{IsPlacement}
 use Rattle.module_packer.specs.Kept.{AreObjects}
 use Rattle.generation.specs.Publication.{spots_of, sizes_of}
-use Rattle.generation.specs.Layouts.{old_keys, keys_of, old_modules, modules_for}
+use Rattle.generation.specs.Layouts.{old_keys, keys_of, modules_for}
 use Rattle.generation.specs.View.{view_spot, view_placed}
 use Rattle.generation.proofs.Writing.{keys_are}
 use Rattle.generation.proofs.Placing.{within_limits, objects_arm, ready_arm}
