@@ -3,6 +3,7 @@ ghost use Rattle.carousel_world.specs.Instances.{PremisesCanBeMet};
 ghost use Rattle.carousel_world.specs.Publishing.{EachCycleOpens, EveryPublicationMeets};
 ghost use Rattle.carousel_world.specs.Promises.{EveryRunMeetsTheHeadline};
 ghost use Rattle.carousel_world.specs.Receptions.{EveryReceptionMeets, LabelsNeverFall};
+ghost use Rattle.carousel_world.specs.Settling.{EverySettledRunIsWhole};
 
 /// Whatever a receiver hears of a carousel whose tree changes from generation to generation, lost, damaged, repeated or interleaved
 /// with other packets: while each section that is accepted is one that was sent, in the order of sending, and while fewer than 256
@@ -64,6 +65,25 @@ pub fn every_run_meets_the_headline()
     generation::layouts_are_lawful();
     every_reception_meets();
     labels_never_fall();
+}
+
+/// A receiver settles: whatever was lost, damaged or repeated in a world so far, and wherever in the cycle the next draw begins, after
+/// two draws of the most items, of which all packets arrive, it has heard a whole cycle of the last generation. The first draw may be
+/// heard in part; it ends the cycle, and the second is a whole one. So after these draws, under the premises of
+/// `every_run_meets_the_headline`, every path of the last generation opens.
+///
+/// It holds of each list of events whose published trees are of bytes and within the limits, and whose history has room for two
+/// draws more.
+pub fn settling_is_whole()
+    ensures { EverySettledRunIsWhole }
+{
+    generation_catalogue::histories_grow();
+    generation::generations_are_of_the_lists();
+    generation::layouts_are_lawful();
+    section_stream::later_sections_are_given();
+    dsmcc_section::spellings_read();
+    ddb_block::spellings_read();
+    dsi_dii::spellings_read_back();
 }
 
 /// The premises of the other laws can be met, and the answers differ: some tree of a file can be published; what is published
