@@ -1,13 +1,13 @@
 -- After two whole draws a whole cycle of the last generation was heard.
 use Rattle.std.proofs.Common.{◌≡◌, ℕ, ◌+◌, ◌<◌, ◌≤◌, cond, List, [], ◌∷◌, ◌++◌, length, map, refl, ap, sym, ◌∙◌, subst, append_assoc, arith, lit<}
-use Rattle.std.specs.List.{All, flat_map, fold}
+use Rattle.std.specs.List.{All, fold}
 use Rattle.std.proofs.lemmas.Bool.{lt-leb}
-use Rattle.std.proofs.lemmas.List.{length-map}
+use Rattle.std.proofs.lemmas.List.{append-nil, length-map, map-append}
 use Rattle.std.proofs.lemmas.List.Elements.{All-map, Contains-append_right}
 use Rattle.std.proofs.lemmas.List.Sums.{fold-append}
 use Rattle.path_tree.specs.Paths.{Bytes}
 use Rattle.biop_object.specs.Names.{Layout}
-use Rattle.cycle_planner.specs.Cycle.{blocks_of, cycle_of}
+use Rattle.cycle_planner.specs.Cycle.{cycle_of}
 use Rattle.cycle_planner.specs.declared.Item.{Item}
 use Rattle.cycle_planner.specs.declared.Item.TheVariants.{Dsi, Dii, Block}
 use Rattle.dsmcc_section.specs.Sections as sections
@@ -21,22 +21,23 @@ use Rattle.section_stream.specs.Laws.{LaterSectionsAreGiven}
 use Rattle.section_stream.specs.Packing.{MuxState, IsSectionLike, packets_of_all, past}
 use Rattle.carousel_world.specs.Fates.{Arrival, under}
 use Rattle.carousel_world.specs.Premises.{IsWhole}
-use Rattle.carousel_world.specs.Promises.{broadcast_of, world_after}
-use Rattle.carousel_world.specs.Settling.{whole_draw, EverySettledRunIsWhole}
+use Rattle.carousel_world.specs.Promises.{broadcast_of, world_after, HoldsAfter, EveryRunMeetsTheHeadline}
+use Rattle.carousel_world.specs.Settling.{whole_draw, settled, IsSettled, EveryRunSettles}
 use Rattle.carousel_world.specs.World.{WorldState, Drawing, drawing_of, sections_sent, arrivals, first_packet, candidates_in, opening, happens}
-use Rattle.carousel_world.proofs.Cycles.{cycle_items, cycle_has}
+use Rattle.carousel_world.proofs.Cycles.{cycle_items}
 use Rattle.carousel_world.proofs.Happening.{framed_is_like}
 use Rattle.carousel_world.proofs.Modules.{IsSent, is_sent}
 use Rattle.carousel_world.proofs.Promised.{after-append}
 use Rattle.carousel_world.proofs.Rounds.{contains_map}
 use Rattle.carousel_world.proofs.Saying.{Spelled, item_framed}
 use Rattle.carousel_world.proofs.Sending.{received_push, sections_push}
-use Rattle.carousel_world.proofs.WholeDraws.{IsShort, turned, short_cycle, some_drawn, cycle_drawn, draws_more, is_of_lists, last_section, sent_by}
+use Rattle.carousel_world.proofs.WholeDraws.{IsShort, IsRound, cycle_is_round, turned, short_cycle, some_drawn, cycle_drawn, draws_more, is_of_lists, last_section, sent_by}
 
 pub record Laws : Type 0 where
   pub grow : HistoriesGrow
   pub lists : GenerationsAreOfTheLists
   pub lawful : LayoutsAreLawful
+  pub headline : EveryRunMeetsTheHeadline
   pub later : LaterSectionsAreGiven
   pub spelled : Spelled
   pub framed : (s : sections.Fields) → sections.Fits s → sections.IsFramed (sections.spelling s)
@@ -98,23 +99,29 @@ ends_with later ds g h first second some like =
 
 -- ---- what is whole
 
--- a receiver whose candidates end with a cycle of the last generation has heard it whole
-ends_whole : (carousel : ℕ) (ls : List Layout) (g : ℕ) (earlier : List Bytes) → length ls ≡ g + 1
-    → IsWhole carousel ls g (earlier ++ map (section_in carousel ls g) (cycle_of (lines_in (layout_at ls g))))
-ends_whole carousel ls g earlier last =
+-- a receiver whose candidates end with a round of the last generation has heard it whole
+ends_whole : (carousel : ℕ) (ls : List Layout) (g : ℕ) (earlier : List Bytes) (items : List Item) → length ls ≡ g + 1 → IsRound ls g items
+    → IsWhole carousel ls g (earlier ++ map (section_in carousel ls g) items)
+ends_whole carousel ls g earlier items last is =
     let section = section_in carousel ls g in
-    let blocks = flat_map blocks_of (lines_in (layout_at ls g)) in
+    let begun = map section is.before in
+    let behind = map section is.after in
+    let round : map section items ≡ begun ++ section Dii ∷ behind = ap (map section) is.place ∙ map-append section is.before (Dii ∷ is.after) in
     record {
       generation = omega (arith, last);
-      gateway = Contains-append_right earlier (map section (cycle_of (lines_in (layout_at ls g)))) (section Dsi) (0, omega arith, refl);
+      gateway = Contains-append_right earlier (map section items) (section Dsi) (contains_map section items Dsi is.gateway);
       round = record {
-        before = earlier ++ section Dsi ∷ [];
-        after = map section blocks;
-        place = sym (append_assoc earlier (section Dsi ∷ []) (section Dii ∷ map section blocks));
-        blocks = λ m b all item. contains_map section blocks (Block m b) (cycle_has ls g m b item);
+        before = earlier ++ begun;
+        after = behind;
+        place = ap (λ ss. earlier ++ ss) round ∙ sym (append_assoc earlier begun (section Dii ∷ behind));
+        blocks = λ m b all item. contains_map section is.after (Block m b) (is.blocks m b item);
       };
       no_later = λ h above inside has. absurd (omega (arith, last, above, inside));
     }
+
+-- what holds of all lists that end with these holds of one that ends with the same
+by_end : (P : List Bytes → Type 0) (all xs ys : List Bytes) → (earlier : List Bytes) × (all ≡ earlier ++ xs) → xs ≡ ys → ((earlier : List Bytes) → P (earlier ++ ys)) → P all
+by_end P all xs ys ends same whole = subst P (sym (ends.1 ∙ ap (λ ss. ends.0 ++ ss) same)) (whole ends.0)
 
 like_all : Laws → (carousel : ℕ) (ls : List Layout) (g : ℕ) → IsSent carousel ls g → g < length ls → All IsSectionLike (map (section_in carousel ls g) (cycle_of (lines_in (layout_at ls g))))
 like_all laws carousel ls g sent lt =
@@ -152,21 +159,29 @@ twice_whole laws w published =
     let last : length ls ≡ g + 1 = let many = lawful.as_many in omega (arith, many) in
     let sent : IsSent c.carousel ls g = is_sent c.carousel ls ([] ∷ trees_of c) g lawful (omega (arith, last)) in
     let cycle = cycle_of (lines_in (layout_at ls g)) in
-    let few : length cycle ≤ 66160 = short_cycle c.carousel ls g sent in
+    let few = short_cycle c.carousel ls g sent in
     let same : cycle_in c ≡ cycle = ap (λ l. cycle_of (lines_in l)) (is_of_lists laws.lists c).layout in
     let short : IsShort c = let size = ap length same in omega (arith, size, few) in
     let second = second_draw laws c short in
     let like : All IsSectionLike (map (section_of (current_of (turned c))) (items_drawn (turned c) 1048576)) =
     subst (All IsSectionLike) (sym second) (like_all laws c.carousel ls g sent (omega (arith, last))) in
     let heard = ends_with laws.later w.drawings (current_of c) (current_of (turned c)) (items_drawn c 1048576) (items_drawn (turned c) 1048576) (some_drawn c short) like in
-    subst (IsWhole c.carousel ls g) (sym (heard.1 ∙ ap (λ ss. heard.0 ++ ss) second)) (ends_whole c.carousel ls g heard.0 last)
+    by_end (IsWhole c.carousel ls g) _ _ _ heard second (λ earlier. ends_whole c.carousel ls g earlier cycle last (cycle_is_round ls g))
 
-pub every_settled : Laws → EverySettledRunIsWhole
-every_settled laws carousel events published room =
+-- a world of which a whole cycle was heard, and which meets the headline
+settles : (w : WorldState) → HoldsAfter w → IsWhole (broadcast_of w).carousel (broadcast_of w).layouts (length (trees_of w.catalogue)) (candidates_in w) → IsSettled w
+settles w holds whole = record { whole = whole; opens = λ u reader p. (holds.meets u).opens (length (trees_of w.catalogue)) p whole }
+
+pub every_run_settles : Laws → EveryRunSettles
+every_run_settles laws carousel events published room =
     let w = world_after carousel events in
     let two = after_one (after_one w) in
     let trees : trees_of two.catalogue ≡ trees_of w.catalogue = laws.grow.by_draw (turned w.catalogue) 1048576 ∙ laws.grow.by_draw w.catalogue 1048576 in
-    let reached : world_after carousel (events ++ whole_draw ∷ whole_draw ∷ []) ≡ two = after-append (opening carousel) events (whole_draw ∷ whole_draw ∷ []) ∙ draws_two w room in
+    let reached : world_after carousel (settled events) ≡ two = after-append (opening carousel) events (whole_draw ∷ whole_draw ∷ []) ∙ draws_two w room in
     let whole : IsWhole w.catalogue.carousel (layouts_of w.catalogue.carousel (trees_of two.catalogue)) (length (trees_of two.catalogue)) (candidates_in two) =
     subst (λ ts. IsWhole w.catalogue.carousel (layouts_of w.catalogue.carousel ts) (length ts) (candidates_in two)) (sym trees) (twice_whole laws w published) in
-    subst (λ (v : WorldState). IsWhole (broadcast_of v).carousel (broadcast_of v).layouts (length (trees_of v.catalogue)) (candidates_in v)) (sym reached) whole
+    let publishable : ArePublishable two.catalogue.carousel (trees_of two.catalogue) = subst (ArePublishable w.catalogue.carousel) (sym trees) published in
+    let still : ArePublishable (world_after carousel (settled events)).catalogue.carousel (trees_of (world_after carousel (settled events)).catalogue) =
+    subst (λ (v : WorldState). ArePublishable v.catalogue.carousel (trees_of v.catalogue)) (sym reached) publishable in
+    let holds : HoldsAfter (world_after carousel (settled events)) = (laws.headline carousel (settled events) still).holds (settled events) [] (sym (append-nil (settled events))) in
+    subst IsSettled (sym reached) (settles two (subst HoldsAfter reached holds) whole)

@@ -12,15 +12,16 @@ use Rattle.path_tree.specs.Trees.{Tree}
 use Rattle.biop_object.specs.Names.{Layout}
 use Rattle.cycle_planner.specs.Cycle.{blocks_of, cycle_of}
 use Rattle.cycle_planner.specs.declared.Item.{Item}
-use Rattle.cycle_planner.specs.declared.Item.TheVariants.{Block}
+use Rattle.cycle_planner.specs.declared.Item.TheVariants.{Dsi, Dii, Block}
 use Rattle.ddb_block.specs.Blocks as ddb
 use Rattle.generation.specs.Layouts.{generation_of, items_of, lines_in, lines_of, section_of}
 use Rattle.generation.specs.Kept.{layouts_of, GenerationsAreOfTheLists, IsGenerationOf}
-use Rattle.generation.specs.Lawful.{layout_at, section_in}
+use Rattle.generation.specs.Lawful.{layout_at, section_in, IsItem}
 use Rattle.generation_catalogue.specs.History.{CatalogueState, trees_of, current_of, cycle_in, cursor_of, count_drawn, items_drawn, draws_of, drawn, drawn_since, is_draw}
 use Rattle.generation_catalogue.specs.Laws.{HistoriesGrow}
 use Rattle.generation_catalogue.specs.declared.entry.Entry.{Entry}
 use Rattle.generation_catalogue.specs.declared.entry.Entry.TheVariants as entries
+use Rattle.carousel_world.proofs.Cycles.{cycle_has}
 use Rattle.carousel_world.proofs.Drawn.{alike}
 use Rattle.carousel_world.proofs.Modules.{IsSent}
 
@@ -49,6 +50,25 @@ short_cycle carousel ls g sent =
     let few = sent.few in
     let total = sent.total in
     omega (arith, fit, few, total)
+
+-- ---- and a whole round
+
+-- the DSI is among these items, and at some place the DII with every block after it
+pub record IsRound (ls : List Layout) (g : ℕ) (items : List Item) : Type 0 where
+  pub gateway : Contains items Dsi
+  pub before : List Item
+  pub after : List Item
+  pub place : items ≡ before ++ Dii ∷ after
+  pub blocks : (m b : ℕ) → IsItem ls g (Block m b) → Contains after (Block m b)
+
+pub cycle_is_round : (ls : List Layout) (g : ℕ) → IsRound ls g (cycle_of (lines_in (layout_at ls g)))
+cycle_is_round ls g = record {
+  gateway = (0, omega arith, refl);
+  before = Dsi ∷ [];
+  after = flat_map blocks_of (lines_in (layout_at ls g));
+  place = refl;
+  blocks = cycle_has ls g;
+}
 
 -- ---- a draw of the most items
 

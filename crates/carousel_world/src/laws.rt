@@ -3,7 +3,7 @@ ghost use Rattle.carousel_world.specs.Instances.{PremisesCanBeMet};
 ghost use Rattle.carousel_world.specs.Publishing.{EachCycleOpens, EveryPublicationMeets};
 ghost use Rattle.carousel_world.specs.Promises.{EveryRunMeetsTheHeadline};
 ghost use Rattle.carousel_world.specs.Receptions.{EveryReceptionMeets, LabelsNeverFall};
-ghost use Rattle.carousel_world.specs.Settling.{EverySettledRunIsWhole};
+ghost use Rattle.carousel_world.specs.Settling.{EveryRunSettles};
 
 /// Whatever a receiver hears of a carousel whose tree changes from generation to generation, lost, damaged, repeated or interleaved
 /// with other packets: while each section that is accepted is one that was sent, in the order of sending, and while fewer than 256
@@ -67,19 +67,20 @@ pub fn every_run_meets_the_headline()
     labels_never_fall();
 }
 
-/// A receiver settles: whatever was lost, damaged or repeated in a world so far, and wherever in the cycle the next draw begins, after
-/// two draws of the most items, of which all packets arrive, it has heard a whole cycle of the last generation. The first draw may be
-/// heard in part; it ends the cycle, and the second is a whole one. So after these draws, under the premises of
-/// `every_run_meets_the_headline`, every path of the last generation opens.
+/// Two draws of the most items, of which all packets arrive, settle each world: whatever was lost, damaged or repeated before, and at
+/// whatever item of the cycle the first of them begins, a whole cycle of the last generation has been heard after the second. The
+/// first draw ends the cycle that was under way, and its first sections alone may be heard in part. So each open then answers the
+/// lookup in the last generation's tree, under the premises of `every_run_meets_the_headline`.
 ///
-/// It holds of each list of events whose published trees are of bytes and within the limits, and whose history has room for two
-/// draws more.
-pub fn settling_is_whole()
-    ensures { EverySettledRunIsWhole }
+/// It holds of each list of events whose published trees are of bytes and within the limits, while the history has room for the two
+/// draws.
+pub fn every_run_settles()
+    ensures { EveryRunSettles }
 {
     generation_catalogue::histories_grow();
     generation::generations_are_of_the_lists();
     generation::layouts_are_lawful();
+    every_run_meets_the_headline();
     section_stream::later_sections_are_given();
     dsmcc_section::spellings_read();
     ddb_block::spellings_read();

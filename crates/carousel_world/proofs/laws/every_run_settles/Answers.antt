@@ -1,12 +1,13 @@
-use Rattle.carousel_world.proofs.Settling.{every_settled}
-use Rattle.carousel_world.proofs.laws.settling_is_whole.Goals as goal
+use Rattle.carousel_world.proofs.Settling.{every_run_settles}
+use Rattle.carousel_world.proofs.laws.every_run_settles.Goals as goal
 
 pub returns : goal.returns
 returns c =
-    every_settled (record {
+    every_run_settles (record {
       grow = c.histories_grow.ensures;
       lists = c.generations_are_of_the_lists.ensures;
       lawful = c.layouts_are_lawful.ensures;
+      headline = c.every_run_meets_the_headline.ensures;
       later = c.later_sections_are_given.ensures;
       spelled = record {
         section = c.spellings_read.ensures.is_read;
