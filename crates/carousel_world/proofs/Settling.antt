@@ -20,14 +20,15 @@ use Rattle.section_stream.specs.Cuts.{candidates}
 use Rattle.section_stream.specs.Laws.{LaterSectionsAreGiven}
 use Rattle.section_stream.specs.Packing.{MuxState, IsSectionLike, packets_of_all, past}
 use Rattle.carousel_world.specs.Fates.{Arrival, under}
+use Rattle.carousel_world.specs.Events.{Step}
 use Rattle.carousel_world.specs.Premises.{IsWhole}
 use Rattle.carousel_world.specs.Promises.{broadcast_of, world_after, HoldsAfter, EveryRunMeetsTheHeadline}
-use Rattle.carousel_world.specs.Settling.{whole_draw, settled, IsSettled, EveryRunSettles}
+use Rattle.carousel_world.specs.Settling.{whole_draw, settled, EverySettledRunIsWhole, EverySettledRunOpens}
 use Rattle.carousel_world.specs.World.{WorldState, Drawing, drawing_of, sections_sent, arrivals, first_packet, candidates_in, opening, happens}
 use Rattle.carousel_world.proofs.Cycles.{cycle_items}
 use Rattle.carousel_world.proofs.Happening.{framed_is_like}
 use Rattle.carousel_world.proofs.Modules.{IsSent, is_sent}
-use Rattle.carousel_world.proofs.Promised.{after-append}
+use Rattle.carousel_world.proofs.Promised.{after-append, grows_all}
 use Rattle.carousel_world.proofs.Rounds.{contains_map}
 use Rattle.carousel_world.proofs.Saying.{Spelled, item_framed}
 use Rattle.carousel_world.proofs.Sending.{received_push, sections_push}
@@ -37,7 +38,6 @@ pub record Laws : Type 0 where
   pub grow : HistoriesGrow
   pub lists : GenerationsAreOfTheLists
   pub lawful : LayoutsAreLawful
-  pub headline : EveryRunMeetsTheHeadline
   pub later : LaterSectionsAreGiven
   pub spelled : Spelled
   pub framed : (s : sections.Fields) → sections.Fits s → sections.IsFramed (sections.spelling s)
@@ -168,20 +168,37 @@ twice_whole laws w published =
     let heard = ends_with laws.later w.drawings (current_of c) (current_of (turned c)) (items_drawn c 1048576) (items_drawn (turned c) 1048576) (some_drawn c short) like in
     by_end (IsWhole c.carousel ls g) _ _ _ heard second (λ earlier. ends_whole c.carousel ls g earlier cycle last (cycle_is_round ls g))
 
--- a world of which a whole cycle was heard, and which meets the headline
-settles : (w : WorldState) → HoldsAfter w → IsWhole (broadcast_of w).carousel (broadcast_of w).layouts (length (trees_of w.catalogue)) (candidates_in w) → IsSettled w
-settles w holds whole = record { whole = whole; opens = λ u reader p. (holds.meets u).opens (length (trees_of w.catalogue)) p whole }
+-- ---- a run
 
-pub every_run_settles : Laws → EveryRunSettles
-every_run_settles laws carousel events published room =
+settled_world : HistoriesGrow → (carousel : ℕ) (events : List Step) → draws_of (world_after carousel events).catalogue + 2 ≤ 16777216
+    → world_after carousel (settled events) ≡ after_one (after_one (world_after carousel events))
+settled_world grow carousel events room = after-append (opening carousel) events (whole_draw ∷ whole_draw ∷ []) ∙ draws_two (world_after carousel events) room
+
+same_trees : HistoriesGrow → (w : WorldState) → trees_of (after_one (after_one w)).catalogue ≡ trees_of w.catalogue
+same_trees grow w = grow.by_draw (turned w.catalogue) 1048576 ∙ grow.by_draw w.catalogue 1048576
+
+pub every_whole : Laws → EverySettledRunIsWhole
+every_whole laws carousel events published room =
     let w = world_after carousel events in
     let two = after_one (after_one w) in
-    let trees : trees_of two.catalogue ≡ trees_of w.catalogue = laws.grow.by_draw (turned w.catalogue) 1048576 ∙ laws.grow.by_draw w.catalogue 1048576 in
-    let reached : world_after carousel (settled events) ≡ two = after-append (opening carousel) events (whole_draw ∷ whole_draw ∷ []) ∙ draws_two w room in
+    let its : w.catalogue.carousel ≡ carousel = (grows_all laws.grow (opening carousel) events).carousel in
     let whole : IsWhole w.catalogue.carousel (layouts_of w.catalogue.carousel (trees_of two.catalogue)) (length (trees_of two.catalogue)) (candidates_in two) =
-    subst (λ ts. IsWhole w.catalogue.carousel (layouts_of w.catalogue.carousel ts) (length ts) (candidates_in two)) (sym trees) (twice_whole laws w published) in
-    let publishable : ArePublishable two.catalogue.carousel (trees_of two.catalogue) = subst (ArePublishable w.catalogue.carousel) (sym trees) published in
-    let still : ArePublishable (world_after carousel (settled events)).catalogue.carousel (trees_of (world_after carousel (settled events)).catalogue) =
-    subst (λ (v : WorldState). ArePublishable v.catalogue.carousel (trees_of v.catalogue)) (sym reached) publishable in
-    let holds : HoldsAfter (world_after carousel (settled events)) = (laws.headline carousel (settled events) still).holds (settled events) [] (sym (append-nil (settled events))) in
-    subst IsSettled (sym reached) (settles two (subst HoldsAfter reached holds) whole)
+    subst (λ ts. IsWhole w.catalogue.carousel (layouts_of w.catalogue.carousel ts) (length ts) (candidates_in two)) (sym (same_trees laws.grow w)) (twice_whole laws w published) in
+    subst (λ (v : WorldState). IsWhole carousel (broadcast_of v).layouts (length (trees_of v.catalogue)) (candidates_in v)) (sym (settled_world laws.grow carousel events room))
+    (subst (λ n. IsWhole n (layouts_of w.catalogue.carousel (trees_of two.catalogue)) (length (trees_of two.catalogue)) (candidates_in two)) its whole)
+
+still_publishable : HistoriesGrow → (carousel : ℕ) (events : List Step) → ArePublishable (world_after carousel events).catalogue.carousel (trees_of (world_after carousel events).catalogue)
+    → draws_of (world_after carousel events).catalogue + 2 ≤ 16777216 → ArePublishable (world_after carousel (settled events)).catalogue.carousel (trees_of (world_after carousel (settled events)).catalogue)
+still_publishable grow carousel events published room =
+    let w = world_after carousel events in
+    subst (λ (v : WorldState). ArePublishable v.catalogue.carousel (trees_of v.catalogue)) (sym (settled_world grow carousel events room))
+    (subst (ArePublishable w.catalogue.carousel) (sym (same_trees grow w)) published)
+
+pub every_opens : EveryRunMeetsTheHeadline → Laws → EverySettledRunOpens
+every_opens headline laws carousel events published room undamaged_so reader p =
+    let w = world_after carousel (settled events) in
+    let whole = every_whole laws carousel events published room in
+    let its : w.catalogue.carousel ≡ carousel = (grows_all laws.grow (opening carousel) (settled events)).carousel in
+    let holds : HoldsAfter w = (headline carousel (settled events) (still_publishable laws.grow carousel events published room)).holds (settled events) [] (sym (append-nil (settled events))) in
+    (holds.meets undamaged_so).opens (length (trees_of w.catalogue)) p
+    (subst (λ n. IsWhole n (broadcast_of w).layouts (length (trees_of w.catalogue)) (candidates_in w)) (sym its) whole)

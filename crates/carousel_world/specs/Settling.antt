@@ -4,11 +4,11 @@ use Rattle.path_tree.specs.Paths.{PathNames}
 use Rattle.path_tree.specs.Trees.{Node, node_at}
 use Rattle.generation.specs.Lawful.{ArePublishable, tree_at}
 use Rattle.generation_catalogue.specs.History.{trees_of, draws_of}
-use Rattle.carousel_world.specs.Events.{Step, Draw, Open}
+use Rattle.carousel_world.specs.Events.{Step, Commit, Draw, Open}
 use Rattle.carousel_world.specs.Headline.{IsNodeAnswer}
 use Rattle.carousel_world.specs.Premises.{IsWhole}
 use Rattle.carousel_world.specs.Promises.{broadcast_of, world_after, IsUndamaged}
-use Rattle.carousel_world.specs.World.{WorldState, candidates_in, reply_to}
+use Rattle.carousel_world.specs.World.{candidates_in, reply_to}
 use Rattle.carousel_world.specs.declared.event.Reply.{Reply}
 use Rattle.carousel_world.specs.declared.event.Reply.TheVariants as replies
 
@@ -21,20 +21,30 @@ whole_draw = Draw 1048576 []
 abbrev pub settled : List Step → List Step
 settled events = events ++ whole_draw ∷ whole_draw ∷ []
 
+-- The last generation's number is that of the accepted commits. Whatever was lost, damaged or repeated before, and at whatever item of
+-- the cycle the next draw begins: after two whole draws, for which the history has room, a whole cycle of that generation was heard.
+abbrev pub EverySettledRunIsWhole : Type 0
+EverySettledRunIsWhole =
+    (carousel : ℕ) (events : List Step) → ArePublishable (world_after carousel events).catalogue.carousel (trees_of (world_after carousel events).catalogue)
+    → draws_of (world_after carousel events).catalogue + 2 ≤ 16777216
+    → let w = world_after carousel (settled events) in
+    IsWhole carousel (broadcast_of w).layouts (length (trees_of w.catalogue)) (candidates_in w)
+
 abbrev pub Answers : Reply → Node → Type 0
 Answers (replies.Opened label answer) node = IsNodeAnswer answer node
 Answers _ node = ⊥
 
--- The last generation's number is that of the accepted commits. A whole cycle of it was heard, and so, where no damage passed the CRC
--- and each block was near its DII, each open answers the lookup in its tree.
-pub record IsSettled (w : WorldState) : Type 0 where
-  pub whole : IsWhole (broadcast_of w).carousel (broadcast_of w).layouts (length (trees_of w.catalogue)) (candidates_in w)
-  pub opens : IsUndamaged w → (reader : ℕ) (p : PathNames) → Answers (reply_to w (Open reader p)) (node_at (tree_at (broadcast_of w).trees (length (trees_of w.catalogue))) p)
-
--- Whatever was lost, damaged or repeated before, and at whatever item the next draw begins: two whole draws settle it, where the
--- history has room for them. Opens change nothing of this, so others may follow.
-abbrev pub EveryRunSettles : Type 0
-EveryRunSettles =
+-- So, where no damage passed the CRC and each block was near its DII, each open then answers the lookup in the last generation's tree.
+abbrev pub EverySettledRunOpens : Type 0
+EverySettledRunOpens =
     (carousel : ℕ) (events : List Step) → ArePublishable (world_after carousel events).catalogue.carousel (trees_of (world_after carousel events).catalogue)
     → draws_of (world_after carousel events).catalogue + 2 ≤ 16777216
-    → IsSettled (world_after carousel (settled events))
+    → let w = world_after carousel (settled events) in
+    IsUndamaged w → (reader : ℕ) (p : PathNames) → Answers (reply_to w (Open reader p)) (node_at (tree_at (broadcast_of w).trees (length (trees_of w.catalogue))) p)
+
+-- ---- opens change nothing of this
+
+abbrev pub IsOpening : Step → Type 0
+IsOpening (Commit editor edits) = ⊥
+IsOpening (Draw asked fates) = ⊥
+IsOpening (Open reader path) = Unit {0}

@@ -3,7 +3,7 @@ ghost use Rattle.carousel_world.specs.Instances.{PremisesCanBeMet};
 ghost use Rattle.carousel_world.specs.Publishing.{EachCycleOpens, EveryPublicationMeets};
 ghost use Rattle.carousel_world.specs.Promises.{EveryRunMeetsTheHeadline};
 ghost use Rattle.carousel_world.specs.Receptions.{EveryReceptionMeets, LabelsNeverFall};
-ghost use Rattle.carousel_world.specs.Settling.{EveryRunSettles};
+ghost use Rattle.carousel_world.specs.Settling.{EverySettledRunIsWhole, EverySettledRunOpens};
 
 /// Whatever a receiver hears of a carousel whose tree changes from generation to generation, lost, damaged, repeated or interleaved
 /// with other packets: while each section that is accepted is one that was sent, in the order of sending, and while fewer than 256
@@ -74,8 +74,9 @@ pub fn every_run_meets_the_headline()
 ///
 /// It holds of each list of events whose published trees are of bytes and within the limits, while the history has room for the two
 /// draws.
-pub fn every_run_settles()
-    ensures { EveryRunSettles }
+pub fn settling_is_whole()
+    ensures whole { EverySettledRunIsWhole }
+    ensures opens { EverySettledRunOpens }
 {
     generation_catalogue::histories_grow();
     generation::generations_are_of_the_lists();

@@ -1,13 +1,12 @@
-use Rattle.carousel_world.proofs.Settling.{every_run_settles}
-use Rattle.carousel_world.proofs.laws.every_run_settles.Goals as goal
+use Rattle.carousel_world.proofs.Settling.{Laws, every_whole, every_opens}
+use Rattle.carousel_world.proofs.laws.settling_is_whole.Goals as goal
 
 pub returns : goal.returns
 returns c =
-    every_run_settles (record {
+    let laws : Laws = record {
       grow = c.histories_grow.ensures;
       lists = c.generations_are_of_the_lists.ensures;
       lawful = c.layouts_are_lawful.ensures;
-      headline = c.every_run_meets_the_headline.ensures;
       later = c.later_sections_are_given.ensures;
       spelled = record {
         section = c.spellings_read.ensures.is_read;
@@ -19,4 +18,5 @@ returns c =
         dsi_size = c.spellings_read_back.ensures.dsi_size;
       };
       framed = c.spellings_read.ensures.framed;
-    })
+    } in
+    record { whole = every_whole laws; opens = every_opens c.every_run_meets_the_headline.ensures laws }
