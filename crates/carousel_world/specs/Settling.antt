@@ -30,6 +30,7 @@ EverySettledRunIsWhole =
     → let w = world_after carousel (settled events) in
     IsWhole carousel (broadcast_of w).layouts (length (trees_of w.catalogue)) (candidates_in w)
 
+-- an open's reply is a file's bytes, a folder's names, or that nothing is there, as the tree has it
 abbrev pub Answers : Reply → Node → Type 0
 Answers (replies.Opened label answer) node = IsNodeAnswer answer node
 Answers _ node = ⊥

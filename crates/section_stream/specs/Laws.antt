@@ -10,8 +10,8 @@ abbrev pub PacketsGiveTheSections : Type 0
 PacketsGiveTheSections = (m : MuxState) (sections : List Bytes) → m.pid < 8192 → m.counter < 16 → All IsSectionLike sections
     → candidates m.pid (packets_of_all m sections) ≡ sections
 
--- Whatever came before, broken or not: after the packets of some sections those of others, unbroken, give these others, as the last
--- candidates. Where the first of all these packets is missing, repeats the one before it or ends a section, only the first sections suffer.
+-- Whatever came before: after the packets of some sections those of others, unbroken, give these others, as the last candidates. Where
+-- the first of all these packets repeats the one before it, only the first sections can suffer.
 abbrev pub LaterSectionsAreGiven : Type 0
 LaterSectionsAreGiven = (m : MuxState) (before first second : List Bytes) → m.pid < 8192 → m.counter < 16 → 0 < length first → All IsSectionLike second
     → (earlier : List Bytes) × (candidates m.pid ((before ++ packets_of_all m first) ++ packets_of_all (fold past m first) second) ≡ earlier ++ second)
