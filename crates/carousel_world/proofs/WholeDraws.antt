@@ -10,7 +10,7 @@ use Rattle.std.proofs.lemmas.List.Sums.{sum_by-cons, sum_by-append}
 use Rattle.path_tree.specs.Paths.{Bytes}
 use Rattle.path_tree.specs.Trees.{Tree}
 use Rattle.biop_object.specs.Names.{Layout}
-use Rattle.cycle_planner.specs.Cycle.{blocks_of, cycle_of}
+use Rattle.cycle_planner.specs.Cycle.{Line, blocks_of, cycle_of}
 use Rattle.cycle_planner.specs.declared.Item.{Item}
 use Rattle.cycle_planner.specs.declared.Item.TheVariants.{Dsi, Dii, Block}
 use Rattle.ddb_block.specs.Blocks as ddb
@@ -30,26 +30,32 @@ use Rattle.carousel_world.proofs.Modules.{IsSent}
 module_blocks : (size : ℕ) → 4066 * ddb.block_count_of size 4066 ≤ size + 4065
 module_blocks size = let times = div_ceil_times size 4066 (lit< tt) in omega (arith, times.1)
 
-blocks_fit : (ms : Layout) → 4066 * length (flat_map blocks_of (lines_in ms)) ≤ sum_by (λ m. length m.1) ms + 4065 * length ms
+blocks_fit : (ms : Layout) → 4066 * sum_by (λ l. l.1) (lines_in ms) ≤ sum_by (λ m. length m.1) ms + 4065 * length ms
 blocks_fit [] = omega arith
 blocks_fit (m ∷ ms) =
-    let count = ddb.block_count_of (length m.1) 4066 in
-    let front = blocks_of (m.0, count) in
-    let rest = flat_map blocks_of (lines_in ms) in
-    let here : length front ≡ count = length-map-range_with_len (λ b. Block m.0 b) 0 count in
-    let both : length (front ++ rest) ≡ length front + length rest = length-append front rest in
+    let here = sum_by-cons (λ (l : Line). l.1) (m.0, ddb.block_count_of (length m.1) 4066) (lines_in ms) in
     let total = sum_by-cons (λ (x : ℕ × Bytes). length x.1) m ms in
     let fit = module_blocks (length m.1) in
     let fits = blocks_fit ms in
-    omega (arith, here, both, total, fit, fits)
+    omega (arith, here, total, fit, fits)
+
+blocks_in : (lines : List Line) → length (flat_map blocks_of lines) ≡ sum_by (λ l. l.1) lines
+blocks_in [] = refl
+blocks_in (line ∷ lines) =
+    let here : length (blocks_of line) ≡ line.1 = length-map-range_with_len (λ b. Block line.0 b) 0 line.1 in
+    let both : length (blocks_of line ++ flat_map blocks_of lines) ≡ length (blocks_of line) + length (flat_map blocks_of lines) = length-append (blocks_of line) (flat_map blocks_of lines) in
+    let rest = blocks_in lines in
+    let sum = sum_by-cons (λ (l : Line). l.1) line lines in
+    omega (arith, here, both, rest, sum)
 
 -- 268,435,456 bytes in 139 modules have at most 66,158 blocks
 pub short_cycle : (carousel : ℕ) (ls : List Layout) (g : ℕ) → IsSent carousel ls g → length (cycle_of (lines_in (layout_at ls g))) ≤ 66160
 short_cycle carousel ls g sent =
     let fit = blocks_fit (layout_at ls g) in
+    let blocks = blocks_in (lines_in (layout_at ls g)) in
     let few = sent.few in
     let total = sent.total in
-    omega (arith, fit, few, total)
+    omega (arith, fit, blocks, few, total)
 
 -- ---- and a whole round
 
