@@ -5,6 +5,7 @@
        FAILING=write:1:5      the first write to standard output
        FAILING=folder:1:5     the first call on folders and files: open, stat, list, or read of another descriptor
        FAILING=short:2        the second read or write of several bytes moves one byte
+       STOP=folder:4          before its fourth call on folders and files the program stops (SIGSTOP), until it is continued
        PIECE=2                each read and each write moves at most two bytes
        COUNTS=FILE            the counts of calls are kept in this file, as `struct counts`
 
@@ -14,6 +15,7 @@
 #include <dirent.h>
 #include <errno.h>
 #include <fcntl.h>
+#include <signal.h>
 #include <stdarg.h>
 #include <stdint.h>
 #include <stdlib.h>
@@ -38,24 +40,29 @@ struct counts {
     uint64_t writes_after;
 };
 
+/* One call, and the error with which it fails. */
+struct plan {
+    enum kind kind;
+    uint64_t at;
+    int error;
+};
+
 static struct counts unshared;
 static struct counts *counts = &unshared;
-static enum kind failing = KINDS;
-static uint64_t failing_at;
-static int failing_with;
+static struct plan failing = {KINDS}, stopping = {KINDS};
 static size_t piece = SIZE_MAX;
 static int write_failed;
 
-static void plan(char *text) {
-    char *number = strchr(text, ':');
+static void read_plan(const char *text, struct plan *plan) {
+    char *number = text ? strchr(text, ':') : 0;
     if (!number)
         return;
     for (int kind = 0; kind < KINDS; kind++)
         if (strlen(names[kind]) == (size_t)(number - text) && !strncmp(text, names[kind], number - text))
-            failing = kind;
+            plan->kind = kind;
     char *error;
-    failing_at = strtoull(number + 1, &error, 10);
-    failing_with = *error == ':' ? atoi(error + 1) : EIO;
+    plan->at = strtoull(number + 1, &error, 10);
+    plan->error = *error == ':' ? atoi(error + 1) : EIO;
 }
 
 __attribute__((constructor)) static void begin(void) {
@@ -70,17 +77,19 @@ __attribute__((constructor)) static void begin(void) {
     memset(counts, 0, sizeof *counts);
     if ((text = getenv("PIECE")))
         piece = strtoull(text, 0, 10);
-    if ((text = getenv("FAILING")))
-        plan(text);
+    read_plan(getenv("FAILING"), &failing);
+    read_plan(getenv("STOP"), &stopping);
 }
 
 /* Counts a call, and says whether it is the one that is to fail. */
 static int fails(enum kind kind) {
     uint64_t number = __atomic_add_fetch(&counts->made[kind], 1, __ATOMIC_RELAXED);
-    if (kind != failing || number != failing_at)
+    if (kind == stopping.kind && number == stopping.at)
+        raise(SIGSTOP);
+    if (kind != failing.kind || number != failing.at)
         return 0;
     __atomic_add_fetch(&counts->failed, 1, __ATOMIC_RELAXED);
-    errno = kind == ALLOC ? ENOMEM : failing_with;
+    errno = kind == ALLOC ? ENOMEM : failing.error;
     return 1;
 }
 
@@ -118,7 +127,7 @@ ssize_t write(int file, const void *from, size_t size) {
     if (write_failed)
         __atomic_add_fetch(&counts->writes_after, 1, __ATOMIC_RELAXED);
     if (fails(WRITE)) {
-        write_failed = failing_with != EINTR;
+        write_failed = failing.error != EINTR;
         return -1;
     }
     return syscall(SYS_write, file, from, moved(size));
