@@ -35,6 +35,14 @@ def compiled(name):
     return made
 
 
+def shim(room):
+    """failing.c as a library in the folder `room`, for LD_PRELOAD."""
+    made = os.path.join(room, "failing.so")
+    source = os.path.join(TOP, "bench", "failing.c")
+    subprocess.run(["cc", "-shared", "-fPIC", "-O2", "-Wall", "-o", made, source], check=True)
+    return made
+
+
 def run(program, stream, *words):
     """Status, output and line on standard error of a command on some input."""
     done = subprocess.run([program, *words], input=stream, capture_output=True)

@@ -18,6 +18,8 @@ pub use plain::run_plain;
 pub use status::Status;
 
 #[cfg(test)]
+mod failing_tests;
+#[cfg(test)]
 mod listing_tests;
 #[cfg(test)]
 mod publish_tests;

@@ -132,7 +132,7 @@ fn sections_of_one_packet(rt: HostRuntime) -> Result<(), Fail> {
         ..none
     };
     let three = [0, 0x3B, 0xB0, 1, 7, 0x3C, 0xB0, 0, 0x3D, 0xB0, 2, 7, 7];
-    let expected: [(&[u8], usize, Counts); 8] = [
+    let expected: [(&[u8], usize, Counts); 9] = [
         (&[0, 0x3B, 0xB0, 9], 1, none),
         (&three, 3, none),
         (&[0, 0x3B, 0xB0, 180], 1, none),
@@ -141,6 +141,7 @@ fn sections_of_one_packet(rt: HostRuntime) -> Result<(), Fail> {
         (&[184], 0, bad_pointer),
         (&[0xFF], 0, bad_pointer),
         (&[0, 0x3B, 0xBF, 0xFE], 0, oversize),
+        (&[0, 0x3B, 0xBF, 0xFF], 0, oversize),
     ];
     for (bytes, sections, counts) in expected {
         assert_eq!(rt;
@@ -153,7 +154,7 @@ fn sections_of_one_packet(rt: HostRuntime) -> Result<(), Fail> {
 }
 
 // A section of 200 bytes, 183 of them in its first packet, and the part of the next packet before its
-// pointer.
+// pointer. Where the pointer doesn't fit the section is dropped, and what follows belongs to none.
 #[test]
 fn last_part_of_a_section(rt: HostRuntime) -> Result<(), Fail> {
     let first = start(15, &[0, 0x3B, 0xB0, 197]);
@@ -162,20 +163,18 @@ fn last_part_of_a_section(rt: HostRuntime) -> Result<(), Fail> {
         ..nothing_counted()
     };
     let cut = Counts { cut: 1, ..none };
+    let bad_pointer = Counts {
+        bad_pointer: 1,
+        ..none
+    };
     let expected = [
         (0, 0, cut),
         (16, 0, cut),
         (17, 1, none),
         (18, 1, none),
         (183, 1, none),
-        (
-            184,
-            0,
-            Counts {
-                bad_pointer: 1,
-                ..none
-            },
-        ),
+        (184, 0, bad_pointer),
+        (0xFF, 0, bad_pointer),
     ];
     for (pointer, sections, counts) in expected {
         assert_eq!(rt;
@@ -184,6 +183,18 @@ fn last_part_of_a_section(rt: HostRuntime) -> Result<(), Fail> {
             "{pointer}"
         );
     }
+    let mut demux = Demux::new(rt.alloc(), 256)?;
+    for packet in [first, start(0, &[0xFF]), part(0x40, 1, 1)] {
+        assert_eq!(rt; demux.feed(&packet)?.len(), 0);
+    }
+    assert_eq!(rt;
+        demux.counts(),
+        Counts {
+            packets: 3,
+            orphans: 1,
+            ..bad_pointer
+        }
+    );
     Ok(())
 }
 

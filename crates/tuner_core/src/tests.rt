@@ -251,3 +251,44 @@ fn a_distant_dii_drops_all(rt: HostRuntime) -> Result<(), Fail> {
     assert!(rt; far.label == Some(16_640) && far.epoch == 1);
     Ok(())
 }
+
+/// What a control message does in which these bytes stand from a place on.
+fn fed_with(
+    alloc: Global,
+    tuner: &mut Tuner,
+    message: &[u8],
+    place: usize,
+    bytes: &[u8],
+) -> Result<Fed, Fail> {
+    let mut changed = message.to_vec(alloc)?;
+    for (to, from) in changed.iter_mut().skip(place).zip(bytes) {
+        *to = *from;
+    }
+    let section = section(alloc, Table::Control, &changed)?;
+    Ok(tuner.feed(&section)?)
+}
+
+// A message shorter than its adaptation, a block size of 0, a module that is a byte too large, and one that is listed twice
+// change nothing of what is held. Versions 256 apart drop it each time, and are counted.
+#[test]
+fn broken_and_distant_messages(rt: HostRuntime) -> Result<(), Fail> {
+    let alloc = rt.alloc();
+    let mut tuner = Tuner::new(alloc);
+    assert!(rt; fed_with(alloc, &mut tuner, &DII, 0, &[])? == Fed::Changed);
+    let block = section(alloc, Table::Blocks, &BLOCK)?;
+    assert!(rt; tuner.feed(&block)? == Fed::Changed);
+    let fed = fed_with(alloc, &mut tuner, &DSI, 9, &[9, 0, 2])?;
+    assert_eq!(rt; fed, Fed::Nothing(Cause::NotControl(10)));
+    let over = Fed::Nothing(Cause::DiiOverLimit);
+    assert_eq!(rt; fed_with(alloc, &mut tuner, &DII, 16, &[0, 0])?, over);
+    assert_eq!(rt; fed_with(alloc, &mut tuner, &DII, 34, &[1, 1, 0, 1])?, over);
+    assert_eq!(rt; fed_with(alloc, &mut tuner, &TWO_MODULES[8..107], 61, &[0, 1])?, over);
+    assert_eq!(rt; tuner.feed(&block)?, Fed::Nothing(Cause::Block(Taken::Again)));
+    for version in [1u8, 2] {
+        let fed = fed_with(alloc, &mut tuner, &DII, 4, &[0x80 + version, 0])?;
+        assert!(rt; fed == Fed::Changed);
+    }
+    let shot = tuner.shot(0, 0)?;
+    assert!(rt; shot.label == Some(512) && shot.epoch == 2);
+    Ok(())
+}
