@@ -132,8 +132,8 @@ impl Module {
 
     /// Reads the index of a module. It takes time and memory in proportion to the module's size.
     ///
-    /// The bytes are handed back where memory is wanting, and that is the one refusal: reading stops at the first
-    /// message that breaks a rule, and [`Module::find`] tells the place.
+    /// Out of memory is the one refusal, and hands the bytes back: reading stops at the first message that breaks a
+    /// rule, and [`Module::find`] tells the place.
     pub fn read(alloc: Global, bytes: Vec<u8>) -> Result<Module, (NoMemory, Vec<u8>)>
         ensures ok { IfOk result (λ m. m ≡ bytes.items) }
         ensures err { IfErr result (λ e. e.1 ≡ bytes) }

@@ -55,7 +55,7 @@ pub struct Written {
 pub enum ObjectFault {
     /// The message would have more than 1,048,576 bytes, which is this project's own limit.
     TooLarge,
-    /// Memory was wanting.
+    /// There is no memory.
     NoMemory,
 }
 

@@ -33,7 +33,7 @@ pub struct Ddb {
 pub enum DdbFault {
     /// The bytes are no block message: the place, counted in bytes from 0, of the first field that is cut or breaks a rule.
     NotDdb(usize),
-    /// Memory was wanting.
+    /// There is no memory.
     NoMemory,
 }
 

@@ -445,7 +445,7 @@ dsi_fault c transaction place private (faults.NotControl at) e h =
     frame_value c ∙ rw (is, h v.0.1) refl
 dsi_fault c transaction place private faults.NoMemory e h = tt
 
--- a refusal where something is to be read is want of memory
+-- a refusal where something is to be read is out of memory
 pub no_fault : {A B : Type 0} (e : ControlFault) (x : A) (y : B) → MatchOption (cause e) ⊤ (λ f. done x ≡ Err f) → MatchOption (cause e) ⊤ (λ f. done y ≡ Err f)
 no_fault {A = A} (faults.NotControl place) x y h = absurd (apart x place h) where
   apart : (x : A) (place : ℕ) → done x ≡ Err place → ⊥

@@ -104,7 +104,7 @@ pub enum Control {
 pub enum ControlFault {
     /// The place, in bytes from the front of the payload, of the first field that breaks its rule or is cut.
     NotControl(usize),
-    /// Memory was wanting.
+    /// There is no memory.
     NoMemory,
 }
 
@@ -113,7 +113,7 @@ pub enum ControlFault {
 pub enum DiiFault {
     /// It has more than 139 modules: one section has no room for more.
     TooMany,
-    /// Memory was wanting.
+    /// There is no memory.
     NoMemory,
 }
 

@@ -31,7 +31,7 @@ pub enum FolderFault {
     /// rose in this call, or stands at its type's end, or where the tree is told and the path is no
     /// folder (`list`) or no file (`read`) of it.
     Failed,
-    /// Memory was wanting.
+    /// There is no memory.
     NoMemory,
 }
 

@@ -42,7 +42,7 @@ pub enum ReadTree {
     TooDeep,
     /// The name of a file or a folder has no byte or more than 254, or a zero byte or a `/` in it.
     BadName,
-    /// Memory was wanting.
+    /// There is no memory.
     NoMemory,
 }
 
@@ -245,7 +245,7 @@ fn walk_entry<F: Folders>(
 /// The walk refuses the first entry that it can't take, and then alone. It is `TooDeep` where sixteen names lead to its folder
 /// already, whether it is a file or a folder. Else it is a `BadName` where its name is none of a path: without a byte, of 255
 /// bytes or more, with a zero byte or a `/` in it. `FolderFault` comes only where the count of faults rose in this call, or stands at the greatest u64, or where the
-/// tree is told and `root` is no folder of it, and always in this last case. Want of memory aside, there is no other refusal.
+/// tree is told and `root` is no folder of it, and always in this last case. Out of memory aside, there is no other refusal.
 /// These rules are this project's own.
 pub fn read_tree<F: Folders>(
     alloc: Global,

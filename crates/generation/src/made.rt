@@ -66,7 +66,7 @@ impl Model for Generation {
 impl Generation {
     /// Generation 0 of a carousel, with the empty tree: the gateway alone, in module 1, and no module counted yet.
     ///
-    /// `carousel` is the carousel's id, any 32-bit number. The only refusal is want of memory.
+    /// `carousel` is the carousel's id, any 32-bit number. The only refusal is out of memory.
     pub fn first(alloc: Global, carousel: u32) -> Result<Generation, NoMemory>
         ensures first { IfOk result (λ g. g ≡ first_of carousel) }
         ensures stands { IfOk result (λ g. StandsFor g []) }
@@ -100,7 +100,7 @@ impl Generation {
     ///
     /// An object whose path and kind are in this generation keeps its key, and stays in its module as far as there is room.
     /// A module whose bytes are as before is shared with this generation. The tree has to pass `check`, and this generation's number has to be below 16,383. The
-    /// only refusal is want of memory.
+    /// only refusal is out of memory.
     pub fn next(&self, tree: Tree) -> Result<Generation, NoMemory>
         requires tree { limit_of tree ≡ None }
         requires number { self.now.number < 16383 }
@@ -162,7 +162,7 @@ impl Generation {
     }
 
     /// The section of one of the generation's items: the DSI, the DII, or a block of a listed module whose number is
-    /// below the module's number of blocks. A stream of sections can be cut by it. The only refusal is want of memory.
+    /// below the module's number of blocks. A stream of sections can be cut by it. The only refusal is out of memory.
     pub fn section(&self, item: Item) -> Result<Vec<u8>, NoMemory>
         requires { Contains (items_of self.now) item }
         ensures exact { IfOk result (λ bytes. bytes.items ≡ section_of self.now item) }

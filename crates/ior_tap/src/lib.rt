@@ -73,7 +73,7 @@ pub enum IorFault {
     /// The place, in bytes from the front, of the first field outside the profiles' bytes that is cut, or of a
     /// type_id_length other than 4.
     BadIor(usize),
-    /// Memory was wanting.
+    /// There is no memory.
     NoMemory,
 }
 

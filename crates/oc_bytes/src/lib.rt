@@ -22,7 +22,7 @@ pub use source::{Failed, Source};
 use std::alloc::AllocError;
 pub use writer::Writer;
 
-/// Want of memory, where it is a call's only refusal.
+/// Out of memory, where it is a call's only refusal.
 pub type NoMemory = AllocError;
 
 #[cfg(test)]

@@ -8,7 +8,7 @@ pub enum WriteFault {
     /// The system answered with an error. It comes only where the sink's count of faults rose in this
     /// call, or stands at its type's end.
     Failed,
-    /// Memory was wanting.
+    /// There is no memory.
     NoMemory,
 }
 

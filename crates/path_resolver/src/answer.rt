@@ -46,7 +46,7 @@ impl FileRef {
         &bytes[self.span.first..self.span.first + self.span.length]
     }
 
-    /// The same bytes in the same module: only the module is shared. The one refusal is want of memory.
+    /// The same bytes in the same module: only the module is shared. The one refusal is out of memory.
     pub fn share(&self) -> Result<FileRef, NoMemory>
         ensures { IfOk result (λ r. r ≡ self.now) }
     {
@@ -104,7 +104,7 @@ impl FolderRef {
         self.module.bindings(self.folder)[i].name.bytes()
     }
 
-    /// The same names in the same module: only the module is shared. The one refusal is want of memory.
+    /// The same names in the same module: only the module is shared. The one refusal is out of memory.
     pub fn share(&self) -> Result<FolderRef, NoMemory>
         ensures { IfOk result (λ r. r ≡ self.now) }
     {

@@ -25,7 +25,7 @@ abbrev pub Cuts : Bytes → Bytes → Option Bytes → Type 0
 Cuts text piece None = slice_split is_slash text ≡ piece ∷ []
 Cuts text piece (Some rest) = (slice_split is_slash text ≡ piece ∷ slice_split is_slash rest) × (length text ≡ length piece + 1 + length rest)
 
--- a text's name, or that it has none and where it begins; or memory was wanting
+-- a text's name, or that it has none and where it begins; or there was no memory
 abbrev pub IsNameAt : Bytes → ℕ → Result Bytes PathFault → Type 0
 IsNameAt text place (Ok name) = (name_of text ≡ Some name) × IsName name
 IsNameAt text place (Err (faults.BadName at)) = (name_of text ≡ None) × (at ≡ place)

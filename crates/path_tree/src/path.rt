@@ -66,7 +66,7 @@ pub enum PathFault {
     BadName(usize),
     /// The text has a seventeenth name.
     TooDeep,
-    /// Memory was wanting.
+    /// There is no memory.
     NoMemory,
 }
 
@@ -174,7 +174,7 @@ impl Path {
 
     /// The path of one name more, or none where the name is no name of a path (it is empty, has more than 254
     /// bytes, or holds a byte zero or `/`) or where this path has sixteen names already. The one refusal is
-    /// want of memory.
+    /// out of memory.
     pub fn below(&self, name: &[u8]) -> Result<Option<Path>, NoMemory>
         ensures { IfOk result (λ below. below ≡ with_below self.now name.now) }
     {

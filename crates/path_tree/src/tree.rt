@@ -41,7 +41,7 @@ pub enum EditFault {
 pub enum ApplyFault {
     /// The first edit that is refused: its place in the list, counted from 0, and its fault.
     Edit(usize, EditFault),
-    /// Memory was wanting.
+    /// There is no memory.
     NoMemory,
 }
 

@@ -51,7 +51,7 @@ pub enum PsiFault {
     /// The bytes are no section of the table: the place of the first field that breaks its rule or is cut, counted in bytes
     /// from the first one on.
     NotPsi(usize),
-    /// Memory was wanting.
+    /// There is no memory.
     NoMemory,
 }
 

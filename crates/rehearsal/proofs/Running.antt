@@ -48,7 +48,7 @@ meets_as e m = subst (MeetsHeadline 1) e m
 
 -- ---- events of a line
 
--- nothing happened, since memory was wanting
+-- nothing happened, since there was no memory
 pub runs_none : {T : Type 0} (o : OutputState) (before events : List Step) → MeetsHeadline 1 before → Runs {T = T} (Err faults.NoMemory) o o before events
 runs_none o before events m = record {
   happened = [];

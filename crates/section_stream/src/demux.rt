@@ -73,8 +73,9 @@ impl Demux {
     /// becomes of the open section are the receiver's rules of `specs/Rules.antt`; all sections given so
     /// far are those cut out of all packets so far, looking forward from each place where one opens.
     ///
-    /// A packet that completes no section takes no memory. Where memory is wanting, the packet isn't
+    /// A packet that completes no section takes no memory. After out of memory the packet isn't
     /// taken, and everything stays as it was.
+    #[inline]
     pub fn feed(&mut self, packet: &[u8; 188]) -> Result<Vec<Vec<u8>>, NoMemory>
         ensures stands { OnOk result ((packets : List Bytes) → StandsFor self.old packets → StandsFor self.new (packets ++ packet.now ∷ [])) }
         ensures pid { OnOk result (self.new.pid ≡ self.old.pid) }

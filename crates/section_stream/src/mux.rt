@@ -51,7 +51,7 @@ impl Mux {
     /// The section has 12 to 4,096 bytes, its length field, the last 12 bits of the second and third
     /// byte, is the number of the bytes behind it, and its first byte isn't 0xFF.
     ///
-    /// Where memory is wanting, `out` and the counter are as before.
+    /// Out of memory leaves `out` and the counter as before.
     pub fn packets(&mut self, section: &[u8], out: &mut Vec<[u8; 188]>) -> Result<(), NoMemory>
         requires { IsSectionLike section.now }
         ensures packets { OnOk result (out.new.items ≡ out.old.items ++ packets_of self.old section.now) }

@@ -52,7 +52,7 @@ pub record Adds (old new : Reading) (saying : Saying) : Type 0 where
   pub lines : map view_line new.lines.items ≡ lines_after old.number saying (map view_line old.lines.items)
 
 -- One line more was read, and its saying follows the others; or the line doesn't fit below them, and its number and its cause
--- are those of the answer; or memory was wanting.
+-- are those of the answer; or there was no memory.
 abbrev pub Reads : {X : Type 0} → Result X ScriptFault → List Saying → Bytes → Reading → Type 0
 Reads (Ok _) above line new = (saying : Saying) × (line_by (part_of above) line ≡ Ok saying) × StandsFor new (above ++ saying ∷ [])
 Reads (Err (BadLine number fault)) above line new = (number ≡ capped32 (length above + 1)) × (line_by (part_of above) line ≡ Err fault)

@@ -45,7 +45,7 @@ view_line l = record { number = l.number; stage = l.stage; act = view_action l.a
 abbrev pub view : Script → Fields
 view s = record { editors = s.editors.items; readers = s.readers.items; lines = map view_line s.lines.items }
 
--- the line's number and its cause, or None where memory was wanting
+-- the line's number and its cause, or None where there was no memory
 abbrev pub cause : ScriptFault → Option (ℕ × LineCause)
 cause (faults.BadLine n c) = Some (n, c)
 cause faults.NoMemory = None

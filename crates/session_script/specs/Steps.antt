@@ -24,7 +24,7 @@ abbrev pub line_cause : LineFault → Option LineCause
 line_cause (faults.Bad c) = Some c
 line_cause faults.NoMemory = None
 
--- the call took from the front of the words as the definition does, or was refused for its cause; or memory was wanting
+-- the call took from the front of the words as the definition does, or was refused for its cause; or there was no memory
 abbrev pub Takes : {X Y : Type 0} → (X → Y) → Result X LineFault → List Bytes → Result (Y × List Bytes) LineCause → Type 0
 Takes view (Ok x) rest meaning = meaning ≡ Ok (view x, rest)
 Takes view (Err e) rest meaning = MatchOption (line_cause e) ⊤ (λ c. meaning ≡ Err c)

@@ -307,7 +307,7 @@ sound_fits keyword a f (w ∷ ws) e n p z =
     subst (Fits keyword) (sym (behind f w ws))
     ((counted keyword (map f ws) plain).only (sym (faults_are keyword (f w) (map f ws)) ∙ sym (ap (λ (app : App). fault_of app (f w ∷ map f ws)) e) ∙ z))
 
--- a fault of another kind than want of memory comes where the number doesn't fit
+-- a fault of another kind than out of memory comes where the number doesn't fit
 pub faulty_misfits : {A : Type 0} (keyword : Keyword) (a : App) (f : A → Text) (words : List A) (k : ErrorKind) → a ≡ app_of_keyword keyword → 0 < length words
     → list_any (λ w. begins_with_dash (f w)) words ≡ false → (k ≡ OutOfMemory → ⊥) → (k ≡ OutOfMemory) ⊎ IsAmong k (fault_of a (map f words)) → Fits keyword (length words - 1) → ⊥
 faulty_misfits keyword a f words k e n p other (inl memory) h = other memory

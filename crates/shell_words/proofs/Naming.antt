@@ -126,7 +126,7 @@ length_behind : {A : Type 0} (f : A → List ℕ) (words : List A) → length (m
 length_behind f [] = refl
 length_behind f (w ∷ ws) = omega (arith, same_length f ws)
 
--- words that were refused for their number, or for want of memory
+-- words that were refused for their number, or since there was no memory
 pub gives_misfit : {A : Type 0} (keyword : Keyword) (f : A → List ℕ) (words : List A) (fault : WordsFault)
     → (◌≡◌ {A = Result (Unit {0}) WordsFault} (Err fault) (Err faults.Words) → Fits keyword (length words - 1) → ⊥)
     → Gives view cause (Err fault) (or_misfit (words_by keyword (map f (drop 1 words))))

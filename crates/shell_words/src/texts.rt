@@ -11,7 +11,7 @@ use std::alloc::Global;
 /// The text that stands for an answer, without the path: what it is, and behind it, each after a space, a file's length in
 /// bytes, the number of a folder's names, or the module and the place of a fault, in decimal. This project's own texts.
 ///
-/// Want of memory is the only refusal.
+/// Out of memory is the only refusal.
 pub fn answer_text(alloc: Global, answer: &Answer) -> Result<String, NoMemory>
     ensures { IfOk result (λ text. string_bytes text ≡ answer_line answer.now) }
 {
@@ -38,7 +38,7 @@ pub fn answer_text(alloc: Global, answer: &Answer) -> Result<String, NoMemory>
 /// The text that stands for a refusal: why, and behind it, each after a space, the number that passes its limit, in decimal,
 /// the place of an edit, from 0, and its fault, or the path of a folder. This project's own texts.
 ///
-/// Want of memory is the only refusal.
+/// Out of memory is the only refusal.
 pub fn refusal_text(alloc: Global, refusal: &Refusal) -> Result<String, NoMemory>
     ensures { IfOk result (λ text. string_bytes text ≡ refusal_line refusal.now) }
 {
