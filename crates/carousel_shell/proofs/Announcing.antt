@@ -23,7 +23,7 @@ use Rattle.carousel_shell.proofs.Committing.{HasEnded, one_cycle_is, ended_none,
 
 -- ---- cycles one after another
 
-pub after_cycles : List Bytes → ℕ → Senders → Senders
+abbrev pub after_cycles : List Bytes → ℕ → Senders → Senders
 after_cycles cycle zero s = s
 after_cycles cycle (suc n) s = after_cycles cycle n (after_cycle cycle s)
 
@@ -44,7 +44,7 @@ pub cycle_more : (cycle : List Bytes) (n : ℕ) (s : Senders) (tables : Announce
 cycle_more cycle n s tables objects t o =
     let now = after_cycles cycle n s in
     append_assoc (concat (cycles_sent cycle n s)) (concat (announced tables)) (concat (packets_of_all objects cycle))
-    ∙ ap₂ (λ (a : AnnouncerState) (m : MuxState). concat (cycles_sent cycle n s) ++ concat (announced a) ++ concat (packets_of_all m cycle)) t o
+    ∙ ap₂ (λ (a : AnnouncerState) (m : MuxState). concat (cycles_sent cycle n s) ++ (concat (announced a) ++ concat (packets_of_all m cycle))) t o
     ∙ ap (λ bs. concat (cycles_sent cycle n s) ++ bs) (sym (concat-append (announced now.tables) (packets_of_all now.objects cycle)))
     ∙ ap (λ bs. concat (cycles_sent cycle n s) ++ concat bs) (sym (append-nil (cycle_sent cycle now)))
     ∙ sym (concat-append (cycles_sent cycle n s) (cycles_sent cycle 1 now)) ∙ ap concat (cycles_then cycle n 1 s)

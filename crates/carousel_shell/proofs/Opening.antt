@@ -42,11 +42,11 @@ not_at_once carousel pid packets e = cc
 first_within : (carousel : ℕ) (packets : List Bytes) (n pid k : ℕ) → IsFirst carousel packets n pid → n ≤ k → found_within carousel packets k ≡ Some (n, pid)
 first_within carousel packets zero pid k h le = absurd (not_at_once carousel pid packets h.found)
 first_within carousel packets (suc n) pid zero h le = absurd (omega arith)
-first_within carousel packets (suc n) pid (suc k) h le = by (cases_lt n k)
+first_within carousel packets (suc n) pid (suc k) h le = by (cases_lt n k) (first_within carousel packets (suc n) pid k h)
   where
-    by : (n < k) ⊎ (k ≤ n) → found_within carousel packets (suc k) ≡ Some (suc n, pid)
-    by (inl more) = ap (λ o. or_then o (behind (suc k) (found_in carousel (take (suc k) packets)))) (first_within carousel packets (suc n) pid k h more)
-    by (inr here) =
+    by : (n < k) ⊎ (k ≤ n) → (suc n ≤ k → found_within carousel packets k ≡ Some (suc n, pid)) → found_within carousel packets (suc k) ≡ Some (suc n, pid)
+    by (inl more) fewer = ap (λ o. or_then o (behind (suc k) (found_in carousel (take (suc k) packets)))) (fewer (omega (arith, more)))
+    by (inr here) fewer =
         let e : k ≡ n = omega arith in
         let none = none_within carousel packets n (λ m small. h.before m (omega arith)) in
         ap (λ i. found_within carousel packets (suc i)) e ∙ or_none _ _ none ∙ ap (behind (suc n)) h.found

@@ -33,6 +33,20 @@ some_since carousel finder packets stream demux None e h = absurd (no_stage stre
     no_stage (Some d) e h = h
 some_since carousel finder packets stream demux (Some x) e h = (x, refl, subst (λ (o : Option streams.DemuxState). IsAt carousel finder packets o (Some x)) e h)
 
+pub not_at : (n : ℕ) (f : Find) → ((pid : ℕ) → f ≡ At pid → ⊥) → behind n f ≡ None
+not_at n NoPat h = refl
+not_at n NotNamed h = refl
+not_at n (At pid) h = absurd (h pid refl)
+
+-- its own carousel is the one that is sought as long as it seeks
+pub seeks_its_own : (carousel : ℕ) (old new : Seeker) (packets more : List Bytes) → old.stream ≡ None
+    → (HasHeard old.finder.directory.carousel old packets → HasHeard old.finder.directory.carousel new more) → HasHeard carousel old packets → HasHeard carousel new more
+seeks_its_own carousel old new packets more e step h =
+    let s = none_yet carousel old.finder packets old.stream (first_found carousel packets) e h.is_at in
+    let O : ℕ → Type 0 = λ k. HasHeard k old packets in
+    let N : ℕ → Type 0 = λ k. HasHeard k new more in
+    subst N s.0.carousel_is (step (subst O (sym s.0.carousel_is) h))
+
 -- ---- before it is found
 
 still : (carousel : ℕ) (finder : finders.FinderState) (packets : List Bytes) (p : Bytes) (f : Find) → first_found carousel packets ≡ None → found_in carousel (packets ++ p ∷ []) ≡ f

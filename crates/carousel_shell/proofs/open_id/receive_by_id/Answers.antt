@@ -12,7 +12,7 @@ returns-in_err-finder g c =
     rw (p.1, p.2) (hears_no_memory (sections_by_id c.args.carousel) _ _ _)
 
 pub hear_all_packets-requires : goal.hear_all_packets-requires
-hear_all_packets-requires g c = seeks_first _ _ refl refl c.in_ok-finder.ensures.stands c.new-tuner.ensures.stands
+hear_all_packets-requires g c = seeks_first _ _ refl refl c.in_ok-finder.ensures.stands c.new-2.ensures.stands
 
 pub returns-in_err-hear_all_packets : goal.returns-in_err-hear_all_packets
 returns-in_err-hear_all_packets g c =

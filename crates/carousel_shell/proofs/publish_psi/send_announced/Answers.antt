@@ -21,7 +21,7 @@ returns-in_err-announce-clause-puts g c =
     let p = err_from_is_err_and c.from_residual-in_err-announce.result c.from_residual-in_err-announce.ensures.1 in
     let cycle = map (section_of c.args.generation.now) (cycle_of (lines_of c.args.generation.now)) in
     let start = senders_start c.args.carousel in
-    rw (p.1, p.2) (puts_as (cycles_all cycle c.loop.counter c.args.cycles start c.loop-test.true) (puts_stop _
+    rw (p.1, p.2) (puts_as (cycles_all cycle c.loop.counter c.args.cycles start c.loop-test.true) (puts_stop {T = Unit {0}} _
     (puts_as (tables_then cycle c.loop.counter start c.loop.announcer c.loop.invariant.tables) (puts_stop _ (puts_then c.loop.invariant.puts c.in_err-announce.ensures.puts)))))
 
 pub returns-in_err-send_cycle-clause-puts : goal.returns-in_err-send_cycle-clause-puts
