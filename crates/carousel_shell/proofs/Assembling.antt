@@ -18,7 +18,7 @@ use Rattle.carousel_shell.specs.Assemble.{module_carrier, IsModule, EndsModule, 
 use Rattle.carousel_shell.specs.Statuses.{input_status, output_status}
 use Rattle.carousel_shell.specs.declared.status.Status.{Status}
 use Rattle.carousel_shell.specs.declared.status.Status.TheVariants as status
-use Rattle.carousel_shell.proofs.Answering.{goes_on}
+use Rattle.carousel_shell.proofs.Replying.{goes_on}
 use Rattle.carousel_shell.proofs.Writing.{writes_prefix}
 
 -- nothing was done, since there was no memory

@@ -1,5 +1,5 @@
 -- One commit on a new carousel, and what is sent of the generation that it makes.
-use Rattle.std.proofs.Common.{◌≡◌, ℕ, zero, suc, ◌+◌, ◌≤◌, Bool, true, false, ◌==◌, List, [], ◌∷◌, map, Option, Some, None, Result, Ok, Err, cond, ◌⊎◌, inl, inr, refl, ◌∙◌, sym, ap, subst, lit≤, arith}
+use Rattle.std.proofs.Common.{◌≡◌, ℕ, zero, suc, ◌+◌, ◌≤◌, Bool, true, false, ◌==◌, List, [], ◌∷◌, map, Option, Some, None, Result, Ok, Err, cond, ◌⊎◌, inl, inr, refl, ◌∙◌, sym, ap, subst, lit≤, arith, append-nil}
 use Rattle.std.specs.Prelude.{nat_lt, MatchOption, ⊤}
 use Rattle.std.specs.List.{All, Contains}
 use Rattle.std.proofs.lemmas.Bool.{cond-true, ltb-false}
@@ -38,6 +38,7 @@ use Rattle.shell_streams.proofs.CallerLemmas.{puts_as}
 use Rattle.carousel_shell.specs.Over.{Over, sent, Failed, IsUntouched}
 use Rattle.carousel_shell.specs.Publishing.{new_carousel, unless_refused, end_by, publish_end, accepted_tree, tree_by}
 use Rattle.carousel_shell.specs.Publish.{IsTreeOf, EndsPublish, NeedsFolder, Publishes}
+use Rattle.carousel_shell.specs.PublishPsi.{one_cycle}
 use Rattle.carousel_shell.specs.Cycles.{packed, IsOfFolder, Refused}
 use Rattle.carousel_shell.specs.Reception.{Receptions}
 use Rattle.carousel_shell.specs.Statuses.{output_status, walk_status, commit_status}
@@ -77,6 +78,13 @@ pub published_is : (carousel cycles : ℕ) (t : Tree) (g : GenerationState) → 
 published_is carousel cycles t g law e =
     let P : GenerationState → Type 0 = λ s. IsGenerationOf carousel (t ∷ []) 1 s in
     ap packed (sent_sections carousel cycles t g (subst P (sym e) (law carousel (t ∷ []) 1 (lit≤ tt))))
+
+-- one cycle of generation 1
+pub one_cycle_is : (carousel : ℕ) (t : Tree) (g : GenerationState) → GenerationsAreOfTheLists → g ≡ generation_of carousel (t ∷ [])
+    → map (section_of g) (cycle_of (lines_of g)) ≡ one_cycle carousel t
+one_cycle_is carousel t g law e =
+    let P : GenerationState → Type 0 = λ s. IsGenerationOf carousel (t ∷ []) 1 s in
+    ap (map (section_of g)) (sym (append-nil (cycle_of (lines_of g)))) ∙ sent_sections carousel 1 t g (subst P (sym e) (law carousel (t ∷ []) 1 (lit≤ tt)))
 
 -- ---- one commit on a new carousel
 
@@ -202,43 +210,70 @@ needs_refused folder carousel folders _ r t h e = absurd r
 
 -- ---- how it ends
 
-ends_refused : (folder : Bytes) (carousel cycles : ℕ) (sink : Over Bytes) (folders : Over FolderTree) (s : Status) → Refused folder carousel folders s → IsUntouched sink
-    → EndsPublish folder carousel cycles sink folders s
-ends_refused folder carousel cycles sink folders status.FolderFault r none = (r, none)
-ends_refused folder carousel cycles sink folders (status.TreeRefused fault) r none = (r, none)
-ends_refused folder carousel cycles sink folders status.NoMemory r none = inl none
-ends_refused folder carousel cycles sink folders _ r none = absurd r
+ends_refused : (folder : Bytes) (carousel : ℕ) (sent_of : Tree → Bytes) (sink : Over Bytes) (folders : Over FolderTree) (s : Status) → Refused folder carousel folders s → IsUntouched sink
+    → EndsPublish folder carousel sent_of sink folders s
+ends_refused folder carousel sent_of sink folders status.FolderFault r none = (r, none)
+ends_refused folder carousel sent_of sink folders (status.TreeRefused fault) r none = (r, none)
+ends_refused folder carousel sent_of sink folders status.NoMemory r none = inl none
+ends_refused folder carousel sent_of sink folders _ r none = absurd r
+
+-- how it ends, and that a known tree needs the folder
+pub record HasEnded (folder : Bytes) (carousel : ℕ) (sent_of : Tree → Bytes) (s : Status) (sink : Over Bytes) (folders : Over FolderTree) : Type 0 where
+  pub ends : EndsPublish folder carousel sent_of sink folders s
+  pub needs : NeedsFolder folder folders s
 
 -- the folder gives no generation
-pub publishes_none : (folder : Bytes) (carousel cycles : ℕ) (sink : Over Bytes) (folders : Over FolderTree) (s : Status) → Receptions → Refused folder carousel folders s → IsUntouched sink
-    → Publishes folder carousel cycles s sink folders
-publishes_none folder carousel cycles sink folders s law r none = record {
-  ends = ends_refused folder carousel cycles sink folders s r none;
+pub ended_none : (folder : Bytes) (carousel : ℕ) (sent_of : Tree → Bytes) (sink : Over Bytes) (folders : Over FolderTree) (s : Status) → Refused folder carousel folders s → IsUntouched sink
+    → HasEnded folder carousel sent_of s sink folders
+ended_none folder carousel sent_of sink folders s r none = record {
+  ends = ends_refused folder carousel sent_of sink folders s r none;
   needs = needs_refused folder carousel folders s r;
-  heard = law.sent carousel cycles;
 }
 
--- all cycles of it were put
+-- all that is sent of it was put
+pub ended_all : (folder : Bytes) (carousel : ℕ) (sent_of : Tree → Bytes) (old new : OutputState) (folders : Over FolderTree) (g : GenerationState) (of : IsOfFolder folder carousel folders.before g)
+    → old.pending ≡ [] → new.pending ≡ [] → HasPut old new (sent_of of.tree) → HasEnded folder carousel sent_of status.Done (sent old new) folders
+ended_all folder carousel sent_of old new folders g of begin empty puts = record {
+  ends = record { tree = of.tree; of = of.of; writes = writes_all begin empty puts };
+  needs = needs_made folder carousel folders g status.Done of;
+}
+
+ends_part : (folder : Bytes) (carousel : ℕ) (sent_of : Tree → Bytes) (old new : OutputState) (folders : Over FolderTree) (tree : Tree) (f : OutputFault)
+    → IsTreeOf folder carousel folders.before tree → old.pending ≡ [] → Puts {T = Unit {0}} (Err f) old new (sent_of tree)
+    → EndsPublish folder carousel sent_of (sent old new) folders (output_status f)
+ends_part folder carousel sent_of old new folders tree outputs.Failed of begin puts = (puts.cause refl, record { tree = tree; of = of; writes = writes_prefix begin puts })
+ends_part folder carousel sent_of old new folders tree outputs.NoMemory of begin puts = inr (record { tree = tree; of = of; writes = writes_prefix begin puts })
+
+-- a fault stopped the writing
+pub ended_part : (folder : Bytes) (carousel : ℕ) (sent_of : Tree → Bytes) (old new : OutputState) (folders : Over FolderTree) (g : GenerationState) (f : OutputFault)
+    (of : IsOfFolder folder carousel folders.before g) → old.pending ≡ [] → Puts {T = Unit {0}} (Err f) old new (sent_of of.tree)
+    → HasEnded folder carousel sent_of (output_status f) (sent old new) folders
+ended_part folder carousel sent_of old new folders g f of begin puts = record {
+  ends = ends_part folder carousel sent_of old new folders of.tree f of.of begin puts;
+  needs = needs_made folder carousel folders g (output_status f) of;
+}
+
+-- ---- `publish`
+
+publishes_by : (folder : Bytes) (carousel cycles : ℕ) (s : Status) (sink : Over Bytes) (folders : Over FolderTree) → Receptions
+    → HasEnded folder carousel (published carousel cycles) s sink folders → Publishes folder carousel cycles s sink folders
+publishes_by folder carousel cycles s sink folders law e = record { ends = e.ends; needs = e.needs; heard = law.sent carousel cycles }
+
+pub publishes_none : (folder : Bytes) (carousel cycles : ℕ) (sink : Over Bytes) (folders : Over FolderTree) (s : Status) → Receptions → Refused folder carousel folders s → IsUntouched sink
+    → Publishes folder carousel cycles s sink folders
+publishes_none folder carousel cycles sink folders s law r none =
+    publishes_by folder carousel cycles s sink folders law (ended_none folder carousel (published carousel cycles) sink folders s r none)
+
 pub publishes_all : (folder : Bytes) (carousel cycles : ℕ) (old new : OutputState) (folders : Over FolderTree) (g : GenerationState) → Receptions → GenerationsAreOfTheLists
     → IsOfFolder folder carousel folders.before g → old.pending ≡ [] → new.pending ≡ [] → HasPut old new (packed (map (section_of g) (repeated cycles (cycle_of (lines_of g)))))
     → Publishes folder carousel cycles status.Done (sent old new) folders
-publishes_all folder carousel cycles old new folders g law lists of begin empty puts = record {
-  ends = record { tree = of.tree; of = of.of; writes = writes_all begin empty (puts_as (published_is carousel cycles of.tree g lists of.is) puts) };
-  needs = needs_made folder carousel folders g status.Done of;
-  heard = law.sent carousel cycles;
-}
+publishes_all folder carousel cycles old new folders g law lists of begin empty puts =
+    publishes_by folder carousel cycles status.Done (sent old new) folders law
+    (ended_all folder carousel (published carousel cycles) old new folders g of begin empty (puts_as (published_is carousel cycles of.tree g lists of.is) puts))
 
-ends_part : (folder : Bytes) (carousel cycles : ℕ) (old new : OutputState) (folders : Over FolderTree) (tree : Tree) (f : OutputFault) → IsTreeOf folder carousel folders.before tree
-    → old.pending ≡ [] → Puts {T = Unit {0}} (Err f) old new (published carousel cycles tree) → EndsPublish folder carousel cycles (sent old new) folders (output_status f)
-ends_part folder carousel cycles old new folders tree outputs.Failed of begin puts = (puts.cause refl, record { tree = tree; of = of; writes = writes_prefix begin puts })
-ends_part folder carousel cycles old new folders tree outputs.NoMemory of begin puts = inr (record { tree = tree; of = of; writes = writes_prefix begin puts })
-
--- a fault stopped the writing
 pub publishes_part : (folder : Bytes) (carousel cycles : ℕ) (old new : OutputState) (folders : Over FolderTree) (g : GenerationState) (f : OutputFault) → Receptions → GenerationsAreOfTheLists
     → IsOfFolder folder carousel folders.before g → old.pending ≡ [] → Puts {T = Unit {0}} (Err f) old new (packed (map (section_of g) (repeated cycles (cycle_of (lines_of g)))))
     → Publishes folder carousel cycles (output_status f) (sent old new) folders
-publishes_part folder carousel cycles old new folders g f law lists of begin puts = record {
-  ends = ends_part folder carousel cycles old new folders of.tree f of.of begin (puts_as (published_is carousel cycles of.tree g lists of.is) puts);
-  needs = needs_made folder carousel folders g (output_status f) of;
-  heard = law.sent carousel cycles;
-}
+publishes_part folder carousel cycles old new folders g f law lists of begin puts =
+    publishes_by folder carousel cycles (output_status f) (sent old new) folders law
+    (ended_part folder carousel (published carousel cycles) old new folders g f of begin (puts_as (published_is carousel cycles of.tree g lists of.is) puts))

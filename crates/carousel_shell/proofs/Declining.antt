@@ -5,23 +5,31 @@ use Rattle.folder_store.specs.Folders.{FolderTree}
 use Rattle.shell_words.specs.Words as commands
 use Rattle.shell_streams.specs.Cuts.{Bytes}
 use Rattle.shell_streams.specs.Held.{IsRear}
+use Rattle.shell_streams.specs.Carriers.{sections_by, all_packets}
 use Rattle.shell_streams.specs.declared.carrier.Carrier.{Carrier}
 use Rattle.shell_streams.specs.declared.carrier.Carrier.TheVariants as carriers
 use Rattle.shell_streams.proofs.CallerLemmas.{told_same}
 use Rattle.carousel_shell.specs.Over.{Over, over, IsUntouched, TakesPrefix, Appends}
 use Rattle.carousel_shell.specs.Record.{AreFirst, Records}
-use Rattle.carousel_shell.specs.Open.{Question, Answers, asks_paths, asks_all}
+use Rattle.carousel_shell.specs.Open.{Question, Answers, answered, asks_paths, asks_all}
+use Rattle.carousel_shell.specs.Find.{place_of}
+use Rattle.carousel_shell.specs.OpenId.{sections_by_id}
 use Rattle.carousel_shell.specs.Reception.{Receptions}
 use Rattle.carousel_shell.specs.Promises.{Promises, Keeps}
 use Rattle.carousel_shell.specs.declared.status.Status.{Status}
 use Rattle.carousel_shell.specs.declared.status.Status.TheVariants as status
 use Rattle.carousel_shell.proofs.Recording.{first_none}
+use Rattle.carousel_shell.proofs.Replying.{replies_nothing}
+use Rattle.carousel_shell.proofs.Answering.{answers_by}
+use Rattle.carousel_shell.proofs.Finding.{finds_by}
+use Rattle.carousel_shell.proofs.Opening.{opens_by}
 
 takes_nothing : (source : Over Bytes) → IsUntouched source → TakesPrefix source
 takes_nothing source e = let P : Option Bytes → Type 0 = λ a. Told source.before a IsRear in subst P (sym e) (told_same source.before (λ x. record { taken = []; whole = refl }))
 
 answers_nothing : (carrier : Carrier) (question : Question) (source sink : Over Bytes) → Receptions → IsUntouched source → IsUntouched sink → Answers carrier question status.NoMemory source sink
-answers_nothing carrier question source sink law e f = record { ends = inl f; takes = takes_nothing source e; reception = λ input _. law.each carrier input }
+answers_nothing carrier question source sink law e f =
+    answers_by carrier question status.NoMemory source sink law (replies_nothing (sections_by carrier) (answered question) source sink (takes_nothing source e) f)
 
 records_nothing : (pid : ℕ) (source sink : Over Bytes) → IsUntouched source → IsUntouched sink → Records pid status.NoMemory source sink
 records_nothing pid source sink e f =
@@ -48,6 +56,12 @@ memory_promises (commands.Publish folder carousel cycles) source sink folders la
 memory_promises commands.Rehearse source sink folders law e f = record { ends = inl f; takes = takes_nothing source e }
 memory_promises commands.Session source sink folders law e f = record { ends = inr refl; unread = e; unwritten = f }
 memory_promises (commands.Big n) source sink folders law e f = record { ends = inr refl; unread = e; unwritten = f }
+memory_promises (commands.Find carousel) source sink folders law e f =
+    finds_by carousel status.NoMemory source sink law (replies_nothing all_packets (place_of carousel) source sink (takes_nothing source e) f)
+memory_promises (commands.OpenId carousel paths) source sink folders law e f =
+    opens_by carousel paths status.NoMemory source sink law (replies_nothing (sections_by_id carousel) (answered (asks_paths paths)) source sink (takes_nothing source e) f)
+memory_promises (commands.PublishPsi folder carousel cycles) source sink folders law e f =
+    record { unread = e; keeps = record { ends = inl f; needs = λ t h n. inr refl } }
 
 pub memory_keeps : (r : Result commands.Named commands.Misfit) (source sink : Over Bytes) (folders : Over FolderTree) → Receptions → IsUntouched source → IsUntouched sink
     → Keeps r status.NoMemory source sink folders

@@ -4,7 +4,12 @@ mod Parts
 mod Walking
 mod Receiving
 mod Writing
+mod Replying
 mod Answering
+mod Finding
+mod Opening
+mod Seeking
+mod Announcing
 mod Assembling
 mod Recording
 mod Committing

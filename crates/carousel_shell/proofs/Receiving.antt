@@ -19,6 +19,8 @@ use Rattle.shell_streams.specs.Packets.{AreSized, packets_of, candidates_of}
 use Rattle.shell_streams.specs.declared.carrier.Carrier.{Carrier}
 use Rattle.shell_streams.specs.declared.carrier.Carrier.TheVariants as carriers
 use Rattle.shell_streams.proofs.Packeting.{packets_before}
+use Rattle.psi_tables.specs.Laws.{IsNowhereElse, IsFoundOnceItCame, EachIsFollowed}
+use Rattle.carousel_shell.specs.Find.{UsuallyFound}
 use Rattle.carousel_shell.specs.Reception.{Reception, SentOpens, Receptions, node_answer, answer_in}
 
 same_answer : (a : Answer) (n : Node) → IsNodeAnswer a n → a ≡ node_answer n
@@ -82,5 +84,12 @@ sent_opens law carousel (suc cycles) t p some small publishable =
     ap (candidates 256) (packets_back (packets_sent carousel (suc cycles) t) (all_sized (record { pid = 256; counter = 0 }) (sections (publication carousel (suc cycles) t)))) in
     rw back (law carousel cycles t p small publishable)
 
-pub all_laws : EveryReceptionMeets → EveryPublicationMeets → EachCycleOpens → Receptions
-all_laws law one cycle = record { each = received law one; sent = sent_opens cycle }
+usually : IsNowhereElse → IsFoundOnceItCame → EachIsFollowed → (carousel : ℕ) (packets : List Bytes) → UsuallyFound carousel packets
+usually nowhere once each carousel packets = record {
+  nowhere_else = λ p table q usual. nowhere carousel packets p table q usual;
+  once_it_came = λ p table q l usual came line program named there. once carousel packets p table q l usual came line program named there;
+  followed = λ p l all line program few. each packets p l all line program few;
+}
+
+pub all_laws : EveryReceptionMeets → EveryPublicationMeets → EachCycleOpens → IsNowhereElse → IsFoundOnceItCame → EachIsFollowed → Receptions
+all_laws law one cycle nowhere once each = record { each = received law one; sent = sent_opens cycle; tables = usually nowhere once each }

@@ -23,7 +23,7 @@ use Rattle.carousel_shell.specs.Over.{Over, sent, Failed, IsUntouched, WritesAll
 use Rattle.carousel_shell.specs.Rehearse.{ReadsAll, ReadsScript, EndsRehearse, Rehearses}
 use Rattle.carousel_shell.specs.Statuses.{input_status, output_status, script_status}
 use Rattle.carousel_shell.specs.declared.status.Status.TheVariants as status
-use Rattle.carousel_shell.proofs.Answering.{goes_on}
+use Rattle.carousel_shell.proofs.Replying.{goes_on}
 use Rattle.carousel_shell.proofs.Writing.{writes_all, writes_prefix}
 
 ends_stopped : (source sink : Over Bytes) (fault : InputFault) → Told source.before source.after (Stopped (is_longer 16777216) fault)

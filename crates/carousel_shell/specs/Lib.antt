@@ -6,10 +6,15 @@ pub mod Listing
 pub mod Statuses
 pub mod Publishing
 pub mod Reception
+pub mod Replies
 pub mod Open
+pub mod Find
+pub mod OpenId
+pub mod Seeking
 pub mod Assemble
 pub mod Record
 pub mod Publish
+pub mod PublishPsi
 pub mod Rehearse
 pub mod Promises
 pub mod Gathering

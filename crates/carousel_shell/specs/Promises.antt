@@ -10,6 +10,9 @@ use Rattle.carousel_shell.specs.Assemble.{Assembles}
 use Rattle.carousel_shell.specs.Open.{Answers, asks_paths, asks_all}
 use Rattle.carousel_shell.specs.Record.{Records}
 use Rattle.carousel_shell.specs.Publish.{Publishes}
+use Rattle.carousel_shell.specs.Find.{Finds}
+use Rattle.carousel_shell.specs.OpenId.{OpensId}
+use Rattle.carousel_shell.specs.PublishPsi.{PublishesPsi}
 use Rattle.carousel_shell.specs.Rehearse.{Rehearses}
 use Rattle.carousel_shell.specs.declared.status.Status.{Status}
 use Rattle.carousel_shell.specs.declared.status.Status.TheVariants as status
@@ -35,6 +38,9 @@ Promises (commands.Publish folder carousel cycles) s source sink folders = Witho
 Promises commands.Rehearse s source sink folders = Rehearses s source sink
 Promises commands.Session s source sink folders = Declines s source sink
 Promises (commands.Big n) s source sink folders = Declines s source sink
+Promises (commands.Find carousel) s source sink folders = Finds carousel s source sink
+Promises (commands.OpenId carousel paths) s source sink folders = OpensId carousel paths s source sink
+Promises (commands.PublishPsi folder carousel cycles) s source sink folders = WithoutInput source (PublishesPsi folder carousel cycles s sink folders)
 
 -- what is promised of words
 abbrev pub Keeps : Result commands.Named commands.Misfit → Status → Over Bytes → Over Bytes → Over FolderTree → Type 0

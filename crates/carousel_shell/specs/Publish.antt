@@ -22,36 +22,37 @@ pub record IsTreeOf (folder : Bytes) (carousel : ℕ) (told : Option FolderTree)
   pub accepted : (t : FolderTree) → told ≡ Some t → publish_end folder carousel t ≡ status.Done
   pub files : (t : FolderTree) → told ≡ Some t → IsFolderTree t → HasFiles t folder tree
 
--- all cycles of such a tree were written
-pub record Published (folder : Bytes) (carousel cycles : ℕ) (sink : Over Bytes) (folders : Over FolderTree) : Type 0 where
+-- all that is sent of such a tree was written
+pub record Published (folder : Bytes) (carousel : ℕ) (sent_of : Tree → Bytes) (sink : Over Bytes) (folders : Over FolderTree) : Type 0 where
   pub tree : Tree
   pub of : IsTreeOf folder carousel folders.before tree
-  pub writes : WritesAll sink (published carousel cycles tree)
+  pub writes : WritesAll sink (sent_of tree)
 
--- a prefix of them was
-pub record Sending (folder : Bytes) (carousel cycles : ℕ) (sink : Over Bytes) (folders : Over FolderTree) : Type 0 where
+-- a prefix of it was
+pub record Sending (folder : Bytes) (carousel : ℕ) (sent_of : Tree → Bytes) (sink : Over Bytes) (folders : Over FolderTree) : Type 0 where
   pub tree : Tree
   pub of : IsTreeOf folder carousel folders.before tree
-  pub writes : WritesPrefix sink (published carousel cycles tree)
+  pub writes : WritesPrefix sink (sent_of tree)
 
 -- the walk's first fault refuses the told tree, or else the commit's refusal
 abbrev pub Refuses : Bytes → ℕ → Over FolderTree → TreeFault → Type 0
 Refuses folder carousel folders fault = (t : FolderTree) → folders.before ≡ Some t → publish_end folder carousel t ≡ status.TreeRefused fault
 
-abbrev pub EndsPublish : (folder : Bytes) (carousel cycles : ℕ) → Over Bytes → Over FolderTree → Status → Type 0
-EndsPublish folder carousel cycles sink folders status.Done = Published folder carousel cycles sink folders
-EndsPublish folder carousel cycles sink folders (status.TreeRefused fault) = Refuses folder carousel folders fault × IsUntouched sink
-EndsPublish folder carousel cycles sink folders status.FolderFault =
+-- how it ends, where this is sent of a tree
+abbrev pub EndsPublish : (folder : Bytes) (carousel : ℕ) (sent_of : Tree → Bytes) → Over Bytes → Over FolderTree → Status → Type 0
+EndsPublish folder carousel sent_of sink folders status.Done = Published folder carousel sent_of sink folders
+EndsPublish folder carousel sent_of sink folders (status.TreeRefused fault) = Refuses folder carousel folders fault × IsUntouched sink
+EndsPublish folder carousel sent_of sink folders status.FolderFault =
     MayFail (Failed folders) folders.before (λ t. is_folder_at t folder ≡ false) × IsUntouched sink
-EndsPublish folder carousel cycles sink folders status.WriteFault = Failed sink × Sending folder carousel cycles sink folders
-EndsPublish folder carousel cycles sink folders status.NoMemory = IsUntouched sink ⊎ Sending folder carousel cycles sink folders
-EndsPublish folder carousel cycles sink folders _ = ⊥
+EndsPublish folder carousel sent_of sink folders status.WriteFault = Failed sink × Sending folder carousel sent_of sink folders
+EndsPublish folder carousel sent_of sink folders status.NoMemory = IsUntouched sink ⊎ Sending folder carousel sent_of sink folders
+EndsPublish folder carousel sent_of sink folders _ = ⊥
 
 -- a known tree without the folder always answers so, except out of memory
 abbrev pub NeedsFolder : Bytes → Over FolderTree → Status → Type 0
 NeedsFolder folder folders s = (t : FolderTree) → folders.before ≡ Some t → is_folder_at t folder ≡ false → (s ≡ status.FolderFault) ⊎ (s ≡ status.NoMemory)
 
 pub record Publishes (folder : Bytes) (carousel cycles : ℕ) (s : Status) (sink : Over Bytes) (folders : Over FolderTree) : Type 0 where
-  pub ends : EndsPublish folder carousel cycles sink folders s
+  pub ends : EndsPublish folder carousel (published carousel cycles) sink folders s
   pub needs : NeedsFolder folder folders s
   pub heard : SentOpens carousel cycles

@@ -1,12 +1,18 @@
 ghost use Rattle.carousel_shell.specs.Reception.{Receptions};
 
 use carousel_world::{each_cycle_opens, every_publication_meets, every_reception_meets};
+use psi_tables::{
+    each_listed_pid_is_followed, it_is_found_once_its_tables_came, it_is_nowhere_else,
+};
 
-/// What holds of all that is heard of any input: a law, and nothing is done.
+/// What holds of all that is heard and found of any input: laws, and nothing is done.
 pub fn receptions()
     ensures { Receptions }
 {
     every_reception_meets();
     every_publication_meets();
     each_cycle_opens();
+    it_is_nowhere_else();
+    it_is_found_once_its_tables_came();
+    each_listed_pid_is_followed();
 }

@@ -4,11 +4,14 @@
 
 mod answers;
 mod assemble;
+mod find;
 mod law;
 mod listing;
 mod open;
+mod open_id;
 mod plain;
 mod publish;
+mod publish_psi;
 mod receiver;
 mod record;
 mod rehearse;
@@ -21,6 +24,8 @@ pub use status::Status;
 mod failing_tests;
 #[cfg(test)]
 mod listing_tests;
+#[cfg(test)]
+mod psi_tests;
 #[cfg(test)]
 mod publish_tests;
 #[cfg(test)]

@@ -50,8 +50,8 @@ pub fn list<S: Source, O: Output>(
     }
 }
 
-/// The status where the answers were written, each of them a file or a folder or not.
-fn status_of(written: Result<bool, OutputFault>) -> Status
+/// The status where the answers were written, each of them one that was asked for or not.
+pub fn status_of(written: Result<bool, OutputFault>) -> Status
     ensures { result ≡ answer_status written }
 {
     match written {

@@ -5,9 +5,12 @@ ghost use Rattle.carousel_shell.specs.Over.{over, sent};
 ghost use Rattle.carousel_shell.specs.Promises.{Promises, Keeps};
 
 use crate::assemble::{Wanted, assemble};
+use crate::find::find;
 use crate::law::receptions;
 use crate::open::{list, open};
+use crate::open_id::open_id;
 use crate::publish::publish;
+use crate::publish_psi::publish_psi;
 use crate::record::record;
 use crate::rehearse::rehearse;
 use crate::status::Status;
@@ -21,18 +24,18 @@ use std::alloc::Global;
 const MOST_SECTIONS: u32 = 16_777_216;
 
 /// Runs the command that the words name: they are the command line without the program's name. The input comes from the
-/// source, the output goes to the sink, and the folders are those that `publish` reads.
+/// source, the output goes to the sink, and the folders are those that `publish` and `publish-psi` read.
 ///
 /// - `Words` comes before all else: where the words name no command with its values, or one that isn't built, which are
 ///   `session` and `big`. Nothing was read or written.
-/// - `assemble`, `open` and `list` read their whole input before they write. While they read come `ReadFault`, and
-///   `InputTooLong` where a byte is left after 65,536 sections (`assemble`), 16,777,216 sections (`open sections`) or
+/// - `assemble`, `open`, `list`, `find` and `open-id` read their whole input before they write. While they read come `ReadFault`,
+///   and `InputTooLong` where a byte is left after 65,536 sections (`assemble`), 16,777,216 sections (`open sections`) or
 ///   16,777,216 packets; nothing was written then. After that `assemble` answers `Incomplete` where a block of the module is
 ///   missing, and writes nothing. While they write comes `WriteFault`, and a prefix of the output was written. At the end come
-///   `Done` and, at `open` and `list`, `NotAll`: the whole output was written.
+///   `Done` and, at `open`, `list`, `find` and `open-id`, `NotAll`: the whole output was written.
 /// - `record` writes as it reads. `ReadFault`, `InputTooLong` (after 16,777,216 packets) and `WriteFault` come as they are
 ///   met, when a prefix of the sections in the input so far was written, and `Done` when all of them were.
-/// - `publish` reads no input. While it reads the folder come `FolderFault` and the `TreeRefused` of a name or of depth,
+/// - `publish` and `publish-psi` read no input. While one reads the folder come `FolderFault` and the `TreeRefused` of a name or of depth,
 ///   whichever is met first, and then the `TreeRefused` of the commit; nothing was written. While it writes comes
 ///   `WriteFault`, and a prefix of the packets was written; `Done` comes when all of them were.
 /// - `rehearse` reads its whole input before it does anything else. While it reads come `ReadFault`, and `InputTooLong` where
@@ -104,6 +107,11 @@ fn run_command<S: Source, O: Output, F: Folders>(
             publish(alloc, folder.as_str(), carousel, cycles, out, folders)
         }
         Command::Rehearse => rehearse(alloc, source, out),
+        Command::Find(carousel) => find(alloc, carousel, source, out),
+        Command::OpenId(carousel, paths) => open_id(alloc, carousel, &paths, source, out),
+        Command::PublishPsi(folder, carousel, cycles) => {
+            publish_psi(alloc, folder.as_str(), carousel, cycles, out, folders)
+        }
         Command::Session | Command::Big(_) => Status::Words,
     }
 }

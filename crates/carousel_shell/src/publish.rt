@@ -57,7 +57,7 @@ pub fn publish<O: Output, F: Folders>(
 }
 
 /// Generation 1 of the carousel, made of the folder's files by one commit.
-fn first_generation<F: Folders>(
+pub fn first_generation<F: Folders>(
     alloc: Global,
     folder: &str,
     carousel: u32,
@@ -95,14 +95,14 @@ fn send<O: Output>(
 
 /// Sections on their way to the output.
 #[derive(Drop)]
-struct Sender {
-    mux: Mux,
+pub struct Sender {
+    pub mux: Mux,
     /// Room for the packets of one section.
-    packets: Vec<[u8; 188]>,
+    pub packets: Vec<[u8; 188]>,
 }
 
 impl Sender {
-    fn new(alloc: Global) -> Sender
+    pub fn new(alloc: Global) -> Sender
         ensures { result.mux ≡ mux_start }
     {
         Sender {
@@ -112,7 +112,7 @@ impl Sender {
     }
 
     /// Sends each item of a cycle, in order.
-    fn send_cycle<O: Output>(
+    pub fn send_cycle<O: Output>(
         &mut self,
         generation: &Generation,
         out: &mut O,
@@ -147,7 +147,7 @@ impl Sender {
 }
 
 /// Puts packets after what is pending.
-fn put_packets<O: Output>(packets: &[[u8; 188]], out: &mut O) -> Result<(), OutputFault>
+pub fn put_packets<O: Output>(packets: &[[u8; 188]], out: &mut O) -> Result<(), OutputFault>
     ensures { Puts result (O.state out.old) (O.state out.new) (concat packets.now) }
 {
     for packet in packets {

@@ -7,7 +7,7 @@ use std::alloc::Global;
 use std::test::Fail;
 
 /// The folder F without an entry, in which the calls of these numbers fail.
-fn empty_folder(alloc: Global, fail_at: Vec<u64>) -> Result<MemFolders, Fail> {
+pub(crate) fn empty_folder(alloc: Global, fail_at: Vec<u64>) -> Result<MemFolders, Fail> {
     let mut entries = Vec::new(alloc);
     entries.push((
         String::from_str(alloc, "F/")?,
@@ -77,7 +77,7 @@ impl Folders for ManyFiles {
 }
 
 /// The status of a command without input and what it wrote.
-fn outcome<F: Folders>(
+pub(crate) fn outcome<F: Folders>(
     alloc: Global,
     line: &str,
     fail_at: Vec<u64>,
@@ -91,7 +91,7 @@ fn outcome<F: Folders>(
 }
 
 /// What a command writes of these packets, and its exit status.
-fn answers(alloc: Global, line: &str, packets: &[u8]) -> Result<(u8, MemSink), Fail> {
+pub(crate) fn answers(alloc: Global, line: &str, packets: &[u8]) -> Result<(u8, MemSink), Fail> {
     let words = words(alloc, line)?;
     let packets = Vec::from_slice(alloc, packets)?;
     let mut source = MemSource::new(packets, Vec::new(alloc), 1000);

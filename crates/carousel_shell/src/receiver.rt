@@ -3,7 +3,7 @@ ghost use Rattle.std.specs.Arc.{arc_value};
 ghost use Rattle.path_resolver.specs.Shots.{held_of};
 ghost use Rattle.tuner_core.specs.Heard.{heard};
 ghost use Rattle.tuner_core.specs.LookBack.{held_after};
-ghost use Rattle.shell_streams.specs.Carriers.{Hears};
+ghost use Rattle.shell_streams.specs.Carriers.{Hears, sections_by};
 
 use oc_bytes::{NoMemory, Source};
 use path_resolver::Shot;
@@ -14,8 +14,8 @@ use tuner_core::Tuner;
 
 /// The receiver as a listener.
 #[derive(Drop)]
-struct Receiver {
-    tuner: Tuner,
+pub struct Receiver {
+    pub tuner: Tuner,
 }
 
 impl Listener for Receiver {
@@ -35,7 +35,7 @@ pub fn receive<S: Source>(
     carrier: Carrier,
     source: &mut S,
 ) -> Result<Arc<Shot>, InputFault>
-    ensures { Hears carrier (λ shot sections. held_of (arc_value shot) ≡ held_after (map heard sections)) result
+    ensures { Hears (sections_by carrier) (λ shot sections. held_of (arc_value shot) ≡ held_after (map heard sections)) result
         (S.left source.old) (S.left source.new) (S.faults source.old) (S.faults source.new) }
 {
     let mut receiver = Receiver {

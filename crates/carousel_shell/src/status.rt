@@ -16,7 +16,8 @@ use std::alloc::{AllocError, Global};
 pub enum Status {
     /// Nothing is left to do: all that the command writes was written, and its input was read to the end.
     Done,
-    /// `open`, `list`: some answer is neither a file nor a folder, or `list` met its limit of 65,536 lines.
+    /// `open`, `open-id`, `list`: some answer is neither a file nor a folder, or `list` met its limit of 65,536 lines. `find`: no
+    /// PID is found.
     NotAll,
     /// The words don't name a command with its values.
     Words,
@@ -27,9 +28,9 @@ pub enum Status {
     ReadFault,
     /// The sink failed.
     WriteFault,
-    /// The folders failed, or the folder that `publish` names is none.
+    /// The folders failed, or the folder that `publish` or `publish-psi` names is none.
     FolderFault,
-    /// `publish`: the folder's files make no tree that can be sent.
+    /// `publish`, `publish-psi`: the folder's files make no tree that can be sent.
     TreeRefused(TreeFault),
     /// The input goes on after the most that the command takes.
     InputTooLong,

@@ -4,17 +4,16 @@ use Rattle.std.proofs.lemmas.List.{map_more}
 use Rattle.oc_bytes.specs.Outcome.{Rose, Told}
 use Rattle.shell_streams.specs.Cuts.{Bytes}
 use Rattle.shell_streams.specs.Held.{Stopped}
-use Rattle.shell_streams.specs.Carriers.{is_over, HeardAll, Hears}
-use Rattle.shell_streams.specs.declared.carrier.Carrier.{Carrier}
+use Rattle.shell_streams.specs.Carriers.{Reading, HeardAll, Hears}
 use Rattle.shell_streams.specs.declared.input.InputFault.{InputFault}
 use Rattle.shell_streams.specs.declared.input.InputFault.TheVariants as inputs
 
-pub hears_end : {T : Type 0} {x : T} {carrier : Carrier} {Heard : T → List Bytes → Type 0} {before after : Option Bytes} {faults later : ℕ} → HeardAll carrier (Heard x) before after → faults ≤ later
-    → Hears carrier Heard (Ok x) before after faults later
+pub hears_end : {T : Type 0} {x : T} {reading : Reading} {Heard : T → List Bytes → Type 0} {before after : Option Bytes} {faults later : ℕ} → HeardAll reading (Heard x) before after → faults ≤ later
+    → Hears reading Heard (Ok x) before after faults later
 hears_end all le = record { ok = all; err = tt; later = le; cause = λ e. absurd (cc) }
 
-pub hears_fault : {T : Type 0} {carrier : Carrier} {Heard : T → List Bytes → Type 0} {before after : Option Bytes} {faults later : ℕ} (fault : InputFault)
-    → Told before after (Stopped (is_over carrier) fault) → faults ≤ later → (fault ≡ inputs.Failed → Rose faults later) → Hears carrier Heard (Err fault) before after faults later
+pub hears_fault : {T : Type 0} {reading : Reading} {Heard : T → List Bytes → Type 0} {before after : Option Bytes} {faults later : ℕ} (fault : InputFault)
+    → Told before after (Stopped reading.goes_on fault) → faults ≤ later → (fault ≡ inputs.Failed → Rose faults later) → Hears reading Heard (Err fault) before after faults later
 hears_fault fault stopped le cause = record { ok = tt; err = stopped; later = le; cause = λ e. cause (cc) }
 
 pub map_next : {X : Type 0} (f : X → Bytes) (before : List Bytes) (xs : List X) (i : ℕ) (x : X) → i < length xs → x ≡ get_or xs i x → (before ++ map f (take i xs)) ++ f x ∷ [] ≡ before ++ map f (take (i + 1) xs)

@@ -1,22 +1,22 @@
 -- Packets that are taken from the front of an input, one after another.
-use Rattle.std.proofs.Common.{◌≡◌, ◌≢◌, ℕ, zero, suc, ◌+◌, ◌*◌, ◌<◌, ◌≤◌, ◌↔◌, IsTrue, Bool, true, false, nat_le, nat_lt, cond, List, [], ◌∷◌, ◌++◌, length, take, drop, Option, Some, None, refl, arith, ◌∙◌, sym, ap, append_assoc, append-nil, length-drop, length-append}
+use Rattle.std.proofs.Common.{◌≡◌, ◌≢◌, ℕ, zero, suc, ◌+◌, ◌*◌, ◌<◌, ◌≤◌, ◌↔◌, IsTrue, Bool, true, false, nat_le, nat_lt, cond, List, [], ◌∷◌, ◌++◌, length, take, drop, Option, Some, None, Result, Ok, ◌⊎◌, inl, inr, refl, arith, ◌∙◌, sym, ap, append_assoc, append-nil, length-drop, length-append}
 use Rattle.std.specs.Option.{is_some}
 use Rattle.std.specs.List.{concat}
-use Rattle.std.proofs.lemmas.Bool.{cond-true, cond-false, le-leb, lt-leb, lt-ltb, le-ltb, ltb-true, ltb-false, true≢false}
+use Rattle.std.proofs.lemmas.Bool.{cond-true, cond-false, le-leb, lt-leb, lt-ltb, le-ltb, ltb-true, ltb-false, true≢false, cases_lt}
 use Rattle.std.proofs.lemmas.Option.{same_Some}
-use Rattle.std.proofs.lemmas.List.{take-append-drop, take_at, drop_at, length-take-le}
+use Rattle.std.proofs.lemmas.List.{take-append-drop, take_at, drop_at, drop-drop, length-take-le}
 use Rattle.std.proofs.lemmas.List.Folds.{concat-append}
 use Rattle.oc_bytes.specs.Outcome.{Told}
 use Rattle.section_stream.specs.Cuts.{candidates}
 use Rattle.section_stream.specs.Rules.{DemuxState, StandsFor}
 use Rattle.shell_streams.specs.Cuts.{Bytes}
-use Rattle.shell_streams.specs.Held.{onto_left, IsDry, AllTaken}
-use Rattle.shell_streams.specs.Packets.{packets_in, packets_of, is_over_packets, AreSized, AreTaken, HasCut, Halts, HasEnded}
+use Rattle.shell_streams.specs.Held.{onto_left, IsDry, Stopped}
+use Rattle.shell_streams.specs.Packets.{packets_in, packets_of, is_over_packets, AreSized, AreTaken, HasTaken, Stops, AreAllTaken, HasCut, Halts, HasEnded}
 use Rattle.shell_streams.specs.declared.packets.PacketReader.{PacketReader}
 use Rattle.shell_streams.specs.declared.input.InputFault.{InputFault}
 use Rattle.shell_streams.specs.declared.input.InputFault.TheVariants as faults
 use Rattle.shell_streams.proofs.Cutting.{dry_end, nil_by_cases}
-use Rattle.shell_streams.proofs.CallerLemmas.{told_here}
+use Rattle.shell_streams.proofs.CallerLemmas.{told_weaker, told_here}
 
 -- ---- the packets at the front of some bytes
 
@@ -60,6 +60,20 @@ packets_before [] bytes h = refl
 packets_before (p ∷ ps) bytes h =
     ap packets_of (append_assoc p (concat ps) bytes) ∙ packet_at p (concat ps ++ bytes) h.0 ∙ ap (λ t. p ∷ t) (packets_before ps bytes h.1)
 
+-- the packets of what stands behind the first n packets
+pub packets_behind : (n : ℕ) (bytes : Bytes) → n ≤ length (packets_of bytes) → packets_of (drop (188 * n) bytes) ≡ drop n (packets_of bytes)
+packets_behind zero bytes h = refl
+packets_behind (suc n) bytes h = by (cases_lt (length bytes) 188) (packets_behind n (drop 188 bytes))
+  where
+    by : (length bytes < 188) ⊎ (188 ≤ length bytes) → (n ≤ length (packets_of (drop 188 bytes)) → packets_of (drop (188 * n) (drop 188 bytes)) ≡ drop n (packets_of (drop 188 bytes)))
+        → packets_of (drop (188 * suc n) bytes) ≡ drop (suc n) (packets_of bytes)
+    by (inl short) rest = absurd (omega (arith, ap length (packet_none bytes short), h))
+    by (inr long) rest =
+        let some = packet_some bytes long in
+        let e : 188 + 188 * n ≡ 188 * suc n = omega arith in
+        ap (λ k. packets_of (drop k bytes)) (sym e) ∙ ap packets_of (sym (drop-drop (188 * n) 188 bytes))
+        ∙ rest (omega (arith, ap length some, h)) ∙ ap (drop (suc n)) (sym some)
+
 pub sizes_all : (packets : List Bytes) → AreSized packets → length (concat packets) ≡ 188 * length packets
 sizes_all [] h = refl
 sizes_all (p ∷ ps) h = omega (arith, length-append p (concat ps), h.0, sizes_all ps h.1)
@@ -100,6 +114,18 @@ told_begin a = record { kept = told_both [] a; each = λ x y e g. begin a x y e 
     begin (Some l) x y e g = record { whole = sym (same_Some l x e) ∙ same_Some l y g; sizes = tt }
     begin None x y e g = cc
 
+-- one packet more was taken
+pub taken_more : (packets : List Bytes) (most fewer : ℕ) (start : Option Bytes) (old new held : Bytes) (before after : Option Bytes) → onto_left held after ≡ onto_left old before
+    → 188 ≤ length held → new ≡ drop 188 held → fewer + 1 ≡ most → HasTaken packets most start (onto_left old before)
+    → HasTaken (packets ++ take 188 held ∷ []) fewer start (onto_left new after)
+taken_more packets most fewer start old new held before after rest h u m t = record {
+  number = omega (arith, length-append packets (take 188 held ∷ []), t.number, m);
+  taken = rw u (told_taken start held after packets h (rw rest t.taken));
+}
+
+pub taken_begin : (start : Option Bytes) (unread : Bytes) → unread ≡ [] → HasTaken [] 16777216 start (onto_left unread start)
+taken_begin start unread u = record { number = refl; taken = rw u (told_begin start) }
+
 -- ---- the reader
 
 no_candidates : (pid : ℕ) → candidates pid [] ≡ []
@@ -138,75 +164,70 @@ reader_next pid old new held start before after out cs rest h u m f c = record {
 -- ---- the end of an input
 
 -- what is left of the input behind the packets is held, and is no packet
-ended : (pid : ℕ) (input held : Bytes) (packets cs : List Bytes) → AreTaken packets input held → length held < 188 → 188 * length packets + length held ≤ 3154116608
-    → candidates pid packets ≡ cs → AllTaken (λ i. candidates pid (packets_of i)) (is_over_packets 16777216) cs input []
-ended pid input held packets cs t short within all = record {
+ended : (input held : Bytes) (packets : List Bytes) → AreTaken packets input held → length held < 188 → 188 * length packets + length held ≤ 3154116608 → AreAllTaken packets input []
+ended input held packets t short within = record {
   to_end = refl;
   within = le-ltb 3154116608 (length input) (omega (arith, ap length t.whole, length-append (concat packets) held, sizes_all packets t.sizes));
-  all = ap (candidates pid) (ap packets_of t.whole ∙ packets_before packets held t.sizes ∙ ap (λ ps. packets ++ ps) (packet_none held short) ∙ append-nil packets) ∙ all;
+  all = ap packets_of t.whole ∙ packets_before packets held t.sizes ∙ ap (λ ps. packets ++ ps) (packet_none held short) ∙ append-nil packets;
 }
 
-told_ended : (pid : ℕ) (start left : Option Bytes) (held : Bytes) (packets cs : List Bytes) → Told start (onto_left held left) (AreTaken packets) → IsDry left
-    → length held < 188 → 188 * length packets + length held ≤ 3154116608 → candidates pid packets ≡ cs → Told start left (HasEnded pid cs)
-told_ended pid start left held packets cs t dry short within all = record {
+told_ended : (start left : Option Bytes) (held : Bytes) (packets : List Bytes) → Told start (onto_left held left) (AreTaken packets) → IsDry left
+    → length held < 188 → 188 * length packets + length held ≤ 3154116608 → Told start left (AreAllTaken packets)
+told_ended start left held packets t dry short within = record {
   kept = sym (told_both held left) ∙ t.kept;
   each = λ x y i o. end left x y i o dry t;
 }
   where
-    end : (left : Option Bytes) (x y : Bytes) → start ≡ Some x → left ≡ Some y → IsDry left → Told start (onto_left held left) (AreTaken packets) → HasEnded pid cs x y
+    end : (left : Option Bytes) (x y : Bytes) → start ≡ Some x → left ≡ Some y → IsDry left → Told start (onto_left held left) (AreTaken packets) → AreAllTaken packets x y
     end (Some l) x y i o d t =
         let none : y ≡ [] = sym (same_Some l y o) ∙ d in
         let taken : AreTaken packets x held = rw (append-nil held) at (rw d at (t.each x (held ++ l) i refl)) in
-        rw none (ended pid x held packets cs taken short within all)
+        rw none (ended x held packets taken short within)
     end None x y i o d t = cc
 
 -- the input ended within a packet
-pub reader_ended : (pid : ℕ) (old : PacketReader) (held : Bytes) (start before after : Option Bytes) (cs : List Bytes)
-    → onto_left held after ≡ onto_left old.unread before → IsDry after → length held < 188 → 0 < old.most → HasCut pid old start before cs
-    → Told start after (HasEnded pid cs)
-reader_ended pid old held start before after cs rest dry short some c =
-    told_ended pid start after held c.packets cs (rw rest c.taken) dry short (omega (arith, c.number)) c.all
+pub taken_ended : (most : ℕ) (held old : Bytes) (start before after : Option Bytes) (packets : List Bytes) → onto_left held after ≡ onto_left old before → IsDry after
+    → length held < 188 → 0 < most → HasTaken packets most start (onto_left old before) → Told start after (AreAllTaken packets)
+taken_ended most held old start before after packets rest dry short some c =
+    told_ended start after held packets (rw rest c.taken) dry short (omega (arith, c.number))
 
 -- the input ended at the limit
-pub reader_full : (pid : ℕ) (old : PacketReader) (held : Bytes) (start before after : Option Bytes) (cs : List Bytes)
-    → onto_left held after ≡ onto_left old.unread before → IsDry after → old.most ≡ 0 → ((rest : Bytes) → onto_left old.unread before ≡ Some rest → rest ≢ [] → ⊥)
-    → HasCut pid old start before cs → Told start after (HasEnded pid cs)
-reader_full pid old held start before after cs rest dry full none c = record {
+pub taken_full : (most : ℕ) (held old : Bytes) (start before after : Option Bytes) (packets : List Bytes) → onto_left held after ≡ onto_left old before → IsDry after
+    → most ≡ 0 → ((rest : Bytes) → onto_left old before ≡ Some rest → rest ≢ [] → ⊥) → HasTaken packets most start (onto_left old before) → Told start after (AreAllTaken packets)
+taken_full most held old start before after packets rest dry full none c = record {
   kept = sym (told_both held after) ∙ ap is_some rest ∙ c.taken.kept;
   each = λ x y i o.
-      let r = told_here start (onto_left old.unread before) x c.taken i in
+      let r = told_here start (onto_left old before) x c.taken i in
       let z = nil_by_cases r.0 (none r.0 r.1) in
-      let t : AreTaken c.packets x [] = rw z at r.2 in
-      rw (dry_end after y dry o) (ended pid x [] c.packets cs t (omega arith) (omega (arith, c.number, full)) c.all);
+      let t : AreTaken packets x [] = rw z at r.2 in
+      rw (dry_end after y dry o) (ended x [] packets t (omega arith) (omega (arith, c.number, full)));
 }
 
 -- ---- stopping
 
-halted : (pid : ℕ) (start left : Option Bytes) (held : Bytes) (packets cs : List Bytes) (s : InputFault) → Told start (onto_left held left) (AreTaken packets)
-    → candidates pid packets ≡ cs → ((x : Bytes) → start ≡ Some x → s ≡ faults.TooLong → is_over_packets 16777216 x ≡ true) → Told start left (Halts pid cs s)
-halted pid start left held packets cs s t all long = record {
+halted : (start left : Option Bytes) (held : Bytes) (packets : List Bytes) (s : InputFault) → Told start (onto_left held left) (AreTaken packets)
+    → ((x : Bytes) → start ≡ Some x → s ≡ faults.TooLong → is_over_packets 16777216 x ≡ true) → Told start left (Stops packets s)
+halted start left held packets s t long = record {
   kept = sym (told_both held left) ∙ t.kept;
   each = λ x y i o. halt left x y i o t;
 }
   where
-    halt : (left : Option Bytes) (x y : Bytes) → start ≡ Some x → left ≡ Some y → Told start (onto_left held left) (AreTaken packets) → Halts pid cs s x y
+    halt : (left : Option Bytes) (x y : Bytes) → start ≡ Some x → left ≡ Some y → Told start (onto_left held left) (AreTaken packets) → Stops packets s x y
     halt (Some l) x y i o t =
         let r = t.each x (held ++ l) i refl in
         record {
           taken = concat packets ++ held;
           whole = r.whole ∙ rw (append_assoc, same_Some l y o) refl;
-          packets = packets;
           others = packets_of held;
           split = packets_before packets held r.sizes;
-          all = all;
           too_long = long x i;
         }
     halt None x y i o t = cc
 
 -- a fault, or out of memory, stopped reading
-pub reader_stopped : (pid : ℕ) (old : PacketReader) (held : Bytes) (start before after : Option Bytes) (cs : List Bytes) (s : InputFault)
-    → (s ≡ faults.TooLong → ⊥) → onto_left held after ≡ onto_left old.unread before → HasCut pid old start before cs → Told start after (Halts pid cs s)
-reader_stopped pid old held start before after cs s n rest c = halted pid start after held c.packets cs s (rw rest c.taken) c.all (λ x i e. absurd (n e))
+pub taken_stopped : (most : ℕ) (held old : Bytes) (start before after : Option Bytes) (packets : List Bytes) (s : InputFault) → (s ≡ faults.TooLong → ⊥)
+    → onto_left held after ≡ onto_left old before → HasTaken packets most start (onto_left old before) → Told start after (Stops packets s)
+taken_stopped most held old start before after packets s n rest c = halted start after held packets s (rw rest c.taken) (λ x i e. absurd (n e))
 
 over : (packets : List Bytes) (input rest : Bytes) → AreTaken packets input rest → length packets ≡ 16777216 → rest ≢ [] → is_over_packets 16777216 input ≡ true
 over packets input rest t n some =
@@ -217,12 +238,40 @@ over packets input rest t n some =
     longer (c ∷ cs) h = omega arith
 
 -- at least a byte more stands behind the limit
-pub reader_over : (pid : ℕ) (old : PacketReader) (held : Bytes) (start before after : Option Bytes) (cs : List Bytes)
-    → onto_left held after ≡ onto_left old.unread before → old.most ≡ 0 → ((rest : Bytes) → onto_left old.unread before ≡ Some rest → rest ≢ [])
-    → HasCut pid old start before cs → Told start after (Halts pid cs faults.TooLong)
-reader_over pid old held start before after cs rest full some c =
-    halted pid start after held c.packets cs faults.TooLong (rw rest c.taken) c.all
-    (λ x i e. let r = told_here start (onto_left old.unread before) x c.taken i in over c.packets x r.0 r.2 (omega (arith, c.number, full)) (some r.0 r.1))
+pub taken_over : (most : ℕ) (held old : Bytes) (start before after : Option Bytes) (packets : List Bytes) → onto_left held after ≡ onto_left old before → most ≡ 0
+    → ((rest : Bytes) → onto_left old before ≡ Some rest → rest ≢ []) → HasTaken packets most start (onto_left old before) → Told start after (Stops packets faults.TooLong)
+taken_over most held old start before after packets rest full some c =
+    halted start after held packets faults.TooLong (rw rest c.taken)
+    (λ x i e. let r = told_here start (onto_left old before) x c.taken i in over packets x r.0 r.2 (omega (arith, c.number, full)) (some r.0 r.1))
+
+-- a prefix of the input was taken
+pub stops_stopped : {packets : List Bytes} {s : InputFault} {a b : Option Bytes} → Told a b (Stops packets s) → Told a b (Stopped (is_over_packets 16777216) s)
+stops_stopped t = told_weaker t (λ x y h. record { rear = record { taken = h.taken; whole = h.whole }; too_long = h.too_long })
+
+-- ---- the candidates of what was taken
+
+pub reader_taken : {pid : ℕ} {reader : PacketReader} {start left : Option Bytes} {cs : List Bytes} (c : HasCut pid reader start left cs)
+    → HasTaken c.packets reader.most start (onto_left reader.unread left)
+reader_taken c = record { number = c.number; taken = c.taken }
+
+pub reader_ended : {pid : ℕ} {reader : PacketReader} {start left after : Option Bytes} {cs : List Bytes} (c : HasCut pid reader start left cs) → Told start after (AreAllTaken c.packets)
+    → Told start after (HasEnded pid cs)
+reader_ended {pid} c t = told_weaker t (λ x y e. record { to_end = e.to_end; within = e.within; all = ap (candidates pid) e.all ∙ c.all })
+
+pub reader_stopped : {pid : ℕ} {reader : PacketReader} {start left after : Option Bytes} {cs : List Bytes} (s : InputFault) (c : HasCut pid reader start left cs)
+    → Told start after (Stops c.packets s) → Told start after (Halts pid cs s)
+reader_stopped s c t = told_weaker t (λ x y h. record {
+  taken = h.taken;
+  whole = h.whole;
+  packets = c.packets;
+  others = h.others;
+  split = h.split;
+  all = c.all;
+  too_long = h.too_long;
+})
+
+pub no_packet : (b : Bool) → ◌≡◌ {A = Result Bool InputFault} (Ok b) (Ok false) → b ≡ false
+no_packet b e = cc
 
 -- what the test for a whole packet shows
 pub short_of : (b : Bool) (n : ℕ) → IsTrue b ↔ (188 ≤ n) → b ≡ false → n < 188

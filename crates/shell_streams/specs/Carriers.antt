@@ -1,9 +1,9 @@
--- How the sections of an input stand in it, and what a listener heard of them.
+-- How what is heard stands in an input, and what a listener heard of it.
 use Rattle.std.specs.Prelude.{◌≡◌, ◌≤◌, ℕ, Bool, List, Option, Result, Err, IfOk, IfErr}
 use Rattle.oc_bytes.specs.Outcome.{Rose, Told}
 use Rattle.shell_streams.specs.Cuts.{Bytes, back_to_back}
 use Rattle.shell_streams.specs.Held.{AllTaken, Stopped, is_over_sections}
-use Rattle.shell_streams.specs.Packets.{candidates_of, is_over_packets}
+use Rattle.shell_streams.specs.Packets.{packets_of, candidates_of, is_over_packets}
 use Rattle.shell_streams.specs.declared.carrier.Carrier.{Carrier}
 use Rattle.shell_streams.specs.declared.carrier.Carrier.TheVariants as carriers
 use Rattle.shell_streams.specs.declared.input.InputFault.{InputFault}
@@ -19,15 +19,28 @@ abbrev pub is_over : Carrier → Bytes → Bool
 is_over (carriers.Sections most) = is_over_sections most
 is_over (carriers.Packets pid) = is_over_packets 16777216
 
--- the input was read to its end and within its limit, and all its sections were heard
-pub record HeardAll (carrier : Carrier) (Heard : List Bytes → Type 0) (before after : Option Bytes) : Type 0 where
-  pub sections : List Bytes
-  pub told : Told before after (AllTaken (candidates_in carrier) (is_over carrier) sections)
-  pub heard : Heard sections
+-- a way of reading an input: what stands in it, and whether it goes on after the most that is taken
+pub record Reading : Type 0 where
+  pub standing_in : Bytes → List Bytes
+  pub goes_on : Bytes → Bool
 
--- All sections of an input were heard, or a fault stopped that after a prefix of the input.
-pub record Hears {T : Type 0} (carrier : Carrier) (Heard : T → List Bytes → Type 0) (outcome : Result T InputFault) (before after : Option Bytes) (faults faults_after : ℕ) : Type 0 where
-  pub ok : IfOk outcome (λ x. HeardAll carrier (Heard x) before after)
-  pub err : IfErr outcome (λ fault. Told before after (Stopped (is_over carrier) fault))
+-- the sections of an input
+abbrev pub sections_by : Carrier → Reading
+sections_by carrier = record { standing_in = candidates_in carrier; goes_on = is_over carrier }
+
+-- its packets, whatever their PIDs
+abbrev pub all_packets : Reading
+all_packets = record { standing_in = packets_of; goes_on = is_over_packets 16777216 }
+
+-- the input was read to its end and within its limit, and all that stands in it was heard
+pub record HeardAll (reading : Reading) (Heard : List Bytes → Type 0) (before after : Option Bytes) : Type 0 where
+  pub taken : List Bytes
+  pub told : Told before after (AllTaken reading.standing_in reading.goes_on taken)
+  pub heard : Heard taken
+
+-- All that stands in an input was heard, or a fault stopped that after a prefix of the input.
+pub record Hears {T : Type 0} (reading : Reading) (Heard : T → List Bytes → Type 0) (outcome : Result T InputFault) (before after : Option Bytes) (faults faults_after : ℕ) : Type 0 where
+  pub ok : IfOk outcome (λ x. HeardAll reading (Heard x) before after)
+  pub err : IfErr outcome (λ fault. Told before after (Stopped reading.goes_on fault))
   pub later : faults ≤ faults_after
   pub cause : outcome ≡ Err inputs.Failed → Rose faults faults_after

@@ -36,6 +36,24 @@ pub record AreTaken (packets : List Bytes) (input rest : Bytes) : Type 0 where
   pub whole : input ≡ concat packets ++ rest
   pub sizes : AreSized packets
 
+-- these packets were taken from the front of an input, of which this is left, and so many may still be taken
+pub record HasTaken (packets : List Bytes) (most : ℕ) (start rest : Option Bytes) : Type 0 where
+  pub number : length packets + most ≡ 16777216
+  pub taken : Told start rest (AreTaken packets)
+
+-- what was taken of an input when reading stopped: these packets, and perhaps others behind them; where it stopped at the limit, the
+-- input goes on behind that
+pub record Stops (packets : List Bytes) (s : InputFault) (input left : Bytes) : Type 0 where
+  pub taken : Bytes
+  pub whole : input ≡ taken ++ left
+  pub others : List Bytes
+  pub split : packets_of taken ≡ packets ++ others
+  pub too_long : s ≡ faults.TooLong → is_over_packets 16777216 input ≡ true
+
+-- these are all packets of the input, which was read to its end and within the limit
+abbrev pub AreAllTaken : List Bytes → Bytes → Bytes → Type 0
+AreAllTaken packets = AllTaken packets_of (is_over_packets 16777216) packets
+
 -- the reader took packets from the front of an input, and these are all their candidates
 pub record HasCut (pid : ℕ) (reader : PacketReader) (start left : Option Bytes) (candidates_so_far : List Bytes) : Type 0 where
   pub packets : List Bytes

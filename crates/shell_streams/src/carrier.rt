@@ -1,7 +1,7 @@
 ghost use Rattle.std.specs.Prelude.{◌≡◌, ◌++◌, ◌∷◌, [], List, map, OnOk};
 ghost use Rattle.section_stream.specs.Kept.{view_bytes};
 ghost use Rattle.shell_streams.specs.Cuts.{Bytes};
-ghost use Rattle.shell_streams.specs.Carriers.{Hears};
+ghost use Rattle.shell_streams.specs.Carriers.{Hears, sections_by};
 
 use crate::input::InputFault;
 use crate::packets::PacketReader;
@@ -40,7 +40,7 @@ pub fn hear_all<S: Source, L: Listener>(
     listener: &mut L,
 ) -> Result<(), InputFault>
     requires { L.heard listener.old listener.old [] }
-    ensures { Hears carrier (λ _. L.heard listener.old listener.new) result (S.left source.old) (S.left source.new) (S.faults source.old) (S.faults source.new) }
+    ensures { Hears (sections_by carrier) (λ _. L.heard listener.old listener.new) result (S.left source.old) (S.left source.new) (S.faults source.old) (S.faults source.new) }
 {
     match carrier {
         Carrier::Sections(most) => hear_sections(alloc, most, source, listener),
@@ -55,7 +55,7 @@ fn hear_sections<S: Source, L: Listener>(
     listener: &mut L,
 ) -> Result<(), InputFault>
     requires { L.heard listener.old listener.old [] }
-    ensures { Hears (Carrier.Sections most) (λ _. L.heard listener.old listener.new) result (S.left source.old) (S.left source.new) (S.faults source.old) (S.faults source.new) }
+    ensures { Hears (sections_by (Carrier.Sections most)) (λ _. L.heard listener.old listener.new) result (S.left source.old) (S.left source.new) (S.faults source.old) (S.faults source.new) }
 {
     let mut unread = Unread::new(alloc)?;
     for taken in 0..most {
@@ -79,7 +79,7 @@ fn hear_packets<S: Source, L: Listener>(
     listener: &mut L,
 ) -> Result<(), InputFault>
     requires { L.heard listener.old listener.old [] }
-    ensures { Hears (Carrier.Packets pid) (λ _. L.heard listener.old listener.new) result (S.left source.old) (S.left source.new) (S.faults source.old) (S.faults source.new) }
+    ensures { Hears (sections_by (Carrier.Packets pid)) (λ _. L.heard listener.old listener.new) result (S.left source.old) (S.left source.new) (S.faults source.old) (S.faults source.new) }
 {
     let mut reader = PacketReader::new(alloc, pid)?;
     while let Some(sections) = reader.next(source)? {
@@ -88,7 +88,8 @@ fn hear_packets<S: Source, L: Listener>(
     Ok(())
 }
 
-fn hear_each<L: Listener>(sections: &[Vec<u8>], listener: &mut L) -> Result<(), NoMemory>
+/// Lets a listener hear sections, in order.
+pub fn hear_each<L: Listener>(sections: &[Vec<u8>], listener: &mut L) -> Result<(), NoMemory>
     ensures { OnOk result ((start : L) (before : List Bytes) → L.heard start listener.old before → L.heard start listener.new (before ++ map view_bytes sections.now)) }
 {
     for section in sections {

@@ -2,6 +2,7 @@
 #![tactic(auto)]
 
 mod carrier;
+mod every_packet;
 mod input;
 mod output;
 mod packets;
@@ -9,7 +10,8 @@ mod sections;
 mod unread;
 mod whole;
 
-pub use carrier::{Carrier, Listener, hear_all};
+pub use carrier::{Carrier, Listener, hear_all, hear_each};
+pub use every_packet::{PacketListener, hear_all_packets};
 pub use input::InputFault;
 pub use output::{Buffered, Output, OutputFault, room};
 pub use packets::PacketReader;

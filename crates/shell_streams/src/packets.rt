@@ -1,9 +1,9 @@
-ghost use Rattle.std.specs.Prelude.{◌≡◌, ◌+◌, ◌<◌, ◌≤◌, ◌↔◌, ◌++◌, ℕ, List, Option, [], map, length, IsTrue, Ok, None, false, IfOk, IfErr, IfSome, OnErr};
+ghost use Rattle.std.specs.Prelude.{◌≡◌, ◌+◌, ◌<◌, ◌≤◌, ◌↔◌, ◌++◌, ℕ, List, Option, [], map, length, IsTrue, Ok, None, true, false, IfOk, IfErr, IfSome, OnErr};
 ghost use Rattle.oc_bytes.specs.Outcome.{Rose, Told};
 ghost use Rattle.section_stream.specs.Kept.{view_bytes};
 ghost use Rattle.shell_streams.specs.Cuts.{Bytes};
 ghost use Rattle.shell_streams.specs.Held.{onto_left, IsDry};
-ghost use Rattle.shell_streams.specs.Packets.{HasCut, Halts, HasEnded};
+ghost use Rattle.shell_streams.specs.Packets.{HasCut, Halts, HasEnded, HasTaken, Stops, AreAllTaken};
 
 use crate::input::InputFault;
 use crate::sections::goes_on;
@@ -13,10 +13,10 @@ use section_stream::Demux;
 use std::alloc::Global;
 
 /// The most packets that are taken.
-const MOST_PACKETS: u32 = 16_777_216;
+pub const MOST_PACKETS: u32 = 16_777_216;
 
 /// The size of a packet in bytes (ISO/IEC 13818-1, 2.4.3.2).
-const PACKET: usize = 188;
+pub const PACKET: usize = 188;
 
 /// Reads an input packet by packet, and cuts the sections of one PID out of it.
 #[derive(Drop)]
@@ -55,14 +55,7 @@ impl PacketReader {
         ensures later { S.faults source.old ≤ S.faults source.new }
         ensures read_fault { IfErr result (λ s. s ≡ InputFault.Failed → Rose (S.faults source.old) (S.faults source.new)) }
     {
-        if self.most == 0 {
-            return if goes_on(&mut self.unread, source)? {
-                Err(InputFault::TooLong)
-            } else {
-                Ok(None)
-            };
-        }
-        if !has_packet(&mut self.unread, source)? {
+        if !has_next(&mut self.unread, self.most, source)? {
             if !self.unread.held().is_empty() {
                 self.demux.short();
             }
@@ -75,6 +68,31 @@ impl PacketReader {
         self.unread.pass(PACKET);
         self.most -= 1;
         Ok(Some(sections))
+    }
+}
+
+/// Reads until the next packet is held, and says whether there is one; so many may still be taken.
+pub fn has_next<S: Source>(
+    unread: &mut Unread,
+    most: u32,
+    source: &mut S,
+) -> Result<bool, InputFault>
+    ensures next { result ≡ Ok true → (188 ≤ length unread.new) × (0 < most) }
+    ensures rest { onto_left unread.new (S.left source.new) ≡ onto_left unread.old (S.left source.old) }
+    ensures ended { result ≡ Ok false → (start : Option Bytes) (packets : List Bytes) → HasTaken packets most start (onto_left unread.old (S.left source.old))
+        → Told start (S.left source.new) (AreAllTaken packets) }
+    ensures stopped { IfErr result (λ s. (start : Option Bytes) (packets : List Bytes) → HasTaken packets most start (onto_left unread.old (S.left source.old))
+        → Told start (S.left source.new) (Stops packets s)) }
+    ensures later { S.faults source.old ≤ S.faults source.new }
+    ensures read_fault { IfErr result (λ s. s ≡ InputFault.Failed → Rose (S.faults source.old) (S.faults source.new)) }
+{
+    if most > 0 {
+        return Ok(has_packet(unread, source)?);
+    }
+    if goes_on(unread, source)? {
+        Err(InputFault::TooLong)
+    } else {
+        Ok(false)
     }
 }
 

@@ -15,10 +15,10 @@ use Rattle.clap.specs.declared.parser.ValueSource.TheVariants.{CommandLine}
 use Rattle.clap.specs.Words.{reading_of}
 use Rattle.clap.specs.declared.builder.ValueParser.TheVariants as parsers
 use Rattle.shell_words.specs.Words.{begins_with_dash}
-use Rattle.shell_words.specs.Counting.{Fits, app_of_keyword, one}
+use Rattle.shell_words.specs.Counting.{Fits, single, opening, publishing, app_of_keyword, one}
 use Rattle.shell_words.proofs.Naming.{any_map, same_length}
 use Rattle.shell_words.specs.declared.keyword.Keyword.{Keyword}
-use Rattle.shell_words.specs.declared.keyword.Keyword.TheVariants.{Assemble, Open, Record, List as ListAll, Publish, Rehearse, Session, Big}
+use Rattle.shell_words.specs.declared.keyword.Keyword.TheVariants.{Assemble, Open, Record, List as ListAll, Publish, Rehearse, Session, Big, Find, OpenId, PublishPsi}
 
 -- a walk between two words, where the next one goes to the positional at place n
 abbrev between : Held → Bool → ℕ → Walk
@@ -137,53 +137,41 @@ unfolding walk_fault defaults_fault
 none_0 name [] p = record { fits = λ _. refl; only = λ _. refl }
 none_0 name (x ∷ rest) p = too_many (shape (new_app name)) nothing_held false 1 _ _ _ x rest (λ e. omega arith) (neither _ _ p).0 refl
 
--- a PID
-pid_1 : (name : Text) (a : Text) (words : List Text) → list_any begins_with_dash words ≡ false → Counts (shape (with_rule (new_app name) (one (codes "PID")))) (between (held ([]) (codes "PID") a) false 2) (length words ≡ 0) words
+-- one word
+single_1 : (name : Text) (a : Text) (words : List Text) → list_any begins_with_dash words ≡ false → Counts (shape (single name)) (between (held ([]) (codes "VALUE") a) false 2) (length words ≡ 0) words
 unfolding walk_fault defaults_fault
-pid_1 name a [] p = record { fits = λ _. refl; only = λ _. refl }
-pid_1 name a (x ∷ rest) p = too_many (shape (with_rule (new_app name) (one (codes "PID")))) (held ([]) (codes "PID") a) false 2 _ _ _ x rest (λ e. omega arith) (neither _ _ p).0 refl
+single_1 name a [] p = record { fits = λ _. refl; only = λ _. refl }
+single_1 name a (x ∷ rest) p = too_many (shape (single name)) (held ([]) (codes "VALUE") a) false 2 _ _ _ x rest (λ e. omega arith) (neither _ _ p).0 refl
 
-pid_0 : (name : Text) (words : List Text) → list_any begins_with_dash words ≡ false → Counts (shape (with_rule (new_app name) (one (codes "PID")))) (between nothing_held false 1) (length words ≡ 1) words
+single_0 : (name : Text) (words : List Text) → list_any begins_with_dash words ≡ false → Counts (shape (single name)) (between nothing_held false 1) (length words ≡ 1) words
 unfolding walk_fault defaults_fault
-pid_0 name [] p = too_few (shape (with_rule (new_app name) (one (codes "PID")))) (between nothing_held false 1) _ _ _ (λ e. omega arith) refl
-pid_0 name (a ∷ rest) p =
-    one_word (shape (with_rule (new_app name) (one (codes "PID")))) nothing_held 1 (between (held ([]) (codes "PID") a) false 2) 0 a rest (neither _ _ p).0 refl refl (pid_1 name a rest (neither _ _ p).1)
-
--- a size
-size_1 : (name : Text) (a : Text) (words : List Text) → list_any begins_with_dash words ≡ false → Counts (shape (with_rule (new_app name) (one (codes "N")))) (between (held ([]) (codes "N") a) false 2) (length words ≡ 0) words
-unfolding walk_fault defaults_fault
-size_1 name a [] p = record { fits = λ _. refl; only = λ _. refl }
-size_1 name a (x ∷ rest) p = too_many (shape (with_rule (new_app name) (one (codes "N")))) (held ([]) (codes "N") a) false 2 _ _ _ x rest (λ e. omega arith) (neither _ _ p).0 refl
-
-size_0 : (name : Text) (words : List Text) → list_any begins_with_dash words ≡ false → Counts (shape (with_rule (new_app name) (one (codes "N")))) (between nothing_held false 1) (length words ≡ 1) words
-unfolding walk_fault defaults_fault
-size_0 name [] p = too_few (shape (with_rule (new_app name) (one (codes "N")))) (between nothing_held false 1) _ _ _ (λ e. omega arith) refl
-size_0 name (a ∷ rest) p =
-    one_word (shape (with_rule (new_app name) (one (codes "N")))) nothing_held 1 (between (held ([]) (codes "N") a) false 2) 0 a rest (neither _ _ p).0 refl refl (size_1 name a rest (neither _ _ p).1)
+single_0 name [] p = too_few (shape (single name)) (between nothing_held false 1) _ _ _ (λ e. omega arith) refl
+single_0 name (a ∷ rest) p =
+    one_word (shape (single name)) nothing_held 1 (between (held ([]) (codes "VALUE") a) false 2) 0 a rest (neither _ _ p).0 refl refl (single_1 name a rest (neither _ _ p).1)
 
 -- a folder, a carousel and a number of cycles
-publish_3 : (a b c : Text) (words : List Text) → list_any begins_with_dash words ≡ false → Counts (shape (app_of_keyword Publish)) (between (held (row (codes "FOLDER") (a ∷ []) ∷ row (codes "CAROUSEL") (b ∷ []) ∷ []) (codes "CYCLES") c) false 4) (length words ≡ 0) words
+publish_3 : (name : Text) (a b c : Text) (words : List Text) → list_any begins_with_dash words ≡ false → Counts (shape (publishing name)) (between (held (row (codes "FOLDER") (a ∷ []) ∷ row (codes "CAROUSEL") (b ∷ []) ∷ []) (codes "CYCLES") c) false 4) (length words ≡ 0) words
 unfolding walk_fault defaults_fault
-publish_3 a b c [] p = record { fits = λ _. refl; only = λ _. refl }
-publish_3 a b c (x ∷ rest) p = too_many (shape (app_of_keyword Publish)) (held (row (codes "FOLDER") (a ∷ []) ∷ row (codes "CAROUSEL") (b ∷ []) ∷ []) (codes "CYCLES") c) false 4 _ _ _ x rest (λ e. omega arith) (neither _ _ p).0 refl
+publish_3 name a b c [] p = record { fits = λ _. refl; only = λ _. refl }
+publish_3 name a b c (x ∷ rest) p = too_many (shape (publishing name)) (held (row (codes "FOLDER") (a ∷ []) ∷ row (codes "CAROUSEL") (b ∷ []) ∷ []) (codes "CYCLES") c) false 4 _ _ _ x rest (λ e. omega arith) (neither _ _ p).0 refl
 
-publish_2 : (a b : Text) (words : List Text) → list_any begins_with_dash words ≡ false → Counts (shape (app_of_keyword Publish)) (between (held (row (codes "FOLDER") (a ∷ []) ∷ []) (codes "CAROUSEL") b) false 3) (length words ≡ 1) words
+publish_2 : (name : Text) (a b : Text) (words : List Text) → list_any begins_with_dash words ≡ false → Counts (shape (publishing name)) (between (held (row (codes "FOLDER") (a ∷ []) ∷ []) (codes "CAROUSEL") b) false 3) (length words ≡ 1) words
 unfolding walk_fault defaults_fault
-publish_2 a b [] p = too_few (shape (app_of_keyword Publish)) (between (held (row (codes "FOLDER") (a ∷ []) ∷ []) (codes "CAROUSEL") b) false 3) _ _ _ (λ e. omega arith) refl
-publish_2 a b (c ∷ rest) p =
-    one_word (shape (app_of_keyword Publish)) (held (row (codes "FOLDER") (a ∷ []) ∷ []) (codes "CAROUSEL") b) 3 (between (held (row (codes "FOLDER") (a ∷ []) ∷ row (codes "CAROUSEL") (b ∷ []) ∷ []) (codes "CYCLES") c) false 4) 0 c rest (neither _ _ p).0 refl refl (publish_3 a b c rest (neither _ _ p).1)
+publish_2 name a b [] p = too_few (shape (publishing name)) (between (held (row (codes "FOLDER") (a ∷ []) ∷ []) (codes "CAROUSEL") b) false 3) _ _ _ (λ e. omega arith) refl
+publish_2 name a b (c ∷ rest) p =
+    one_word (shape (publishing name)) (held (row (codes "FOLDER") (a ∷ []) ∷ []) (codes "CAROUSEL") b) 3 (between (held (row (codes "FOLDER") (a ∷ []) ∷ row (codes "CAROUSEL") (b ∷ []) ∷ []) (codes "CYCLES") c) false 4) 0 c rest (neither _ _ p).0 refl refl (publish_3 name a b c rest (neither _ _ p).1)
 
-publish_1 : (a : Text) (words : List Text) → list_any begins_with_dash words ≡ false → Counts (shape (app_of_keyword Publish)) (between (held ([]) (codes "FOLDER") a) false 2) (length words ≡ 2) words
+publish_1 : (name : Text) (a : Text) (words : List Text) → list_any begins_with_dash words ≡ false → Counts (shape (publishing name)) (between (held ([]) (codes "FOLDER") a) false 2) (length words ≡ 2) words
 unfolding walk_fault defaults_fault
-publish_1 a [] p = too_few (shape (app_of_keyword Publish)) (between (held ([]) (codes "FOLDER") a) false 2) _ _ _ (λ e. omega arith) refl
-publish_1 a (b ∷ rest) p =
-    one_word (shape (app_of_keyword Publish)) (held ([]) (codes "FOLDER") a) 2 (between (held (row (codes "FOLDER") (a ∷ []) ∷ []) (codes "CAROUSEL") b) false 3) 1 b rest (neither _ _ p).0 refl refl (publish_2 a b rest (neither _ _ p).1)
+publish_1 name a [] p = too_few (shape (publishing name)) (between (held ([]) (codes "FOLDER") a) false 2) _ _ _ (λ e. omega arith) refl
+publish_1 name a (b ∷ rest) p =
+    one_word (shape (publishing name)) (held ([]) (codes "FOLDER") a) 2 (between (held (row (codes "FOLDER") (a ∷ []) ∷ []) (codes "CAROUSEL") b) false 3) 1 b rest (neither _ _ p).0 refl refl (publish_2 name a b rest (neither _ _ p).1)
 
-publish_0 : (words : List Text) → list_any begins_with_dash words ≡ false → Counts (shape (app_of_keyword Publish)) (between nothing_held false 1) (length words ≡ 3) words
+publish_0 : (name : Text) (words : List Text) → list_any begins_with_dash words ≡ false → Counts (shape (publishing name)) (between nothing_held false 1) (length words ≡ 3) words
 unfolding walk_fault defaults_fault
-publish_0 [] p = too_few (shape (app_of_keyword Publish)) (between nothing_held false 1) _ _ _ (λ e. omega arith) refl
-publish_0 (a ∷ rest) p =
-    one_word (shape (app_of_keyword Publish)) nothing_held 1 (between (held ([]) (codes "FOLDER") a) false 2) 2 a rest (neither _ _ p).0 refl refl (publish_1 a rest (neither _ _ p).1)
+publish_0 name [] p = too_few (shape (publishing name)) (between nothing_held false 1) _ _ _ (λ e. omega arith) refl
+publish_0 name (a ∷ rest) p =
+    one_word (shape (publishing name)) nothing_held 1 (between (held ([]) (codes "FOLDER") a) false 2) 2 a rest (neither _ _ p).0 refl refl (publish_1 name a rest (neither _ _ p).1)
 
 -- a module
 assemble_4 : (a b c d : Text) (words : List Text) → list_any begins_with_dash words ≡ false → Counts (shape (app_of_keyword Assemble)) (between (held (row (codes "ID") (a ∷ []) ∷ row (codes "VERSION") (b ∷ []) ∷ row (codes "SIZE") (c ∷ []) ∷ []) (codes "DOWNLOAD") d) false 5) (length words ≡ 0) words
@@ -219,46 +207,49 @@ assemble_0 (a ∷ rest) p =
 abbrev paths_found : Text → List Text → Text → Held
 paths_found a seen last = held (row (codes "SOURCE") (a ∷ []) ∷ row (codes "PATH") seen ∷ []) (codes "PATH") last
 
-open_all : (a : Text) (seen : List Text) (last : Text) (words : List Text) → list_any begins_with_dash words ≡ false
-    → faults_from (shape (app_of_keyword Open)) (between (paths_found a seen last) true 2) words ≡ []
+open_all : (name : Text) (a : Text) (seen : List Text) (last : Text) (words : List Text) → list_any begins_with_dash words ≡ false
+    → faults_from (shape (opening name)) (between (paths_found a seen last) true 2) words ≡ []
 unfolding walk_fault defaults_fault
-open_all a seen last [] p = refl
-open_all a seen last (x ∷ rest) p =
-    next_is (shape (app_of_keyword Open)) (paths_found a seen last) true 2 (between (paths_found a (seen ++ last ∷ []) x) true 2) x rest (neither _ _ p).0 refl refl
-    ∙ open_all a (seen ++ last ∷ []) x rest (neither _ _ p).1
+open_all name a seen last [] p = refl
+open_all name a seen last (x ∷ rest) p =
+    next_is (shape (opening name)) (paths_found a seen last) true 2 (between (paths_found a (seen ++ last ∷ []) x) true 2) x rest (neither _ _ p).0 refl refl
+    ∙ open_all name a (seen ++ last ∷ []) x rest (neither _ _ p).1
 
-open_2 : (a b : Text) (words : List Text) → list_any begins_with_dash words ≡ false
-    → faults_from (shape (app_of_keyword Open)) (between (held (row (codes "SOURCE") (a ∷ []) ∷ []) (codes "PATH") b) true 2) words ≡ []
+open_2 : (name : Text) (a b : Text) (words : List Text) → list_any begins_with_dash words ≡ false
+    → faults_from (shape (opening name)) (between (held (row (codes "SOURCE") (a ∷ []) ∷ []) (codes "PATH") b) true 2) words ≡ []
 unfolding walk_fault defaults_fault
-open_2 a b [] p = refl
-open_2 a b (x ∷ rest) p =
-    next_is (shape (app_of_keyword Open)) (held (row (codes "SOURCE") (a ∷ []) ∷ []) (codes "PATH") b) true 2 (between (paths_found a (b ∷ []) x) true 2) x rest (neither _ _ p).0 refl refl
-    ∙ open_all a (b ∷ []) x rest (neither _ _ p).1
+open_2 name a b [] p = refl
+open_2 name a b (x ∷ rest) p =
+    next_is (shape (opening name)) (held (row (codes "SOURCE") (a ∷ []) ∷ []) (codes "PATH") b) true 2 (between (paths_found a (b ∷ []) x) true 2) x rest (neither _ _ p).0 refl refl
+    ∙ open_all name a (b ∷ []) x rest (neither _ _ p).1
 
-open_1 : (a : Text) (words : List Text) → list_any begins_with_dash words ≡ false → Counts (shape (app_of_keyword Open)) (between (held [] (codes "SOURCE") a) false 2) (1 ≤ length words) words
+open_1 : (name : Text) (a : Text) (words : List Text) → list_any begins_with_dash words ≡ false → Counts (shape (opening name)) (between (held [] (codes "SOURCE") a) false 2) (1 ≤ length words) words
 unfolding walk_fault defaults_fault
-open_1 a [] p = too_few (shape (app_of_keyword Open)) (between (held [] (codes "SOURCE") a) false 2) _ _ _ (λ e. omega arith) refl
-open_1 a (b ∷ rest) p =
-    let is = next_is (shape (app_of_keyword Open)) (held [] (codes "SOURCE") a) false 2 (between (held (row (codes "SOURCE") (a ∷ []) ∷ []) (codes "PATH") b) true 2) b rest (neither _ _ p).0 refl refl in
-    record { fits = λ _. is ∙ open_2 a b rest (neither _ _ p).1; only = λ _. omega arith }
+open_1 name a [] p = too_few (shape (opening name)) (between (held [] (codes "SOURCE") a) false 2) _ _ _ (λ e. omega arith) refl
+open_1 name a (b ∷ rest) p =
+    let is = next_is (shape (opening name)) (held [] (codes "SOURCE") a) false 2 (between (held (row (codes "SOURCE") (a ∷ []) ∷ []) (codes "PATH") b) true 2) b rest (neither _ _ p).0 refl refl in
+    record { fits = λ _. is ∙ open_2 name a b rest (neither _ _ p).1; only = λ _. omega arith }
 
-open_0 : (words : List Text) → list_any begins_with_dash words ≡ false → Counts (shape (app_of_keyword Open)) (between nothing_held false 1) (2 ≤ length words) words
+open_0 : (name : Text) (words : List Text) → list_any begins_with_dash words ≡ false → Counts (shape (opening name)) (between nothing_held false 1) (2 ≤ length words) words
 unfolding walk_fault defaults_fault
-open_0 [] p = too_few (shape (app_of_keyword Open)) (between nothing_held false 1) _ _ _ (λ e. omega arith) refl
-open_0 (a ∷ rest) p =
-    let is = next_is (shape (app_of_keyword Open)) nothing_held false 1 (between (held [] (codes "SOURCE") a) false 2) a rest (neither _ _ p).0 refl refl in
-    let more = open_1 a rest (neither _ _ p).1 in
+open_0 name [] p = too_few (shape (opening name)) (between nothing_held false 1) _ _ _ (λ e. omega arith) refl
+open_0 name (a ∷ rest) p =
+    let is = next_is (shape (opening name)) nothing_held false 1 (between (held [] (codes "SOURCE") a) false 2) a rest (neither _ _ p).0 refl refl in
+    let more = open_1 name a rest (neither _ _ p).1 in
     record { fits = λ l. is ∙ more.fits (omega arith); only = λ z. let l : 1 ≤ length rest = more.only (sym is ∙ z) in omega arith }
 
 counted : (keyword : Keyword) (words : List Text) → list_any begins_with_dash words ≡ false → Counts (shape (app_of_keyword keyword)) (between nothing_held false 1) (Fits keyword (length words)) words
 counted Assemble words p = assemble_0 words p
-counted Open words p = open_0 words p
-counted Record words p = pid_0 (codes "record") words p
-counted ListAll words p = pid_0 (codes "list") words p
-counted Publish words p = publish_0 words p
+counted Open words p = open_0 (codes "open") words p
+counted Record words p = single_0 (codes "record") words p
+counted ListAll words p = single_0 (codes "list") words p
+counted Publish words p = publish_0 (codes "publish") words p
 counted Rehearse words p = none_0 (codes "rehearse") words p
 counted Session words p = none_0 (codes "session") words p
-counted Big words p = size_0 (codes "big") words p
+counted Big words p = single_0 (codes "big") words p
+counted Find words p = single_0 (codes "find") words p
+counted OpenId words p = open_0 (codes "open-id") words p
+counted PublishPsi words p = publish_0 (codes "publish-psi") words p
 
 -- no positional has a rule on another, and there are no options
 pub is_free : (keyword : Keyword) → is_simple_and_free (app_of_keyword keyword) ≡ true
@@ -270,6 +261,9 @@ is_free Publish = refl
 is_free Rehearse = refl
 is_free Session = refl
 is_free Big = refl
+is_free Find = refl
+is_free OpenId = refl
+is_free PublishPsi = refl
 
 no_subcommand : (s : Shape) (words : List Text) (stop : Option (Text × List Text))
     → level_fault s [] nothing_held words (is_some (entered (record { top = s; subs = [] }) stop)) (entered_fault (record { top = s; subs = [] }) stop) ≡ faults_from s (between nothing_held false 1) words
@@ -285,6 +279,9 @@ faults_are Publish first words = no_subcommand (shape (app_of_keyword Publish)) 
 faults_are Rehearse first words = no_subcommand (shape (app_of_keyword Rehearse)) words _
 faults_are Session first words = no_subcommand (shape (app_of_keyword Session)) words _
 faults_are Big first words = no_subcommand (shape (app_of_keyword Big)) words _
+faults_are Find first words = no_subcommand (shape (app_of_keyword Find)) words _
+faults_are OpenId first words = no_subcommand (shape (app_of_keyword OpenId)) words _
+faults_are PublishPsi first words = no_subcommand (shape (app_of_keyword PublishPsi)) words _
 
 behind : {A : Type 0} (f : A → Text) (w : A) (ws : List A) → length (w ∷ ws) - 1 ≡ length (map f ws)
 behind f w ws = omega (arith, same_length f ws)

@@ -13,7 +13,7 @@ use Rattle.shell_words.specs.declared.keyword.Keyword.{Keyword}
 use Rattle.shell_words.specs.declared.keyword.Keyword.TheVariants as keywords
 use Rattle.shell_words.specs.Keywords.{words_by}
 use Rattle.shell_words.specs.Counting.{Fits}
-use Rattle.shell_words.specs.Words.{◌>>=◌, Open, Words, pid_in, begins_with_dash, or_misfit, named, command_of, view, cause, path_in, onto_paths, all_paths, paths_in}
+use Rattle.shell_words.specs.Words.{◌>>=◌, Open, OpenId, Words, pid_in, any_u32_in, begins_with_dash, or_misfit, named, command_of, view, cause, path_in, onto_paths, all_paths, paths_in}
 
 pub any_map : {A : Type 0} (f : A → List ℕ) (words : List A) → list_any begins_with_dash (map f words) ≡ list_any (λ w. begins_with_dash (f w)) words
 any_map f [] = refl
@@ -88,6 +88,10 @@ no_paths true o = refl
 no_paths false None = refl
 no_paths false (Some pid) = refl
 
+nowhere : (o : Option ℕ) → (o >>= λ c. option_map (OpenId c) None) ≡ None
+nowhere None = refl
+nowhere (Some c) = refl
+
 -- words of another number than the keyword's command takes say nothing
 misfit_none : (keyword : Keyword) (words : List (List ℕ)) → (Fits keyword (length words) → ⊥) → words_by keyword words ≡ None
 misfit_none keywords.Assemble [] h = refl
@@ -117,6 +121,17 @@ misfit_none keywords.Session (word ∷ words) h = refl
 misfit_none keywords.Big [] h = refl
 misfit_none keywords.Big (n ∷ []) h = absurd (h (omega arith))
 misfit_none keywords.Big (n ∷ word ∷ words) h = refl
+misfit_none keywords.Find [] h = refl
+misfit_none keywords.Find (c ∷ []) h = absurd (h (omega arith))
+misfit_none keywords.Find (c ∷ word ∷ words) h = refl
+misfit_none keywords.OpenId [] h = refl
+misfit_none keywords.OpenId (c ∷ []) h = nowhere (any_u32_in c)
+misfit_none keywords.OpenId (c ∷ word ∷ words) h = absurd (h (omega arith))
+misfit_none keywords.PublishPsi [] h = refl
+misfit_none keywords.PublishPsi (a ∷ []) h = refl
+misfit_none keywords.PublishPsi (a ∷ b ∷ []) h = refl
+misfit_none keywords.PublishPsi (a ∷ b ∷ c ∷ []) h = absurd (h (omega arith))
+misfit_none keywords.PublishPsi (a ∷ b ∷ c ∷ d ∷ words) h = refl
 
 pub same_length : {A : Type 0} (f : A → List ℕ) (words : List A) → length words ≡ length (map f words)
 same_length f [] = refl

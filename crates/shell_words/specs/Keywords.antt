@@ -4,7 +4,7 @@ use Rattle.path_tree.specs.Paths.{Bytes}
 use Rattle.shell_words.specs.Words as commands
 use Rattle.shell_words.specs.Words.{Named}
 use Rattle.shell_words.specs.declared.keyword.Keyword.{Keyword}
-use Rattle.shell_words.specs.declared.keyword.Keyword.TheVariants.{Assemble, Open, Record, List as ListAll, Publish, Rehearse, Session, Big}
+use Rattle.shell_words.specs.declared.keyword.Keyword.TheVariants.{Assemble, Open, Record, List as ListAll, Publish, Rehearse, Session, Big, Find, OpenId, PublishPsi}
 
 abbrev pub words_by : Keyword → List Bytes → Option Named
 words_by Assemble words = commands.assemble_by words
@@ -15,6 +15,9 @@ words_by Publish words = commands.publish_by words
 words_by Rehearse words = commands.rehearse_by words
 words_by Session words = commands.session_by words
 words_by Big words = commands.big_by words
+words_by Find words = commands.find_by words
+words_by OpenId words = commands.open_id_by words
+words_by PublishPsi words = commands.publish_psi_by words
 
 -- what the words behind the first one say, where that is a keyword
 abbrev pub words_behind : List Bytes → Option Keyword → Option Named

@@ -4,6 +4,7 @@ use Rattle.std.specs.List.{list_any, find}
 use Rattle.std.specs.Option.{option_map}
 use Rattle.std.specs.Str.{bytes_eq}
 use Rattle.std.specs.String.{string_bytes}
+use Rattle.std.specs.declared.string.String.{String}
 use Rattle.oc_bytes.specs.Decimals.{decimal_in}
 use Rattle.path_tree.specs.Paths.{Bytes, PathNames}
 use Rattle.path_tree.specs.Texts.{path_of, TextFault}
@@ -22,6 +23,9 @@ pub data Named : Type 0 where
   Rehearse : Named
   Session : Named
   Big : ℕ → Named
+  Find : ℕ → Named
+  OpenId : ℕ → List PathNames → Named
+  PublishPsi : Bytes → ℕ → ℕ → Named
 
 abbrev pub view : Command → Named
 view (code.Assemble id version size download) = Assemble id version size download
@@ -33,6 +37,9 @@ view (code.Publish folder carousel cycles) = Publish (string_bytes folder) carou
 view code.Rehearse = Rehearse
 view code.Session = Session
 view (code.Big n) = Big n
+view (code.Find carousel) = Find carousel
+view (code.OpenId carousel paths) = OpenId carousel paths.items
+view (code.PublishPsi folder carousel cycles) = PublishPsi (string_bytes folder) carousel cycles
 
 -- the words don't fit
 pub data Misfit : Type 0 where
@@ -108,13 +115,31 @@ record_by words = option_map Record (pid_by words)
 abbrev pub list_by : List Bytes → Option Named
 list_by words = option_map ListAll (pid_by words)
 
-abbrev pub publish_by : List Bytes → Option Named
-publish_by (folder ∷ carousel ∷ cycles ∷ []) = do
+-- a folder, the id of a carousel, and a number of cycles
+abbrev pub publication_in : List Bytes → Option (Bytes × ℕ × ℕ)
+publication_in (folder ∷ carousel ∷ cycles ∷ []) = do
   c ← any_u32_in carousel
   n ← decimal_in 1 1000 cycles
   f ← folder_in folder
-  Some (Publish f c n)
-publish_by _ = None
+  Some (f, c, n)
+publication_in _ = None
+
+abbrev pub publication_view : {Z : Type 0} → String Z × ℕ × ℕ → Bytes × ℕ × ℕ
+publication_view p = (string_bytes p.0, p.1, p.2)
+
+abbrev pub publish_by : List Bytes → Option Named
+publish_by words = option_map (λ p. Publish p.0 p.1 p.2) (publication_in words)
+
+abbrev pub publish_psi_by : List Bytes → Option Named
+publish_psi_by words = option_map (λ p. PublishPsi p.0 p.1 p.2) (publication_in words)
+
+abbrev pub find_by : List Bytes → Option Named
+find_by (carousel ∷ []) = option_map Find (any_u32_in carousel)
+find_by _ = None
+
+abbrev pub open_id_by : List Bytes → Option Named
+open_id_by [] = None
+open_id_by (carousel ∷ words) = any_u32_in carousel >>= λ c. option_map (OpenId c) (paths_in words)
 
 abbrev pub rehearse_by : List Bytes → Option Named
 rehearse_by [] = Some Rehearse
@@ -131,7 +156,8 @@ big_by _ = None
 abbrev pub commands : List (Bytes × (List Bytes → Option Named))
 commands =
     (codes "assemble", assemble_by) ∷ (codes "open", open_by) ∷ (codes "record", record_by) ∷ (codes "list", list_by)
-    ∷ (codes "publish", publish_by) ∷ (codes "rehearse", rehearse_by) ∷ (codes "session", session_by) ∷ (codes "big", big_by) ∷ []
+    ∷ (codes "publish", publish_by) ∷ (codes "rehearse", rehearse_by) ∷ (codes "session", session_by) ∷ (codes "big", big_by)
+    ∷ (codes "find", find_by) ∷ (codes "open-id", open_id_by) ∷ (codes "publish-psi", publish_psi_by) ∷ []
 
 abbrev pub named : Bytes → List Bytes → Option Named
 named word words = find (λ c. bytes_eq word c.0) commands >>= λ c. c.1 words
@@ -149,6 +175,10 @@ abbrev pub command_of : List Bytes → Result Named Misfit
 command_of [] = Err Words
 command_of (word ∷ words) = if list_any begins_with_dash (word ∷ words) then Err Words else or_misfit (named word words)
 
+-- a folder has at least one byte, and there are 1 to 1,000 cycles
+abbrev pub IsPublication : Bytes → ℕ → Type 0
+IsPublication folder cycles = (0 < length folder) × (1 ≤ cycles) × (cycles ≤ 1000)
+
 -- the values lie in their ranges
 abbrev pub IsSized : Command → Type 0
 IsSized (code.Assemble id version size download) = size ≤ 16842752
@@ -156,7 +186,10 @@ IsSized (code.OpenSections paths) = Unit {0}
 IsSized (code.Open pid paths) = pid ≤ 8190
 IsSized (code.Record pid) = pid ≤ 8190
 IsSized (code.List pid) = pid ≤ 8190
-IsSized (code.Publish folder carousel cycles) = (0 < length (string_bytes folder)) × (1 ≤ cycles) × (cycles ≤ 1000)
+IsSized (code.Publish folder carousel cycles) = IsPublication (string_bytes folder) cycles
 IsSized code.Rehearse = Unit {0}
 IsSized code.Session = Unit {0}
 IsSized (code.Big n) = (1 ≤ n) × (n ≤ 16)
+IsSized (code.Find carousel) = Unit {0}
+IsSized (code.OpenId carousel paths) = Unit {0}
+IsSized (code.PublishPsi folder carousel cycles) = IsPublication (string_bytes folder) cycles

@@ -5,6 +5,7 @@ ghost use Rattle.std.specs.String.{string_bytes};
 ghost use Rattle.std.specs.List.{list_any};
 ghost use Rattle.clap.specs.Words.{app_of, rule_of};
 ghost use Rattle.shell_words.specs.Words.{begins_with_dash};
+ghost use Rattle.shell_words.specs.Counting as counting;
 ghost use Rattle.shell_words.specs.Counting.{Fits, app_of_keyword, one, one_or_more};
 
 use crate::keyword::Keyword;
@@ -38,13 +39,16 @@ fn syntax<'a>(alloc: Global, keyword: Keyword) -> Result<Command<'a>, AllocError
 {
     match keyword {
         Keyword::Assemble => assemble(alloc),
-        Keyword::Open => open(alloc),
-        Keyword::Record => Command::new(alloc, "record").arg(one(alloc, "PID")),
-        Keyword::List => Command::new(alloc, "list").arg(one(alloc, "PID")),
-        Keyword::Publish => publish(alloc),
+        Keyword::Open => open(alloc, "open"),
+        Keyword::Record => single(alloc, "record"),
+        Keyword::List => single(alloc, "list"),
+        Keyword::Publish => publish(alloc, "publish"),
         Keyword::Rehearse => Ok(Command::new(alloc, "rehearse")),
         Keyword::Session => Ok(Command::new(alloc, "session")),
-        Keyword::Big => Command::new(alloc, "big").arg(one(alloc, "N")),
+        Keyword::Big => single(alloc, "big"),
+        Keyword::Find => single(alloc, "find"),
+        Keyword::OpenId => open(alloc, "open-id"),
+        Keyword::PublishPsi => publish(alloc, "publish-psi"),
     }
 }
 
@@ -58,18 +62,27 @@ fn assemble<'a>(alloc: Global) -> Result<Command<'a>, AllocError>
         .arg(one(alloc, "DOWNLOAD"))
 }
 
-fn open<'a>(alloc: Global) -> Result<Command<'a>, AllocError>
-    ensures { IfOk result (λ c. app_of c ≡ app_of_keyword Keyword.Open) }
+/// One word.
+fn single<'a>(alloc: Global, name: &'a str) -> Result<Command<'a>, AllocError>
+    ensures { IfOk result (λ c. app_of c ≡ counting.single name.entry.now) }
 {
-    Command::new(alloc, "open")
+    Command::new(alloc, name).arg(one(alloc, "VALUE"))
+}
+
+/// Where an object is sought, and paths.
+fn open<'a>(alloc: Global, name: &'a str) -> Result<Command<'a>, AllocError>
+    ensures { IfOk result (λ c. app_of c ≡ counting.opening name.entry.now) }
+{
+    Command::new(alloc, name)
         .arg(one(alloc, "SOURCE"))?
         .arg(one_or_more(alloc, "PATH"))
 }
 
-fn publish<'a>(alloc: Global) -> Result<Command<'a>, AllocError>
-    ensures { IfOk result (λ c. app_of c ≡ app_of_keyword Keyword.Publish) }
+/// What is sent, under which number, and how often.
+fn publish<'a>(alloc: Global, name: &'a str) -> Result<Command<'a>, AllocError>
+    ensures { IfOk result (λ c. app_of c ≡ counting.publishing name.entry.now) }
 {
-    Command::new(alloc, "publish")
+    Command::new(alloc, name)
         .arg(one(alloc, "FOLDER"))?
         .arg(one(alloc, "CAROUSEL"))?
         .arg(one(alloc, "CYCLES"))

@@ -14,6 +14,9 @@ pub enum Keyword {
     Rehearse,
     Session,
     Big,
+    Find,
+    OpenId,
+    PublishPsi,
 }
 
 impl Keyword {
@@ -37,6 +40,12 @@ impl Keyword {
             Some(Keyword::Session)
         } else if word == "big" {
             Some(Keyword::Big)
+        } else if word == "find" {
+            Some(Keyword::Find)
+        } else if word == "open-id" {
+            Some(Keyword::OpenId)
+        } else if word == "publish-psi" {
+            Some(Keyword::PublishPsi)
         } else {
             None
         }

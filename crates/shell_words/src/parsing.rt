@@ -74,10 +74,19 @@ fn read(alloc: Global, keyword: Keyword, words: &[String]) -> Result<Command, Wo
             Some(pid) => Ok(Command::List(pid)),
             None => Err(WordsFault::Words),
         },
-        Keyword::Publish => publish(alloc, words),
+        Keyword::Publish => {
+            let (folder, carousel, cycles) = publication(alloc, words)?;
+            Ok(Command::Publish(folder, carousel, cycles))
+        }
         Keyword::Rehearse => Ok(Command::Rehearse),
         Keyword::Session => Ok(Command::Session),
         Keyword::Big => big(words).ok_or(WordsFault::Words),
+        Keyword::Find => find(words).ok_or(WordsFault::Words),
+        Keyword::OpenId => open_id(alloc, words),
+        Keyword::PublishPsi => {
+            let (folder, carousel, cycles) = publication(alloc, words)?;
+            Ok(Command::PublishPsi(folder, carousel, cycles))
+        }
     }
 }
 
@@ -129,10 +138,11 @@ fn only_pid(words: &[String]) -> Option<u16>
     values::pid(pid)
 }
 
-fn publish(alloc: Global, words: &[String]) -> Result<Command, WordsFault>
+/// A folder, the id of a carousel, and a number of cycles.
+fn publication(alloc: Global, words: &[String]) -> Result<(String, u32, u32), WordsFault>
     requires { length words.now ≡ 3 }
-    ensures gives { Gives commands.view commands.cause result (commands.or_misfit (commands.publish_by (map string_bytes words.now))) }
-    ensures sized { IfOk result commands.IsSized }
+    ensures gives { Gives commands.publication_view commands.cause result (commands.or_misfit (commands.publication_in (map string_bytes words.now))) }
+    ensures sized { IfOk result (λ p. commands.IsPublication (string_bytes p.0) p.2) }
 {
     let [folder, carousel, cycles] = words else {
         unreachable!();
@@ -144,7 +154,31 @@ fn publish(alloc: Global, words: &[String]) -> Result<Command, WordsFault>
         return Err(WordsFault::Words);
     };
     let folder = values::folder(alloc, folder)?;
-    Ok(Command::Publish(folder, carousel, cycles))
+    Ok((folder, carousel, cycles))
+}
+
+fn find(words: &[String]) -> Option<Command>
+    requires { length words.now ≡ 1 }
+    ensures by { option_map commands.view result ≡ commands.find_by (map string_bytes words.now) }
+    ensures sized { IfSome result commands.IsSized }
+{
+    let [carousel] = words else {
+        unreachable!();
+    };
+    let carousel = values::decimal(carousel, 0, u32::MAX)?;
+    Some(Command::Find(carousel))
+}
+
+fn open_id(alloc: Global, words: &[String]) -> Result<Command, WordsFault>
+    requires { 2 ≤ length words.now }
+    ensures gives { Gives commands.view commands.cause result (commands.or_misfit (commands.open_id_by (map string_bytes words.now))) }
+    ensures sized { IfOk result commands.IsSized }
+{
+    let Some(carousel) = values::decimal(&words[0], 0, u32::MAX) else {
+        return Err(WordsFault::Words);
+    };
+    let paths = values::paths(alloc, &words[1..])?;
+    Ok(Command::OpenId(carousel, paths))
 }
 
 fn big(words: &[String]) -> Option<Command>

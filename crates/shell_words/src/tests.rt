@@ -39,6 +39,13 @@ fn written(alloc: Global, command: &Command) -> Result<String, Fail> {
         Command::Rehearse => String::from_str(alloc, "rehearse")?,
         Command::Session => String::from_str(alloc, "session")?,
         Command::Big(size) => format!(in alloc; "big {size}")?,
+        Command::Find(carousel) => format!(in alloc; "find {carousel}")?,
+        Command::OpenId(carousel, paths) => {
+            with_paths(format!(in alloc; "open-id {carousel}")?, paths)?
+        }
+        Command::PublishPsi(folder, carousel, cycles) => {
+            format!(in alloc; "publish-psi {folder} {carousel} {cycles}")?
+        }
     };
     Ok(text)
 }
@@ -70,6 +77,11 @@ fn words_that_fit(rt: HostRuntime) -> Result<(), Fail> {
         "session",
         "big 1",
         "big 16",
+        "find 0",
+        "find 4294967295",
+        "open-id 4294967295 /",
+        "open-id 1 /a /",
+        "publish-psi folder 4294967295 1000",
     ];
     for line in lines {
         let given = read(rt.alloc(), line)?;
@@ -128,6 +140,20 @@ fn words_that_do_not_fit(rt: HostRuntime) -> Result<(), Fail> {
         "big",
         "big 0",
         "big 17",
+        "find",
+        "find 1 2",
+        "find 4294967296",
+        "find 01",
+        "Find 1",
+        "open-id",
+        "open-id 1",
+        "open-id /a",
+        "open-id sections /a",
+        "open-id 1 a",
+        "open_id 1 /a",
+        "publish-psi folder 1",
+        "publish-psi '' 1 1",
+        "publish-psi folder 1 1001",
     ];
     for line in lines {
         let given = read(rt.alloc(), line)?;

@@ -28,6 +28,14 @@ pub enum Command {
     Session,
     /// `big N`: a session that is made up, of this size, 1 to 16.
     Big(u32),
+    /// `find CAROUSEL`: the PID of the carousel of this id, any 32-bit number, out of packets.
+    Find(u32),
+    /// `open-id CAROUSEL PATH..`: the answers to one or more paths, out of the packets of the carousel of this id, any 32-bit
+    /// number.
+    OpenId(u32, Vec<Path>),
+    /// `publish-psi FOLDER CAROUSEL CYCLES`: the packets of a folder's files, and the tables that name the carousel. The values
+    /// are those of `publish`.
+    PublishPsi(String, u32, u32),
 }
 
 /// Why no command is given.

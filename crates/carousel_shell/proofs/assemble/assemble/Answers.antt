@@ -14,7 +14,7 @@ hear_all-requires g c = record { same = refl; blocks = blocks_begin (asked_of c.
 pub returns-in-Ok-hear_all-clause-assembles : goal.returns-in-Ok-hear_all-clause-assembles
 returns-in-Ok-hear_all-clause-assembles g c =
     let all = c.in-Ok-hear_all.ensures.ok in
-    assembles_gathered (asked_of c.args.wanted) _ _ all.sections _ _ all.told all.heard.blocks.blocks c.write_module.ensures.writes
+    assembles_gathered (asked_of c.args.wanted) _ _ all.taken _ _ all.told all.heard.blocks.blocks c.write_module.ensures.writes
 
 pub returns-clause-assembles : goal.returns-clause-assembles
 returns-clause-assembles g c = rw c.from.ensures (assembles_stopped (asked_of c.args.wanted) _ _ c.in-Err-hear_all.fault c.in-Err-hear_all.ensures.err (λ e. c.in-Err-hear_all.ensures.cause (ap Err e)) refl)

@@ -21,3 +21,12 @@ returns-in-Publish-clause-promises g c = rw c.in-Publish.is (record { unread = r
 
 pub returns-in-Rehearse-clause-promises : goal.returns-in-Rehearse-clause-promises
 returns-in-Rehearse-clause-promises g c = rw c.in-Rehearse.is c.rehearse.ensures.rehearses
+
+pub returns-in-Find-clause-promises : goal.returns-in-Find-clause-promises
+returns-in-Find-clause-promises g c = rw c.in-Find.is c.find.ensures.finds
+
+pub returns-in-OpenId-clause-promises : goal.returns-in-OpenId-clause-promises
+returns-in-OpenId-clause-promises g c = rw (c.in-OpenId.is, ← c.deref-in-OpenId.ensures.value) c.open_id.ensures.opens
+
+pub returns-in-PublishPsi-clause-promises : goal.returns-in-PublishPsi-clause-promises
+returns-in-PublishPsi-clause-promises g c = rw c.in-PublishPsi.is (record { unread = refl; keeps = rw c.as_str-in-PublishPsi.ensures.value at c.publish_psi.ensures.publishes })

@@ -23,9 +23,9 @@ returns g c =
     let all = c.in_ok-hear_all.ensures.ok in
     record {
       ok = record {
-        sections = all.sections;
+        taken = all.taken;
         told = all.told;
-        heard = ap (λ v. v.held) (c.in_ok-shot.ensures.held all.sections all.heard);
+        heard = ap (λ v. v.held) (c.in_ok-shot.ensures.held all.taken all.heard);
       };
       err = tt;
       later = c.hear_all.ensures.later;

@@ -3,7 +3,7 @@ use Rattle.std.proofs.lemmas.Result.{err_from_is_err_and}
 use Rattle.section_stream.specs.Kept.{view_bytes}
 use Rattle.shell_streams.specs.declared.input.InputFault.TheVariants as inputs
 use Rattle.shell_streams.proofs.CallerLemmas.{puts_nothing, puts_then, puts_as, rose_last}
-use Rattle.shell_streams.proofs.Packeting.{reader_stopped}
+use Rattle.shell_streams.proofs.Packeting.{reader_stopped, reader_taken, taken_stopped}
 use Rattle.carousel_shell.proofs.Recording.{accepted-append, first_none, first_halted, first_ended, records_none, records_read, records_put, records_all}
 use Rattle.carousel_shell.proofs.Writing.{writes_prefix}
 use Rattle.carousel_shell.proofs.record.record_all.Goals as goal
@@ -37,7 +37,8 @@ returns-in_err-put_accepted-clause-records g c =
     let all = puts_as (sym (accepted-append c.loop-reader.invariant.candidates (map view_bytes c.in-Some.candidates.items)))
     (puts_then c.loop-reader.invariant.puts (rw c.deref.ensures.value at c.in_err-put_accepted.ensures.puts)) in
     rw (p.1, p.2) (records_put c.args.pid _ _ (c.loop-reader.invariant.candidates ++ map view_bytes c.in-Some.candidates.items) _
-    (first_halted c.candidates_grow.ensures (reader_stopped c.args.pid c.next.new.self c.next.new.self.unread _ _ _ _ inputs.NoMemory (λ e. cc) refl cut))
+    (first_halted c.candidates_grow.ensures (reader_stopped inputs.NoMemory cut
+    (taken_stopped c.next.new.self.most c.next.new.self.unread c.next.new.self.unread _ _ _ cut.packets inputs.NoMemory (λ e. cc) refl (reader_taken cut))))
     (λ e. all.cause (ap Err e)) (writes_prefix c.requires all))
 
 pub loop-reader-preserved : goal.loop-reader-preserved

@@ -32,7 +32,7 @@ loop-reader-preserved g c =
 
 pub returns : goal.returns
 returns g c = hears_end (record {
-  sections = c.loop-reader.invariant.sections;
+  taken = c.loop-reader.invariant.sections;
   told = c.in_ok-sections.ensures.ended (ap Ok c.in_default.is) c.args.pid _ c.loop-reader.invariant.sections c.loop-reader.invariant.cut;
   heard = c.loop-reader.invariant.heard;
 }) (omega (arith, c.loop-reader.invariant.later, c.next.ensures.later))

@@ -18,7 +18,7 @@ pub returns-in_default : goal.returns-in_default
 returns-in_default g c =
     let few : length c.loop-taken.invariant.sections < c.args.most = omega (arith, c.loop-taken.invariant.number, c.loop-taken-test.true) in
     hears_end (record {
-      sections = c.loop-taken.invariant.sections;
+      taken = c.loop-taken.invariant.sections;
       told = ended_few c.args.most _ _ c.loop-taken.invariant.sections few
           (told_end _ c.next_section.new.unread _ c.loop-taken.invariant.sections (sym c.in_ok-len.ensures.len ∙ c.in_default.is) (c.in_ok-len.ensures.ended (ap Ok c.in_default.is))
           (rw c.next_section.ensures.rest c.loop-taken.invariant.cut));
@@ -61,7 +61,7 @@ pub returns : goal.returns
 returns g c =
     let full : length c.loop-taken.invariant.sections ≡ c.args.most = omega (arith, c.loop-taken.invariant.number, c.loop-taken-test.false, c.loop-taken.auto.taken-end) in
     hears_end (record {
-      sections = c.loop-taken.invariant.sections;
+      taken = c.loop-taken.invariant.sections;
       told = ended_full c.args.most _ c.loop-taken.unread c.goes_on.new.unread _ _ c.loop-taken.invariant.sections full
           c.loop-taken.invariant.cut c.goes_on.ensures.rest (c.in_ok-goes_on.ensures.ended (ap Ok c.if-branch.false))
           (λ rest e n. true≢false (sym ((c.in_ok-goes_on.ensures.more rest e).1 n) ∙ c.if-branch.false));

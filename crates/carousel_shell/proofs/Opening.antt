@@ -1,0 +1,96 @@
+-- What `open-id` promises, and the packet at which a carousel is found.
+use Rattle.std.proofs.Common.{◌≡◌, ℕ, zero, suc, ◌+◌, ◌*◌, ◌<◌, ◌≤◌, ◌⊎◌, inl, inr, List, [], ◌∷◌, ◌++◌, length, take, drop, Option, Some, None, refl, sym, ap, ◌∙◌, arith, subst, length-append, length-drop}
+use Rattle.std.proofs.lemmas.Bool.{cases_lt}
+use Rattle.std.proofs.lemmas.List.{take_all, take-append-le}
+use Rattle.path_tree.specs.Paths.{PathNames}
+use Rattle.path_resolver.specs.declared.answer.Answer.TheVariants as answers
+use Rattle.section_stream.specs.Cuts.{candidates}
+use Rattle.tuner_core.specs.LookBack.{answer_after}
+use Rattle.psi_tables.specs.declared.finder.Find.{Find}
+use Rattle.psi_tables.specs.declared.finder.Find.TheVariants.{NoPat, NotNamed, At}
+use Rattle.psi_tables.specs.Finding.{found_in}
+use Rattle.shell_streams.specs.Cuts.{Bytes}
+use Rattle.shell_streams.specs.Packets.{packets_of, candidates_of}
+use Rattle.shell_streams.specs.declared.carrier.Carrier.TheVariants as carriers
+use Rattle.shell_streams.proofs.Packeting.{packets_behind}
+use Rattle.carousel_shell.specs.Over.{Over}
+use Rattle.carousel_shell.specs.Replies.{Replies}
+use Rattle.carousel_shell.specs.Open.{asks_paths, answered}
+use Rattle.carousel_shell.specs.OpenId.{behind, or_then, found_within, first_found, sections_behind, sections_among, sections_by_id, IsNowhere, IsFirst, IsNeverFound, OpensBehind, OpensId}
+use Rattle.carousel_shell.specs.Reception.{Receptions}
+use Rattle.carousel_shell.specs.declared.status.Status.{Status}
+
+-- ---- the packet at which it is found
+
+nowhere_behind : (n : ℕ) (f : Find) → IsNowhere f → behind n f ≡ None
+nowhere_behind n NoPat h = refl
+nowhere_behind n NotNamed h = refl
+nowhere_behind n (At pid) h = absurd h
+
+pub or_none : (o later : Option (ℕ × ℕ)) → o ≡ None → or_then o later ≡ later
+or_none o later e = ap (λ x. or_then x later) e
+
+none_within : (carousel : ℕ) (packets : List Bytes) (n : ℕ) → ((m : ℕ) → m ≤ n → IsNowhere (found_in carousel (take m packets))) → found_within carousel packets n ≡ None
+none_within carousel packets zero h = refl
+none_within carousel packets (suc n) h =
+    or_none _ _ (none_within carousel packets n (λ m le. h m (omega arith))) ∙ nowhere_behind (suc n) (found_in carousel (take (suc n) packets)) (h (suc n) (omega arith))
+
+-- it is found behind one packet at least
+not_at_once : (carousel pid : ℕ) (packets : List Bytes) → found_in carousel (take 0 packets) ≡ At pid → ⊥
+not_at_once carousel pid packets e = cc
+
+first_within : (carousel : ℕ) (packets : List Bytes) (n pid k : ℕ) → IsFirst carousel packets n pid → n ≤ k → found_within carousel packets k ≡ Some (n, pid)
+first_within carousel packets zero pid k h le = absurd (not_at_once carousel pid packets h.found)
+first_within carousel packets (suc n) pid zero h le = absurd (omega arith)
+first_within carousel packets (suc n) pid (suc k) h le = by (cases_lt n k) (first_within carousel packets (suc n) pid k h)
+  where
+    by : (n < k) ⊎ (k ≤ n) → (suc n ≤ k → found_within carousel packets k ≡ Some (suc n, pid)) → found_within carousel packets (suc k) ≡ Some (suc n, pid)
+    by (inl more) fewer = ap (λ o. or_then o (behind (suc k) (found_in carousel (take (suc k) packets)))) (fewer (omega (arith, more)))
+    by (inr here) fewer =
+        let e : k ≡ n = omega arith in
+        let none = none_within carousel packets n (λ m small. h.before m (omega arith)) in
+        ap (λ i. found_within carousel packets (suc i)) e ∙ or_none _ _ none ∙ ap (behind (suc n)) h.found
+
+-- ---- one packet more
+
+same_front : (packets : List Bytes) (p : Bytes) (n : ℕ) → n ≤ length packets → take n (packets ++ p ∷ []) ≡ take n packets
+same_front packets p n h = take-append-le n packets (p ∷ []) h
+
+within_more : (carousel : ℕ) (packets : List Bytes) (p : Bytes) (n : ℕ) → n ≤ length packets → found_within carousel (packets ++ p ∷ []) n ≡ found_within carousel packets n
+within_more carousel packets p zero h = refl
+within_more carousel packets p (suc n) h =
+    ap (λ o. or_then o (behind (suc n) (found_in carousel (take (suc n) (packets ++ p ∷ []))))) (within_more carousel packets p n (omega arith))
+    ∙ ap (λ ps. or_then (found_within carousel packets n) (behind (suc n) (found_in carousel ps))) (same_front packets p (suc n) h)
+
+pub first_more : (carousel : ℕ) (packets : List Bytes) (p : Bytes) → first_found carousel (packets ++ p ∷ [])
+    ≡ or_then (first_found carousel packets) (behind (suc (length packets)) (found_in carousel (packets ++ p ∷ [])))
+first_more carousel packets p =
+    let all = packets ++ p ∷ [] in
+    let e : length all ≡ suc (length packets) = omega (arith, length-append packets (p ∷ [])) in
+    ap (found_within carousel all) e
+    ∙ ap (λ o. or_then o (behind (suc (length packets)) (found_in carousel (take (suc (length packets)) all)))) (within_more carousel packets p (length packets) (omega arith))
+    ∙ ap (λ ps. or_then (first_found carousel packets) (behind (suc (length packets)) (found_in carousel ps))) (take_all (suc (length packets)) all (omega (arith, e)))
+
+-- ---- what is promised
+
+opens_behind : Receptions → (carousel : ℕ) (input : Bytes) (n pid : ℕ) → IsFirst carousel (packets_of input) n pid → OpensBehind carousel input n pid
+opens_behind law carousel input n pid first = record {
+  sections = ap (sections_behind (packets_of input)) (first_within carousel (packets_of input) n pid (length (packets_of input)) first first.within)
+      ∙ ap (candidates pid) (sym (packets_behind n input first.within));
+  reception = law.each (carriers.Packets pid) (drop (188 * n) input);
+}
+
+no_carousel : (sections : List Bytes) (p : PathNames) → sections ≡ [] → answer_after sections p ≡ answers.NoCarousel
+no_carousel sections p e = ap (λ ss. answer_after ss p) e
+
+opens_nowhere : (carousel : ℕ) (input : Bytes) (p : PathNames) → IsNeverFound carousel (packets_of input) → answer_after (sections_among carousel (packets_of input)) p ≡ answers.NoCarousel
+opens_nowhere carousel input p never =
+    no_carousel (sections_among carousel (packets_of input)) p (ap (sections_behind (packets_of input)) (none_within carousel (packets_of input) (length (packets_of input)) never))
+
+pub opens_by : (carousel : ℕ) (paths : List PathNames) (s : Status) (source sink : Over Bytes) → Receptions → Replies (sections_by_id carousel) (answered (asks_paths paths)) s source sink
+    → OpensId carousel paths s source sink
+opens_by carousel paths s source sink law replies = record {
+  replies = replies;
+  behind = λ input n pid _ first. opens_behind law carousel input n pid first;
+  nowhere = λ input p _ never. opens_nowhere carousel input p never;
+}
