@@ -1,11 +1,11 @@
 -- From what all actors did to the session.
-use Rattle.std.specs.Prelude.{◌≡◌, ℕ, true, List, [], ◌∷◌, ◌++◌, map}
-use Rattle.path_tree.specs.declared.tree.Edit.{Edit}
+use Rattle.std.specs.Prelude.{◌≡◌, ℕ, true, List, [], ◌∷◌, map}
+use Rattle.ts_packet.specs.declared.Fate.{Fate}
 use Rattle.path_resolver.specs.declared.shot.Shot.{Shot}
 use Rattle.open_history.specs.Opens.{ReaderView, AllAnswered}
 use Rattle.open_history.specs.declared.entry.OpenEntry.{OpenEntry}
 use Rattle.generation_catalogue.specs.History.{CatalogueState, drawn}
-use Rattle.carousel_world.specs.World.{Drawing, drawing_of}
+use Rattle.carousel_world.specs.World.{Drawing}
 use Rattle.session_history.specs.declared.opens.Open.{Open}
 use Rattle.session_history.specs.Merging.{merge_of}
 use Rattle.session_history.specs.Merges.{ReaderFields, merging}
@@ -34,12 +34,9 @@ AllRead script shots (r ∷ rs) [] = ⊥
 AllRead script shots (r ∷ rs) (v ∷ vs) =
     (v.reader ≡ r) × HasOpened (asked_of r script) v × (v.known ≡ shots) × AllAnswered v.known v.opens × AllRead script shots rs vs
 
--- the last two draws are those of `settle`
-pub record IsSettled (c : CatalogueState) (drawings : List Drawing) : Type 0 where
-  pub before : CatalogueState
-  pub earlier : List Drawing
-  pub drew : c ≡ drawn (drawn before 1048576) 1048576
-  pub drawings_are : drawings ≡ earlier ++ drawing_of before 1048576 [] ∷ drawing_of (drawn before 1048576) 1048576 [] ∷ []
+-- the last two entries are the draws of `settle`
+abbrev pub IsSettled : CatalogueState → Type 0
+IsSettled c = (before : CatalogueState) × (c ≡ drawn (drawn before 1048576) 1048576)
 
 -- the script was played: this is the catalogue at the end, and what was drawn, shown and opened
 pub record IsPlayed (script : Fields) (c : CatalogueState) (drawings : List Drawing) (shots : List Shot) (readers : List ReaderView) : Type 0 where
@@ -47,9 +44,9 @@ pub record IsPlayed (script : Fields) (c : CatalogueState) (drawings : List Draw
   pub gathered : IsGathered (map (λ (editor : ℕ). commits_by editor (events_of script)) script.editors) (draws_in (events_of script)) c drawings
   pub shown : AreShots drawings shots
   pub read : AllRead script shots script.readers readers
-  pub settled : settles script ≡ true → IsSettled c drawings
+  pub settled : settles script ≡ true → IsSettled c
 
-abbrev pub fates_of : Fields → List (List _)
+abbrev pub fates_of : Fields → List (List Fate)
 fates_of script = map (λ (d : DrawFields). d.fates) (draws_in (events_of script))
 
 -- the parts of what was played fit together, and their merge is a session of the script

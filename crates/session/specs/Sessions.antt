@@ -6,14 +6,15 @@ use Rattle.generation_catalogue.specs.History.{put_bytes, trees_of}
 use Rattle.carousel_world.specs.Events.{Step, Commit, Draw, Open}
 use Rattle.carousel_world.specs.World.{InRange, candidates_in}
 use Rattle.carousel_world.specs.Premises.{IsWhole}
-use Rattle.carousel_world.specs.Promises.{MeetsHeadline, IsUndamaged, world_after, broadcast_of}
+use Rattle.carousel_world.specs.Promises.{MeetsHeadline, world_after, broadcast_of}
 use Rattle.carousel_world.specs.declared.event.Reply.{Reply}
 use Rattle.carousel_world.specs.declared.event.Reply.TheVariants as replies
 use Rattle.session_history.specs.Laws.{placed}
+use Rattle.session_history.specs.Merging.{Each}
 use Rattle.session_history.specs.Merged.{is_draw_step, is_commit_of, is_open_by}
 use Rattle.session_history.specs.Merges.{IsRunOfWorld}
 use Rattle.session_script.specs.Scripts.{Fields}
-use Rattle.rehearsal.specs.Lines.{events_of}
+use Rattle.rehearsal.specs.Lines.{events_of, settling}
 use Rattle.session_actors.specs.Opened.{Asked}
 use Rattle.session.specs.Lines.{commits_by, draws_in, asked_of, settles}
 
@@ -67,16 +68,25 @@ AreTold reader (a ∷ asked) (x ∷ xs) = (x.1.0 ≡ Open reader a.path) × (a.l
 
 -- ---- the whole
 
--- The last generation was heard whole, if damaged sections failed their CRC and blocks are near
+abbrev pub IsOpening : Step → Type 0
+IsOpening (Commit editor edits) = ⊥
+IsOpening (Draw asked fates) = ⊥
+IsOpening (Open reader path) = Unit {0}
+
+-- the last events but opens are the two draws of `settle`
+abbrev pub EndsSettled : List Step → Type 0
+EndsSettled events = (before : List Step) × (between : List Step) × (after : List Step) × (events ≡ before ++ settling ∷ between ++ settling ∷ after)
+    × Each IsOpening between × Each IsOpening after
+
+-- the last generation was heard whole
 abbrev pub EndsWhole : List Step → Type 0
 EndsWhole events =
-    IsUndamaged (world_after 1 events)
-    → IsWhole 1 (broadcast_of (world_after 1 events)).layouts (length (trees_of (world_after 1 events).catalogue)) (candidates_in (world_after 1 events))
+    IsWhole 1 (broadcast_of (world_after 1 events)).layouts (length (trees_of (world_after 1 events).catalogue)) (candidates_in (world_after 1 events))
 
 -- The events are those of the script: each editor's commits in written order, but for those that found no room; the draws in written
 -- order; each reader's opens in written order, an open above `start` after the draws above it, one below `start` after those above
--- `start`, and a finale after all. Together they are one run of a world of carousel 1, which keeps what is promised of every run; and
--- after `settle` the last generation was heard whole.
+-- `start`, and a finale after all. The draws of `settle` are the last events but opens. Together they are one run of a world of
+-- carousel 1, which keeps what is promised of every run; and after `settle` the last generation was heard whole.
 pub record IsSession (script : Fields) (told : List (Step × Reply)) : Type 0 where
   pub run : IsRunOfWorld 1 told
   pub steps : All InRange (map (λ (x : Step × Reply). x.0) told)
@@ -85,4 +95,5 @@ pub record IsSession (script : Fields) (told : List (Step × Reply)) : Type 0 wh
   pub draws : draws_in (map (λ (x : Step × Reply). x.0) told) ≡ draws_in (events_of script)
   pub opens : (reader : ℕ) → 1 ≤ reader → reader ≤ 64
       → AreTold reader (asked_of reader script) (placed (λ (x : Step × Reply). is_open_by reader x.0) (λ (x : Step × Reply). is_draw_step x.0) 0 told)
+  pub settled : settles script ≡ true → EndsSettled (map (λ (x : Step × Reply). x.0) told)
   pub whole : settles script ≡ true → EndsWhole (map (λ (x : Step × Reply). x.0) told)
