@@ -1,1 +1,5 @@
 pub mod Lists
+pub mod Entering
+pub mod Rooms
+pub mod Editing
+pub mod Feeding
