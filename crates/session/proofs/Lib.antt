@@ -3,3 +3,4 @@ pub mod Entering
 pub mod Rooms
 pub mod Editing
 pub mod Feeding
+pub mod Gathered

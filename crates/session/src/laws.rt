@@ -6,17 +6,20 @@ ghost use Rattle.session.specs.Played.{PlayedIsASession};
 /// that found no room, and the feeder's draws in its order; nobody else entered anything.
 pub fn actors_gather()
     ensures { ActorsGather }
-{}
+{
+    generation_catalogue::histories_grow();
+}
 
 /// A draw after all actors are done goes on with that history.
 pub fn gathers_grow()
     ensures { GatherGrows }
-{}
+{
+    generation_catalogue::histories_grow();
+}
 
 /// The history that is merged of what was played is a session of the script.
 pub fn played_is_a_session()
     ensures { PlayedIsASession }
 {
     session_history::merges_are_runs();
-    session_history::opens_have_places();
 }
