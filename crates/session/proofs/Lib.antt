@@ -4,3 +4,11 @@ pub mod Rooms
 pub mod Editing
 pub mod Feeding
 pub mod Gathered
+pub mod Grown
+pub mod Telling
+pub mod Committed
+pub mod Scripted
+pub mod Reading
+pub mod Ending
+pub mod Session
+pub mod Examples
