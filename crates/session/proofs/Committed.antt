@@ -79,7 +79,7 @@ get_any (x ∷ xs) zero d e less = refl
 get_any (x ∷ xs) (suc p) d e less = get_any xs p d e (omega (arith, less))
 
 pub not_among : (xs : List ℕ) (x y : ℕ) → HasNone xs x → Contains xs y → y ≢ x
-not_among xs x y no c e = no c.0 c.1 (get_any xs c.0 0 y c.1 ∙ c.2 ∙ e)
+not_among xs x y lacks c e = lacks c.0 c.1 (get_any xs c.0 0 y c.1 ∙ c.2 ∙ e)
 
 pub place_mapped : {A : Type 0} (f : ℕ → A) (xs : List ℕ) (p : ℕ) → p < length xs → slice_get (map f xs) p ≡ Some (f (get_or xs p 0))
 place_mapped f [] p less = absurd (omega (arith, less))

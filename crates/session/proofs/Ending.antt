@@ -176,7 +176,7 @@ opened_steps : (told : List Told) → Each IsOpenTold told → Each IsOpening (m
 opened_steps [] h = tt
 opened_steps (x ∷ told) h = (subst (λ (y : Told). IsOpening y.0) (sym (h.0).2) tt, opened_steps told h.1)
 
-abbrev steps : List Told → List Step
+abbrev pub steps : List Told → List Step
 steps told = map (λ (x : Told). x.0) told
 
 pub ends_settled : (editors : List ℕ) (c : CatalogueState) (told : List Told) (ds : List DrawFields) → Tells editors c.entries told → IsSettled c

@@ -1,5 +1,6 @@
 -- What the readers opened, by the drawings that their shots had heard.
-use Rattle.std.proofs.Common.{◌≡◌, ◌≢◌, ℕ, zero, suc, ◌+◌, ◌<◌, ◌≤◌, ◌==◌, Bool, true, false, cond, List, [], ◌∷◌, ◌++◌, length, map, filter, get_or, Some, slice_get, All, count_by, nat_eq, ◌⊎◌, inl, inr, sym, ap, ◌∙◌, refl, subst, arith, append-nil, eqb-false, eq-eqb, ne_eqb}
+use Rattle.std.proofs.Common.{◌≡◌, ◌≢◌, ℕ, zero, suc, ◌+◌, ◌<◌, ◌≤◌, ◌==◌, Bool, true, false, cond, List, [], ◌∷◌, ◌++◌, length, map, filter, get_or, Some, slice_get, All, count_by, nat_eq, ◌⊎◌, inl, inr, sym, ap, ◌∙◌, refl, subst, arith, append-nil, eq-eqb, ne_eqb}
+use Rattle.std.proofs.lemmas.Bool.{eqb-false}
 use Rattle.std.specs.Prelude.{if◌then◌else◌}
 use Rattle.std.specs.List.{AllByRecursion, IsDistinct}
 use Rattle.std.proofs.lemmas.List.Elements.{All-get_or}
@@ -163,10 +164,10 @@ module _ (script : Fields) (shots : List Shot) where
 
   -- a number that is no reader's has no opens
   pub none_opened : (editors rs : List ℕ) (vs : List ReaderView) (reader : ℕ) → AllRead script shots rs vs → HasNone rs reader → opens_by (merging editors) reader (map opens_of vs) ≡ []
-  none_opened editors [] [] reader h no = refl
-  none_opened editors [] (v ∷ vs) reader h no = absurd h
-  none_opened editors (r ∷ rs) [] reader h no = absurd h
-  none_opened editors (r ∷ rs) (v ∷ vs) reader h no =
-      let other : (v.reader == reader) ≡ false = ne_eqb v.reader reader (λ e. no 0 (omega arith) (sym h.0 ∙ e)) in
+  none_opened editors [] [] reader h lacks = refl
+  none_opened editors [] (v ∷ vs) reader h lacks = absurd h
+  none_opened editors (r ∷ rs) [] reader h lacks = absurd h
+  none_opened editors (r ∷ rs) (v ∷ vs) reader h lacks =
+      let other : (v.reader == reader) ≡ false = ne_eqb v.reader reader (λ e. lacks 0 (omega arith) (sym h.0 ∙ e)) in
       ap (λ (b : Bool). cond b (map open_of v.opens) [] ++ opens_by (merging editors) reader (map opens_of vs)) other
-      ∙ none_opened editors rs vs reader h.4 (λ p less. no (suc p) (omega (arith, less)))
+      ∙ none_opened editors rs vs reader h.4 (λ p less. lacks (suc p) (omega (arith, less)))

@@ -13,7 +13,7 @@ use Rattle.carousel_world.specs.Events.{Step, Commit, Draw, Open}
 use Rattle.rehearsal.specs.Lines.{Pending, none_pending, pending_after, events_of_line, events_from, events_of, settling}
 use Rattle.session_actors.specs.Chains.{DrawFields}
 use Rattle.session_actors.specs.Opened.{Asked}
-use Rattle.session.specs.Lines.{staged_from, staged_events, commits_by, draws_in, asked_from, asked_of, all_draws, draws_before_start, is_settle, settles, IsMentioned, IsLineOf, IsFinale, AreEnds, IsArranged}
+use Rattle.session.specs.Lines.{staged_from, staged_events, commits_by, draws_in, asked_from, asked_of, least_for, all_draws, draws_before_start, is_settle, settles, IsMentioned, IsLineOf, IsFinale, AreEnds, IsArranged}
 use Rattle.session.proofs.Committed.{HasNone, not_among}
 
 -- ---- who isn't mentioned
@@ -27,23 +27,26 @@ commits_append editor (Open reader path ∷ xs) ys = commits_append editor xs ys
 
 module _ (editors readers : List ℕ) where
   no_commit : (editor : ℕ) → HasNone editors editor → (p : Pending) (act : Act) → IsMentioned editors readers act → commits_by editor (events_of_line p act) ≡ []
-  no_commit editor no p (acts.Put e path content) m = refl
-  no_commit editor no p (acts.Fill e path size from) m = refl
-  no_commit editor no p (acts.Remove e path) m = refl
-  no_commit editor no p (acts.Commit e) m = ap (λ (b : Bool). (if b then p e ∷ [] else []) ++ []) (ne_eqb e editor (not_among editors editor e no m))
-  no_commit editor no p (acts.Draw asked fates) m = refl
-  no_commit editor no p (acts.Open reader path) m = refl
-  no_commit editor no p acts.Settle m = refl
+  no_commit editor lacks p (acts.Put e path content) m = refl
+  no_commit editor lacks p (acts.Fill e path size from) m = refl
+  no_commit editor lacks p (acts.Remove e path) m = refl
+  no_commit editor lacks p (acts.Commit e) m = ap (λ (b : Bool). (if b then p e ∷ [] else []) ++ []) (ne_eqb e editor (not_among editors editor e lacks m))
+  no_commit editor lacks p (acts.Draw asked fates) m = refl
+  no_commit editor lacks p (acts.Open reader path) m = refl
+  no_commit editor lacks p acts.Settle m = refl
 
   no_commits : (editor : ℕ) → HasNone editors editor → (p : Pending) (lines : List LineFields) → All (λ (l : LineFields). IsMentioned editors readers l.act) lines
       → commits_by editor (events_from p lines) ≡ []
-  no_commits editor no p [] m = refl
-  no_commits editor no p (l ∷ lines) m =
+  no_commits editor lacks p [] m = refl
+  no_commits editor lacks p (l ∷ lines) m =
       commits_append editor (events_of_line p l.act) (events_from (pending_after p l.act) lines)
-      ∙ (λ i. no_commit editor no p l.act (All-head (λ (l : LineFields). IsMentioned editors readers l.act) l lines m) i
-      ++ no_commits editor no (pending_after p l.act) lines (All-tail (λ (l : LineFields). IsMentioned editors readers l.act) l lines m) i)
+      ∙ (λ i. no_commit editor lacks p l.act (All-head (λ (l : LineFields). IsMentioned editors readers l.act) l lines m) i
+      ++ no_commits editor lacks (pending_after p l.act) lines (All-tail (λ (l : LineFields). IsMentioned editors readers l.act) l lines m) i)
 
-  module _ (reader : ℕ) (no : HasNone readers reader) (before all : ℕ) where
+  module _ (reader : ℕ) (lacks : HasNone readers reader) (before all : ℕ) where
+    abbrev asked_one : PathNames → ℕ → Stage → Asked
+    asked_one path above stage = record { path = path; least = least_for above before all stage }
+
     none_asked : (above : ℕ) (p : Pending) (stage : Stage) (act : Act) → IsMentioned editors readers act → (rest : List (Stage × Step))
         → ((k : ℕ) → asked_from reader before all k rest ≡ [])
         → asked_from reader before all above (map (λ e. (stage, e)) (events_of_line p act) ++ rest) ≡ []
@@ -53,11 +56,8 @@ module _ (editors readers : List ℕ) where
     none_asked above p stage (acts.Commit e) m rest h = h above
     none_asked above p stage (acts.Draw asked fates) m rest h = h (suc above)
     none_asked above p stage (acts.Open r path) m rest h =
-        let other : (r == reader) ≡ false = ne_eqb r reader (not_among readers reader r no m) in
+        let other : (r == reader) ≡ false = ne_eqb r reader (not_among readers reader r lacks m) in
         ap (λ (b : Bool). cond b (asked_one path above stage ∷ []) [] ++ asked_from reader before all above rest) other ∙ h above
-      where
-        abbrev asked_one : PathNames → ℕ → Stage → Asked
-        asked_one path above stage = record { path = path; least = Rattle.session.specs.Lines.least_for above before all stage }
     none_asked above p stage acts.Settle m rest h = h (suc (suc above))
 
     none_asked_from : (above : ℕ) (p : Pending) (lines : List LineFields) → All (λ (l : LineFields). IsMentioned editors readers l.act) lines
@@ -68,10 +68,10 @@ module _ (editors readers : List ℕ) where
         (λ k. none_asked_from k (pending_after p l.act) lines (All-tail (λ (l : LineFields). IsMentioned editors readers l.act) l lines m))
 
 pub none_of_editor : (script : Fields) → IsArranged script → (editor : ℕ) → HasNone script.editors editor → commits_by editor (events_of script) ≡ []
-none_of_editor script a editor no = no_commits script.editors script.readers editor no none_pending script.lines a.mentioned
+none_of_editor script a editor lacks = no_commits script.editors script.readers editor lacks none_pending script.lines a.mentioned
 
 pub none_of_reader : (script : Fields) → IsArranged script → (reader : ℕ) → HasNone script.readers reader → asked_of reader script ≡ []
-none_of_reader script a reader no = none_asked_from script.editors script.readers reader no (draws_before_start script) (all_draws script) 0 none_pending script.lines a.mentioned
+none_of_reader script a reader lacks = none_asked_from script.editors script.readers reader lacks (draws_before_start script) (all_draws script) 0 none_pending script.lines a.mentioned
 
 -- ---- the draws of `settle`
 

@@ -113,8 +113,8 @@ module _ (script : Fields) (c : CatalogueState) (drawings : List Drawing) (shots
           subst (λ (n : ℕ). AreCommitted n [] (commits_by n (events_of script)) merge) h.2
           (committed script.editors ready.numbers h.0 h.1 (commits_by (get_or script.editors h.0 0) (events_of script)) [] c.entries [] merge refl tells
           ((p.gathered).commits h.0 (commits_by (get_or script.editors h.0 0) (events_of script)) (place_mapped (λ (e : ℕ). commits_by e (events_of script)) script.editors h.0 h.1)))
-      by (inr no) =
-          subst (λ (ls : List (List Edit)). AreCommitted editor [] ls merge) (sym (none_of_editor script a editor no)) (none_of_other script.editors editor no c.entries merge tells)
+      by (inr lacks) =
+          subst (λ (ls : List (List Edit)). AreCommitted editor [] ls merge) (sym (none_of_editor script a editor lacks)) (none_of_other script.editors editor lacks c.entries merge tells)
 
   module _ (m : IsMerged c script.editors (fates_of script) opened merge) where
     draws : draws_in (steps merge) ≡ lines
@@ -135,10 +135,10 @@ module _ (script : Fields) (c : CatalogueState) (drawings : List Drawing) (shots
             subst (λ (n : ℕ). AreTold n (asked_of n script) (map (λ (o : OpenFields). (o.draws, opened_of n o)) (map open_of v.opens))) h.2 r.3 in
             subst (AreTold reader (asked_of reader script))
             (ap (map (λ (o : OpenFields). (o.draws, opened_of reader o))) (sym its) ∙ sym (m.opens reader some most)) told
-        by (inr no) =
+        by (inr lacks) =
             let none : placed (λ (x : Told). is_open_by reader x.0) (λ (x : Told). is_draw_step x.0) 0 merge ≡ [] =
-            m.opens reader some most ∙ ap (map (λ (o : OpenFields). (o.draws, opened_of reader o))) (none_opened script shots script.editors script.readers readers reader p.read no) in
-            subst (λ asked. AreTold reader asked (placed (λ (x : Told). is_open_by reader x.0) (λ (x : Told). is_draw_step x.0) 0 merge)) (sym (none_of_reader script a reader no))
+            m.opens reader some most ∙ ap (map (λ (o : OpenFields). (o.draws, opened_of reader o))) (none_opened script shots script.editors script.readers readers reader p.read lacks) in
+            subst (λ asked. AreTold reader asked (placed (λ (x : Told). is_open_by reader x.0) (λ (x : Told). is_draw_step x.0) 0 merge)) (sym (none_of_reader script a reader lacks))
             (subst (AreTold reader []) (sym none) tt)
 
     settled : settles script ≡ true → EndsSettled (steps merge)

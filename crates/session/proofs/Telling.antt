@@ -175,11 +175,11 @@ module _ (editors : List ℕ) (n : AreNumbers editors) (place : ℕ) (within : p
 -- a number that is no editor's is in no event
 pub none_of_other : (editors : List ℕ) (number : ℕ) → ((p : ℕ) → p < length editors → get_or editors p 0 ≢ number) → (es : List Entry) (told : List Told) → Tells editors es told
     → filter (λ x. is_commit_of number x.0) told ≡ []
-none_of_other editors number no es [] h = refl
-none_of_other editors number no es (x ∷ told) (inl h) = filter_skips (λ x. is_commit_of number x.0) x told (ap (λ (y : Told). is_commit_of number y.0) (h.0).2) ∙ none_of_other editors number no es told h.1
-none_of_other editors number no es (x ∷ told) (inr h) =
-    filter_skips (λ x. is_commit_of number x.0) x told (ap (λ (y : Told). is_commit_of number y.0) (h.3).1 ∙ other h.0 (h.3).0 (h.3).2) ∙ none_of_other editors number no h.1 told h.4
+none_of_other editors number lacks es [] h = refl
+none_of_other editors number lacks es (x ∷ told) (inl h) = filter_skips (λ x. is_commit_of number x.0) x told (ap (λ (y : Told). is_commit_of number y.0) (h.0).2) ∙ none_of_other editors number lacks es told h.1
+none_of_other editors number lacks es (x ∷ told) (inr h) =
+    filter_skips (λ x. is_commit_of number x.0) x told (ap (λ (y : Told). is_commit_of number y.0) (h.3).1 ∙ other h.0 (h.3).0 (h.3).2) ∙ none_of_other editors number lacks h.1 told h.4
   where
     other : (e : Entry) (fates : List Fate) → IsPlaced (length editors) e → is_commit_of number (event_of editors e fates).0 ≡ false
-    other (entries.Commit editor edits outcome) fates placed = ne_eqb (get_or editors editor 0) number (no editor placed)
+    other (entries.Commit editor edits outcome) fates placed = ne_eqb (get_or editors editor 0) number (lacks editor placed)
     other (entries.Draw asked generation first count) fates placed = refl

@@ -22,4 +22,5 @@ pub fn played_is_a_session()
     ensures { PlayedIsASession }
 {
     session_history::merges_are_runs();
+    generation_catalogue::histories_grow();
 }
