@@ -46,8 +46,14 @@ committed editors n place within (edits ∷ lines) up es before told b h (inl r)
     let one : Tells editors (e ∷ []) (x ∷ []) = inr (e, [], refl, subst (λ y. IsToldBy editors e y) is cut.5, refl) in
     let longer : Tells editors (up ++ between ++ e ∷ []) (before ++ cut.0 ++ x ∷ []) =
     tells_append editors (up ++ between) (e ∷ []) (before ++ cut.0) (x ∷ []) (tells_append editors up between before cut.0 b cut.4) one in
-    inl (cut.0, commit_reply outcome, cut.2, cut.3 ∙ ap (λ y. cut.0 ++ y ∷ cut.2) is, none_told editors n place within between cut.0 cut.4 r.4,
-    committed editors n place within lines (up ++ between ++ e ∷ []) later (before ++ cut.0 ++ x ∷ []) cut.2 longer cut.6 r.5)
+    inl (
+      cut.0,
+      commit_reply outcome,
+      cut.2,
+      cut.3 ∙ ap (λ y. cut.0 ++ y ∷ cut.2) is,
+      none_told editors n place within between cut.0 cut.4 r.4,
+      committed editors n place within lines (up ++ between ++ e ∷ []) later (before ++ cut.0 ++ x ∷ []) cut.2 longer cut.6 r.5,
+    )
 committed editors n place within (edits ∷ lines) up es before told b h (inr r) =
     let next = tells_to_next editors n place within es told h in
     let part = tells_append editors up (entries_to_next place es) before (up_to_next (get_or editors place 0) told) b next in

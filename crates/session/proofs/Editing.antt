@@ -55,9 +55,9 @@ module _ (grow : HistoriesGrow) (id place : ℕ) (itself : (place == place) ≡ 
       → Begins t.entries history → Begins before s.entries → history ≡ before ++ es
       → AreToCome (is_commit_at place) history (length before) s t
       → ((between later : List Entry) → c.entries ≡ before ++ between → history ≡ (before ++ between ++ entries.Commit place edits outcome ∷ []) ++ later
-          → Begins (before ++ between ++ entries.Commit place edits outcome ∷ []) (c.entries ++ entries.Commit place edits outcome ∷ [])
-          → AreToCome (is_commit_at place) history (length (before ++ between ++ entries.Commit place edits outcome ∷ [])) (seen_with s c.entries (entries.Commit place edits outcome)) t
-          → AreEntered place (before ++ between ++ entries.Commit place edits outcome ∷ []) lines later)
+      → Begins (before ++ between ++ entries.Commit place edits outcome ∷ []) (c.entries ++ entries.Commit place edits outcome ∷ [])
+      → AreToCome (is_commit_at place) history (length (before ++ between ++ entries.Commit place edits outcome ∷ [])) (seen_with s c.entries (entries.Commit place edits outcome)) t
+      → AreEntered place (before ++ between ++ entries.Commit place edits outcome ∷ []) lines later)
       → AreEntered place before (edits ∷ lines) es
   entered_next edits lines s t before es c on outcome chain ends begins is come rest =
       let e : Entry = entries.Commit place edits outcome in
@@ -73,18 +73,23 @@ module _ (grow : HistoriesGrow) (id place : ℕ) (itself : (place == place) ≡ 
       let size = ap length longer in
       let long = length-append c.entries (e ∷ []) in
       let same_size = ap length b.1 in
-      inl (between, outcome, later, goes_on history before es between (e ∷ later) is cut,
-      none_between (is_commit_at place) history s t before between (e ∷ later) cut come
-      (λ k below.
-      let kept = enters_keeps next came.0 t came.1 k (omega (arith, below, long, same_size)) in
-      let parts = times_append k s.own (length c.entries ∷ []) in
-      let other = times_other k (length c.entries) (λ q. omega (arith, q, below, same_size)) in
-      omega (arith, kept, parts, other)),
-      rest between later b.1 all ([], longer ∙ sym (append_nil (before ++ between ++ e ∷ [])))
-      (λ k x far here passes.
-      let more = come k x (omega (arith, far, size, long, same_size, length-append before between)) here passes in
-      let still = still_own s c.entries k (omega (arith, far, size, long)) in
-      omega (arith, more, still)))
+      inl (
+        between,
+        outcome,
+        later,
+        goes_on history before es between (e ∷ later) is cut,
+        none_between (is_commit_at place) history s t before between (e ∷ later) cut come
+            (λ k below.
+            let kept = enters_keeps next came.0 t came.1 k (omega (arith, below, long, same_size)) in
+            let parts = times_append k s.own (length c.entries ∷ []) in
+            let other = times_other k (length c.entries) (λ q. omega (arith, q, below, same_size)) in
+            omega (arith, kept, parts, other)),
+        rest between later b.1 all ([], longer ∙ sym (append_nil (before ++ between ++ e ∷ [])))
+            (λ k x far here passes.
+            let more = come k x (omega (arith, far, size, long, same_size, length-append before between)) here passes in
+            let still = still_own s c.entries k (omega (arith, far, size, long)) in
+            omega (arith, more, still)),
+      )
     where
       append_nil : (xs : List Entry) → xs ++ [] ≡ xs
       append_nil [] = refl
@@ -129,12 +134,12 @@ module _ (grow : HistoriesGrow) (id place : ℕ) (itself : (place == place) ≡ 
     where
       by : Commits1 id place s edits lines t chain.0
           → ((c between later : List Entry) (entry : Entry) → Commits id place (seen_with s c entry) lines t → Begins t.entries history
-              → Begins (before ++ between ++ entry ∷ []) (c ++ entry ∷ []) → history ≡ (before ++ between ++ entry ∷ []) ++ later
-              → AreToCome (is_commit_at place) history (length (before ++ between ++ entry ∷ [])) (seen_with s c entry) t
-              → AreEntered place (before ++ between ++ entry ∷ []) lines later)
+          → Begins (before ++ between ++ entry ∷ []) (c ++ entry ∷ []) → history ≡ (before ++ between ++ entry ∷ []) ++ later
+          → AreToCome (is_commit_at place) history (length (before ++ between ++ entry ∷ [])) (seen_with s c entry) t
+          → AreEntered place (before ++ between ++ entry ∷ []) lines later)
           → ((c : List Entry) → Commits id place (seen_of s c) lines t → Begins t.entries history → Begins before c → history ≡ before ++ es
-              → AreToCome (is_commit_at place) history (length before) s t
-              → AreEntered place before lines es)
+          → AreToCome (is_commit_at place) history (length before) s t
+          → AreEntered place before lines es)
           → AreEntered place before (edits ∷ lines) es
       by (inl e) entered missing =
           let c : CatalogueState = chain.0 in

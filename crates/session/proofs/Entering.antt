@@ -81,13 +81,17 @@ after_commit s c place edits = by (is_entered (outcome_of c edits)) refl
     by : (b : Bool) → is_entered (outcome_of c edits) ≡ b
         → ((is_entered (outcome_of c edits) ≡ true) × (seen_after s c (committed c place edits) ≡ seen_with s c.entries (entries.Commit place edits (outcome_of c edits))))
         ⊎ ((is_entered (outcome_of c edits) ≡ false) × (seen_after s c (committed c place edits) ≡ seen_of s c.entries))
-    by true is = inl (is,
-        ap (λ (b : Bool). seen_after s c (cond b (with_entry c (entries.Commit place edits (outcome_of c edits))) c)) is
-        ∙ (λ i. record { entries = c.entries ++ entries.Commit place edits (outcome_of c edits) ∷ []; own = s.own ++ places (length c.entries) (one i) }))
-    by false is = inr (is,
-        ap (λ (b : Bool). seen_after s c (cond b (with_entry c (entries.Commit place edits (outcome_of c edits))) c)) is
-        ∙ (λ i. record { entries = c.entries; own = s.own ++ places (length c.entries) (none i) })
-        ∙ (λ i. record { entries = c.entries; own = append-nil s.own i }))
+    by true is = inl (
+      is,
+      ap (λ (b : Bool). seen_after s c (cond b (with_entry c (entries.Commit place edits (outcome_of c edits))) c)) is
+          ∙ (λ i. record { entries = c.entries ++ entries.Commit place edits (outcome_of c edits) ∷ []; own = s.own ++ places (length c.entries) (one i) }),
+    )
+    by false is = inr (
+      is,
+      ap (λ (b : Bool). seen_after s c (cond b (with_entry c (entries.Commit place edits (outcome_of c edits))) c)) is
+          ∙ (λ i. record { entries = c.entries; own = s.own ++ places (length c.entries) (none i) })
+          ∙ (λ i. record { entries = c.entries; own = append-nil s.own i }),
+    )
 
 -- one commit more: it was entered, or it found no room
 abbrev pub Commits1 : (id place : ℕ) → Seen → List Edit → List (List Edit) → Seen → CatalogueState → Type 0
@@ -123,7 +127,7 @@ commits_enter id place (edits ∷ lines) s t itself h =
   where
     by : Commits1 id place s edits lines t h.0
         → (Commits id place (seen_with s (h.0).entries (entries.Commit place edits (outcome_of h.0 edits))) lines t
-            → HasEntered (IsCommitAt place) (seen_with s (h.0).entries (entries.Commit place edits (outcome_of h.0 edits))) t)
+        → HasEntered (IsCommitAt place) (seen_with s (h.0).entries (entries.Commit place edits (outcome_of h.0 edits))) t)
         → (Commits id place (seen_of s (h.0).entries) lines t → HasEntered (IsCommitAt place) (seen_of s (h.0).entries) t)
         → HasEntered (IsCommitAt place) s t
     by (inl e) with_it without =

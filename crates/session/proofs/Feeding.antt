@@ -62,7 +62,7 @@ module _ (id : ℕ) (history : List Entry) where
       → d ≡ drawing_of c l.asked l.fates → Draws id (seen_with s c.entries (draw_entry c l.asked)) lines ds t
       → Begins t.entries history → Begins before s.entries → history ≡ before ++ es → AreToCome is_draw history (length before) s t
       → ((later : List Entry) → history ≡ (c.entries ++ draw_entry c l.asked ∷ []) ++ later → AreToCome is_draw history (length (c.entries ++ draw_entry c l.asked ∷ [])) (seen_with s c.entries (draw_entry c l.asked)) t
-          → AreDrawn lines ds (c.entries ++ draw_entry c l.asked ∷ []) later)
+      → AreDrawn lines ds (c.entries ++ draw_entry c l.asked ∷ []) later)
       → AreDrawn (l ∷ lines) (d ∷ ds) before es
   drawn_next l lines d ds s t before es c on drew chain ends begins is come rest =
       let e : Entry = draw_entry c l.asked in
@@ -86,11 +86,12 @@ module _ (id : ℕ) (history : List Entry) where
       let r = rest later whole.1 (λ k x far here passes.
       let more = come k x (omega (arith, far, long, same_size, both)) here passes in
       let still = still_own s c.entries k (omega (arith, far, long)) in
-      omega (arith, more, still)) in
-      (ap asked_in parts ∙ asked_past between (e ∷ later) none ∙ ap (λ as'. l.asked ∷ as') r.0,
-      ap (drawings_after id before (fates_in (l ∷ lines))) parts ∙ drawings_past id before (fates_in (l ∷ lines)) between (e ∷ later) none
-      ∙ ap (λ p. drawings_after id p (fates_in (l ∷ lines)) (e ∷ later)) (sym b.1)
-      ∙ (λ i. (drawing_on id c c.entries l.asked l.fates on.carousel refl ∙ sym drew) i ∷ r.1 i))
+      omega (arith, more, still)) in (
+        ap asked_in parts ∙ asked_past between (e ∷ later) none ∙ ap (λ as'. l.asked ∷ as') r.0,
+        ap (drawings_after id before (fates_in (l ∷ lines))) parts ∙ drawings_past id before (fates_in (l ∷ lines)) between (e ∷ later) none
+            ∙ ap (λ p. drawings_after id p (fates_in (l ∷ lines)) (e ∷ later)) (sym b.1)
+            ∙ (λ i. (drawing_on id c c.entries l.asked l.fates on.carousel refl ∙ sym drew) i ∷ r.1 i),
+      )
 
   pub are_drawn : (lines : List DrawFields) (ds : List Drawing) (s t : Seen) (before es : List Entry) → Draws id s lines ds t
       → Begins t.entries history → Begins before s.entries → history ≡ before ++ es → AreToCome is_draw history (length before) s t → AreDrawn lines ds before es

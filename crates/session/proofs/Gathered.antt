@@ -43,9 +43,11 @@ editor_at id first [] (x ∷ ss) all place s h = absurd all
 editor_at id first (l ∷ more) [] all place s h = absurd (cc)
 editor_at id first (l ∷ more) (x ∷ ss) all zero s h =
     let same : x ≡ s = cc in
-    let here : first ≡ first + 0 = omega arith in
-    (omega arith, subst (λ (p : ℕ). HasEntered (IsCommitAt p) nothing_seen s) here
-    (subst (λ (y : Seen). HasEntered (IsCommitAt first) nothing_seen y) same (commits_enter id first l nothing_seen x (eq-eqb first first refl) all.0)))
+    let here : first ≡ first + 0 = omega arith in (
+      omega arith,
+      subst (λ (p : ℕ). HasEntered (IsCommitAt p) nothing_seen s) here
+          (subst (λ (y : Seen). HasEntered (IsCommitAt first) nothing_seen y) same (commits_enter id first l nothing_seen x (eq-eqb first first refl) all.0)),
+    )
 editor_at id first (l ∷ more) (x ∷ ss) all (suc place) s h =
     let r = editor_at id (suc first) more ss all.1 place s h in
     let further : suc first + place ≡ first + suc place = omega arith in

@@ -37,15 +37,22 @@ entered_more : (place : ℕ) (before : List Entry) (lines : List (List Edit)) (e
 entered_more place before [] es asked generation first count h =
     filter-append (is_commit_at place) es (entries.Draw asked generation first count ∷ []) ∙ append-nil (filter (is_commit_at place) es) ∙ h
 entered_more place before (edits ∷ lines) es asked generation first count (inl h) =
-    inl (h.0, h.1, h.2 ++ entries.Draw asked generation first count ∷ [],
-    ap (λ l. l ++ entries.Draw asked generation first count ∷ []) h.3 ∙ append_assoc h.0 (entries.Commit place edits h.1 ∷ h.2) (entries.Draw asked generation first count ∷ []),
-    h.4, entered_more place (before ++ h.0 ++ entries.Commit place edits h.1 ∷ []) lines h.2 asked generation first count h.5)
+    inl (
+      h.0,
+      h.1,
+      h.2 ++ entries.Draw asked generation first count ∷ [],
+      ap (λ l. l ++ entries.Draw asked generation first count ∷ []) h.3 ∙ append_assoc h.0 (entries.Commit place edits h.1 ∷ h.2) (entries.Draw asked generation first count ∷ []),
+      h.4,
+      entered_more place (before ++ h.0 ++ entries.Commit place edits h.1 ∷ []) lines h.2 asked generation first count h.5,
+    )
 entered_more place before (edits ∷ lines) es asked generation first count (inr h) =
     let r = to_next_more place es (entries.Draw asked generation first count ∷ []) in
     let longer : before ++ entries_to_next place (es ++ entries.Draw asked generation first count ∷ []) ≡ (before ++ entries_to_next place es) ++ r.0 =
     ap (λ l. before ++ l) r.1 ∙ sym (append_assoc before (entries_to_next place es) r.0) in
-    inr (subst (λ l. IsFullAfter l edits) (sym longer) (full_later (before ++ entries_to_next place es) r.0 edits h.0),
-    entered_more place before lines es asked generation first count h.1)
+    inr (
+      subst (λ l. IsFullAfter l edits) (sym longer) (full_later (before ++ entries_to_next place es) r.0 edits h.0),
+      entered_more place before lines es asked generation first count h.1,
+    )
 
 asked_more : (es : List Entry) (asked generation first count : ℕ) → asked_in (es ++ entries.Draw asked generation first count ∷ []) ≡ asked_in es ++ asked ∷ []
 asked_more [] asked generation first count = refl

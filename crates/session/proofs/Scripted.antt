@@ -138,7 +138,8 @@ settles_last script a s =
     let none : any first ≡ false =
     any_append a.before a.during ∙ (λ i. none_settle Before a.before a.are_before i || none_settle During a.during a.are_during i) in
     let last : any a.ends ≡ true = sym (ap (λ (b : Bool). b || any a.ends) none) ∙ sym (any_append first a.ends) ∙ ap any (sym cut) ∙ s in
-    let parts = events_append none_pending first a.ends in
-    (draws_in (events_from none_pending first),
-    ap (λ ls. draws_in (events_from none_pending ls)) cut ∙ ap draws_in parts.1 ∙ draws_append (events_from none_pending first) (events_from parts.0 a.ends)
-    ∙ ap (λ ds. draws_in (events_from none_pending first) ++ ds) (ends_settle parts.0 a.ends a.are_ends last))
+    let parts = events_append none_pending first a.ends in (
+      draws_in (events_from none_pending first),
+      ap (λ ls. draws_in (events_from none_pending ls)) cut ∙ ap draws_in parts.1 ∙ draws_append (events_from none_pending first) (events_from parts.0 a.ends)
+          ∙ ap (λ ds. draws_in (events_from none_pending first) ++ ds) (ends_settle parts.0 a.ends a.are_ends last),
+    )

@@ -34,7 +34,7 @@ abbrev pub AreEntered : ℕ → List Entry → List (List Edit) → List Entry �
 AreEntered place before [] es = filter (is_commit_at place) es ≡ []
 AreEntered place before (edits ∷ lines) es =
     ((between : List Entry) × (outcome : Result ℕ Refusal) × (later : List Entry) × (es ≡ between ++ entries.Commit place edits outcome ∷ later)
-        × (filter (is_commit_at place) between ≡ []) × (AreEntered place (before ++ between ++ entries.Commit place edits outcome ∷ []) lines later))
+    × (filter (is_commit_at place) between ≡ []) × (AreEntered place (before ++ between ++ entries.Commit place edits outcome ∷ []) lines later))
     ⊎ (IsFullAfter (before ++ entries_to_next place es) edits × AreEntered place before lines es)
 
 -- how many items each draw asked for, in order

@@ -54,7 +54,7 @@ abbrev pub AreCommitted : ℕ → List (Step × Reply) → List (List Edit) → 
 AreCommitted editor before [] told = filter (λ (x : Step × Reply). is_commit_of editor x.0) told ≡ []
 AreCommitted editor before (edits ∷ lines) told =
     ((between : List (Step × Reply)) × (reply : Reply) × (later : List (Step × Reply)) × (told ≡ between ++ (Commit editor edits, reply) ∷ later)
-        × (filter (λ (x : Step × Reply). is_commit_of editor x.0) between ≡ []) × (AreCommitted editor (before ++ between ++ (Commit editor edits, reply) ∷ []) lines later))
+    × (filter (λ (x : Step × Reply). is_commit_of editor x.0) between ≡ []) × (AreCommitted editor (before ++ between ++ (Commit editor edits, reply) ∷ []) lines later))
     ⊎ (IsFull (before ++ up_to_next editor told) edits × AreCommitted editor before lines told)
 
 -- ---- opens
