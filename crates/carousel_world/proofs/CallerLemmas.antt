@@ -1,11 +1,17 @@
 -- Lemmas for those who use this crate.
-use Rattle.std.proofs.Common.{◌≡◌, ℕ, List, [], ◌∷◌, ◌++◌, map, refl, ap, ◌∙◌, append-nil}
+use Rattle.std.proofs.Common.{◌≡◌, ℕ, List, [], ◌∷◌, ◌++◌, map, refl, ap, sym, ◌∙◌, append-nil}
+use Rattle.std.specs.List.{All}
+use Rattle.std.proofs.lemmas.List.Elements.{All-head, All-tail}
 use Rattle.path_tree.specs.Trees.{Tree}
 use Rattle.biop_object.specs.Names.{Layout}
 use Rattle.cycle_planner.specs.declared.Item.{Item}
 use Rattle.generation.specs.Lawful.{section_in}
 use Rattle.carousel_world.specs.Broadcasts.{Sending, sections}
+use Rattle.carousel_world.specs.Events.{Step, Commit, Draw, Open}
+use Rattle.carousel_world.specs.Promises.{world_after}
 use Rattle.carousel_world.specs.Publishing.{layouts_for, items_sent, publication}
+use Rattle.carousel_world.specs.Settling.{IsOpening, whole_draw, settled}
+use Rattle.carousel_world.specs.World.{WorldState, opening, happens, after_all}
 
 map_map : {X Y Z : Type 0} (f : Y → Z) (h : X → Y) (xs : List X) → map f (map h xs) ≡ map (λ x. f (h x)) xs
 map_map f h [] = refl
@@ -21,3 +27,28 @@ sections_are carousel ls g items =
 -- what is sent of a published tree
 pub published_sections : (carousel cycles : ℕ) (t : Tree) → sections (publication carousel cycles t) ≡ map (section_in carousel (layouts_for carousel t) 1) (items_sent carousel cycles t)
 published_sections carousel cycles t = sections_are carousel (layouts_for carousel t) 1 (items_sent carousel cycles t)
+
+-- ---- opens and settling
+
+-- opens change no world
+pub opens_leave : (w : WorldState) (es : List Step) → All IsOpening es → after_all w es ≡ w
+opens_leave w [] all = refl
+opens_leave w (Commit editor edits ∷ es) all = absurd (All-head IsOpening (Commit editor edits) es all)
+opens_leave w (Draw asked fates ∷ es) all = absurd (All-head IsOpening (Draw asked fates) es all)
+opens_leave w (Open reader path ∷ es) all = opens_leave w es (All-tail IsOpening (Open reader path) es all)
+
+pub after_all-append : (w : WorldState) (xs ys : List Step) → after_all w (xs ++ ys) ≡ after_all (after_all w xs) ys
+after_all-append w [] ys = refl
+after_all-append w (x ∷ xs) ys = after_all-append (happens w x) xs ys
+
+-- two whole draws leave the same world where opens stand between and after them
+pub settled_among_opens : (carousel : ℕ) (before between after : List Step) → All IsOpening between → All IsOpening after
+    → world_after carousel (before ++ whole_draw ∷ (between ++ whole_draw ∷ after)) ≡ world_after carousel (settled before)
+settled_among_opens carousel before between after opens others =
+    let w = world_after carousel before in
+    let one = happens w whole_draw in
+    after_all-append (opening carousel) before (whole_draw ∷ (between ++ whole_draw ∷ after))
+    ∙ after_all-append one between (whole_draw ∷ after)
+    ∙ ap (λ v. after_all (happens v whole_draw) after) (opens_leave one between opens)
+    ∙ opens_leave (happens one whole_draw) after others
+    ∙ sym (after_all-append (opening carousel) before (whole_draw ∷ whole_draw ∷ []))

@@ -148,7 +148,7 @@ sends_in_order law w a = record {
 
 -- ---- its sections
 
-alike : {X Y : Type 0} (f h : X → Y) (xs : List X) → All (λ x. f x ≡ h x) xs → map f xs ≡ map h xs
+pub alike : {X Y : Type 0} (f h : X → Y) (xs : List X) → All (λ x. f x ≡ h x) xs → map f xs ≡ map h xs
 alike f h [] all = refl
 alike f h (x ∷ xs) all = ap (λ y. y ∷ map f xs) (All-head (λ y. f y ≡ h y) x xs all) ∙ ap (λ ys. h x ∷ ys) (alike f h xs (All-tail (λ y. f y ≡ h y) x xs all))
 

@@ -31,3 +31,5 @@ mod Arriving
 mod Promised
 mod Happening
 mod Lossy
+mod WholeDraws
+mod Settling

@@ -27,12 +27,12 @@ after-append w [] ys = refl
 after-append w (x ∷ xs) ys = after-append (happens w x) xs ys
 
 -- a later world has the trees and the draws of an earlier one, and others after them
-record Grows (v w : WorldState) : Type 0 where
-  carousel : w.catalogue.carousel ≡ v.catalogue.carousel
-  trees : List Tree
-  same_trees : trees_of w.catalogue ≡ trees_of v.catalogue ++ trees
-  drawings : List Drawing
-  same_drawings : w.drawings ≡ v.drawings ++ drawings
+pub record Grows (v w : WorldState) : Type 0 where
+  pub carousel : w.catalogue.carousel ≡ v.catalogue.carousel
+  pub trees : List Tree
+  pub same_trees : trees_of w.catalogue ≡ trees_of v.catalogue ++ trees
+  pub drawings : List Drawing
+  pub same_drawings : w.drawings ≡ v.drawings ++ drawings
 
 still : (w : WorldState) → Grows w w
 still w = record { carousel = refl; trees = []; same_trees = sym (append-nil (trees_of w.catalogue)); drawings = []; same_drawings = sym (append-nil w.drawings) }
@@ -71,7 +71,7 @@ grows_by grow w (Draw asked fates) = go (nat_le 16777216 (draws_of w.catalogue))
     same_drawings = refl;
   }
 
-grows_all : HistoriesGrow → (w : WorldState) (es : List Step) → Grows w (after_all w es)
+pub grows_all : HistoriesGrow → (w : WorldState) (es : List Step) → Grows w (after_all w es)
 grows_all grow w [] = still w
 grows_all grow w (e ∷ es) = grows_on w (happens w e) (after_all (happens w e) es) (grows_by grow w e) (grows_all grow (happens w e) es)
 

@@ -11,3 +11,4 @@ pub mod Promises
 pub mod DownView
 pub mod View
 pub mod Runs
+pub mod Settling

@@ -3,6 +3,7 @@ ghost use Rattle.carousel_world.specs.Instances.{PremisesCanBeMet};
 ghost use Rattle.carousel_world.specs.Publishing.{EachCycleOpens, EveryPublicationMeets};
 ghost use Rattle.carousel_world.specs.Promises.{EveryRunMeetsTheHeadline};
 ghost use Rattle.carousel_world.specs.Receptions.{EveryReceptionMeets, LabelsNeverFall};
+ghost use Rattle.carousel_world.specs.Settling.{EverySettledRunIsWhole, EverySettledRunOpens};
 
 /// Whatever a receiver hears of a carousel whose tree changes from generation to generation, lost, damaged, repeated or interleaved
 /// with other packets: while each section that is accepted is one that was sent, in the order of sending, and while fewer than 256
@@ -64,6 +65,27 @@ pub fn every_run_meets_the_headline()
     generation::layouts_are_lawful();
     every_reception_meets();
     labels_never_fall();
+}
+
+/// Two draws of the most items, of which all packets arrive, settle each world: whatever was lost, damaged or repeated before, and at
+/// whatever item of the cycle the first of them begins, a whole cycle of the last generation has been heard after the second. The
+/// first draw ends the cycle that was under way, and its first sections alone may be heard in part. So each open then answers the
+/// lookup in the last generation's tree, under the premises of `every_run_meets_the_headline`.
+///
+/// It holds of each list of events whose published trees are of bytes and within the limits, while the history has room for the two
+/// draws.
+pub fn settling_is_whole()
+    ensures whole { EverySettledRunIsWhole }
+    ensures opens { EverySettledRunOpens }
+{
+    generation_catalogue::histories_grow();
+    generation::generations_are_of_the_lists();
+    generation::layouts_are_lawful();
+    every_run_meets_the_headline();
+    section_stream::later_sections_are_given();
+    dsmcc_section::spellings_read();
+    ddb_block::spellings_read();
+    dsi_dii::spellings_read_back();
 }
 
 /// The premises of the other laws can be met, and the answers differ: some tree of a file can be published; what is published

@@ -9,3 +9,4 @@ pub mod Packed
 pub mod Filling
 pub mod Places
 pub mod Starting
+pub mod Later

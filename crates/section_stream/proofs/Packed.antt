@@ -51,7 +51,7 @@ abbrev pub all_taken : ℕ → MuxState → List Bytes → List Received
 all_taken k m [] = []
 all_taken k m (s ∷ ss) = taken_as (packet_count s) k true m.counter (0 ∷ s) ++ all_taken (k + packet_count s) (past m s) ss
 
-received-packets : (k : ℕ) (m : MuxState) (sections : List Bytes) → m.pid < 8192 → m.counter < 16 → received_from m.pid k (packets_of_all m sections) ≡ all_taken k m sections
+pub received-packets : (k : ℕ) (m : MuxState) (sections : List Bytes) → m.pid < 8192 → m.counter < 16 → received_from m.pid k (packets_of_all m sections) ≡ all_taken k m sections
 received-packets k m [] h i = refl
 received-packets k m (s ∷ ss) h i =
     received-pieces (packet_count s) m.pid k true m.counter (0 ∷ s) (packets_of_all (past m s) ss) h i
@@ -69,7 +69,7 @@ no_repeat a q e = rw other refl where
   other : (a.counter == q.counter) ≡ false
   other = grind (arith, e)
 
-none_repeats : (a : Received) (qs : List Received) → Follow ((a.counter + 1) % 16) qs → without_repeats_of a qs ≡ qs
+pub none_repeats : (a : Received) (qs : List Received) → Follow ((a.counter + 1) % 16) qs → without_repeats_of a qs ≡ qs
 none_repeats a [] f = refl
 none_repeats a (q ∷ qs) f =
     rw (no_repeat a q f.0) (ap (λ rs. q ∷ rs) (none_repeats q qs (subst (λ x. Follow ((x + 1) % 16) qs) (sym f.0) f.1)))
@@ -87,7 +87,7 @@ follow-taken : (n k : ℕ) (start : Bool) (c : ℕ) (bytes : Bytes) (rest : List
 follow-taken zero k start c bytes rest f = f
 follow-taken (suc n) k start c bytes rest f = (refl, follow-taken n (k + 1) false ((c + 1) % 16) (drop 184 bytes) rest f)
 
-follow-all : (k : ℕ) (m : MuxState) (sections : List Bytes) → m.counter < 16 → Follow m.counter (all_taken k m sections)
+pub follow-all : (k : ℕ) (m : MuxState) (sections : List Bytes) → m.counter < 16 → Follow m.counter (all_taken k m sections)
 follow-all k m [] h = tt
 follow-all k m (s ∷ ss) h =
     follow-taken (packet_count s) k true m.counter (0 ∷ s) (all_taken (k + packet_count s) (past m s) ss)
@@ -250,7 +250,7 @@ cuts_from k [] = []
 cuts_from k (s ∷ ss) = cut_at k s ∷ cuts_from (k + packet_count s) ss
 
 -- the packets of sections cut those sections
-all-cuts : (k : ℕ) (m : MuxState) (sections : List Bytes) → All IsSectionLike sections → cuts_of (all_taken k m sections) ≡ cuts_from k sections
+pub all-cuts : (k : ℕ) (m : MuxState) (sections : List Bytes) → All IsSectionLike sections → cuts_of (all_taken k m sections) ≡ cuts_from k sections
 all-cuts k m [] h = refl
 all-cuts k m (s ∷ ss) h =
     one-section s (packet_count s) k m.counter (all_taken (k + packet_count s) (past m s) ss) (h 0 s (omega arith)) fits (λ d. nothing-goes-on (k + packet_count s) d (past m s) ss)
@@ -264,7 +264,7 @@ packets-cuts m sections h i all =
     ∙ ap (λ rs. cuts_of rs) (all_stay (all_taken 0 m sections) m.counter (follow-all 0 m sections i))
     ∙ all-cuts 0 m sections all
 
-their_bytes : (k : ℕ) (sections : List Bytes) → bytes_of (cuts_from k sections) ≡ sections
+pub their_bytes : (k : ℕ) (sections : List Bytes) → bytes_of (cuts_from k sections) ≡ sections
 their_bytes k [] = refl
 their_bytes k (s ∷ ss) = ap (λ xs. s ∷ xs) (their_bytes (k + packet_count s) ss)
 

@@ -10,6 +10,12 @@ abbrev pub PacketsGiveTheSections : Type 0
 PacketsGiveTheSections = (m : MuxState) (sections : List Bytes) → m.pid < 8192 → m.counter < 16 → All IsSectionLike sections
     → candidates m.pid (packets_of_all m sections) ≡ sections
 
+-- Whatever came before: after the packets of some sections those of others, unbroken, give these others, as the last candidates. Where
+-- the first of all these packets repeats the one before it, only the first sections can suffer.
+abbrev pub LaterSectionsAreGiven : Type 0
+LaterSectionsAreGiven = (m : MuxState) (before first second : List Bytes) → m.pid < 8192 → m.counter < 16 → 0 < length first → All IsSectionLike second
+    → (earlier : List Bytes) × (candidates m.pid ((before ++ packets_of_all m first) ++ packets_of_all (fold past m first) second) ≡ earlier ++ second)
+
 -- with more packets the candidates so far stay, and others may follow
 abbrev pub CandidatesGrow : Type 0
 CandidatesGrow = (pid : ℕ) (packets more : List Bytes) → (rest : List Bytes) × (candidates pid (packets ++ more) ≡ candidates pid packets ++ rest)

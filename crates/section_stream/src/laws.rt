@@ -1,10 +1,16 @@
-ghost use Rattle.section_stream.specs.Laws.{CandidatesGrow, CutsComeInOrder, PacketsGiveTheSections, SectionsStartThere};
+ghost use Rattle.section_stream.specs.Laws.{CandidatesGrow, CutsComeInOrder, LaterSectionsAreGiven, PacketsGiveTheSections, SectionsStartThere};
 
 /// What is packed is cut again: for every list of sections that meet the condition of
 /// `Mux::packets`, the candidates of their packets, with none missing and nothing before them, are
 /// those sections, in order.
 pub fn packets_give_the_sections()
     ensures { PacketsGiveTheSections }
+{}
+
+/// A receiver gets in step: whatever packets came before, those of some sections and then of others, with none of them missing,
+/// end with these others as the last candidates, in order. What came before can only spoil the sections sent first.
+pub fn later_sections_are_given()
+    ensures { LaterSectionsAreGiven }
 {}
 
 /// What was cut out of some packets stays when more come: for every list of packets and every PID, the

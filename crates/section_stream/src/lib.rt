@@ -11,7 +11,7 @@ mod payload;
 pub use counts::Counts;
 pub use demux::Demux;
 pub use laws::{
-    candidates_grow, cuts_come_in_order, packets_give_the_sections,
+    candidates_grow, cuts_come_in_order, later_sections_are_given, packets_give_the_sections,
     sections_start_where_they_are_put,
 };
 pub use mux::Mux;

@@ -1,0 +1,161 @@
+-- What two draws of the most items draw: the rest of a cycle, and the next one whole.
+use Rattle.std.proofs.Common.{◌≡◌, ℕ, ◌+◌, ◌-◌, ◌*◌, ◌%◌, ◌<◌, ◌≤◌, List, [], ◌∷◌, ◌++◌, length, map, take, drop, min, cond, Ok, Err, refl, ap, sym, ◌∙◌, subst, arith, lit<}
+use Rattle.std.specs.List.{Contains, flat_map, sum_by}
+use Rattle.std.proofs.Math.Nat.{mod-add-mod, mod_self, mod-lt}
+use Rattle.std.proofs.lemmas.Grind.{div_ceil_times}
+use Rattle.std.proofs.lemmas.List.{length-append, length-drop, take_all}
+use Rattle.std.proofs.lemmas.List.Elements.{All-weaker}
+use Rattle.std.proofs.lemmas.List.FromFn.{length-map-range_with_len}
+use Rattle.std.proofs.lemmas.List.Sums.{sum_by-cons, sum_by-append}
+use Rattle.path_tree.specs.Paths.{Bytes}
+use Rattle.path_tree.specs.Trees.{Tree}
+use Rattle.biop_object.specs.Names.{Layout}
+use Rattle.cycle_planner.specs.Cycle.{Line, blocks_of, cycle_of}
+use Rattle.cycle_planner.specs.declared.Item.{Item}
+use Rattle.cycle_planner.specs.declared.Item.TheVariants.{Dsi, Dii, Block}
+use Rattle.ddb_block.specs.Blocks as ddb
+use Rattle.generation.specs.Layouts.{generation_of, items_of, lines_in, lines_of, section_of}
+use Rattle.generation.specs.Kept.{layouts_of, GenerationsAreOfTheLists, IsGenerationOf}
+use Rattle.generation.specs.Lawful.{layout_at, section_in, IsItem}
+use Rattle.generation_catalogue.specs.History.{CatalogueState, trees_of, current_of, cycle_in, cursor_of, count_drawn, items_drawn, draws_of, drawn, drawn_since, is_draw}
+use Rattle.generation_catalogue.specs.Laws.{HistoriesGrow}
+use Rattle.generation_catalogue.specs.declared.entry.Entry.{Entry}
+use Rattle.generation_catalogue.specs.declared.entry.Entry.TheVariants as entries
+use Rattle.carousel_world.proofs.Cycles.{cycle_has}
+use Rattle.carousel_world.proofs.Drawn.{alike}
+use Rattle.carousel_world.proofs.Modules.{IsSent}
+
+-- ---- a cycle is short
+
+module_blocks : (size : ℕ) → 4066 * ddb.block_count_of size 4066 ≤ size + 4065
+module_blocks size = let times = div_ceil_times size 4066 (lit< tt) in omega (arith, times.1)
+
+blocks_fit : (ms : Layout) → 4066 * sum_by (λ l. l.1) (lines_in ms) ≤ sum_by (λ m. length m.1) ms + 4065 * length ms
+blocks_fit [] = omega arith
+blocks_fit (m ∷ ms) =
+    let here = sum_by-cons (λ (l : Line). l.1) (m.0, ddb.block_count_of (length m.1) 4066) (lines_in ms) in
+    let total = sum_by-cons (λ (x : ℕ × Bytes). length x.1) m ms in
+    let fit = module_blocks (length m.1) in
+    let fits = blocks_fit ms in
+    omega (arith, here, total, fit, fits)
+
+blocks_in : (lines : List Line) → length (flat_map blocks_of lines) ≡ sum_by (λ l. l.1) lines
+blocks_in [] = refl
+blocks_in (line ∷ lines) =
+    let here : length (blocks_of line) ≡ line.1 = length-map-range_with_len (λ b. Block line.0 b) 0 line.1 in
+    let both : length (blocks_of line ++ flat_map blocks_of lines) ≡ length (blocks_of line) + length (flat_map blocks_of lines) = length-append (blocks_of line) (flat_map blocks_of lines) in
+    let rest = blocks_in lines in
+    let sum = sum_by-cons (λ (l : Line). l.1) line lines in
+    omega (arith, here, both, rest, sum)
+
+-- 268,435,456 bytes in 139 modules have at most 66,158 blocks
+pub short_cycle : (carousel : ℕ) (ls : List Layout) (g : ℕ) → IsSent carousel ls g → length (cycle_of (lines_in (layout_at ls g))) ≤ 66160
+short_cycle carousel ls g sent =
+    let fit = blocks_fit (layout_at ls g) in
+    let blocks = blocks_in (lines_in (layout_at ls g)) in
+    let few = sent.few in
+    let total = sent.total in
+    omega (arith, fit, blocks, few, total)
+
+-- ---- and a whole round
+
+-- the DSI is among these items, and at some place the DII with every block after it
+pub record IsRound (ls : List Layout) (g : ℕ) (items : List Item) : Type 0 where
+  pub gateway : Contains items Dsi
+  pub before : List Item
+  pub after : List Item
+  pub place : items ≡ before ++ Dii ∷ after
+  pub blocks : (m b : ℕ) → IsItem ls g (Block m b) → Contains after (Block m b)
+
+pub cycle_is_round : (ls : List Layout) (g : ℕ) → IsRound ls g (cycle_of (lines_in (layout_at ls g)))
+cycle_is_round ls g = record {
+  gateway = (0, omega arith, refl);
+  before = Dsi ∷ [];
+  after = flat_map blocks_of (lines_in (layout_at ls g));
+  place = refl;
+  blocks = cycle_has ls g;
+}
+
+-- ---- a draw of the most items
+
+abbrev pub IsShort : CatalogueState → Type 0
+IsShort c = length (cycle_in c) ≤ 1048576
+
+-- the catalogue after a draw of the most items
+abbrev pub turned : CatalogueState → CatalogueState
+turned c = drawn c 1048576
+
+lesser : (a b : ℕ) → b ≤ a → min a b ≡ b
+lesser a b le = omega (arith, le)
+
+below : (c : CatalogueState) → cursor_of c < length (cycle_in c)
+below c = mod-lt (drawn_since 0 c.entries) (omega arith)
+
+to_end : (c : CatalogueState) → IsShort c → count_drawn c 1048576 ≡ length (cycle_in c) - cursor_of c
+to_end c short = lesser 1048576 (length (cycle_in c) - cursor_of c) (omega (arith, short))
+
+-- it draws what is left of the cycle
+rest_drawn : (c : CatalogueState) → IsShort c → items_drawn c 1048576 ≡ drop (cursor_of c) (cycle_in c)
+rest_drawn c short =
+    let left = drop (cursor_of c) (cycle_in c) in
+    let size : length left ≡ length (cycle_in c) - cursor_of c = length-drop (cursor_of c) (cycle_in c) in
+    ap (λ k. take k left) (to_end c short) ∙ take_all (length (cycle_in c) - cursor_of c) left (omega (arith, size))
+
+pub some_drawn : (c : CatalogueState) → IsShort c → 0 < length (items_drawn c 1048576)
+some_drawn c short =
+    let size : length (items_drawn c 1048576) ≡ length (cycle_in c) - cursor_of c = ap length (rest_drawn c short) ∙ length-drop (cursor_of c) (cycle_in c) in
+    let inside = below c in
+    omega (arith, size, inside)
+
+-- ---- and the next one begins the cycle again
+
+since-append : (n : ℕ) (es fs : List Entry) → drawn_since n (es ++ fs) ≡ drawn_since (drawn_since n es) fs
+since-append n [] fs = refl
+since-append n (entries.Commit editor edits (Ok number) ∷ es) fs = since-append 0 es fs
+since-append n (entries.Commit editor edits (Err refusal) ∷ es) fs = since-append n es fs
+since-append n (entries.Draw asked generation first count ∷ es) fs = since-append (n + count) es fs
+
+begins_again : (n size : ℕ) → n % size < size → (n + (size - n % size)) % size ≡ 0
+begins_again n size inside =
+    let whole : n % size + (size - n % size) ≡ size = omega (arith, inside) in
+    sym (mod-add-mod n size (size - n % size)) ∙ ap (λ k. k % size) whole ∙ mod_self size
+
+same_cycle : HistoriesGrow → (c : CatalogueState) → cycle_in (turned c) ≡ cycle_in c
+same_cycle grow c = ap (λ ts. cycle_of (lines_of (generation_of c.carousel ts))) (grow.by_draw c 1048576)
+
+at_start : HistoriesGrow → (c : CatalogueState) → IsShort c → cursor_of (turned c) ≡ 0
+at_start grow c short =
+    let entry = entries.Draw 1048576 (current_of c).number (cursor_of c) (count_drawn c 1048576) in
+    ap (λ n. n % length (cycle_in (turned c))) (since-append 0 c.entries (entry ∷ []))
+    ∙ ap (λ items. (drawn_since 0 c.entries + count_drawn c 1048576) % length items) (same_cycle grow c)
+    ∙ ap (λ k. (drawn_since 0 c.entries + k) % length (cycle_in c)) (to_end c short)
+    ∙ begins_again (drawn_since 0 c.entries) (length (cycle_in c)) (below c)
+
+pub cycle_drawn : HistoriesGrow → (c : CatalogueState) → IsShort c → items_drawn (turned c) 1048576 ≡ cycle_in c
+cycle_drawn grow c short =
+    rest_drawn (turned c) (subst (λ items. length items ≤ 1048576) (sym (same_cycle grow c)) short)
+    ∙ ap (λ k. drop k (cycle_in (turned c))) (at_start grow c short)
+    ∙ same_cycle grow c
+
+pub draws_more : (c : CatalogueState) → draws_of (turned c) ≡ draws_of c + 1
+draws_more c =
+    let entry = entries.Draw 1048576 (current_of c).number (cursor_of c) (count_drawn c 1048576) in
+    sum_by-append (λ e. cond (is_draw e) 1 0) c.entries (entry ∷ [])
+
+-- ---- the sections of a draw
+
+pub is_of_lists : GenerationsAreOfTheLists → (c : CatalogueState) → IsGenerationOf c.carousel (trees_of c) (length (trees_of c)) (current_of c)
+is_of_lists lists c =
+    let trees = trees_of c in
+    subst (λ ts. IsGenerationOf c.carousel trees (length trees) (generation_of c.carousel ts)) (take_all (length trees) trees (omega arith))
+    (lists c.carousel trees (length trees) (omega arith))
+
+-- a section of the last generation of these trees
+abbrev pub last_section : ℕ → List Tree → Item → Bytes
+last_section carousel trees item = section_in carousel (layouts_of carousel trees) (length trees) item
+
+pub sent_by : HistoriesGrow → GenerationsAreOfTheLists → (c : CatalogueState) (asked : ℕ)
+    → map (section_of (current_of c)) (items_drawn c asked) ≡ map (last_section c.carousel (trees_of c)) (items_drawn c asked)
+sent_by grow lists c asked =
+    alike (section_of (current_of c)) (last_section c.carousel (trees_of c)) (items_drawn c asked)
+    (All-weaker (Contains (items_of (current_of c))) (λ item. section_of (current_of c) item ≡ last_section c.carousel (trees_of c) item) (is_of_lists lists c).sections (items_drawn c asked) (grow.items c asked))
