@@ -1,8 +1,13 @@
 -- One shot more.
-use Rattle.std.proofs.Common.{◌≡◌, ◌⊎◌, inl, inr, ℕ, zero, suc, ◌+◌, ◌<◌, ◌≤◌, List, [], ◌∷◌, ◌++◌, map, length, take, Some, slice_get, refl, ap, sym, ◌∙◌, subst, length-append, arith}
+use Rattle.std.proofs.Common.{◌≡◌, ◌⊎◌, inl, inr, ℕ, zero, suc, ◌+◌, ◌<◌, ◌≤◌, List, [], ◌∷◌, ◌++◌, map, length, take, Some, slice_get, Result, Ok, Err, OnOk, refl, ap, sym, ◌∙◌, subst, length-append, arith}
 use Rattle.std.specs.Arc.{arc_value}
 use Rattle.std.proofs.lemmas.List.{take-append-le, take_all}
 use Rattle.path_tree.specs.Paths.{Bytes}
+use Rattle.ts_packet.specs.declared.Fate.{Fate}
+use Rattle.cycle_planner.specs.declared.Item.{Item}
+use Rattle.generation.specs.Layouts.{GenerationState, section_of}
+use Rattle.generation_catalogue.specs.declared.entry.Batch.{Batch}
+use Rattle.session_actors.specs.Seats.{drawing_in}
 use Rattle.path_resolver.specs.declared.shot.Shot.{Shot}
 use Rattle.path_resolver.specs.Shots.{view}
 use Rattle.section_stream.specs.Cuts.{candidates}
@@ -63,3 +68,23 @@ one_shot_more drawings d old new before after shot n carry look number shown has
     let is : view shot ≡ snapshot_after (length before) (length before) (candidates 256 all) =
     look 256 (sections_sent (drawings ++ d ∷ [])) all stands ∙ ap (λ (k : ℕ). snapshot_after k k (candidates 256 all)) number in
     record { carried = stands; shown = subst (AreShots (drawings ++ d ∷ [])) (sym shown) (shots_push drawings d before shot has.shown is) }
+
+-- the same of what was drawn, where it was lent
+pub one_drawing_more : (drawings : List Drawing) (b : Batch) (fates : List Fate) (old new : DownlinkState) (before after : List Shot) (shot : Shot) (n : ℕ) (g : GenerationState) (items : List Item)
+    → g ≡ arc_value b.generation → items ≡ b.items.items
+    → ((pid : ℕ) (sent packets : List Bytes) → DownlinkStands old pid sent packets
+    → DownlinkStands new pid (sent ++ map (section_of g) items) (packets ++ received_under fates 0 (packets_of_all old.mux (map (section_of g) items))))
+    → ((pid : ℕ) (sent packets : List Bytes) → DownlinkStands new pid sent packets → view shot ≡ snapshot_after n n (candidates pid packets))
+    → n ≡ length before → after ≡ before ++ shot ∷ []
+    → HasShown drawings old before → HasShown (drawings ++ drawing_in b fates ∷ []) new after
+one_drawing_more drawings b fates old new before after shot n g items generation listed carry look number shown =
+    let P : GenerationState → List Item → Type 0 = λ x xs. (pid : ℕ) (sent packets : List Bytes) → DownlinkStands old pid sent packets
+    → DownlinkStands new pid (sent ++ map (section_of x) xs) (packets ++ received_under fates 0 (packets_of_all old.mux (map (section_of x) xs))) in
+    one_shot_more drawings (drawing_in b fates) old new before after shot n (subst (P (arc_value b.generation)) listed (subst (λ (x : GenerationState). P x items) generation carry)) look number shown
+
+-- P where the result is Ok
+pub if_ok : {X E : Type 0} (r : Result X E) (x : X) (P : Type 0) → r ≡ Ok x → P → OnOk r P
+if_ok r x P is p = subst (λ (s : Result _ _). OnOk s P) (sym is) p
+
+pub if_err : {X E : Type 0} (r : Result X E) (e : E) (P : Type 0) → r ≡ Err e → OnOk r P
+if_err r e P is = subst (λ (s : Result _ _). OnOk s P) (sym is) tt

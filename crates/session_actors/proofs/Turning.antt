@@ -13,3 +13,11 @@ at_turn P (y ∷ ys) (suc k) x all lt at = at_turn P ys k x (All-tail P y ys all
 -- one line more, behind those that were done
 pub one_more : {A B : Type 0} (f : A → B) (before : List B) (done : List A) (x : A) → (before ++ map f done) ++ f x ∷ [] ≡ before ++ map f (done ++ x ∷ [])
 one_more f before done x = append_assoc before (map f done) (f x ∷ []) ∙ ap (λ l. before ++ l) (sym (map-append f done (x ∷ [])))
+
+-- all were done
+pub all_done : {A : Type 0} (done all : List A) → map (λ x. x) done ≡ all → done ≡ all
+all_done done all is = sym (unchanged done) ∙ is
+  where
+    unchanged : {A : Type 0} (xs : List A) → map (λ x. x) xs ≡ xs
+    unchanged [] = refl
+    unchanged (x ∷ xs) = ap (λ l. x ∷ l) (unchanged xs)

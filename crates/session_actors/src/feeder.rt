@@ -79,7 +79,10 @@ pub fn send_and_show<R: Threads + Wait + Sync, G: Gate>(
         &batch.items,
         fates,
     )?;
-    let number = shower.front().number() + 1;
+    // The next number is one that the board may show, so it is there.
+    let Some(number) = shower.front().number().checked_add(1) else {
+        return Err(AllocError);
+    };
     let shot = downlink.shot(number, number)?;
     match shower.show(rt, shot) {
         Ok(()) => Ok(()),
