@@ -1,4 +1,4 @@
-use Rattle.std.proofs.Common.{◌∷◌, ◌++◌, List, [], length, ap, sym, ◌∙◌, subst}
+use Rattle.std.proofs.Common.{rules, ◌∷◌, ◌++◌, List, [], ap, sym, ◌∙◌, subst}
 use Rattle.std.specs.List.{All, Contains}
 use Rattle.std.specs.Arc.{arc_value}
 use Rattle.cycle_planner.specs.declared.Item.{Item}
