@@ -75,7 +75,7 @@ pub record DidRead (before after : ReaderSeat) : Type 0 where
   pub same : IsSameReader before.pass after.pass
   pub told : after.pass.told ≡ before.pass.told
   pub known : IsPrefix before.pass.known after.pass.known
-  pub most : length after.pass.known ≤ after.pass.most + 1
+  pub most : length before.pass.known ≤ before.pass.most + 1 → length after.pass.known ≤ after.pass.most + 1
   pub whole : after.whole ≡ true → (least : ℕ) (asked : List Asked) → least + 1 ≤ length before.pass.told → HasOpened asked before.pass
       → HasOpened (asked ++ map (asked_at least) before.paths.items) after.pass
   pub opens : after.whole ≡ true → length after.pass.opens ≡ length before.pass.opens + length before.paths.items

@@ -4,10 +4,13 @@ ghost use Rattle.path_tree.specs.declared.tree.Edit.{Edit as EditFields};
 ghost use Rattle.station.specs.Passes.{IsStationPass};
 ghost use Rattle.session_actors.specs.Seats.{HasCommitted, DidEdit};
 
+use generation_catalogue::CommitFault;
 use oc_bytes::NoMemory;
 use path_tree::Edit;
 use section_workers::{Actor, Gate};
 use station::{Pass, Station};
+use std::alloc::{AllocError, Global};
+use std::mem;
 use std::sync::Wait;
 
 /// A commit that an editor has still to make.
@@ -40,11 +43,41 @@ pub fn commit<R: Wait>(
     ensures commits { OnOk result ((place : ℕ) (lines : List (List EditFields)) → HasCommitted station.now place lines pass.old
         → HasCommitted station.now place (lines ++ edits.items ∷ []) pass.new) }
 {
+    match station.commit(rt, pass, edits) {
+        Ok(_) => Ok(()),
+        Err(CommitFault::Refused(_)) => Ok(()),
+        Err(CommitFault::NoMemory) => Err(AllocError),
+    }
 }
 
 /// Makes the commits of a seat, in order. The editor passes the gate before each line, with steps counted from 0.
-pub(crate) fn edit<R: Wait, G: Gate>(rt: &R, station: &Station, gate: &G, seat: &mut EditorSeat)
+pub(crate) fn edit<R: Wait, G: Gate>(
+    rt: &R,
+    alloc: Global,
+    station: &Station,
+    gate: &G,
+    seat: &mut EditorSeat,
+)
     requires { IsStationPass station.now seat.old.pass }
     ensures { DidEdit station.now seat.old seat.new }
 {
+    let commits = mem::replace(&mut seat.commits, Vec::new(alloc));
+    let mut step = 0;
+    seat.whole = false;
+    for line in commits {
+        step = pass_lines(gate, Actor::Editor(seat.number), step, line.lines);
+        let Ok(()) = commit(rt, station, &mut seat.pass, line.edits) else {
+            return;
+        };
+    }
+    seat.whole = true;
+}
+
+/// Passes the gate for so many lines, with steps from `first` on, and answers the step after them. Steps end at the greatest `u32`.
+fn pass_lines<G: Gate>(gate: &G, actor: Actor, first: u32, lines: u32) -> u32 {
+    let end = first.saturating_add(lines);
+    for step in first..end {
+        gate.pass(actor, step);
+    }
+    end
 }

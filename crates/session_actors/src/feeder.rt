@@ -1,9 +1,12 @@
 //! What the feeder does.
-ghost use Rattle.std.specs.Prelude.{◌≡◌, ◌++◌, ◌∷◌, ◌+◌, ◌≤◌, ◌<◌, [], List, ℕ, length, OnOk};
+ghost use Rattle.std.specs.Prelude.{◌≡◌, ◌++◌, ◌∷◌, ◌+◌, ◌≤◌, [], List, ℕ, map, length, OnOk};
 ghost use Rattle.std.specs.List.{All, Contains};
 ghost use Rattle.std.specs.Arc.{arc_value};
-ghost use Rattle.generation.specs.Layouts.{items_of};
-ghost use Rattle.generation_catalogue.specs.Calls.{view_batch};
+ghost use Rattle.path_tree.specs.Paths.{Bytes};
+ghost use Rattle.generation.specs.Layouts.{items_of, section_of};
+ghost use Rattle.section_stream.specs.Packing.{packets_of_all};
+ghost use Rattle.carousel_world.specs.DownView.{DownlinkStands};
+ghost use Rattle.carousel_world.specs.Fates.{received_under};
 ghost use Rattle.carousel_world.specs.World.{Drawing};
 ghost use Rattle.shot_board.specs.Showers.{shown_by, most_by, IsSameBoard};
 ghost use Rattle.station.specs.Passes.{IsStationPass};
@@ -12,13 +15,16 @@ ghost use Rattle.session_actors.specs.Shown.{HasShown};
 ghost use Rattle.session_actors.specs.Seats.{HasFed, DidFeed, IsDrawLine, draw_of, drawing_in};
 
 use carousel_world::{Downlink, Fate};
+use cycle_planner::Item;
+use generation::Generation;
 use generation_catalogue::Batch;
 use oc_bytes::NoMemory;
 use path_resolver::Shot;
 use section_workers::{Actor, Gate, encode_batch};
 use shot_board::Shower;
 use station::{Pass, Station};
-use std::alloc::Global;
+use std::alloc::{AllocError, Global};
+use std::mem;
 use std::sync::Wait;
 use std::thread::Threads;
 
@@ -64,6 +70,51 @@ pub fn send_and_show<R: Threads + Wait + Sync, G: Gate>(
     ensures shown { OnOk result ((drawings : List Drawing) → HasShown drawings downlink.old (shown_by shower.old)
         → HasShown (drawings ++ drawing_in batch.now fates.now ∷ []) downlink.new (shown_by shower.new)) }
 {
+    send(
+        rt,
+        alloc,
+        gate,
+        downlink,
+        &batch.generation,
+        &batch.items,
+        fates,
+    )?;
+    // The next number is one that the board may show, so it is there.
+    let Some(number) = shower.front().number().checked_add(1) else {
+        return Err(AllocError);
+    };
+    let shot = downlink.shot(number, number)?;
+    match shower.show(rt, shot) {
+        Ok(()) => Ok(()),
+        Err((refused, _)) => Err(refused),
+    }
+}
+
+/// Sends the items of a draw, at most so many sections at once.
+fn send<R: Threads + Sync, G: Gate>(
+    rt: &R,
+    alloc: Global,
+    gate: &G,
+    downlink: &mut Downlink,
+    generation: &Generation,
+    items: &[Item],
+    fates: &[Fate],
+) -> Result<(), NoMemory>
+    requires items { All (λ item. Contains (items_of generation.now) item) items.now }
+    requires few { length items.now ≤ 1048576 }
+    ensures { OnOk result ((pid : ℕ) (sent packets : List Bytes) → DownlinkStands downlink.old pid sent packets
+        → (let sections = map (section_of generation.now) items.now in
+        DownlinkStands downlink.new pid (sent ++ sections) (packets ++ received_under fates.now 0 (packets_of_all downlink.old.mux sections)))) }
+{
+    let mut number = 0;
+    let mut sent = 0;
+    while sent < items.len() {
+        let end = items.len().min(sent + PIECE);
+        let sections = encode_batch(rt, alloc, generation, &items[sent..end], gate)?;
+        number = downlink.carry(&sections, fates, number, end == items.len())?;
+        sent = end;
+    }
+    Ok(())
 }
 
 /// Makes one draw, sends it, and shows the next shot. Out of memory is the only refusal; it also comes where 16,777,216 draws are
@@ -81,12 +132,19 @@ pub fn draw<R: Threads + Wait + Sync, G: Gate>(
     requires line { IsDrawLine line }
     requires room { length (shown_by shower.old) ≤ most_by shower.old }
     ensures pass { IsStationPass station.now seat.new.pass }
-    ensures draws { seat.new.draws ≡ seat.old.draws }
+    ensures rest { (seat.new.draws ≡ seat.old.draws) × (seat.new.whole ≡ seat.old.whole) }
     ensures board { IsSameBoard shower.old shower.new }
     ensures count { OnOk result (length (shown_by shower.new) ≡ length (shown_by shower.old) + 1) }
     ensures fed { OnOk result ((lines : List DrawFields) → HasFed station.now lines seat.old (shown_by shower.old)
         → HasFed station.now (lines ++ draw_of line ∷ []) seat.new (shown_by shower.new)) }
 {
+    let DrawLine { asked, fates } = line;
+    let Ok(batch) = station.draw(rt, &mut seat.pass, asked) else {
+        return Err(AllocError);
+    };
+    send_and_show(rt, alloc, gate, shower, &mut seat.downlink, &batch, &fates)?;
+    seat.fates.push(fates)?;
+    Ok(())
 }
 
 /// Makes the draws of a seat, in order, and shows a shot after each. The feeder passes the gate before each, with steps counted from 0.
@@ -104,4 +162,15 @@ pub(crate) fn feed<R: Threads + Wait + Sync, G: Gate>(
     ensures fed { DidFeed station.now seat.old seat.new (shown_by shower.old) (shown_by shower.new) }
     ensures board { IsSameBoard shower.old shower.new }
 {
+    let draws = mem::replace(&mut seat.draws, Vec::new(alloc));
+    let mut step: u32 = 0;
+    seat.whole = false;
+    for line in draws {
+        gate.pass(Actor::Feeder, step);
+        step = step.saturating_add(1);
+        let Ok(()) = draw(rt, alloc, station, gate, shower, seat, line) else {
+            return;
+        };
+    }
+    seat.whole = true;
 }
