@@ -1,5 +1,5 @@
 -- From the commits that an editor made to its entries in the whole history.
-use Rattle.std.proofs.Common.{◌≡◌, ◌≢◌, ℕ, zero, suc, ◌+◌, ◌<◌, ◌≤◌, ◌==◌, Bool, true, false, cond, List, [], ◌∷◌, ◌++◌, length, filter, Some, slice_get, Result, ◌⊎◌, inl, inr, sym, ap, ◌∙◌, refl, subst, arith, append_assoc, length-append}
+use Rattle.std.proofs.Common.{◌≡◌, ◌≢◌, ℕ, zero, suc, ◌+◌, ◌<◌, ◌≤◌, ◌==◌, Bool, true, false, cond, List, [], ◌∷◌, ◌++◌, length, filter, Some, slice_get, Result, ◌⊎◌, inl, inr, sym, ap, ◌∙◌, refl, subst, arith, append_assoc, append-nil, length-append}
 use Rattle.std.specs.Prelude.{if◌then◌else◌}
 use Rattle.path_tree.specs.declared.tree.Edit.{Edit}
 use Rattle.history_lock.specs.History.{Begins, times}
@@ -84,16 +84,12 @@ module _ (grow : HistoriesGrow) (id place : ℕ) (itself : (place == place) ≡ 
             let parts = times_append k s.own (length c.entries ∷ []) in
             let other = times_other k (length c.entries) (λ q. omega (arith, q, below, same_size)) in
             omega (arith, kept, parts, other)),
-        rest between later b.1 all ([], longer ∙ sym (append_nil (before ++ between ++ e ∷ [])))
+        rest between later b.1 all ([], longer ∙ sym (append-nil (before ++ between ++ e ∷ [])))
             (λ k x far here passes.
             let more = come k x (omega (arith, far, size, long, same_size, length-append before between)) here passes in
             let still = still_own s c.entries k (omega (arith, far, size, long)) in
             omega (arith, more, still)),
       )
-    where
-      append_nil : (xs : List Entry) → xs ++ [] ≡ xs
-      append_nil [] = refl
-      append_nil (x ∷ xs) = ap (λ l. x ∷ l) (append_nil xs)
 
   missing_next : (edits : List Edit) (lines : List (List Edit)) (s t : Seen) (before es : List Entry) → (c : CatalogueState) → GoesOnWith id s c
       → is_entered (outcome_of c edits) ≡ false → Commits id place (seen_of s c.entries) lines t

@@ -1,60 +1,34 @@
 -- The end of a history that settles.
-use Rattle.std.proofs.Common.{◌≡◌, ℕ, zero, suc, ◌+◌, ◌<◌, ◌≤◌, Bool, true, false, cond, nat_le, List, [], ◌∷◌, ◌++◌, length, map, count_by, Result, Ok, Err, sym, ap, ◌∙◌, refl, subst, arith, append_assoc, append-nil}
+use Rattle.std.proofs.Common.{◌≡◌, ℕ, zero, suc, ◌+◌, ◌<◌, ◌≤◌, Bool, true, false, cond, nat_le, List, [], ◌∷◌, ◌++◌, length, map, filter, All, count_by, Result, Ok, Err, sym, ap, ◌∙◌, refl, subst, arith, append_assoc, append-nil, length-append}
 use Rattle.std.proofs.lemmas.List.{map-append}
+use Rattle.std.proofs.lemmas.List.Elements.{All-head, All-tail, All-nil, All-cons}
 use Rattle.ts_packet.specs.declared.Fate.{Fate}
 use Rattle.path_tree.specs.declared.tree.Edit.{Edit}
-use Rattle.generation.specs.Lawful.{ArePublishable}
+use Rattle.path_tree.specs.Paths.{PathNames}
+use Rattle.path_tree.specs.Trees.{node_at}
+use Rattle.generation.specs.Lawful.{ArePublishable, tree_at}
 use Rattle.generation_catalogue.specs.Laws.{HistoriesGrow}
 use Rattle.generation_catalogue.specs.History.{CatalogueState, committed, drawn, draws_of, trees_of, current_of, cursor_of, count_drawn, outcome_of, is_entered, with_entry, is_draw}
 use Rattle.generation_catalogue.specs.declared.entry.Entry.{Entry}
 use Rattle.generation_catalogue.specs.declared.entry.Entry.TheVariants as entries
 use Rattle.carousel_world.specs.Events.{Step, Commit, Draw, Open}
-use Rattle.carousel_world.specs.World.{WorldState, opening, happens, after_all, drawing_of, candidates_in}
+use Rattle.carousel_world.specs.World.{WorldState, opening, happens, after_all, drawing_of, candidates_in, reply_to, replies_to}
 use Rattle.carousel_world.specs.Premises.{IsWhole}
-use Rattle.carousel_world.specs.Promises.{world_after, broadcast_of}
+use Rattle.carousel_world.specs.Promises.{IsUndamaged, world_after, broadcast_of}
+use Rattle.carousel_world.specs.Settling.{IsOpening, settled, Answers, EverySettledRunIsWhole, EverySettledRunOpens}
+use Rattle.carousel_world.specs.declared.event.Reply.{Reply}
+use Rattle.carousel_world.proofs.CallerLemmas.{opens_leave, after_all-append, settled_among_opens}
 use Rattle.rehearsal.specs.Lines.{settling}
 use Rattle.session_history.specs.Merging.{Each}
-use Rattle.session_history.specs.Merges.{event_of}
+use Rattle.session_history.specs.Merged.{is_draw_step}
+use Rattle.session_history.specs.Merges.{event_of, IsRunOfWorld}
 use Rattle.session_actors.specs.Chains.{DrawFields}
 use Rattle.session.specs.Lines.{draws_in}
 use Rattle.session.specs.Played.{IsSettled}
-use Rattle.session.specs.Sessions.{IsOpening, EndsSettled, EndsWhole}
+use Rattle.session.specs.Sessions.{EndsSettled, EndsWhole, EndsAnswered}
 use Rattle.session.proofs.Lists.{count_append}
 use Rattle.session.proofs.Telling.{Told, IsOpenTold, Tells, tells_cut, only_opens}
 use Rattle.session.proofs.Scripted.{draws_append, settling_draw, EndsDrawn}
-
--- what is proved of every world that settles: after two whole draws, for which the history has room, the last generation was heard whole
-abbrev pub SettledRunsAreWhole : Type 0
-SettledRunsAreWhole =
-    (carousel : ℕ) (events : List Step) → ArePublishable (world_after carousel events).catalogue.carousel (trees_of (world_after carousel events).catalogue)
-    → draws_of (world_after carousel events).catalogue + 2 ≤ 16777216
-    → let w = world_after carousel (events ++ settling ∷ settling ∷ []) in
-    IsWhole (broadcast_of w).carousel (broadcast_of w).layouts (length (trees_of w.catalogue)) (candidates_in w)
-
--- ---- opens change no world
-
-opens_change_nothing : (w : WorldState) (es : List Step) → Each IsOpening es → after_all w es ≡ w
-opens_change_nothing w [] h = refl
-opens_change_nothing w (Commit editor edits ∷ es) h = absurd h.0
-opens_change_nothing w (Draw asked fates ∷ es) h = absurd h.0
-opens_change_nothing w (Open reader path ∷ es) h = opens_change_nothing w es h.1
-
-after_append : (w : WorldState) (xs ys : List Step) → after_all w (xs ++ ys) ≡ after_all (after_all w xs) ys
-after_append w [] ys = refl
-after_append w (x ∷ xs) ys = after_append (happens w x) xs ys
-
-module _ (before between after : List Step) (opens : Each IsOpening between) (later : Each IsOpening after) where
-  abbrev at_first : WorldState
-  at_first = world_after 1 before
-
-  settled_is : world_after 1 (before ++ settling ∷ between ++ settling ∷ after) ≡ happens (happens at_first settling) settling
-  settled_is =
-      after_append (opening 1) (before ++ settling ∷ between) (settling ∷ after)
-      ∙ opens_change_nothing (happens (after_all (opening 1) (before ++ settling ∷ between)) settling) after later
-      ∙ ap (λ (w : WorldState). happens w settling) (after_append (opening 1) before (settling ∷ between) ∙ opens_change_nothing (happens at_first settling) between opens)
-
-  pub settled_world : world_after 1 (before ++ settling ∷ between ++ settling ∷ after) ≡ world_after 1 (before ++ settling ∷ settling ∷ [])
-  settled_world = settled_is ∙ sym (after_append (opening 1) before (settling ∷ settling ∷ []))
 
 -- ---- a draw adds no tree, and one to the draws
 
@@ -106,61 +80,96 @@ draws_few w (Commit editor edits ∷ es) = let a = commit_count w.catalogue edit
 draws_few w (Draw asked fates ∷ es) = let a = draw_count w asked fates in let r = draws_few (happens w (Draw asked fates)) es in omega (arith, a, r)
 draws_few w (Open reader path ∷ es) = draws_few w es
 
-no_open_draws : (es : List Step) → Each IsOpening es → draws_in es ≡ []
+no_open_draws : (es : List Step) → All IsOpening es → draws_in es ≡ []
 no_open_draws [] h = refl
-no_open_draws (Commit editor edits ∷ es) h = absurd h.0
-no_open_draws (Draw asked fates ∷ es) h = absurd h.0
-no_open_draws (Open reader path ∷ es) h = no_open_draws es h.1
+no_open_draws (Commit editor edits ∷ es) h = absurd (All-head IsOpening (Commit editor edits) es h)
+no_open_draws (Draw asked fates ∷ es) h = absurd (All-head IsOpening (Draw asked fates) es h)
+no_open_draws (Open reader path ∷ es) h = no_open_draws es (All-tail IsOpening (Open reader path) es h)
 
--- ---- the carousel stays
+-- ---- a history that settles
 
-carousel_kept : (w : WorldState) (e : Step) → (happens w e).catalogue.carousel ≡ w.catalogue.carousel
-carousel_kept w (Commit editor edits) = by (is_entered (outcome_of w.catalogue edits))
-  where
-    by : (b : Bool) → (cond b (with_entry w.catalogue (entries.Commit editor edits (outcome_of w.catalogue edits))) w.catalogue).carousel ≡ w.catalogue.carousel
-    by true = refl
-    by false = refl
-carousel_kept w (Draw asked fates) = by (nat_le 16777216 (draws_of w.catalogue))
-  where
-    by : (full : Bool) → (cond full w (record { catalogue = drawn w.catalogue asked; drawings = w.drawings ++ drawing_of w.catalogue asked fates ∷ [] })).catalogue.carousel ≡ w.catalogue.carousel
-    by true = refl
-    by false = refl
-carousel_kept w (Open reader path) = refl
+-- the world after it is that after its events before the two draws and these draws
+record Settles (events : List Step) : Type 0 where
+  before : List Step
+  same : world_after 1 events ≡ world_after 1 (settled before)
+  published : ArePublishable (world_after 1 before).catalogue.carousel (trees_of (world_after 1 before).catalogue)
+  room : draws_of (world_after 1 before).catalogue + 2 ≤ 16777216
 
-carousel_stays : (w : WorldState) (es : List Step) → (after_all w es).catalogue.carousel ≡ w.catalogue.carousel
-carousel_stays w [] = refl
-carousel_stays w (e ∷ es) = carousel_stays (happens w e) es ∙ carousel_kept w e
+settles_so : HistoriesGrow → (events : List Step) → EndsSettled events
+    → ArePublishable (world_after 1 events).catalogue.carousel (trees_of (world_after 1 events).catalogue) → length (draws_in events) ≤ 16777216 → Settles events
+settles_so grow events ends published few =
+    let before : List Step = ends.0 in
+    let w : WorldState = world_after 1 (settled before) in
+    let same : world_after 1 events ≡ w = ap (world_after 1) ends.3 ∙ settled_among_opens 1 before ends.1 ends.2 ends.4 ends.5 in
+    let twice : w ≡ happens (happens (world_after 1 before) settling) settling = after_all-append (opening 1) before (settling ∷ settling ∷ []) in
+    let IsGood : WorldState → Type 0 = λ v. ArePublishable v.catalogue.carousel (trees_of v.catalogue) in
+    let parts : draws_in events ≡ draws_in before ++ settling_draw ∷ (draws_in ends.1 ++ settling_draw ∷ draws_in ends.2) =
+    ap draws_in ends.3 ∙ draws_append before (settling ∷ (ends.1 ++ settling ∷ ends.2)) ∙ ap (λ l. draws_in before ++ settling_draw ∷ l) (draws_append ends.1 (settling ∷ ends.2)) in
+    let counted = ap length parts in
+    let outer = length-append (draws_in before) (settling_draw ∷ (draws_in ends.1 ++ settling_draw ∷ draws_in ends.2)) in
+    let inner = length-append (draws_in ends.1) (settling_draw ∷ draws_in ends.2) in
+    let bound = draws_few (opening 1) before in
+    record {
+      before = before;
+      same = same;
+      published = published_before grow (world_after 1 before) (subst IsGood (same ∙ twice) published);
+      room = omega (arith, counted, outer, inner, bound, few);
+    }
 
--- ---- a settled history ends whole
-
-pub ends_whole : HistoriesGrow → SettledRunsAreWhole → (events : List Step) → EndsSettled events
+pub ends_whole : HistoriesGrow → EverySettledRunIsWhole → (events : List Step) → EndsSettled events
     → ArePublishable (world_after 1 events).catalogue.carousel (trees_of (world_after 1 events).catalogue) → length (draws_in events) ≤ 16777216
     → EndsWhole events
 ends_whole grow law events ends published few =
-    let before : List Step = ends.0 in
-    let all : List Step = before ++ settling ∷ ends.1 ++ settling ∷ ends.2 in
-    let w : WorldState = world_after 1 (before ++ settling ∷ settling ∷ []) in
-    let same : world_after 1 events ≡ w = ap (world_after 1) ends.3 ∙ settled_world before ends.1 ends.2 ends.4 ends.5 in
-    let twice : w ≡ happens (happens (world_after 1 before) settling) settling = after_append (opening 1) before (settling ∷ settling ∷ []) in
-    let IsGood : WorldState → Type 0 = λ v. ArePublishable v.catalogue.carousel (trees_of v.catalogue) in
-    let good : IsGood (world_after 1 before) = published_before grow (world_after 1 before) (subst IsGood (same ∙ twice) published) in
-    let counted = ap length (ap draws_in ends.3 ∙ draws_append (before ++ settling ∷ ends.1) (settling ∷ ends.2) ∙ ap (λ l. l ++ draws_in (settling ∷ ends.2)) (draws_append before (settling ∷ ends.1))) in
-    let parts = two_more (draws_in before) (draws_in ends.1) (draws_in ends.2) in
-    let bound = draws_few (opening 1) before in
-    let room : draws_of (world_after 1 before).catalogue + 2 ≤ 16777216 = omega (arith, counted, parts, bound, few) in
-    let whole = law 1 before good room in
-    let carousel : (broadcast_of w).carousel ≡ 1 = carousel_stays (opening 1) (before ++ settling ∷ settling ∷ []) in
-    let there : IsWhole 1 (broadcast_of w).layouts (length (trees_of w.catalogue)) (candidates_in w) =
-    subst (λ (n : ℕ). IsWhole n (broadcast_of w).layouts (length (trees_of w.catalogue)) (candidates_in w)) carousel whole in
-    subst (λ (v : WorldState). IsWhole 1 (broadcast_of v).layouts (length (trees_of v.catalogue)) (candidates_in v)) (sym same) there
-  where
-    two_more : (a b c : List DrawFields) → length a + 2 ≤ length ((a ++ settling_draw ∷ b) ++ settling_draw ∷ c)
-    two_more [] b c = few_more b
-      where
-        few_more : (b : List DrawFields) → 2 ≤ length (settling_draw ∷ b ++ settling_draw ∷ c)
-        few_more [] = omega arith
-        few_more (x ∷ b) = let r = few_more b in omega (arith, r)
-    two_more (x ∷ a) b c = let r = two_more a b c in omega (arith, r)
+    let s = settles_so grow events ends published few in
+    subst (λ (v : WorldState). IsWhole 1 (broadcast_of v).layouts (length (trees_of v.catalogue)) (candidates_in v)) (sym s.same) (law 1 s.before s.published s.room)
+
+abbrev pub steps : List Told → List Step
+steps told = map (λ (x : Told). x.0) told
+
+-- the reply at a place of a run
+reply_at : (w : WorldState) (before after : List Told) (e : Step) (reply : Reply) → map (λ (x : Told). x.1) (before ++ (e, reply) ∷ after) ≡ replies_to w (steps (before ++ (e, reply) ∷ after))
+    → reply ≡ reply_to (after_all w (steps before)) e
+reply_at w [] after e reply h = cc
+reply_at w (x ∷ before) after e reply h = reply_at (happens w x.0) before after e reply (cc)
+
+no_draws : (told : List Told) → filter (λ (x : Told). is_draw_step x.0) told ≡ [] → draws_in (steps told) ≡ []
+no_draws [] h = refl
+no_draws ((Commit editor edits, reply) ∷ told) h = no_draws told h
+no_draws ((Draw asked fates, reply) ∷ told) h = absurd (cc)
+no_draws ((Open reader path, reply) ∷ told) h = no_draws told h
+
+all_behind : (b a : List Step) (e : Step) → All IsOpening (b ++ e ∷ a) → All IsOpening a
+all_behind [] a e h = All-tail IsOpening e a h
+all_behind (x ∷ b) a e h = all_behind b a e (All-tail IsOpening x (b ++ e ∷ a) h)
+
+-- behind an open that no draw follows there are opens alone
+opens_last : (xs z b a : List Step) (reader : ℕ) (path : PathNames) → xs ++ settling ∷ z ≡ b ++ Open reader path ∷ a → All IsOpening z → draws_in a ≡ [] → All IsOpening a
+opens_last [] z [] a reader path h opens none = absurd (cc)
+opens_last [] z (y ∷ b) a reader path h opens none = let e : z ≡ b ++ Open reader path ∷ a = cc in all_behind b a (Open reader path) (subst (All IsOpening) e opens)
+opens_last (x ∷ xs) z [] a reader path h opens none =
+    let e : xs ++ settling ∷ z ≡ a = cc in
+    let some = ap length (sym (draws_append xs (settling ∷ z)) ∙ ap draws_in e ∙ none) in
+    let size = length-append (draws_in xs) (settling_draw ∷ draws_in z) in
+    absurd (omega (arith, some, size))
+opens_last (x ∷ xs) z (y ∷ b) a reader path h opens none = opens_last xs z b a reader path (cc) opens none
+
+pub ends_answered : HistoriesGrow → EverySettledRunOpens → (told : List Told) → IsRunOfWorld 1 told → EndsSettled (steps told)
+    → ArePublishable (world_after 1 (steps told)).catalogue.carousel (trees_of (world_after 1 (steps told)).catalogue) → length (draws_in (steps told)) ≤ 16777216
+    → EndsAnswered told
+ends_answered grow law told run ends published few undamaged before after reader path reply cut none =
+    let s = settles_so grow (steps told) ends published few in
+    let all : WorldState = world_after 1 (steps told) in
+    let here : WorldState = world_after 1 (steps before) in
+    let Looks : WorldState → WorldState → Type 0 = λ u v. Answers (reply_to u (Open reader path)) (node_at (tree_at (broadcast_of v).trees (length (trees_of v.catalogue))) path) in
+    let last : Looks all all = subst (λ v. Looks v v) (sym s.same) (law 1 s.before s.published s.room (subst IsUndamaged s.same undamaged) reader path) in
+    let parts : steps told ≡ steps before ++ Open reader path ∷ steps after = ap steps cut ∙ map-append (λ (x : Told). x.0) before ((Open reader path, reply) ∷ after) in
+    let opens : All IsOpening (steps after) =
+    opens_last (ends.0 ++ settling ∷ ends.1) ends.2 (steps before) (steps after) reader path
+    (append_assoc ends.0 (settling ∷ ends.1) (settling ∷ ends.2) ∙ sym ends.3 ∙ parts) ends.5 (no_draws after none) in
+    let same : all ≡ here = ap (world_after 1) parts ∙ after_all-append (opening 1) (steps before) (Open reader path ∷ steps after) ∙ opens_leave here (steps after) opens in
+    let is : reply ≡ reply_to here (Open reader path) =
+    reply_at (opening 1) before after (Open reader path) reply (subst (λ l. map (λ (x : Told). x.1) l ≡ replies_to (opening 1) (steps l)) cut run) in
+    subst (λ r. Answers r (node_at (tree_at (broadcast_of all).trees (length (trees_of all.catalogue))) path)) (sym is) (subst (λ u. Looks u all) same last)
 
 -- ---- where the catalogue's last entries are two draws, so are the last events but opens
 
@@ -172,12 +181,9 @@ last_same (x ∷ []) [] a b h = absurd (cc)
 last_same (x ∷ z ∷ xs) [] a b h = absurd (cc)
 last_same (x ∷ xs) (y ∷ ys) a b h = let r = last_same xs ys a b (cc) in let e : x ≡ y = cc in (λ i. e i ∷ r.0 i, r.1)
 
-opened_steps : (told : List Told) → Each IsOpenTold told → Each IsOpening (map (λ (x : Told). x.0) told)
-opened_steps [] h = tt
-opened_steps (x ∷ told) h = (subst (λ (y : Told). IsOpening y.0) (sym (h.0).2) tt, opened_steps told h.1)
-
-abbrev pub steps : List Told → List Step
-steps told = map (λ (x : Told). x.0) told
+opened_steps : (told : List Told) → Each IsOpenTold told → All IsOpening (steps told)
+opened_steps [] h = All-nil IsOpening
+opened_steps (x ∷ told) h = All-cons IsOpening x.0 (steps told) (subst (λ (y : Told). IsOpening y.0) (sym (h.0).2) tt) (opened_steps told h.1)
 
 pub ends_settled : (editors : List ℕ) (c : CatalogueState) (told : List Told) (ds : List DrawFields) → Tells editors c.entries told → IsSettled c
     → draws_in (steps told) ≡ ds → EndsDrawn ds → EndsSettled (steps told)
@@ -210,4 +216,4 @@ ends_settled editors c told ds h settled same drew =
     let inner = last_same (draws_in a) drew.0 (record { asked = 1048576; fates = f }) settling_draw outer.0 in
     let f_none : f ≡ [] = ap (λ (d : DrawFields). d.fates) inner.1 in
     let g_none : g ≡ [] = ap (λ (d : DrawFields). d.fates) outer.1 in
-    (a, b, z, cut ∙ (λ i. a ++ Draw 1048576 (f_none i) ∷ b ++ Draw 1048576 (g_none i) ∷ z), b_opens, z_opens)
+    (a, b, z, cut ∙ (λ i. a ++ Draw 1048576 (f_none i) ∷ b ++ Draw 1048576 (g_none i) ∷ z) ∙ append_assoc a (settling ∷ b) (settling ∷ z), b_opens, z_opens)

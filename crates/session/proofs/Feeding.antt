@@ -1,5 +1,5 @@
 -- From the draws that the feeder made to the draws of the whole history.
-use Rattle.std.proofs.Common.{◌≡◌, ◌≢◌, ℕ, zero, suc, ◌+◌, ◌<◌, ◌≤◌, Bool, true, false, cond, List, [], ◌∷◌, ◌++◌, length, map, filter, drop, get_or, Some, slice_get, sym, ap, ◌∙◌, refl, subst, arith, append_assoc, length-append}
+use Rattle.std.proofs.Common.{◌≡◌, ◌≢◌, ℕ, zero, suc, ◌+◌, ◌<◌, ◌≤◌, Bool, true, false, cond, List, [], ◌∷◌, ◌++◌, length, map, filter, drop, get_or, Some, slice_get, sym, ap, ◌∙◌, refl, subst, arith, append_assoc, append-nil, length-append}
 use Rattle.ts_packet.specs.declared.Fate.{Fate}
 use Rattle.history_lock.specs.History.{Begins, times}
 use Rattle.generation_catalogue.specs.History.{CatalogueState, is_draw, current_of, items_drawn}
@@ -28,11 +28,7 @@ asked_past (entries.Draw asked generation first count ∷ xs) ys h = let f = (fi
 
 pub drawings_past : (id : ℕ) (before : List Entry) (fates : List (List Fate)) (xs ys : List Entry) → filter is_draw xs ≡ []
     → drawings_after id before fates (xs ++ ys) ≡ drawings_after id (before ++ xs) fates ys
-drawings_past id before fates [] ys h = ap (λ l. drawings_after id l fates ys) (none before)
-  where
-    none : (l : List Entry) → l ≡ l ++ []
-    none [] = refl
-    none (x ∷ l) = ap (λ m. x ∷ m) (none l)
+drawings_past id before fates [] ys h = ap (λ l. drawings_after id l fates ys) (sym (append-nil before))
 drawings_past id before fates (entries.Commit editor edits outcome ∷ xs) ys h =
     drawings_past id (before ++ entries.Commit editor edits outcome ∷ []) fates xs ys (first_fails is_draw (entries.Commit editor edits outcome) xs h).1
     ∙ ap (λ l. drawings_after id l fates ys) (append_assoc before (entries.Commit editor edits outcome ∷ []) xs)
@@ -109,8 +105,4 @@ module _ (id : ℕ) (history : List Entry) where
       let e : Entry = draw_entry c l.asked in
       let next = first_draw id s l lines d ds t chain in
       drawn_next l lines d ds s t before es c chain.1 chain.3 next ends begins is come
-      (λ later cut own. are_drawn lines ds (seen_with s c.entries e) t (c.entries ++ e ∷ []) later next ends ([], none (c.entries ++ e ∷ [])) cut own)
-    where
-      none : (l : List Entry) → l ≡ l ++ []
-      none [] = refl
-      none (x ∷ l) = ap (λ m. x ∷ m) (none l)
+      (λ later cut own. are_drawn lines ds (seen_with s c.entries e) t (c.entries ++ e ∷ []) later next ends ([], sym (append-nil (c.entries ++ e ∷ []))) cut own)

@@ -11,4 +11,5 @@ pub mod Scripted
 pub mod Reading
 pub mod Ending
 pub mod Session
+pub mod Arranged
 pub mod Examples

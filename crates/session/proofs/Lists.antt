@@ -4,12 +4,7 @@ use Rattle.std.proofs.lemmas.List.Sums.{sum_by-cons, sum_by-append}
 use Rattle.std.proofs.lemmas.Bool.Decides.{nat_tests}
 use Rattle.history_lock.specs.History.{Begins, times, places, total, once_within}
 use Rattle.session_history.specs.Merging.{Each}
-
-pub filter_takes : {A : Type 0} (p : A → Bool) (x : A) (xs : List A) → p x ≡ true → filter p (x ∷ xs) ≡ x ∷ filter p xs
-filter_takes p x xs h = ap (λ (b : Bool). cond b (x ∷ filter p xs) (filter p xs)) h
-
-pub filter_skips : {A : Type 0} (p : A → Bool) (x : A) (xs : List A) → p x ≡ false → filter p (x ∷ xs) ≡ filter p xs
-filter_skips p x xs h = ap (λ (b : Bool). cond b (x ∷ filter p xs) (filter p xs)) h
+use Rattle.session_history.proofs.CallerLemmas.{filter_takes, filter_skips}
 
 module _ {A : Type 0} where
   pub cancel : (xs ys zs : List A) → xs ++ ys ≡ xs ++ zs → ys ≡ zs
@@ -102,18 +97,6 @@ module _ {A : Type 0} where
           → (i : ℕ) × (y : A) × (slice_get (x ∷ xs) i ≡ Some y) × (0 < f y)
       by rest zero e = let r = rest (omega (arith, e, h)) in (suc r.0, r.1, r.2, r.3)
       by rest (suc n) e = (0, x, refl, omega (arith, e))
-
-  pub count_takes : (p : A → Bool) (x : A) (xs : List A) → p x ≡ true → count_by p (x ∷ xs) ≡ suc (count_by p xs)
-  count_takes p x xs h = sum_by-cons (λ y. cond {A = ℕ} (p y) 1 0) x xs ∙ ap (λ (b : Bool). cond {A = ℕ} b 1 0 + count_by p xs) h ∙ one (count_by p xs)
-    where
-      one : (n : ℕ) → 1 + n ≡ suc n
-      one n = omega arith
-
-  pub count_skips : (p : A → Bool) (x : A) (xs : List A) → p x ≡ false → count_by p (x ∷ xs) ≡ count_by p xs
-  count_skips p x xs h = sum_by-cons (λ y. cond {A = ℕ} (p y) 1 0) x xs ∙ ap (λ (b : Bool). cond {A = ℕ} b 1 0 + count_by p xs) h ∙ none (count_by p xs)
-    where
-      none : (n : ℕ) → 0 + n ≡ n
-      none n = omega arith
 
   pub count_append : (p : A → Bool) (xs ys : List A) → count_by p (xs ++ ys) ≡ count_by p xs + count_by p ys
   count_append p xs ys = sum_by-append (λ y. cond {A = ℕ} (p y) 1 0) xs ys

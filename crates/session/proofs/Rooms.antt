@@ -14,7 +14,8 @@ use Rattle.generation_catalogue.specs.declared.entry.Refusal.TheVariants as refu
 use Rattle.generation_catalogue.specs.declared.entry.Entry.{Entry}
 use Rattle.generation_catalogue.specs.declared.entry.Entry.TheVariants as entries
 use Rattle.session.specs.Gathering.{is_made, IsFullAfter}
-use Rattle.session.proofs.Lists.{count_takes, count_skips, count_append}
+use Rattle.session_history.proofs.CallerLemmas.{count_more, count_same}
+use Rattle.session.proofs.Lists.{count_append}
 
 -- each accepted commit makes a tree
 trees_made : (es : List Entry) (ts : List Tree) → length (trees_after ts es) ≡ length ts + count_by is_made es
@@ -22,10 +23,10 @@ trees_made [] ts = omega arith
 trees_made (entries.Commit editor edits (Ok number) ∷ es) ts =
     let rest = trees_made es (with_tree ts edits) in
     let one = length-append ts (or_same (last_tree ts) (apply_all (last_tree ts) edits) ∷ []) in
-    let more = count_takes is_made (entries.Commit editor edits (Ok number)) es refl in
+    let more = count_more is_made (entries.Commit editor edits (Ok number)) es refl in
     omega (arith, rest, one, more)
-trees_made (entries.Commit editor edits (Err refusal) ∷ es) ts = trees_made es ts ∙ ap (λ (n : ℕ). length ts + n) (sym (count_skips is_made (entries.Commit editor edits (Err refusal)) es refl))
-trees_made (entries.Draw asked generation first count ∷ es) ts = trees_made es ts ∙ ap (λ (n : ℕ). length ts + n) (sym (count_skips is_made (entries.Draw asked generation first count) es refl))
+trees_made (entries.Commit editor edits (Err refusal) ∷ es) ts = trees_made es ts ∙ ap (λ (n : ℕ). length ts + n) (sym (count_same is_made (entries.Commit editor edits (Err refusal)) es refl))
+trees_made (entries.Draw asked generation first count ∷ es) ts = trees_made es ts ∙ ap (λ (n : ℕ). length ts + n) (sym (count_same is_made (entries.Draw asked generation first count) es refl))
 
 limit_entered : (number : ℕ) (passed : Option limits.Passed) → is_entered (unless_limit number passed) ≡ true
 limit_entered number None = refl

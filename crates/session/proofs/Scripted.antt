@@ -3,6 +3,7 @@ use Rattle.std.proofs.Common.{◌≡◌, ◌≢◌, ℕ, zero, suc, ◌+◌, ◌
 use Rattle.std.specs.Prelude.{if◌then◌else◌, ◌||◌}
 use Rattle.std.specs.List.{list_any, count_by}
 use Rattle.std.proofs.lemmas.List.Elements.{All-head, All-tail}
+use Rattle.std.proofs.lemmas.List.Folds.{list_any-append}
 use Rattle.path_tree.specs.Paths.{PathNames}
 use Rattle.path_tree.specs.declared.tree.Edit.{Edit}
 use Rattle.session_script.specs.declared.script.Stage.{Stage}
@@ -94,15 +95,6 @@ no_finale_draws p (l ∷ lines) h =
     let here : events_of_line p l.act ≡ Open f.1 f.2 ∷ [] = ap (events_of_line p) f.3 in
     ap (λ es. draws_in (es ++ events_from (pending_after p l.act) lines)) here ∙ no_finale_draws (pending_after p l.act) lines (All-tail IsFinale l lines h)
 
-any_append : (xs ys : List LineFields) → list_any (λ (l : LineFields). is_settle l.act) (xs ++ ys) ≡ (list_any (λ (l : LineFields). is_settle l.act) xs || list_any (λ (l : LineFields). is_settle l.act) ys)
-any_append [] ys = refl
-any_append (x ∷ xs) ys = by (is_settle x.act) (any_append xs ys)
-  where
-    by : (b : Bool) → list_any (λ (l : LineFields). is_settle l.act) (xs ++ ys) ≡ (list_any (λ (l : LineFields). is_settle l.act) xs || list_any (λ (l : LineFields). is_settle l.act) ys)
-        → (b || list_any (λ (l : LineFields). is_settle l.act) (xs ++ ys)) ≡ ((b || list_any (λ (l : LineFields). is_settle l.act) xs) || list_any (λ (l : LineFields). is_settle l.act) ys)
-    by true h = refl
-    by false h = h
-
 none_settle : (stage : Stage) (lines : List LineFields) → All (IsLineOf stage) lines → list_any (λ (l : LineFields). is_settle l.act) lines ≡ false
 none_settle stage [] h = refl
 none_settle stage (l ∷ lines) h =
@@ -136,8 +128,8 @@ settles_last script a s =
     let first = a.before ++ a.during in
     let cut : script.lines ≡ first ++ a.ends = a.lines in
     let none : any first ≡ false =
-    any_append a.before a.during ∙ (λ i. none_settle Before a.before a.are_before i || none_settle During a.during a.are_during i) in
-    let last : any a.ends ≡ true = sym (ap (λ (b : Bool). b || any a.ends) none) ∙ sym (any_append first a.ends) ∙ ap any (sym cut) ∙ s in
+    list_any-append (λ (l : LineFields). is_settle l.act) a.before a.during ∙ (λ i. none_settle Before a.before a.are_before i || none_settle During a.during a.are_during i) in
+    let last : any a.ends ≡ true = sym (ap (λ (b : Bool). b || any a.ends) none) ∙ sym (list_any-append (λ (l : LineFields). is_settle l.act) first a.ends) ∙ ap any (sym cut) ∙ s in
     let parts = events_append none_pending first a.ends in (
       draws_in (events_from none_pending first),
       ap (λ ls. draws_in (events_from none_pending ls)) cut ∙ ap draws_in parts.1 ∙ draws_append (events_from none_pending first) (events_from parts.0 a.ends)

@@ -13,13 +13,14 @@ use Rattle.generation_catalogue.specs.declared.entry.Entry.TheVariants as entrie
 use Rattle.carousel_world.specs.Events.{Step, Commit, Draw, Open}
 use Rattle.carousel_world.specs.World.{Drawing}
 use Rattle.carousel_world.specs.Promises.{MeetsHeadline, world_after}
+use Rattle.carousel_world.specs.Settling.{EverySettledRunIsWhole, EverySettledRunOpens}
 use Rattle.carousel_world.specs.declared.event.Reply.{Reply}
 use Rattle.session_history.specs.declared.opens.Open.{Open as OpenFields}
 use Rattle.session_history.specs.Laws.{placed}
 use Rattle.session_history.specs.Merging.{Each, merge_of, drawn_with, opens_by}
 use Rattle.session_history.specs.Merges.{ReaderFields, event_of, opened_of, merging, drawings_after, AreAnswered, IsRunOfWorld}
 use Rattle.session_history.specs.Merged.{is_draw_step, is_open_by, IsPlaced, IsInOrder, AreParts, IsReady, IsMerged, EveryMergeIsMerged}
-use Rattle.session_history.proofs.CallerLemmas.{merged_is_published}
+use Rattle.session_history.proofs.CallerLemmas.{merged_is_published, count_more, count_same}
 use Rattle.session_script.specs.Scripts.{Fields}
 use Rattle.rehearsal.specs.Lines.{events_of}
 use Rattle.session_actors.specs.Chains.{DrawFields}
@@ -27,13 +28,12 @@ use Rattle.session.specs.Lines.{IsArranged, commits_by, draws_in, asked_of, sett
 use Rattle.session.specs.Gathering.{asked_in}
 use Rattle.session.specs.Sessions.{AreCommitted, AreTold, EndsSettled, EndsWhole, IsSession}
 use Rattle.session.specs.Played.{open_of, opens_of, IsPlayed, fates_of, PlayedIsASession}
-use Rattle.session.proofs.Lists.{count_takes, count_skips}
 use Rattle.session.proofs.Feeding.{fates_in, asked_by}
 use Rattle.session.proofs.Telling.{Told, Tells, merge_tells, none_of_other}
 use Rattle.session.proofs.Committed.{committed, HasPlace, HasNone, find_place, place_mapped}
 use Rattle.session.proofs.Scripted.{none_of_editor, none_of_reader, settles_last}
 use Rattle.session.proofs.Reading.{in_order, are_answered, are_apart, are_numbers, actor_at, reader_told, none_opened}
-use Rattle.session.proofs.Ending.{SettledRunsAreWhole, steps, ends_settled, ends_whole}
+use Rattle.session.proofs.Ending.{steps, ends_settled, ends_whole, ends_answered}
 
 -- ---- draws
 
@@ -55,15 +55,15 @@ draws_with editors (l ∷ lines) (entries.Draw asked generation first count ∷ 
 
 asked_count : (es : List Entry) → length (asked_in es) ≡ count_by is_draw es
 asked_count [] = refl
-asked_count (entries.Commit editor edits outcome ∷ es) = asked_count es ∙ sym (count_skips is_draw (entries.Commit editor edits outcome) es refl)
-asked_count (entries.Draw asked generation first count ∷ es) = ap suc (asked_count es) ∙ sym (count_takes is_draw (entries.Draw asked generation first count) es refl)
+asked_count (entries.Commit editor edits outcome ∷ es) = asked_count es ∙ sym (count_same is_draw (entries.Commit editor edits outcome) es refl)
+asked_count (entries.Draw asked generation first count ∷ es) = ap suc (asked_count es) ∙ sym (count_more is_draw (entries.Draw asked generation first count) es refl)
 
 drawings_count : (id : ℕ) (before : List Entry) (fates : List (List Fate)) (es : List Entry) → length (drawings_after id before fates es) ≡ count_by is_draw es
 drawings_count id before fates [] = refl
 drawings_count id before fates (entries.Commit editor edits outcome ∷ es) =
-    drawings_count id (before ++ entries.Commit editor edits outcome ∷ []) fates es ∙ sym (count_skips is_draw (entries.Commit editor edits outcome) es refl)
+    drawings_count id (before ++ entries.Commit editor edits outcome ∷ []) fates es ∙ sym (count_same is_draw (entries.Commit editor edits outcome) es refl)
 drawings_count id before fates (entries.Draw asked generation first count ∷ es) =
-    ap suc (drawings_count id (before ++ entries.Draw asked generation first count ∷ []) (drop 1 fates) es) ∙ sym (count_takes is_draw (entries.Draw asked generation first count) es refl)
+    ap suc (drawings_count id (before ++ entries.Draw asked generation first count ∷ []) (drop 1 fates) es) ∙ sym (count_more is_draw (entries.Draw asked generation first count) es refl)
 
 -- ---- the parts of what was played
 
@@ -152,20 +152,24 @@ module _ (script : Fields) (c : CatalogueState) (drawings : List Drawing) (shots
         subst (λ (n : ℕ). ArePublishable (world_after n (steps merge)).catalogue.carousel (trees_of (world_after n (steps merge)).catalogue)) p.carousel
         (merged_is_published c script.editors (fates_of script) opened ready)
 
-    pub session : HistoriesGrow → SettledRunsAreWhole → IsSession script merge
-    session grow law = record {
-      run = subst (λ (n : ℕ). IsRunOfWorld n merge) p.carousel m.run;
+    run : IsRunOfWorld 1 merge
+    run = subst (λ (n : ℕ). IsRunOfWorld n merge) p.carousel m.run
+
+    pub session : HistoriesGrow → EverySettledRunIsWhole → EverySettledRunOpens → IsSession script merge
+    session grow whole opening = record {
+      run = run;
       steps = m.steps;
       headline = subst (λ (n : ℕ). MeetsHeadline n (steps merge)) p.carousel m.headline;
       commits = λ editor some most. commits editor;
       draws = draws;
       opens = opens;
       settled = settled;
-      whole = λ s. ends_whole grow law (steps merge) (settled s) published few;
+      whole = λ s. ends_whole grow whole (steps merge) (settled s) published few;
+      answered = λ s. ends_answered grow opening merge run (settled s) published few;
     }
 
-  pub all : EveryMergeIsMerged → HistoriesGrow → SettledRunsAreWhole → AreParts c.entries (fates_of script) script.editors opened × IsSession script merge
-  all merges grow law = (parts, session (merges c script.editors (fates_of script) opened ready) grow law)
+  pub all : EveryMergeIsMerged → HistoriesGrow → EverySettledRunIsWhole → EverySettledRunOpens → AreParts c.entries (fates_of script) script.editors opened × IsSession script merge
+  all merges grow whole opening = (parts, session (merges c script.editors (fates_of script) opened ready) grow whole opening)
 
-pub played : EveryMergeIsMerged → HistoriesGrow → SettledRunsAreWhole → PlayedIsASession
-played merges grow law script c drawings shots readers a p = all script c drawings shots readers a p merges grow law
+pub played : EveryMergeIsMerged → HistoriesGrow → EverySettledRunIsWhole → EverySettledRunOpens → PlayedIsASession
+played merges grow whole opening script c drawings shots readers a p = all script c drawings shots readers a p merges grow whole opening

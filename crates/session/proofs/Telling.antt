@@ -19,17 +19,14 @@ use Rattle.session_history.specs.Merges.{ReaderFields, event_of, opened_of, merg
 use Rattle.session_history.specs.Merged.{IsPlaced, AreNumbers, is_commit_at, is_commit_of}
 use Rattle.session.specs.Gathering.{entries_to_next}
 use Rattle.session.specs.Sessions.{up_to_next}
-use Rattle.session.proofs.Lists.{filter_skips, first_fails}
+use Rattle.session_history.proofs.CallerLemmas.{filter_skips, each_append, commit_told}
+use Rattle.session.proofs.Lists.{first_fails}
 
 abbrev pub Told : Type 0
 Told = Step × Reply
 
 abbrev pub IsOpenTold : Told → Type 0
 IsOpenTold x = (reader : ℕ) × (o : Open) × (x ≡ opened_of reader o)
-
-each_append : {A : Type 0} (P : A → Type 0) (xs ys : List A) → Each P xs → Each P ys → Each P (xs ++ ys)
-each_append P [] ys h k = k
-each_append P (x ∷ xs) ys h k = (h.0, each_append P xs ys h.1 k)
 
 module _ (editors : List ℕ) where
   -- the event tells this entry, an editor's commit under its number
@@ -130,22 +127,12 @@ module _ (editors : List ℕ) where
 
 -- ---- an editor's commits
 
-number_told : (editors : List ℕ) → AreNumbers editors → (place j : ℕ) → place < length editors → j < length editors → (get_or editors j 0 == get_or editors place 0) ≡ (j == place)
-number_told editors n place j within inside = dite (ℕ_discrete j place)
-    (λ e. eq-eqb (get_or editors j 0) (get_or editors place 0) (ap (λ i. get_or editors i 0) e) ∙ sym (eq-eqb j place e))
-    (λ ne. ne_eqb (get_or editors j 0) (get_or editors place 0) (λ e. ne (n.apart j place inside within e)) ∙ sym (ne_eqb j place ne))
-
-pub commit_told : (editors : List ℕ) → AreNumbers editors → (place : ℕ) → place < length editors → (e : Entry) (fates : List Fate) → IsPlaced (length editors) e
-    → is_commit_of (get_or editors place 0) (event_of editors e fates).0 ≡ is_commit_at place e
-commit_told editors n place within (entries.Commit editor edits outcome) fates placed = number_told editors n place editor within placed
-commit_told editors n place within (entries.Draw asked generation first count) fates placed = refl
-
 module _ (editors : List ℕ) (n : AreNumbers editors) (place : ℕ) (within : place < length editors) where
   abbrev is_its : Told → Bool
   is_its x = is_commit_of (get_or editors place 0) x.0
 
   told_same : (e : Entry) (x : Told) → IsToldBy editors e x → is_its x ≡ is_commit_at place e
-  told_same e x t = ap is_its t.1 ∙ commit_told editors n place within e t.0 t.2
+  told_same e x t = ap is_its t.1 ∙ commit_told editors n place within e t.0
 
   open_not : (x : Told) → IsOpenTold x → is_its x ≡ false
   open_not x o = ap is_its o.2

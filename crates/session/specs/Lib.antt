@@ -2,3 +2,4 @@ pub mod Lines
 pub mod Sessions
 pub mod Gathering
 pub mod Played
+pub mod Texts

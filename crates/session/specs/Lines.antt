@@ -17,9 +17,12 @@ use Rattle.session_actors.specs.Opened.{Asked}
 -- ---- events
 
 -- the events of lines in written order, each with the stage of its line, where these edits are pending above them
+abbrev pub staged_of : Pending → Stage → Act → List (Stage × Step)
+staged_of p stage act = map (λ e. (stage, e)) (events_of_line p act)
+
 abbrev pub staged_from : Pending → List LineFields → List (Stage × Step)
 staged_from p [] = []
-staged_from p (l ∷ ls) = map (λ e. (l.stage, e)) (events_of_line p l.act) ++ staged_from (pending_after p l.act) ls
+staged_from p (l ∷ ls) = staged_of p l.stage l.act ++ staged_from (pending_after p l.act) ls
 
 abbrev pub staged_events : Fields → List (Stage × Step)
 staged_events script = staged_from none_pending script.lines

@@ -1,16 +1,19 @@
 -- What a session is: a history of its script's commits, draws and opens. The order in which a script's actors run is this project's own.
 use Rattle.std.specs.Prelude.{◌≡◌, ◌⊎◌, ℕ, ◌+◌, ◌<◌, ◌≤◌, Bool, true, false, List, [], ◌∷◌, ◌++◌, map, length, if◌then◌else◌}
 use Rattle.std.specs.List.{All, filter, count_by, sum_by}
+use Rattle.path_tree.specs.Paths.{PathNames}
+use Rattle.path_tree.specs.Trees.{node_at}
 use Rattle.path_tree.specs.declared.tree.Edit.{Edit}
+use Rattle.generation.specs.Lawful.{tree_at}
 use Rattle.generation_catalogue.specs.History.{put_bytes, trees_of}
 use Rattle.carousel_world.specs.Events.{Step, Commit, Draw, Open}
 use Rattle.carousel_world.specs.World.{InRange, candidates_in}
 use Rattle.carousel_world.specs.Premises.{IsWhole}
-use Rattle.carousel_world.specs.Promises.{MeetsHeadline, world_after, broadcast_of}
+use Rattle.carousel_world.specs.Promises.{MeetsHeadline, IsUndamaged, world_after, broadcast_of}
+use Rattle.carousel_world.specs.Settling.{IsOpening, Answers}
 use Rattle.carousel_world.specs.declared.event.Reply.{Reply}
 use Rattle.carousel_world.specs.declared.event.Reply.TheVariants as replies
 use Rattle.session_history.specs.Laws.{placed}
-use Rattle.session_history.specs.Merging.{Each}
 use Rattle.session_history.specs.Merged.{is_draw_step, is_commit_of, is_open_by}
 use Rattle.session_history.specs.Merges.{IsRunOfWorld}
 use Rattle.session_script.specs.Scripts.{Fields}
@@ -68,25 +71,28 @@ AreTold reader (a ∷ asked) (x ∷ xs) = (x.1.0 ≡ Open reader a.path) × (a.l
 
 -- ---- the whole
 
-abbrev pub IsOpening : Step → Type 0
-IsOpening (Commit editor edits) = ⊥
-IsOpening (Draw asked fates) = ⊥
-IsOpening (Open reader path) = Unit {0}
-
 -- the last events but opens are the two draws of `settle`
 abbrev pub EndsSettled : List Step → Type 0
-EndsSettled events = (before : List Step) × (between : List Step) × (after : List Step) × (events ≡ before ++ settling ∷ between ++ settling ∷ after)
-    × Each IsOpening between × Each IsOpening after
+EndsSettled events = (before : List Step) × (between : List Step) × (after : List Step) × (events ≡ before ++ settling ∷ (between ++ settling ∷ after))
+    × All IsOpening between × All IsOpening after
 
 -- the last generation was heard whole
 abbrev pub EndsWhole : List Step → Type 0
 EndsWhole events =
     IsWhole 1 (broadcast_of (world_after 1 events)).layouts (length (trees_of (world_after 1 events).catalogue)) (candidates_in (world_after 1 events))
 
+-- so each open after all draws answers the path's lookup in the last generation, if damaged sections failed their CRC and blocks are near
+abbrev pub EndsAnswered : List (Step × Reply) → Type 0
+EndsAnswered told =
+    let w = world_after 1 (map (λ (x : Step × Reply). x.0) told) in
+    IsUndamaged w → (before after : List (Step × Reply)) (reader : ℕ) (path : PathNames) (reply : Reply) → told ≡ before ++ (Open reader path, reply) ∷ after
+    → filter (λ (x : Step × Reply). is_draw_step x.0) after ≡ []
+    → Answers reply (node_at (tree_at (broadcast_of w).trees (length (trees_of w.catalogue))) path)
+
 -- The events are those of the script: each editor's commits in written order, but for those that found no room; the draws in written
 -- order; each reader's opens in written order, an open above `start` after the draws above it, one below `start` after those above
 -- `start`, and a finale after all. The draws of `settle` are the last events but opens. Together they are one run of a world of
--- carousel 1, which keeps what is promised of every run; and after `settle` the last generation was heard whole.
+-- carousel 1, which keeps what is promised of every run; and after `settle` the last generation was heard whole, and finales answer it.
 pub record IsSession (script : Fields) (told : List (Step × Reply)) : Type 0 where
   pub run : IsRunOfWorld 1 told
   pub steps : All InRange (map (λ (x : Step × Reply). x.0) told)
@@ -97,3 +103,4 @@ pub record IsSession (script : Fields) (told : List (Step × Reply)) : Type 0 wh
       → AreTold reader (asked_of reader script) (placed (λ (x : Step × Reply). is_open_by reader x.0) (λ (x : Step × Reply). is_draw_step x.0) 0 told)
   pub settled : settles script ≡ true → EndsSettled (map (λ (x : Step × Reply). x.0) told)
   pub whole : settles script ≡ true → EndsWhole (map (λ (x : Step × Reply). x.0) told)
+  pub answered : settles script ≡ true → EndsAnswered told

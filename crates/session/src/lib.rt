@@ -3,4 +3,4 @@
 
 mod laws;
 
-pub use laws::{actors_gather, gathers_grow, played_is_a_session};
+pub use laws::{actors_gather, gathers_grow, played_is_a_session, texts_are_arranged};

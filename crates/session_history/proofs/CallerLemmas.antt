@@ -1,4 +1,4 @@
--- Lemmas for callers: the world after a merge.
+-- Lemmas for callers.
 use Rattle.std.proofs.Common.{◌≡◌, ℕ, List, [], map, sym, subst}
 use Rattle.ts_packet.specs.declared.Fate.{Fate}
 use Rattle.generation.specs.Lawful.{ArePublishable}
@@ -10,7 +10,13 @@ use Rattle.session_history.specs.Merged.{IsReady}
 use Rattle.session_history.proofs.Numbers.{numbered, trees_same}
 use Rattle.session_history.proofs.Replying.{catalogue_at_end}
 
--- its trees are those of the catalogue
+-- Lists that are filtered, counted and put together, and whose commit an event tells
+pub use Rattle.session_history.proofs.Cutting.{filter_takes, filter_skips}
+pub use Rattle.session_history.proofs.Placing.{count_more, count_same}
+pub use Rattle.session_history.proofs.Running.{each_append}
+pub use Rattle.session_history.proofs.Merged.{commit_told}
+
+-- the trees of the world after a merge are those of the catalogue
 pub merged_is_published : (c : CatalogueState) (editors : List ℕ) (fates : List (List Fate)) (readers : List ReaderFields) → IsReady c editors fates readers
     → let w = world_after c.carousel (map (λ x. x.0) (merge_of (merging editors) readers fates c.entries)) in ArePublishable w.catalogue.carousel (trees_of w.catalogue)
 merged_is_published c editors fates readers ready =
