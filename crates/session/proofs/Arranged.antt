@@ -8,6 +8,7 @@ use mathlib.Core.Logic.{dite}
 use native.Mathlib.Decide.{ℕ_discrete}
 use Rattle.path_tree.specs.Paths.{Bytes, PathNames}
 use Rattle.oc_bytes.specs.Decimals.{decimal_in}
+use Rattle.oc_bytes.specs.Outcome.{capped32}
 use Rattle.session_script.specs.declared.keyword.Keyword.{Keyword}
 use Rattle.session_script.specs.declared.keyword.Keyword.TheVariants as keywords
 use Rattle.session_script.specs.declared.line.Part.{Part}
@@ -136,16 +137,22 @@ early_fits part keywords.Finale words s early start h = finale_fits part (open_b
 abbrev stands : Part → Keyword → List Bytes → Result Saying LineCause
 stands part keyword words = if may_stand part keyword then said_by keyword words else Err Order
 
+opening_early : Opening ≢ Closing
+opening_early e = cc
+
+running_early : Running ≢ Closing
+running_early e = cc
+
 running_fits : (keyword : Keyword) (words : List Bytes) (s : Saying) → stands Running keyword words ≡ Ok s → Fits Running s
-running_fits keywords.Put words s h = early_fits Running keywords.Put words s (cc) (λ e. absurd (cc)) h
-running_fits keywords.Fill words s h = early_fits Running keywords.Fill words s (cc) (λ e. absurd (cc)) h
-running_fits keywords.Remove words s h = early_fits Running keywords.Remove words s (cc) (λ e. absurd (cc)) h
-running_fits keywords.Commit words s h = early_fits Running keywords.Commit words s (cc) (λ e. absurd (cc)) h
-running_fits keywords.Draw words s h = early_fits Running keywords.Draw words s (cc) (λ e. absurd (cc)) h
-running_fits keywords.Open words s h = early_fits Running keywords.Open words s (cc) (λ e. absurd (cc)) h
+running_fits keywords.Put words s h = early_fits Running keywords.Put words s running_early (λ e. absurd (cc)) h
+running_fits keywords.Fill words s h = early_fits Running keywords.Fill words s running_early (λ e. absurd (cc)) h
+running_fits keywords.Remove words s h = early_fits Running keywords.Remove words s running_early (λ e. absurd (cc)) h
+running_fits keywords.Commit words s h = early_fits Running keywords.Commit words s running_early (λ e. absurd (cc)) h
+running_fits keywords.Draw words s h = early_fits Running keywords.Draw words s running_early (λ e. absurd (cc)) h
+running_fits keywords.Open words s h = early_fits Running keywords.Open words s running_early (λ e. absurd (cc)) h
 running_fits keywords.Start words s h = absurd (cc)
-running_fits keywords.Settle words s h = early_fits Running keywords.Settle words s (cc) (λ e. absurd (cc)) h
-running_fits keywords.Finale words s h = early_fits Running keywords.Finale words s (cc) (λ e. absurd (cc)) h
+running_fits keywords.Settle words s h = early_fits Running keywords.Settle words s running_early (λ e. absurd (cc)) h
+running_fits keywords.Finale words s h = early_fits Running keywords.Finale words s running_early (λ e. absurd (cc)) h
 
 closing_fits : (keyword : Keyword) (words : List Bytes) (s : Saying) → stands Closing keyword words ≡ Ok s → Fits Closing s
 closing_fits keywords.Finale words s h = finale_fits Closing (open_by words) s (open_act words) h
@@ -160,7 +167,7 @@ closing_fits keywords.Settle words s h = absurd (cc)
 
 in_order_fits : (part : Part) (words : List Bytes) (keyword : Option Keyword) (s : Saying) → in_order part words keyword ≡ Ok s → Fits part s
 in_order_fits part words None s h = absurd (cc)
-in_order_fits Opening words (Some keyword) s h = early_fits Opening keyword words s (cc) (λ e. start_fits words s (ap (λ k. said_by k words) (sym e) ∙ h)) h
+in_order_fits Opening words (Some keyword) s h = early_fits Opening keyword words s opening_early (λ e. start_fits words s (ap (λ k. said_by k words) (sym e) ∙ h)) h
 in_order_fits Running words (Some keyword) s h = running_fits keyword words s h
 in_order_fits Closing words (Some keyword) s h = closing_fits keyword words s h
 
@@ -243,12 +250,15 @@ no_other_start (Starts ∷ below) w = let e : true ≡ false = (w.0).once refl i
 no_other_start (Does act ∷ below) w = no_other_start below w.1
 no_other_start (Ends act ∷ below) w = no_more_starts below w.1
 
+abbrev line_at : ℕ → Stage → Act → LineFields
+line_at n stage act = record { number = capped32 n; stage = stage; act = act }
+
 finales : (n : ℕ) (below : List Saying) → Well Closing below → All IsFinale (lines_from n below)
 finales n [] w = All-nil IsFinale
 finales n (Passed ∷ below) w = finales (n + 1) below w.1
 finales n (Starts ∷ below) w = absurd ((w.0).last refl)
 finales n (Does act ∷ below) w = absurd ((w.0).last refl)
-finales n (Ends act ∷ below) w = All-cons IsFinale _ (lines_from (n + 1) below) (refl, (w.0).last refl) (finales (n + 1) below w.1)
+finales n (Ends act ∷ below) w = let o = (w.0).last refl in All-cons IsFinale (line_at n After act) (lines_from (n + 1) below) (refl, o.0, o.1, o.2) (finales (n + 1) below w.1)
 
 ends_of : (act : Act) (l : LineFields) (ls : List LineFields) → l.stage ≡ After → l.act ≡ act → (act ≡ acts.Settle) ⊎ IsOpen act → All IsFinale ls → AreEnds (l ∷ ls)
 ends_of act l ls after is (inl settle) all = inl (after, is ∙ settle, all)
@@ -264,9 +274,9 @@ split part n (Starts ∷ below) w none = absurd (cc)
 split part n (Does act ∷ below) w none =
     let r = split part (n + 1) below w.1 none in
     let stage : stage_above below ≡ During = ap (λ (b : Bool). if b then Before else During) none in
-    (_ ∷ r.0, r.1, ap (λ ls. _ ∷ ls) r.2, All-cons (IsLineOf During) _ r.0 (stage, (w.0).kind) r.3, r.4)
+    (line_at n (stage_above below) act ∷ r.0, r.1, ap (λ ls. line_at n (stage_above below) act ∷ ls) r.2, All-cons (IsLineOf During) (line_at n (stage_above below) act) r.0 (stage, (w.0).kind) r.3, r.4)
 split part n (Ends act ∷ below) w none =
-    ([], lines_from n (Ends act ∷ below), refl, All-nil (IsLineOf During), ends_of act _ (lines_from (n + 1) below) refl refl (w.0).kind (finales (n + 1) below w.1))
+    ([], lines_from n (Ends act ∷ below), refl, All-nil (IsLineOf During), ends_of act (line_at n After act) (lines_from (n + 1) below) refl refl (w.0).kind (finales (n + 1) below w.1))
 
 abbrev IsParted : List LineFields → Type 0
 IsParted ls = (before : List LineFields) × (during : List LineFields) × (ends : List LineFields) × (ls ≡ before ++ during ++ ends)
@@ -282,7 +292,7 @@ parted n (Starts ∷ below) w some = from_split (lines_from (n + 1) below) (spli
 parted n (Does act ∷ below) w some =
     let r = parted (n + 1) below w.1 some in
     let stage : stage_above below ≡ Before = ap (λ (b : Bool). if b then Before else During) some in
-    (_ ∷ r.0, r.1, r.2, ap (λ ls. _ ∷ ls) r.3, All-cons (IsLineOf Before) _ r.0 (stage, (w.0).kind) r.4, r.5, r.6)
+    (line_at n (stage_above below) act ∷ r.0, r.1, r.2, ap (λ ls. line_at n (stage_above below) act ∷ ls) r.3, All-cons (IsLineOf Before) (line_at n (stage_above below) act) r.0 (stage, (w.0).kind) r.4, r.5, r.6)
 parted n (Ends act ∷ below) w some = let e : true ≡ false = sym some ∙ no_more_starts below w.1 in absurd (cc)
 
 all_parted : (below : List Saying) → Well Opening below → IsParted (lines_from 1 below)
@@ -346,11 +356,11 @@ module _ (editors readers : List ℕ) where
   all_mentioned k (Passed ∷ below) e r = all_mentioned (k + 1) below (lists_rest editor_of Passed below editors e) (lists_rest reader_of Passed below readers r)
   all_mentioned k (Starts ∷ below) e r = all_mentioned (k + 1) below (lists_rest editor_of Starts below editors e) (lists_rest reader_of Starts below readers r)
   all_mentioned k (Does act ∷ below) e r =
-      All-cons (λ (l : LineFields). IsMentioned editors readers l.act) _ (lines_from (k + 1) below)
+      All-cons (λ (l : LineFields). IsMentioned editors readers l.act) (line_at k (stage_above below) act) (lines_from (k + 1) below)
       (act_mentioned editors readers act (λ n is. e n (in_here n (editor_of act) (filter_map (who editor_of) below) is)) (λ n is. r n (in_here n (reader_of act) (filter_map (who reader_of) below) is)))
       (all_mentioned (k + 1) below (lists_rest editor_of (Does act) below editors e) (lists_rest reader_of (Does act) below readers r))
   all_mentioned k (Ends act ∷ below) e r =
-      All-cons (λ (l : LineFields). IsMentioned editors readers l.act) _ (lines_from (k + 1) below)
+      All-cons (λ (l : LineFields). IsMentioned editors readers l.act) (line_at k After act) (lines_from (k + 1) below)
       (act_mentioned editors readers act (λ n is. e n (in_here n (editor_of act) (filter_map (who editor_of) below) is)) (λ n is. r n (in_here n (reader_of act) (filter_map (who reader_of) below) is)))
       (all_mentioned (k + 1) below (lists_rest editor_of (Ends act) below editors e) (lists_rest reader_of (Ends act) below readers r))
 
