@@ -1,5 +1,5 @@
 -- A script that a text gives is arranged.
-use Rattle.std.proofs.Common.{◌≡◌, ◌≢◌, ℕ, zero, suc, ◌+◌, ◌<◌, ◌==◌, eqb, Bool, true, false, not, ◌||◌, cond, List, [], ◌∷◌, ◌++◌, length, filter, All, Contains, Option, Some, None, Result, Ok, Err, ◌⊎◌, inl, inr, sym, ap, ◌∙◌, refl, subst, arith, append_assoc, append-nil, ne_eqb}
+use Rattle.std.proofs.Common.{◌≡◌, ◌≢◌, ℕ, suc, ◌+◌, ◌==◌, Bool, true, false, not, ◌||◌, cond, List, [], ◌∷◌, ◌++◌, length, filter, All, Contains, Option, Some, None, Result, Ok, Err, ◌⊎◌, inl, inr, sym, ap, ◌∙◌, refl, subst, arith, append_assoc, append-nil, ne_eqb}
 use Rattle.std.specs.Prelude.{if◌then◌else◌}
 use Rattle.std.specs.List.{list_any, filter_map, cons_option}
 use Rattle.std.proofs.lemmas.List.Elements.{All-nil, All-cons}
@@ -22,7 +22,7 @@ use Rattle.session_script.specs.Values.{actor_of, path_in, content_in, fates_of}
 use Rattle.session_script.specs.Scripts.{Act, LineFields, Fields}
 use Rattle.session_script.specs.Scripts as acts
 use Rattle.session_script.specs.Ranges.{IsInRanges}
-use Rattle.session_script.specs.Grammar.{Saying, Passed, Starts, Does, Ends, ◌>>=◌, or_cause, word_by, no_more, put_by, fill_by, remove_by, commit_by, draw_by, open_by, said, said_by, is_start, is_end, part_of, may_stand, in_order, in_words, words_in, line_by, lines_in, or_bad_line, sayings, editor_of, reader_of, who, first_mentions, stage_above, lines_from, script_of, meaning_of}
+use Rattle.session_script.specs.Grammar.{Saying, Passed, Starts, Does, Ends, ◌>>=◌, or_cause, word_by, no_more, put_by, fill_by, remove_by, commit_by, draw_by, open_by, said, said_by, is_start, is_end, part_of, may_stand, in_order, in_words, words_in, line_by, lines_in, or_bad_line, sayings, editor_of, reader_of, who, first_mentions, stage_above, lines_from, script_of}
 use Rattle.session.specs.Lines.{is_settle, IsMentioned, IsLineOf, IsFinale, AreEnds, IsArranged}
 use Rattle.session.specs.Texts.{TextsAreArranged}
 

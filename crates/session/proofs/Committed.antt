@@ -1,17 +1,16 @@
 -- Each editor's commits in the history are its lines in order, but for those that found no room.
-use Rattle.std.proofs.Common.{◌≡◌, ◌≢◌, ℕ, zero, suc, ◌+◌, ◌<◌, ◌≤◌, ◌==◌, Bool, true, false, cond, List, [], ◌∷◌, ◌++◌, length, map, filter, get_or, Some, slice_get, Contains, Result, Ok, Err, sum_by, count_by, ◌⊎◌, inl, inr, sym, ap, ◌∙◌, refl, subst, arith, append_assoc, append-nil, ne_eqb}
+use Rattle.std.proofs.Common.{◌≡◌, ◌≢◌, ℕ, zero, suc, ◌<◌, cond, List, [], ◌∷◌, ◌++◌, length, map, get_or, Some, slice_get, Contains, Ok, Err, ◌⊎◌, inl, inr, ap, ◌∙◌, refl, subst, arith}
 use mathlib.Core.Logic.{dite}
 use native.Mathlib.Decide.{ℕ_discrete}
 use Rattle.ts_packet.specs.declared.Fate.{Fate}
 use Rattle.path_tree.specs.declared.tree.Edit.{Edit}
-use Rattle.generation_catalogue.specs.History.{put_bytes, put_bytes_of}
-use Rattle.generation_catalogue.specs.declared.entry.Refusal.{Refusal}
+use Rattle.generation_catalogue.specs.History.{put_bytes_of}
 use Rattle.generation_catalogue.specs.declared.entry.Entry.{Entry}
 use Rattle.generation_catalogue.specs.declared.entry.Entry.TheVariants as entries
-use Rattle.carousel_world.specs.Events.{Step, Commit, Draw, Open}
+use Rattle.carousel_world.specs.Events.{Commit}
 use Rattle.carousel_world.specs.World.{commit_reply}
 use Rattle.session_history.specs.Merges.{event_of}
-use Rattle.session_history.specs.Merged.{AreNumbers, is_commit_of, is_commit_at}
+use Rattle.session_history.specs.Merged.{AreNumbers}
 use Rattle.session.specs.Gathering.{is_made, IsFullAfter, AreEntered, entries_to_next}
 use Rattle.session.specs.Sessions.{IsFull, AreCommitted, up_to_next, is_accepted, put_by_step}
 use Rattle.session.proofs.Telling.{Told, IsToldBy, Tells, tells_append, tells_cut, sum_told, none_told, tells_to_next}

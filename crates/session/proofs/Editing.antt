@@ -1,6 +1,5 @@
 -- From the commits that an editor made to its entries in the whole history.
-use Rattle.std.proofs.Common.{◌≡◌, ◌≢◌, ℕ, zero, suc, ◌+◌, ◌<◌, ◌≤◌, ◌==◌, Bool, true, false, cond, List, [], ◌∷◌, ◌++◌, length, filter, Some, slice_get, Result, ◌⊎◌, inl, inr, sym, ap, ◌∙◌, refl, subst, arith, append_assoc, append-nil, length-append}
-use Rattle.std.specs.Prelude.{if◌then◌else◌}
+use Rattle.std.proofs.Common.{◌≡◌, ℕ, ◌+◌, ◌<◌, ◌≤◌, ◌==◌, Bool, true, false, cond, List, [], ◌∷◌, ◌++◌, length, filter, Some, slice_get, Result, inl, inr, sym, ap, ◌∙◌, refl, subst, arith, append_assoc, append-nil, length-append}
 use Rattle.path_tree.specs.declared.tree.Edit.{Edit}
 use Rattle.history_lock.specs.History.{Begins, times}
 use Rattle.generation_catalogue.specs.Laws.{HistoriesGrow}
@@ -11,8 +10,8 @@ use Rattle.generation_catalogue.specs.declared.entry.Entry.TheVariants as entrie
 use Rattle.session_history.specs.Merged.{is_commit_at}
 use Rattle.session_actors.specs.Chains.{Seen, GoesOnWith, Commits}
 use Rattle.session.specs.Gathering.{IsFullAfter, AreEntered, entries_to_next}
-use Rattle.session.proofs.Lists.{cancel, get_below, get_behind, get_front, none_pass, first_fails, begins_self, begins_on, begins_more, begins_le, times_append, times_other}
-use Rattle.session.proofs.Entering.{seen_with, seen_of, Commits1, first_commit, commits_enter, enters_begins, enters_keeps, enters_later}
+use Rattle.session.proofs.Lists.{cancel, get_below, get_behind, get_front, none_pass, first_fails, begins_on, times_append, times_other}
+use Rattle.session.proofs.Entering.{seen_with, seen_of, Commits1, first_commit, commits_enter, enters_begins, enters_keeps}
 use Rattle.session.proofs.Rooms.{not_entered, full_later}
 
 -- the entries before the next commit begin with these, if no commit is among them

@@ -1,5 +1,5 @@
 -- The end of a history that settles.
-use Rattle.std.proofs.Common.{◌≡◌, ℕ, zero, suc, ◌+◌, ◌<◌, ◌≤◌, Bool, true, false, cond, nat_le, List, [], ◌∷◌, ◌++◌, length, map, filter, All, count_by, Result, Ok, Err, sym, ap, ◌∙◌, refl, subst, arith, append_assoc, append-nil, length-append}
+use Rattle.std.proofs.Common.{◌≡◌, ℕ, ◌+◌, ◌≤◌, Bool, true, false, cond, nat_le, List, [], ◌∷◌, ◌++◌, length, map, filter, All, sym, ap, ◌∙◌, refl, subst, arith, append_assoc, length-append}
 use Rattle.std.proofs.lemmas.List.{map-append}
 use Rattle.std.proofs.lemmas.List.Elements.{All-head, All-tail, All-nil, All-cons}
 use Rattle.ts_packet.specs.declared.Fate.{Fate}
@@ -21,7 +21,7 @@ use Rattle.carousel_world.proofs.CallerLemmas.{opens_leave, after_all-append, se
 use Rattle.rehearsal.specs.Lines.{settling}
 use Rattle.session_history.specs.Merging.{Each}
 use Rattle.session_history.specs.Merged.{is_draw_step}
-use Rattle.session_history.specs.Merges.{event_of, IsRunOfWorld}
+use Rattle.session_history.specs.Merges.{IsRunOfWorld}
 use Rattle.session_actors.specs.Chains.{DrawFields}
 use Rattle.session.specs.Lines.{draws_in}
 use Rattle.session.specs.Played.{IsSettled}

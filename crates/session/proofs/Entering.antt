@@ -1,17 +1,17 @@
 -- What an actor of a station enters, one entry after another.
-use Rattle.std.proofs.Common.{◌≡◌, ◌≢◌, ℕ, zero, suc, ◌+◌, ◌-◌, ◌<◌, ◌≤◌, ◌==◌, Bool, true, false, cond, List, [], ◌∷◌, ◌++◌, length, Some, slice_get, ◌⊎◌, inl, inr, sym, ap, ◌∙◌, refl, subst, arith, append_assoc, append-nil, length-append}
+use Rattle.std.proofs.Common.{◌≡◌, ℕ, ◌-◌, ◌<◌, ◌==◌, Bool, true, false, cond, List, [], ◌∷◌, ◌++◌, length, Some, slice_get, ◌⊎◌, inl, inr, sym, ap, ◌∙◌, refl, subst, arith, append-nil, length-append}
 use mathlib.Core.Logic.{dite}
 use native.Mathlib.Decide.{ℕ_discrete}
 use Rattle.path_tree.specs.declared.tree.Edit.{Edit}
-use Rattle.history_lock.specs.History.{Begins, times, places, new_places}
-use Rattle.generation_catalogue.specs.History.{CatalogueState, committed, drawn, draws_of, current_of, cursor_of, count_drawn, outcome_of, is_entered, with_entry, is_draw}
+use Rattle.history_lock.specs.History.{Begins, times, places}
+use Rattle.generation_catalogue.specs.History.{CatalogueState, committed, drawn, current_of, cursor_of, count_drawn, outcome_of, is_entered, with_entry, is_draw}
 use Rattle.generation_catalogue.specs.declared.entry.Entry.{Entry}
 use Rattle.generation_catalogue.specs.declared.entry.Entry.TheVariants as entries
-use Rattle.carousel_world.specs.World.{Drawing, drawing_of}
+use Rattle.carousel_world.specs.World.{Drawing}
 use Rattle.session_history.specs.Merging.{Each}
 use Rattle.session_history.specs.Merged.{is_commit_at}
-use Rattle.session_actors.specs.Chains.{Seen, GoesOnWith, seen_after, Commits, Draws, DrawFields}
-use Rattle.session.proofs.Lists.{begins_self, begins_more, begins_on, begins_le, begins_get, get_at, times_append, times_here, times_other}
+use Rattle.session_actors.specs.Chains.{Seen, seen_after, Commits, Draws, DrawFields}
+use Rattle.session.proofs.Lists.{begins_self, begins_more, begins_on, begins_le, begins_get, get_at, times_append, times_other}
 
 -- all that came before, and one entry of one's own
 abbrev pub seen_with : Seen → List Entry → Entry → Seen

@@ -1,9 +1,8 @@
 -- A script's lines by their actors: worked examples.
-use Rattle.std.proofs.Common.{◌≡◌, ℕ, true, List, [], ◌∷◌, length, map, refl}
+use Rattle.std.proofs.Common.{◌≡◌, ℕ, true, List, [], ◌∷◌, refl}
 use Rattle.ts_packet.specs.declared.Fate.{Fate}
 use Rattle.ts_packet.specs.declared.Fate.TheVariants.{Keep, Lose}
 use Rattle.path_tree.specs.Paths.{PathNames}
-use Rattle.path_tree.specs.declared.tree.Edit.{Edit}
 use Rattle.path_tree.specs.declared.tree.Edit.TheVariants as edits
 use Rattle.session_script.specs.declared.script.Stage.{Stage}
 use Rattle.session_script.specs.declared.script.Stage.TheVariants.{Before, During, After}

@@ -1,15 +1,15 @@
 -- From the draws that the feeder made to the draws of the whole history.
-use Rattle.std.proofs.Common.{◌≡◌, ◌≢◌, ℕ, zero, suc, ◌+◌, ◌<◌, ◌≤◌, Bool, true, false, cond, List, [], ◌∷◌, ◌++◌, length, map, filter, drop, get_or, Some, slice_get, sym, ap, ◌∙◌, refl, subst, arith, append_assoc, append-nil, length-append}
+use Rattle.std.proofs.Common.{◌≡◌, ℕ, ◌+◌, List, [], ◌∷◌, ◌++◌, length, map, filter, Some, slice_get, sym, ap, ◌∙◌, refl, arith, append_assoc, append-nil, length-append}
 use Rattle.ts_packet.specs.declared.Fate.{Fate}
 use Rattle.history_lock.specs.History.{Begins, times}
-use Rattle.generation_catalogue.specs.History.{CatalogueState, is_draw, current_of, items_drawn}
+use Rattle.generation_catalogue.specs.History.{CatalogueState, is_draw}
 use Rattle.generation_catalogue.specs.declared.entry.Entry.{Entry}
 use Rattle.generation_catalogue.specs.declared.entry.Entry.TheVariants as entries
 use Rattle.carousel_world.specs.World.{Drawing, drawing_of}
 use Rattle.session_history.specs.Merges.{state_of, drawings_after}
 use Rattle.session_actors.specs.Chains.{Seen, GoesOnWith, Draws, DrawFields}
 use Rattle.session.specs.Gathering.{asked_in}
-use Rattle.session.proofs.Lists.{get_behind, none_pass, first_fails, begins_on, begins_le, times_append, times_other}
+use Rattle.session.proofs.Lists.{get_behind, none_pass, first_fails, begins_on, times_append, times_other}
 use Rattle.session.proofs.Entering.{seen_with, first_draw, draws_enter, draw_entry, enters_begins, enters_keeps}
 use Rattle.session.proofs.Editing.{AreToCome, none_between, goes_on, still_own}
 

@@ -1,16 +1,16 @@
 -- What a station's actors did, gathered to its whole history.
-use Rattle.std.proofs.Common.{◌≡◌, ℕ, zero, suc, ◌+◌, ◌<◌, ◌≤◌, ◌==◌, Bool, true, false, List, [], ◌∷◌, ◌++◌, length, map, Some, slice_get, ◌⊎◌, inl, inr, sym, ap, ◌∙◌, refl, subst, arith, length-append, eqb-true, eq-eqb}
+use Rattle.std.proofs.Common.{◌≡◌, ℕ, zero, suc, ◌+◌, ◌<◌, true, List, [], ◌∷◌, ◌++◌, length, Some, slice_get, ◌⊎◌, inl, inr, sym, ap, ◌∙◌, refl, subst, arith, eqb-true, eq-eqb}
 use Rattle.path_tree.specs.declared.tree.Edit.{Edit}
 use Rattle.history_lock.specs.History.{Begins, total, times, once_within}
 use Rattle.history_lock.specs.History as histories
 use Rattle.generation_catalogue.specs.Laws.{HistoriesGrow}
-use Rattle.generation_catalogue.specs.History.{CatalogueState, IsHistory, is_draw}
+use Rattle.generation_catalogue.specs.History.{is_draw}
 use Rattle.generation_catalogue.specs.declared.entry.Entry.{Entry}
 use Rattle.generation_catalogue.specs.declared.entry.Entry.TheVariants as entries
 use Rattle.carousel_world.specs.World.{Drawing}
 use Rattle.session_history.specs.Merged.{IsPlaced, is_commit_at}
 use Rattle.session_actors.specs.Chains.{Seen, nothing_seen, Commits, Draws, DrawFields}
-use Rattle.session.specs.Gathering.{AllCommitted, AreEntered, IsGathered, ActorsGather}
+use Rattle.session.specs.Gathering.{AllCommitted, AreEntered, ActorsGather}
 use Rattle.session.proofs.Lists.{get_below, get_one, get_last, total_some, once_inside, each_from_get}
 use Rattle.session.proofs.Entering.{HasEntered, IsCommitAt, IsDrawn, commits_enter, draws_enter, enters_own}
 use Rattle.session.proofs.Editing.{are_entered}

@@ -1,19 +1,19 @@
 -- A draw more, by who has the whole catalogue.
-use Rattle.std.proofs.Common.{◌≡◌, ℕ, zero, suc, ◌+◌, ◌<◌, ◌≤◌, Bool, true, false, cond, List, [], ◌∷◌, ◌++◌, length, map, filter, drop, get_or, Some, slice_get, ◌⊎◌, inl, inr, sym, ap, ◌∙◌, refl, subst, arith, append_assoc, append-nil}
+use Rattle.std.proofs.Common.{◌≡◌, ℕ, suc, Bool, true, false, cond, List, [], ◌∷◌, ◌++◌, length, filter, inl, inr, sym, ap, ◌∙◌, refl, subst, arith, append_assoc, append-nil}
 use Rattle.std.proofs.lemmas.List.{map-append}
 use Rattle.std.proofs.lemmas.List.Elements.{filter-append}
 use Rattle.path_tree.specs.declared.tree.Edit.{Edit}
 use Rattle.ts_packet.specs.declared.Fate.{Fate}
-use Rattle.generation_catalogue.specs.History.{CatalogueState, current_of, cursor_of, count_drawn, drawn}
+use Rattle.generation_catalogue.specs.History.{current_of, cursor_of, count_drawn}
 use Rattle.generation_catalogue.specs.declared.entry.Entry.{Entry}
 use Rattle.generation_catalogue.specs.declared.entry.Entry.TheVariants as entries
 use Rattle.generation_catalogue.proofs.CallerLemmas.{history_drawn}
-use Rattle.carousel_world.specs.World.{Drawing, drawing_of}
+use Rattle.carousel_world.specs.World.{drawing_of}
 use Rattle.session_history.specs.Merging.{Each}
 use Rattle.session_history.specs.Merged.{IsPlaced, is_commit_at}
 use Rattle.session_history.specs.Merges.{state_of, drawings_after}
 use Rattle.session_actors.specs.Chains.{DrawFields}
-use Rattle.session.specs.Gathering.{AreEntered, IsFullAfter, entries_to_next, asked_in, IsGathered, GatherGrows}
+use Rattle.session.specs.Gathering.{AreEntered, IsFullAfter, entries_to_next, asked_in, GatherGrows}
 use Rattle.session.proofs.Rooms.{full_later}
 use Rattle.session.proofs.Feeding.{fates_in, asked_by}
 

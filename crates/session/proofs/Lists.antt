@@ -1,8 +1,8 @@
 -- What stands at a place of a list, how a list begins, and counts.
-use Rattle.std.proofs.Common.{◌≡◌, ◌≢◌, ℕ, zero, suc, ◌+◌, ◌-◌, ◌<◌, ◌≤◌, Bool, true, false, cond, List, [], ◌∷◌, ◌++◌, length, map, filter, get_or, Some, slice_get, sum_by, count_by, ◌⊎◌, inl, inr, sym, ap, ◌∙◌, refl, subst, arith, append_assoc, append-nil, length-append, eq-eqb, ne_eqb}
-use Rattle.std.proofs.lemmas.List.Sums.{sum_by-cons, sum_by-append}
+use Rattle.std.proofs.Common.{◌≡◌, ◌≢◌, ℕ, zero, suc, ◌+◌, ◌<◌, ◌≤◌, Bool, true, false, cond, List, [], ◌∷◌, ◌++◌, length, filter, Some, slice_get, count_by, ◌⊎◌, inl, inr, sym, ap, ◌∙◌, refl, arith, append_assoc, append-nil, length-append, eq-eqb, ne_eqb}
+use Rattle.std.proofs.lemmas.List.Sums.{sum_by-append}
 use Rattle.std.proofs.lemmas.Bool.Decides.{nat_tests}
-use Rattle.history_lock.specs.History.{Begins, times, places, total, once_within}
+use Rattle.history_lock.specs.History.{Begins, times, total, once_within}
 use Rattle.session_history.specs.Merging.{Each}
 use Rattle.session_history.proofs.CallerLemmas.{filter_takes, filter_skips}
 

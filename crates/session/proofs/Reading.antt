@@ -1,7 +1,6 @@
 -- What the readers opened, by the drawings that their shots had heard.
-use Rattle.std.proofs.Common.{◌≡◌, ◌≢◌, ℕ, zero, suc, ◌+◌, ◌<◌, ◌≤◌, ◌==◌, Bool, true, false, cond, List, [], ◌∷◌, ◌++◌, length, map, filter, get_or, Some, slice_get, All, count_by, nat_eq, ◌⊎◌, inl, inr, sym, ap, ◌∙◌, refl, subst, arith, append-nil, eq-eqb, ne_eqb}
+use Rattle.std.proofs.Common.{◌≡◌, ◌≢◌, ℕ, zero, suc, ◌+◌, ◌<◌, ◌≤◌, ◌==◌, Bool, false, cond, List, [], ◌∷◌, ◌++◌, length, map, get_or, Some, slice_get, nat_eq, sym, ap, ◌∙◌, refl, subst, arith, ne_eqb}
 use Rattle.std.proofs.lemmas.Bool.{eqb-false}
-use Rattle.std.specs.Prelude.{if◌then◌else◌}
 use Rattle.std.specs.List.{AllByRecursion, IsDistinct}
 use Rattle.std.proofs.lemmas.List.Elements.{All-get_or}
 use Rattle.std.proofs.lemmas.Map.Keys.{IsDistinct-head, IsDistinct-tail}
@@ -13,8 +12,6 @@ use Rattle.open_history.specs.Opens.{ReaderView, Answered, AllAnswered}
 use Rattle.open_history.specs.declared.entry.OpenEntry.{OpenEntry}
 use Rattle.carousel_world.specs.Receptions.{label_after}
 use Rattle.carousel_world.specs.World.{Drawing}
-use Rattle.carousel_world.specs.Events.{Step}
-use Rattle.carousel_world.specs.declared.event.Reply.{Reply}
 use Rattle.session_history.specs.declared.opens.Open.{Open}
 use Rattle.session_history.specs.Merging.{Each, opens_by}
 use Rattle.session_history.specs.Laws.{NeverFall}
@@ -27,7 +24,7 @@ use Rattle.session_actors.specs.Opened.{Asked, AreOpened, Rises, HasOpened}
 use Rattle.session.specs.Lines.{asked_of}
 use Rattle.session.specs.Sessions.{AreTold}
 use Rattle.session.specs.Played.{open_of, opens_of, AllRead}
-use Rattle.session.proofs.Committed.{HasPlace, HasNone}
+use Rattle.session.proofs.Committed.{HasNone}
 
 -- ---- one open, on the shot of its number
 

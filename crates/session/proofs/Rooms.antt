@@ -1,5 +1,5 @@
 -- When there is no room for a commit.
-use Rattle.std.proofs.Common.{◌≡◌, ℕ, zero, suc, ◌+◌, ◌<◌, ◌≤◌, ◌==◌, Bool, true, false, cond, nat_lt, List, [], ◌∷◌, ◌++◌, length, Option, Some, None, Result, Ok, Err, sum_by, count_by, ◌⊎◌, inl, inr, sym, ap, ◌∙◌, refl, subst, arith, length-append, eqb-true, ltb-true}
+use Rattle.std.proofs.Common.{◌≡◌, ℕ, ◌+◌, ◌==◌, Bool, true, false, cond, nat_lt, List, [], ◌∷◌, ◌++◌, length, Option, Some, None, Result, Ok, Err, count_by, ◌⊎◌, inl, inr, sym, ap, ◌∙◌, refl, arith, length-append, eqb-true, ltb-true}
 use Rattle.std.proofs.lemmas.List.Sums.{sum_by-append}
 use Rattle.oc_bytes.specs.Outcome.{capped}
 use Rattle.path_tree.specs.Trees.{Tree}
@@ -9,7 +9,6 @@ use Rattle.path_tree.specs.declared.tree.EditFault.{EditFault}
 use Rattle.generation.specs.Publication as limits
 use Rattle.generation_catalogue.specs.Laws.{HistoriesGrow}
 use Rattle.generation_catalogue.specs.History.{CatalogueState, put_bytes, put_bytes_of, journal_of, current_of, trees_of, trees_after, with_tree, last_tree, or_same, outcome_of, unless_edit, unless_limit, is_entered}
-use Rattle.generation_catalogue.specs.declared.entry.Refusal.{Refusal}
 use Rattle.generation_catalogue.specs.declared.entry.Refusal.TheVariants as refusals
 use Rattle.generation_catalogue.specs.declared.entry.Entry.{Entry}
 use Rattle.generation_catalogue.specs.declared.entry.Entry.TheVariants as entries

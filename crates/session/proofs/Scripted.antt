@@ -1,20 +1,19 @@
 -- What a script's lines make of its events.
-use Rattle.std.proofs.Common.{◌≡◌, ◌≢◌, ℕ, zero, suc, ◌+◌, ◌<◌, ◌≤◌, ◌==◌, Bool, true, false, cond, List, [], ◌∷◌, ◌++◌, length, map, filter, get_or, Contains, All, ◌⊎◌, inl, inr, sym, ap, ◌∙◌, refl, subst, arith, append_assoc, append-nil, ne_eqb}
+use Rattle.std.proofs.Common.{◌≡◌, ℕ, suc, ◌==◌, Bool, true, false, cond, List, [], ◌∷◌, ◌++◌, map, All, inl, inr, sym, ap, ◌∙◌, refl, append_assoc, ne_eqb}
 use Rattle.std.specs.Prelude.{if◌then◌else◌, ◌||◌}
-use Rattle.std.specs.List.{list_any, count_by}
+use Rattle.std.specs.List.{list_any}
 use Rattle.std.proofs.lemmas.List.Elements.{All-head, All-tail}
 use Rattle.std.proofs.lemmas.List.Folds.{list_any-append}
 use Rattle.path_tree.specs.Paths.{PathNames}
-use Rattle.path_tree.specs.declared.tree.Edit.{Edit}
 use Rattle.session_script.specs.declared.script.Stage.{Stage}
-use Rattle.session_script.specs.declared.script.Stage.TheVariants.{Before, During, After}
+use Rattle.session_script.specs.declared.script.Stage.TheVariants.{Before, During}
 use Rattle.session_script.specs.Scripts.{Act, LineFields, Fields}
 use Rattle.session_script.specs.Scripts as acts
 use Rattle.carousel_world.specs.Events.{Step, Commit, Draw, Open}
-use Rattle.rehearsal.specs.Lines.{Pending, none_pending, pending_after, events_of_line, events_from, events_of, settling}
+use Rattle.rehearsal.specs.Lines.{Pending, none_pending, pending_after, events_of_line, events_from, events_of}
 use Rattle.session_actors.specs.Chains.{DrawFields}
 use Rattle.session_actors.specs.Opened.{Asked}
-use Rattle.session.specs.Lines.{staged_from, staged_events, commits_by, draws_in, asked_from, asked_of, least_for, all_draws, draws_before_start, is_settle, settles, IsMentioned, IsLineOf, IsFinale, AreEnds, IsArranged}
+use Rattle.session.specs.Lines.{staged_from, commits_by, draws_in, asked_from, asked_of, least_for, all_draws, draws_before_start, is_settle, settles, IsMentioned, IsLineOf, IsFinale, AreEnds, IsArranged}
 use Rattle.session.proofs.Committed.{HasNone, not_among}
 
 -- ---- who isn't mentioned

@@ -1,5 +1,5 @@
 -- What was played is a session.
-use Rattle.std.proofs.Common.{◌≡◌, ℕ, zero, suc, ◌+◌, ◌<◌, ◌≤◌, ◌==◌, Bool, true, false, cond, List, [], ◌∷◌, ◌++◌, length, map, filter, drop, get_or, Some, slice_get, count_by, ◌⊎◌, inl, inr, sym, ap, ◌∙◌, refl, subst, arith}
+use Rattle.std.proofs.Common.{◌≡◌, ℕ, suc, ◌≤◌, true, List, [], ◌∷◌, ◌++◌, length, map, filter, drop, get_or, count_by, ◌⊎◌, inl, inr, sym, ap, ◌∙◌, refl, subst, arith}
 use Rattle.std.proofs.lemmas.List.{length-map}
 use Rattle.path_tree.specs.declared.tree.Edit.{Edit}
 use Rattle.ts_packet.specs.declared.Fate.{Fate}
@@ -7,18 +7,17 @@ use Rattle.path_resolver.specs.declared.shot.Shot.{Shot}
 use Rattle.open_history.specs.Opens.{ReaderView}
 use Rattle.generation.specs.Lawful.{ArePublishable}
 use Rattle.generation_catalogue.specs.Laws.{HistoriesGrow}
-use Rattle.generation_catalogue.specs.History.{CatalogueState, is_draw, draws_of, trees_of}
+use Rattle.generation_catalogue.specs.History.{CatalogueState, is_draw, trees_of}
 use Rattle.generation_catalogue.specs.declared.entry.Entry.{Entry}
 use Rattle.generation_catalogue.specs.declared.entry.Entry.TheVariants as entries
-use Rattle.carousel_world.specs.Events.{Step, Commit, Draw, Open}
+use Rattle.carousel_world.specs.Events.{Commit, Draw, Open}
 use Rattle.carousel_world.specs.World.{Drawing}
 use Rattle.carousel_world.specs.Promises.{MeetsHeadline, world_after}
 use Rattle.carousel_world.specs.Settling.{EverySettledRunIsWhole, EverySettledRunOpens}
-use Rattle.carousel_world.specs.declared.event.Reply.{Reply}
 use Rattle.session_history.specs.declared.opens.Open.{Open as OpenFields}
 use Rattle.session_history.specs.Laws.{placed}
 use Rattle.session_history.specs.Merging.{Each, merge_of, drawn_with, opens_by}
-use Rattle.session_history.specs.Merges.{ReaderFields, event_of, opened_of, merging, drawings_after, AreAnswered, IsRunOfWorld}
+use Rattle.session_history.specs.Merges.{ReaderFields, opened_of, merging, drawings_after, AreAnswered, IsRunOfWorld}
 use Rattle.session_history.specs.Merged.{is_draw_step, is_open_by, IsPlaced, IsInOrder, AreParts, IsReady, IsMerged, EveryMergeIsMerged}
 use Rattle.session_history.proofs.CallerLemmas.{merged_is_published, count_more, count_same}
 use Rattle.session_script.specs.Scripts.{Fields}
@@ -26,7 +25,7 @@ use Rattle.rehearsal.specs.Lines.{events_of}
 use Rattle.session_actors.specs.Chains.{DrawFields}
 use Rattle.session.specs.Lines.{IsArranged, commits_by, draws_in, asked_of, settles}
 use Rattle.session.specs.Gathering.{asked_in}
-use Rattle.session.specs.Sessions.{AreCommitted, AreTold, EndsSettled, EndsWhole, IsSession}
+use Rattle.session.specs.Sessions.{AreCommitted, AreTold, EndsSettled, IsSession}
 use Rattle.session.specs.Played.{open_of, opens_of, IsPlayed, fates_of, PlayedIsASession}
 use Rattle.session.proofs.Feeding.{fates_in, asked_by}
 use Rattle.session.proofs.Telling.{Told, Tells, merge_tells, none_of_other}

@@ -2,10 +2,9 @@
 use Rattle.std.specs.Prelude.{◌≡◌, ◌⊎◌, ℕ, suc, ◌+◌, ◌<◌, ◌≤◌, Bool, true, false, List, [], ◌∷◌, ◌++◌, map, length, slice_get, Some, Result, Ok, Err, if◌then◌else◌}
 use Rattle.std.specs.List.{filter, count_by, sum_by}
 use Rattle.path_tree.specs.declared.tree.Edit.{Edit}
-use Rattle.ts_packet.specs.declared.Fate.{Fate}
 use Rattle.history_lock.specs.History.{Begins, total, times, once_within}
 use Rattle.history_lock.specs.History as histories
-use Rattle.generation_catalogue.specs.History.{CatalogueState, IsHistory, is_draw, put_bytes, put_bytes_of, drawn, draws_of}
+use Rattle.generation_catalogue.specs.History.{CatalogueState, IsHistory, put_bytes, put_bytes_of, drawn, draws_of}
 use Rattle.generation_catalogue.specs.declared.entry.Entry.{Entry}
 use Rattle.generation_catalogue.specs.declared.entry.Entry.TheVariants as entries
 use Rattle.generation_catalogue.specs.declared.entry.Refusal.{Refusal}

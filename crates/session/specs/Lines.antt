@@ -7,7 +7,6 @@ use Rattle.session_script.specs.declared.script.Stage.{Stage}
 use Rattle.session_script.specs.declared.script.Stage.TheVariants.{Before, During, After}
 use Rattle.session_script.specs.Scripts.{Act, LineFields, Fields}
 use Rattle.session_script.specs.Scripts as acts
-use Rattle.session_script.specs.Grammar.{editor_of, reader_of}
 use Rattle.session_script.specs.Ranges.{IsInRanges}
 use Rattle.carousel_world.specs.Events.{Step, Commit, Draw, Open}
 use Rattle.rehearsal.specs.Lines.{Pending, none_pending, pending_after, events_of_line}
