@@ -185,9 +185,36 @@ opened_steps : (told : List Told) → Each IsOpenTold told → All IsOpening (st
 opened_steps [] h = All-nil IsOpening
 opened_steps (x ∷ told) h = All-cons IsOpening x.0 (steps told) (subst (λ (y : Told). IsOpening y.0) (sym (h.0).2) tt) (opened_steps told h.1)
 
-pub ends_settled : (editors : List ℕ) (c : CatalogueState) (told : List Told) (ds : List DrawFields) → Tells editors c.entries told → IsSettled c
-    → draws_in (steps told) ≡ ds → EndsDrawn ds → EndsSettled (steps told)
-ends_settled editors c told ds h settled same drew =
+abbrev draw_of : List Fate → DrawFields
+draw_of fates = record { asked = 1048576; fates = fates }
+
+-- the draws of such events, and that the fates of the last two are those of `settle`
+drawn_at_end : (a b z : List Step) (f g : List Fate) → All IsOpening b → All IsOpening z → draws_in (a ++ Draw 1048576 f ∷ b ++ Draw 1048576 g ∷ z) ≡ (draws_in a ++ draw_of f ∷ []) ++ draw_of g ∷ []
+drawn_at_end a b z f g opens later =
+    draws_append (a ++ Draw 1048576 f ∷ b) (Draw 1048576 g ∷ z)
+    ∙ ap (λ l. l ++ draw_of g ∷ draws_in z) (draws_append a (Draw 1048576 f ∷ b))
+    ∙ (λ i. (draws_in a ++ draw_of f ∷ no_open_draws b opens i) ++ draw_of g ∷ no_open_draws z later i)
+
+ends_by : (a b z events : List Step) (f g : List Fate) → events ≡ a ++ Draw 1048576 f ∷ b ++ Draw 1048576 g ∷ z → All IsOpening b → All IsOpening z
+    → EndsDrawn (draws_in events) → EndsSettled events
+ends_by a b z events f g cut opens later drew =
+    let both : (draws_in a ++ draw_of f ∷ []) ++ draw_of g ∷ [] ≡ (drew.0 ++ settling_draw ∷ []) ++ settling_draw ∷ [] =
+    sym (drawn_at_end a b z f g opens later) ∙ ap draws_in (sym cut) ∙ drew.1 ∙ sym (append_assoc drew.0 (settling_draw ∷ []) (settling_draw ∷ [])) in
+    let outer = last_same (draws_in a ++ draw_of f ∷ []) (drew.0 ++ settling_draw ∷ []) (draw_of g) settling_draw both in
+    let inner = last_same (draws_in a) drew.0 (draw_of f) settling_draw outer.0 in
+    let first : f ≡ [] = ap (λ (d : DrawFields). d.fates) inner.1 in
+    let second : g ≡ [] = ap (λ (d : DrawFields). d.fates) outer.1 in
+    (a, b, z, cut ∙ (λ i. a ++ Draw 1048576 (first i) ∷ b ++ Draw 1048576 (second i) ∷ z) ∙ append_assoc a (settling ∷ b) (settling ∷ z), opens, later)
+
+-- what is told of two draws that come last
+cut_twice : (a b z : List Told) (x y : Told) (f g : List Fate) → x.0 ≡ Draw 1048576 f → y.0 ≡ Draw 1048576 g → steps ((a ++ x ∷ b) ++ y ∷ z) ≡ steps a ++ Draw 1048576 f ∷ steps b ++ Draw 1048576 g ∷ steps z
+cut_twice a b z x y f g one two =
+    map-append (λ (w : Told). w.0) (a ++ x ∷ b) (y ∷ z)
+    ∙ ap (λ l. l ++ y.0 ∷ steps z) (map-append (λ (w : Told). w.0) a (x ∷ b))
+    ∙ (λ i. (steps a ++ one i ∷ steps b) ++ two i ∷ steps z)
+
+pub ends_settled : (editors : List ℕ) (c : CatalogueState) (told : List Told) → Tells editors c.entries told → IsSettled c → EndsDrawn (draws_in (steps told)) → EndsSettled (steps told)
+ends_settled editors c told h settled drew =
     let old : CatalogueState = settled.0 in
     let mid : CatalogueState = drawn old 1048576 in
     let first : Entry = entries.Draw 1048576 (current_of old).number (cursor_of old) (count_drawn old 1048576) in
@@ -195,25 +222,10 @@ ends_settled editors c told ds h settled same drew =
     let all : c.entries ≡ (old.entries ++ first ∷ []) ++ second ∷ [] = ap (λ (d : CatalogueState). d.entries) settled.1 in
     let late = tells_cut editors (old.entries ++ first ∷ []) [] second told (subst (λ l. Tells editors l told) all h) in
     let early = tells_cut editors old.entries [] first late.0 late.4 in
-    let a : List Step = steps early.0 in
-    let b : List Step = steps early.2 in
-    let z : List Step = steps late.2 in
     let f : List Fate = (early.5).0 in
     let g : List Fate = (late.5).0 in
-    let b_opens = opened_steps early.2 (only_opens editors early.2 early.6) in
-    let z_opens = opened_steps late.2 (only_opens editors late.2 late.6) in
     let one : (early.1).0 ≡ Draw 1048576 f = ap (λ (x : Told). x.0) (early.5).1 in
     let two : (late.1).0 ≡ Draw 1048576 g = ap (λ (x : Told). x.0) (late.5).1 in
-    let cut : steps told ≡ a ++ Draw 1048576 f ∷ b ++ Draw 1048576 g ∷ z =
-    ap steps late.3 ∙ map-append (λ (x : Told). x.0) late.0 (late.1 ∷ late.2)
-    ∙ (λ i. (ap steps early.3 ∙ map-append (λ (x : Told). x.0) early.0 (early.1 ∷ early.2)) i ++ two i ∷ z) ∙ ap (λ (s : Step). a ++ s ∷ b ++ Draw 1048576 g ∷ z) one in
-    let drawn_are : (draws_in a ++ record { asked = 1048576; fates = f } ∷ []) ++ record { asked = 1048576; fates = g } ∷ [] ≡ draws_in (steps told) =
-    sym (ap draws_in cut ∙ draws_append (a ++ Draw 1048576 f ∷ b) (Draw 1048576 g ∷ z)
-    ∙ (λ i. (draws_append a (Draw 1048576 f ∷ b) ∙ ap (λ l. draws_in a ++ record { asked = 1048576; fates = f } ∷ l) (no_open_draws b b_opens)) i ++ record { asked = 1048576; fates = g } ∷ no_open_draws z z_opens i)) in
-    let both : (draws_in a ++ record { asked = 1048576; fates = f } ∷ []) ++ record { asked = 1048576; fates = g } ∷ [] ≡ (drew.0 ++ settling_draw ∷ []) ++ settling_draw ∷ [] =
-    drawn_are ∙ same ∙ drew.1 ∙ sym (append_assoc drew.0 (settling_draw ∷ []) (settling_draw ∷ [])) in
-    let outer = last_same (draws_in a ++ record { asked = 1048576; fates = f } ∷ []) (drew.0 ++ settling_draw ∷ []) (record { asked = 1048576; fates = g }) settling_draw both in
-    let inner = last_same (draws_in a) drew.0 (record { asked = 1048576; fates = f }) settling_draw outer.0 in
-    let f_none : f ≡ [] = ap (λ (d : DrawFields). d.fates) inner.1 in
-    let g_none : g ≡ [] = ap (λ (d : DrawFields). d.fates) outer.1 in
-    (a, b, z, cut ∙ (λ i. a ++ Draw 1048576 (f_none i) ∷ b ++ Draw 1048576 (g_none i) ∷ z) ∙ append_assoc a (settling ∷ b) (settling ∷ z), b_opens, z_opens)
+    let whole : told ≡ (early.0 ++ early.1 ∷ early.2) ++ late.1 ∷ late.2 = late.3 ∙ ap (λ l. l ++ late.1 ∷ late.2) early.3 in
+    ends_by (steps early.0) (steps early.2) (steps late.2) (steps told) f g (ap steps whole ∙ cut_twice early.0 early.2 late.2 early.1 late.1 f g one two)
+    (opened_steps early.2 (only_opens editors early.2 early.6)) (opened_steps late.2 (only_opens editors late.2 late.6)) drew

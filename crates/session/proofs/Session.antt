@@ -30,7 +30,7 @@ use Rattle.session.specs.Played.{open_of, opens_of, IsPlayed, fates_of, PlayedIs
 use Rattle.session.proofs.Feeding.{fates_in, asked_by}
 use Rattle.session.proofs.Telling.{Told, Tells, merge_tells, none_of_other}
 use Rattle.session.proofs.Committed.{committed, HasPlace, HasNone, find_place, place_mapped}
-use Rattle.session.proofs.Scripted.{none_of_editor, none_of_reader, settles_last}
+use Rattle.session.proofs.Scripted.{none_of_editor, none_of_reader, EndsDrawn, settles_last}
 use Rattle.session.proofs.Reading.{in_order, are_answered, are_apart, are_numbers, actor_at, reader_told, none_opened}
 use Rattle.session.proofs.Ending.{steps, ends_settled, ends_whole, ends_answered}
 
@@ -141,7 +141,7 @@ module _ (script : Fields) (c : CatalogueState) (drawings : List Drawing) (shots
             (subst (AreTold reader []) (sym none) tt)
 
     settled : settles script ≡ true → EndsSettled (steps merge)
-    settled s = ends_settled script.editors c merge lines tells (p.settled s) draws (settles_last script a s)
+    settled s = ends_settled script.editors c merge tells (p.settled s) (subst EndsDrawn (sym draws) (settles_last script a s))
 
     few : length (draws_in (steps merge)) ≤ 16777216
     few = let n = ap length draws in let k = line_count in let most = ((p.gathered).history).draws in omega (arith, n, k, most)

@@ -9,7 +9,6 @@ use Rattle.session_history.specs.Merges.{ReaderFields, state_of, merging}
 use Rattle.session_history.specs.Merged.{IsReady}
 use Rattle.session_history.proofs.Numbers.{numbered, trees_same}
 use Rattle.session_history.proofs.Replying.{catalogue_at_end}
-
 -- Lists that are filtered, counted and put together, and whose commit an event tells
 pub use Rattle.session_history.proofs.Cutting.{filter_takes, filter_skips}
 pub use Rattle.session_history.proofs.Placing.{count_more, count_same}
