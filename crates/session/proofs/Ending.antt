@@ -213,6 +213,12 @@ cut_twice a b z x y f g one two =
     ∙ ap (λ l. l ++ y.0 ∷ steps z) (map-append (λ (w : Told). w.0) a (x ∷ b))
     ∙ (λ i. (steps a ++ one i ∷ steps b) ++ two i ∷ steps z)
 
+ends_told : (a b z l told : List Told) (x y : Told) (f g : List Fate) → told ≡ l ++ y ∷ z → l ≡ a ++ x ∷ b → x.0 ≡ Draw 1048576 f → y.0 ≡ Draw 1048576 g → Each IsOpenTold b → Each IsOpenTold z
+    → EndsDrawn (draws_in (steps told)) → EndsSettled (steps told)
+ends_told a b z l told x y f g late early one two opens later drew =
+    let whole : told ≡ (a ++ x ∷ b) ++ y ∷ z = late ∙ ap (λ m. m ++ y ∷ z) early in
+    ends_by (steps a) (steps b) (steps z) (steps told) f g (ap steps whole ∙ cut_twice a b z x y f g one two) (opened_steps b opens) (opened_steps z later) drew
+
 pub ends_settled : (editors : List ℕ) (c : CatalogueState) (told : List Told) → Tells editors c.entries told → IsSettled c → EndsDrawn (draws_in (steps told)) → EndsSettled (steps told)
 ends_settled editors c told h settled drew =
     let old : CatalogueState = settled.0 in
@@ -222,10 +228,5 @@ ends_settled editors c told h settled drew =
     let all : c.entries ≡ (old.entries ++ first ∷ []) ++ second ∷ [] = ap (λ (d : CatalogueState). d.entries) settled.1 in
     let late = tells_cut editors (old.entries ++ first ∷ []) [] second told (subst (λ l. Tells editors l told) all h) in
     let early = tells_cut editors old.entries [] first late.0 late.4 in
-    let f : List Fate = (early.5).0 in
-    let g : List Fate = (late.5).0 in
-    let one : (early.1).0 ≡ Draw 1048576 f = ap (λ (x : Told). x.0) (early.5).1 in
-    let two : (late.1).0 ≡ Draw 1048576 g = ap (λ (x : Told). x.0) (late.5).1 in
-    let whole : told ≡ (early.0 ++ early.1 ∷ early.2) ++ late.1 ∷ late.2 = late.3 ∙ ap (λ l. l ++ late.1 ∷ late.2) early.3 in
-    ends_by (steps early.0) (steps early.2) (steps late.2) (steps told) f g (ap steps whole ∙ cut_twice early.0 early.2 late.2 early.1 late.1 f g one two)
-    (opened_steps early.2 (only_opens editors early.2 early.6)) (opened_steps late.2 (only_opens editors late.2 late.6)) drew
+    ends_told early.0 early.2 late.2 late.0 told early.1 late.1 (early.5).0 (late.5).0 late.3 early.3 (ap (λ (x : Told). x.0) (early.5).1) (ap (λ (x : Told). x.0) (late.5).1)
+    (only_opens editors early.2 early.6) (only_opens editors late.2 late.6) drew

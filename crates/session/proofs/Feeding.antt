@@ -11,7 +11,7 @@ use Rattle.session_actors.specs.Chains.{Seen, GoesOnWith, Draws, DrawFields}
 use Rattle.session.specs.Gathering.{asked_in}
 use Rattle.session.proofs.Lists.{get_behind, none_pass, first_fails, begins_on, times_append, times_other}
 use Rattle.session.proofs.Entering.{seen_with, first_draw, draws_enter, draw_entry, enters_begins, enters_keeps}
-use Rattle.session.proofs.Editing.{AreToCome, none_between, goes_on, still_own}
+use Rattle.session.proofs.Entered.{AreToCome, none_between, goes_on, still_own}
 
 abbrev pub fates_in : List DrawFields → List (List Fate)
 fates_in lines = map (λ (l : DrawFields). l.fates) lines

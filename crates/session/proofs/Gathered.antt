@@ -13,7 +13,7 @@ use Rattle.session_actors.specs.Chains.{Seen, nothing_seen, Commits, Draws, Draw
 use Rattle.session.specs.Gathering.{AllCommitted, AreEntered, ActorsGather}
 use Rattle.session.proofs.Lists.{get_below, get_one, get_last, total_some, once_inside, each_from_get}
 use Rattle.session.proofs.Entering.{HasEntered, IsCommitAt, IsDrawn, commits_enter, draws_enter, enters_own}
-use Rattle.session.proofs.Editing.{are_entered}
+use Rattle.session.proofs.Entered.{are_entered}
 use Rattle.session.proofs.Feeding.{AreDrawn, are_drawn}
 
 each_get : {A : Type 0} (P : A → Type 0) (xs : List A) (k : ℕ) (x : A) → histories.Each P xs → slice_get xs k ≡ Some x → P x

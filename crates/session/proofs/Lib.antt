@@ -1,14 +1,14 @@
 pub mod Lists
 pub mod Entering
 pub mod Rooms
-pub mod Editing
+pub mod Entered
 pub mod Feeding
 pub mod Gathered
 pub mod Grown
 pub mod Telling
 pub mod Committed
 pub mod Scripted
-pub mod Reading
+pub mod Opened
 pub mod Ending
 pub mod Session
 pub mod Arranged

@@ -31,7 +31,7 @@ use Rattle.session.proofs.Feeding.{fates_in, asked_by}
 use Rattle.session.proofs.Telling.{Told, Tells, merge_tells, none_of_other}
 use Rattle.session.proofs.Committed.{committed, HasPlace, HasNone, find_place, place_mapped}
 use Rattle.session.proofs.Scripted.{none_of_editor, none_of_reader, EndsDrawn, settles_last}
-use Rattle.session.proofs.Reading.{in_order, are_answered, are_apart, are_numbers, actor_at, reader_told, none_opened}
+use Rattle.session.proofs.Opened.{in_order, are_answered, are_apart, are_numbers, actor_at, reader_told, none_opened}
 use Rattle.session.proofs.Ending.{steps, ends_settled, ends_whole, ends_answered}
 
 -- ---- draws
