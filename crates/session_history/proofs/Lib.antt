@@ -10,3 +10,4 @@ pub mod Parts
 pub mod Turns
 pub mod Telling
 pub mod Witness
+pub mod CallerLemmas

@@ -50,7 +50,7 @@ place_told editors n place within j = dite (ℕ_discrete j place)
     (λ less e. ne (n.apart j place less within e))
     (λ more e. let past = get_or_past editors j 0 (omega arith) in let some = n.some place within in absurd (omega arith))) ∙ sym (ne_eqb j place ne))
 
-commit_told : (editors : List ℕ) → AreNumbers editors → (place : ℕ) → place < length editors → (e : Entry) (f : List Fate) → is_commit_of (get_or editors place 0) (event_of editors e f).0 ≡ is_commit_at place e
+pub commit_told : (editors : List ℕ) → AreNumbers editors → (place : ℕ) → place < length editors → (e : Entry) (f : List Fate) → is_commit_of (get_or editors place 0) (event_of editors e f).0 ≡ is_commit_at place e
 commit_told editors n place within (entries.Commit editor edits outcome) f = place_told editors n place within editor
 commit_told editors n place within (entries.Draw asked generation first count) f = refl
 

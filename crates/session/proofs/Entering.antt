@@ -1,0 +1,161 @@
+-- What an actor of a station enters, one entry after another.
+use Rattle.std.proofs.Common.{◌≡◌, ℕ, ◌-◌, ◌<◌, ◌==◌, Bool, true, false, cond, List, [], ◌∷◌, ◌++◌, length, Some, slice_get, ◌⊎◌, inl, inr, sym, ap, ◌∙◌, refl, subst, arith, append-nil, length-append}
+use mathlib.Core.Logic.{dite}
+use native.Mathlib.Decide.{ℕ_discrete}
+use Rattle.path_tree.specs.declared.tree.Edit.{Edit}
+use Rattle.history_lock.specs.History.{Begins, times, places}
+use Rattle.generation_catalogue.specs.History.{CatalogueState, committed, drawn, current_of, cursor_of, count_drawn, outcome_of, is_entered, with_entry, is_draw}
+use Rattle.generation_catalogue.specs.declared.entry.Entry.{Entry}
+use Rattle.generation_catalogue.specs.declared.entry.Entry.TheVariants as entries
+use Rattle.carousel_world.specs.World.{Drawing}
+use Rattle.session_history.specs.Merging.{Each}
+use Rattle.session_history.specs.Merged.{is_commit_at}
+use Rattle.session_actors.specs.Chains.{Seen, seen_after, Commits, Draws, DrawFields}
+use Rattle.session.proofs.Lists.{begins_self, begins_more, begins_on, begins_le, begins_get, get_at, times_append, times_other}
+
+-- all that came before, and one entry of one's own
+abbrev pub seen_with : Seen → List Entry → Entry → Seen
+seen_with s before e = record { entries = before ++ e ∷ []; own = s.own ++ length before ∷ [] }
+
+-- all that came before
+abbrev pub seen_of : Seen → List Entry → Seen
+seen_of s before = record { entries = before; own = s.own }
+
+-- from s to t these are entered, each after what was seen and perhaps more
+abbrev pub Enters : Seen → List Entry → Seen → Type 0
+Enters s [] t = Begins s.entries t.entries × (t.own ≡ s.own)
+Enters s (e ∷ es) t = (before : List Entry) × Begins s.entries before × Enters (seen_with s before e) es t
+
+pub enters_none : (s : Seen) → Enters s [] s
+enters_none s = (begins_self s.entries, refl)
+
+pub enters_later : (s : Seen) (before : List Entry) (es : List Entry) (t : Seen) → Begins s.entries before → Enters (seen_of s before) es t → Enters s es t
+enters_later s before [] t b h = (begins_on s.entries before t.entries b h.0, h.1)
+enters_later s before (e ∷ es) t b h = (h.0, begins_on s.entries before h.0 b h.1, h.2)
+
+pub enters_begins : (s : Seen) (es : List Entry) (t : Seen) → Enters s es t → Begins s.entries t.entries
+enters_begins s [] t h = h.0
+enters_begins s (e ∷ es) t h =
+    begins_on s.entries h.0 t.entries h.1 (begins_on h.0 (h.0 ++ e ∷ []) t.entries (begins_more h.0 (e ∷ [])) (enters_begins (seen_with s h.0 e) es t h.2))
+
+-- nothing becomes one's own among what was seen
+pub enters_keeps : (s : Seen) (es : List Entry) (t : Seen) → Enters s es t → (k : ℕ) → k < length s.entries → times k t.own ≡ times k s.own
+enters_keeps s [] t h k below = ap (times k) h.1
+enters_keeps s (e ∷ es) t h k below =
+    let before = h.0 in
+    let le = begins_le s.entries before h.1 in
+    let long = length-append before (e ∷ []) in
+    let rest : times k t.own ≡ times k (s.own ++ length before ∷ []) = enters_keeps (seen_with s before e) es t h.2 k (omega (arith, le, long, below)) in
+    let parts = times_append k s.own (length before ∷ []) in
+    let other = times_other k (length before) (λ e. omega (arith, e, le, below)) in
+    omega (arith, rest, parts, other)
+
+-- what became one's own is one of the entries
+pub enters_own : (P : Entry → Type 0) (s : Seen) (es : List Entry) (t : Seen) (history : List Entry) → Enters s es t → Each P es → Begins t.entries history
+    → (k : ℕ) → times k s.own < times k t.own → (e : Entry) × (slice_get history k ≡ Some e) × P e
+enters_own P s [] t history h each begins k more = absurd (let e = ap (times k) h.1 in omega (arith, e, more))
+enters_own P s (e ∷ es) t history h each begins k more =
+    let before = h.0 in
+    let next = seen_with s before e in
+    let parts = times_append k s.own (length before ∷ []) in
+    dite (ℕ_discrete k (length before))
+    (λ here.
+    let all : Begins (before ++ e ∷ []) history = begins_on (before ++ e ∷ []) t.entries history (enters_begins next es t h.2) begins in
+    (e, ap (slice_get history) here ∙ begins_get (before ++ e ∷ []) history (length before) e all (get_at before [] e), each.0))
+    (λ other. enters_own P next es t history h.2 each.1 begins k (let none = times_other k (length before) other in omega (arith, parts, none, more)))
+
+-- ---- a commit
+
+-- what a commit leaves is seen with its entry, or without one
+pub after_commit : (s : Seen) (c : CatalogueState) (place : ℕ) (edits : List Edit)
+    → ((is_entered (outcome_of c edits) ≡ true) × (seen_after s c (committed c place edits) ≡ seen_with s c.entries (entries.Commit place edits (outcome_of c edits))))
+    ⊎ ((is_entered (outcome_of c edits) ≡ false) × (seen_after s c (committed c place edits) ≡ seen_of s c.entries))
+after_commit s c place edits = by (is_entered (outcome_of c edits)) refl
+  where
+    one : length (c.entries ++ entries.Commit place edits (outcome_of c edits) ∷ []) - length c.entries ≡ 1
+    one = omega (arith, length-append c.entries (entries.Commit place edits (outcome_of c edits) ∷ []))
+
+    none : length c.entries - length c.entries ≡ 0
+    none = omega arith
+
+    by : (b : Bool) → is_entered (outcome_of c edits) ≡ b
+        → ((is_entered (outcome_of c edits) ≡ true) × (seen_after s c (committed c place edits) ≡ seen_with s c.entries (entries.Commit place edits (outcome_of c edits))))
+        ⊎ ((is_entered (outcome_of c edits) ≡ false) × (seen_after s c (committed c place edits) ≡ seen_of s c.entries))
+    by true is = inl (
+      is,
+      ap (λ (b : Bool). seen_after s c (cond b (with_entry c (entries.Commit place edits (outcome_of c edits))) c)) is
+          ∙ (λ i. record { entries = c.entries ++ entries.Commit place edits (outcome_of c edits) ∷ []; own = s.own ++ places (length c.entries) (one i) }),
+    )
+    by false is = inr (
+      is,
+      ap (λ (b : Bool). seen_after s c (cond b (with_entry c (entries.Commit place edits (outcome_of c edits))) c)) is
+          ∙ (λ i. record { entries = c.entries; own = s.own ++ places (length c.entries) (none i) })
+          ∙ (λ i. record { entries = c.entries; own = append-nil s.own i }),
+    )
+
+-- one commit more: it was entered, or it found no room
+abbrev pub Commits1 : (id place : ℕ) → Seen → List Edit → List (List Edit) → Seen → CatalogueState → Type 0
+Commits1 id place s edits lines t c =
+    ((is_entered (outcome_of c edits) ≡ true) × Commits id place (seen_with s c.entries (entries.Commit place edits (outcome_of c edits))) lines t)
+    ⊎ ((is_entered (outcome_of c edits) ≡ false) × Commits id place (seen_of s c.entries) lines t)
+
+pub first_commit : (id place : ℕ) (s : Seen) (edits : List Edit) (lines : List (List Edit)) (t : Seen) → (h : Commits id place s (edits ∷ lines) t)
+    → Commits1 id place s edits lines t h.0
+first_commit id place s edits lines t h = by (after_commit s h.0 place edits)
+  where
+    by : ((is_entered (outcome_of h.0 edits) ≡ true) × (seen_after s h.0 (committed h.0 place edits) ≡ seen_with s (h.0).entries (entries.Commit place edits (outcome_of h.0 edits))))
+        ⊎ ((is_entered (outcome_of h.0 edits) ≡ false) × (seen_after s h.0 (committed h.0 place edits) ≡ seen_of s (h.0).entries))
+        → Commits1 id place s edits lines t h.0
+    by (inl e) = inl (e.0, subst (λ (u : Seen). Commits id place u lines t) e.1 h.2)
+    by (inr e) = inr (e.0, subst (λ (u : Seen). Commits id place u lines t) e.1 h.2)
+
+abbrev pub IsCommitAt : ℕ → Entry → Type 0
+IsCommitAt place e = is_commit_at place e ≡ true
+
+abbrev pub HasEntered : (P : Entry → Type 0) → Seen → Seen → Type 0
+HasEntered P s t = (es : List Entry) × Enters s es t × Each P es
+
+own_place : (place : ℕ) (e : Entry) (es : List Entry) → is_commit_at place e ≡ true → Each (IsCommitAt place) es → Each (IsCommitAt place) (e ∷ es)
+own_place place e es h k = (h, k)
+
+pub commits_enter : (id place : ℕ) (lines : List (List Edit)) (s t : Seen) → (place == place) ≡ true → Commits id place s lines t → HasEntered (IsCommitAt place) s t
+commits_enter id place [] s t itself h = ([], subst (λ (u : Seen). Enters s [] u) (sym h) (enters_none s), tt)
+commits_enter id place (edits ∷ lines) s t itself h =
+    by (first_commit id place s edits lines t h)
+    (λ r. commits_enter id place lines (seen_with s (h.0).entries (entries.Commit place edits (outcome_of h.0 edits))) t itself r)
+    (λ r. commits_enter id place lines (seen_of s (h.0).entries) t itself r)
+  where
+    by : Commits1 id place s edits lines t h.0
+        → (Commits id place (seen_with s (h.0).entries (entries.Commit place edits (outcome_of h.0 edits))) lines t
+        → HasEntered (IsCommitAt place) (seen_with s (h.0).entries (entries.Commit place edits (outcome_of h.0 edits))) t)
+        → (Commits id place (seen_of s (h.0).entries) lines t → HasEntered (IsCommitAt place) (seen_of s (h.0).entries) t)
+        → HasEntered (IsCommitAt place) s t
+    by (inl e) with_it without =
+        let r = with_it e.1 in
+        (entries.Commit place edits (outcome_of h.0 edits) ∷ r.0, ((h.0).entries, (h.1).begins, r.1), (itself, r.2))
+    by (inr e) with_it without = let r = without e.1 in (r.0, enters_later s (h.0).entries r.0 t (h.1).begins r.1, r.2)
+
+-- ---- a draw
+
+abbrev pub draw_entry : CatalogueState → ℕ → Entry
+draw_entry c asked = entries.Draw asked (current_of c).number (cursor_of c) (count_drawn c asked)
+
+pub first_draw : (id : ℕ) (s : Seen) (l : DrawFields) (lines : List DrawFields) (d : Drawing) (ds : List Drawing) (t : Seen) → (h : Draws id s (l ∷ lines) (d ∷ ds) t)
+    → Draws id (seen_with s (h.0).entries (draw_entry h.0 l.asked)) lines ds t
+first_draw id s l lines d ds t h =
+    let c : CatalogueState = h.0 in
+    let one : length (c.entries ++ draw_entry c l.asked ∷ []) - length c.entries ≡ 1 = omega (arith, length-append c.entries (draw_entry c l.asked ∷ [])) in
+    let same : seen_after s c (drawn c l.asked) ≡ seen_with s c.entries (draw_entry c l.asked) =
+    (λ i. record { entries = c.entries ++ draw_entry c l.asked ∷ []; own = s.own ++ places (length c.entries) (one i) }) in
+    subst (λ (u : Seen). Draws id u lines ds t) same h.4
+
+abbrev pub IsDrawn : Entry → Type 0
+IsDrawn e = is_draw e ≡ true
+
+pub draws_enter : (id : ℕ) (lines : List DrawFields) (ds : List Drawing) (s t : Seen) → Draws id s lines ds t → HasEntered IsDrawn s t
+draws_enter id [] [] s t h = ([], subst (λ (u : Seen). Enters s [] u) (sym h) (enters_none s), tt)
+draws_enter id [] (d ∷ ds) s t h = absurd h
+draws_enter id (l ∷ lines) [] s t h = absurd h
+draws_enter id (l ∷ lines) (d ∷ ds) s t h =
+    let r = draws_enter id lines ds (seen_with s (h.0).entries (draw_entry h.0 l.asked)) t (first_draw id s l lines d ds t h) in
+    (draw_entry h.0 l.asked ∷ r.0, ((h.0).entries, (h.1).begins, r.1), (refl, r.2))

@@ -1,0 +1,15 @@
+pub mod Lists
+pub mod Entering
+pub mod Rooms
+pub mod Entered
+pub mod Feeding
+pub mod Gathered
+pub mod Grown
+pub mod Telling
+pub mod Committed
+pub mod Scripted
+pub mod Opened
+pub mod Ending
+pub mod Session
+pub mod Arranged
+pub mod Examples

@@ -1,0 +1,127 @@
+-- From a script to what each actor of its session is asked for. The language of scripts is this project's own.
+use Rattle.std.specs.Prelude.{◌≡◌, ◌⊎◌, ℕ, suc, ◌==◌, Bool, true, false, List, [], ◌∷◌, ◌++◌, map, length, if◌then◌else◌}
+use Rattle.std.specs.List.{All, Contains, list_any, count_by}
+use Rattle.path_tree.specs.Paths.{PathNames}
+use Rattle.path_tree.specs.declared.tree.Edit.{Edit}
+use Rattle.session_script.specs.declared.script.Stage.{Stage}
+use Rattle.session_script.specs.declared.script.Stage.TheVariants.{Before, During, After}
+use Rattle.session_script.specs.Scripts.{Act, LineFields, Fields}
+use Rattle.session_script.specs.Scripts as acts
+use Rattle.session_script.specs.Ranges.{IsInRanges}
+use Rattle.carousel_world.specs.Events.{Step, Commit, Draw, Open}
+use Rattle.rehearsal.specs.Lines.{Pending, none_pending, pending_after, events_of_line}
+use Rattle.session_actors.specs.Chains.{DrawFields}
+use Rattle.session_actors.specs.Opened.{Asked}
+
+-- ---- events
+
+-- the events of lines in written order, each with the stage of its line, where these edits are pending above them
+abbrev pub staged_of : Pending → Stage → Act → List (Stage × Step)
+staged_of p stage act = map (λ e. (stage, e)) (events_of_line p act)
+
+abbrev pub staged_from : Pending → List LineFields → List (Stage × Step)
+staged_from p [] = []
+staged_from p (l ∷ ls) = staged_of p l.stage l.act ++ staged_from (pending_after p l.act) ls
+
+abbrev pub staged_events : Fields → List (Stage × Step)
+staged_events script = staged_from none_pending script.lines
+
+-- the edits of each commit of this editor, in order
+abbrev pub commits_by : ℕ → List Step → List (List Edit)
+commits_by editor [] = []
+commits_by editor (Commit e edits ∷ es) = (if e == editor then edits ∷ [] else []) ++ commits_by editor es
+commits_by editor (Draw asked fates ∷ es) = commits_by editor es
+commits_by editor (Open reader path ∷ es) = commits_by editor es
+
+-- the draws, in order
+abbrev pub draws_in : List Step → List DrawFields
+draws_in [] = []
+draws_in (Commit editor edits ∷ es) = draws_in es
+draws_in (Draw asked fates ∷ es) = record { asked = asked; fates = fates } ∷ draws_in es
+draws_in (Open reader path ∷ es) = draws_in es
+
+-- the paths that this reader opens, in order
+abbrev pub opens_by : ℕ → List Step → List PathNames
+opens_by reader [] = []
+opens_by reader (Commit editor edits ∷ es) = opens_by reader es
+opens_by reader (Draw asked fates ∷ es) = opens_by reader es
+opens_by reader (Open r path ∷ es) = (if r == reader then path ∷ [] else []) ++ opens_by reader es
+
+-- ---- what is asked of a reader
+
+abbrev pub is_before : Stage → Bool
+is_before Before = true
+is_before During = false
+is_before After = false
+
+abbrev pub is_draw_before : Stage × Step → Bool
+is_draw_before (stage, Draw asked fates) = is_before stage
+is_draw_before (stage, Commit editor edits) = false
+is_draw_before (stage, Open reader path) = false
+
+-- How many draws an open has to have heard: before `start` those above it, after `start` those before `start`, and at the end all
+abbrev pub least_for : (above before all : ℕ) → Stage → ℕ
+least_for above before all Before = above
+least_for above before all During = before
+least_for above before all After = all
+
+-- the opens of this reader, in order, where so many draws are above these events
+abbrev pub asked_from : (reader before all above : ℕ) → List (Stage × Step) → List Asked
+asked_from reader before all above [] = []
+asked_from reader before all above ((stage, Commit editor edits) ∷ es) = asked_from reader before all above es
+asked_from reader before all above ((stage, Draw asked fates) ∷ es) = asked_from reader before all (suc above) es
+asked_from reader before all above ((stage, Open r path) ∷ es) =
+    (if r == reader then record { path = path; least = least_for above before all stage } ∷ [] else []) ++ asked_from reader before all above es
+
+abbrev pub all_draws : Fields → ℕ
+all_draws script = length (draws_in (map (λ e. e.1) (staged_events script)))
+
+abbrev pub draws_before_start : Fields → ℕ
+draws_before_start script = count_by is_draw_before (staged_events script)
+
+abbrev pub asked_of : ℕ → Fields → List Asked
+asked_of reader script = asked_from reader (draws_before_start script) (all_draws script) 0 (staged_events script)
+
+-- ---- what is true of each script that a text gives
+
+abbrev pub is_settle : Act → Bool
+is_settle acts.Settle = true
+is_settle _ = false
+
+abbrev pub settles : Fields → Bool
+settles script = list_any (λ (l : LineFields). is_settle l.act) script.lines
+
+-- who a line is of stands among these
+abbrev pub IsMentioned : List ℕ → List ℕ → Act → Type 0
+IsMentioned editors readers (acts.Put editor path content) = Contains editors editor
+IsMentioned editors readers (acts.Fill editor path size from) = Contains editors editor
+IsMentioned editors readers (acts.Remove editor path) = Contains editors editor
+IsMentioned editors readers (acts.Commit editor) = Contains editors editor
+IsMentioned editors readers (acts.Draw asked fates) = Unit {0}
+IsMentioned editors readers (acts.Open reader path) = Contains readers reader
+IsMentioned editors readers acts.Settle = Unit {0}
+
+-- a line before `start`, or after it, that doesn't settle
+abbrev pub IsLineOf : Stage → LineFields → Type 0
+IsLineOf stage l = (l.stage ≡ stage) × (is_settle l.act ≡ false)
+
+-- a line at the end: an open
+abbrev pub IsFinale : LineFields → Type 0
+IsFinale l = (l.stage ≡ After) × (reader : ℕ) × (path : PathNames) × (l.act ≡ acts.Open reader path)
+
+-- at the end first the one line that settles, if there is one
+abbrev pub AreEnds : List LineFields → Type 0
+AreEnds [] = Unit {0}
+AreEnds (l ∷ ls) = ((l.stage ≡ After) × (l.act ≡ acts.Settle) × All IsFinale ls) ⊎ (IsFinale l × All IsFinale ls)
+
+-- a script's lines stand by their stages; its numbers are within their ranges; and it lists each editor and reader that a line names
+pub record IsArranged (script : Fields) : Type 0 where
+  pub ranges : IsInRanges script
+  pub mentioned : All (λ (l : LineFields). IsMentioned script.editors script.readers l.act) script.lines
+  pub before : List LineFields
+  pub during : List LineFields
+  pub ends : List LineFields
+  pub lines : script.lines ≡ before ++ during ++ ends
+  pub are_before : All (IsLineOf Before) before
+  pub are_during : All (IsLineOf During) during
+  pub are_ends : AreEnds ends

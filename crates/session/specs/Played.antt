@@ -1,0 +1,57 @@
+-- From what all actors did to the session.
+use Rattle.std.specs.Prelude.{◌≡◌, ℕ, true, List, [], ◌∷◌, map}
+use Rattle.ts_packet.specs.declared.Fate.{Fate}
+use Rattle.path_resolver.specs.declared.shot.Shot.{Shot}
+use Rattle.open_history.specs.Opens.{ReaderView, AllAnswered}
+use Rattle.open_history.specs.declared.entry.OpenEntry.{OpenEntry}
+use Rattle.generation_catalogue.specs.History.{CatalogueState, drawn}
+use Rattle.carousel_world.specs.World.{Drawing}
+use Rattle.session_history.specs.declared.opens.Open.{Open}
+use Rattle.session_history.specs.Merging.{merge_of}
+use Rattle.session_history.specs.Merges.{ReaderFields, merging}
+use Rattle.session_history.specs.Merged.{AreParts}
+use Rattle.session_script.specs.Scripts.{Fields}
+use Rattle.rehearsal.specs.Lines.{events_of}
+use Rattle.session_actors.specs.Chains.{DrawFields}
+use Rattle.session_actors.specs.Shown.{AreShots}
+use Rattle.session_actors.specs.Opened.{HasOpened}
+use Rattle.session.specs.Lines.{IsArranged, commits_by, draws_in, asked_of, settles}
+use Rattle.session.specs.Gathering.{IsGathered}
+use Rattle.session.specs.Sessions.{IsSession}
+
+-- an open without the number of its shot
+abbrev pub open_of : OpenEntry → Open
+open_of e = record { draws = e.draws; label = e.label; path = e.path; answer = e.answer }
+
+abbrev pub opens_of : ReaderView → ReaderFields
+opens_of r = record { reader = r.reader; opens = map open_of r.opens }
+
+-- the readers of these numbers opened all that they were asked for, and know all that was shown
+abbrev pub AllRead : Fields → List Shot → List ℕ → List ReaderView → Type 0
+AllRead script shots [] [] = Unit {0}
+AllRead script shots [] (v ∷ vs) = ⊥
+AllRead script shots (r ∷ rs) [] = ⊥
+AllRead script shots (r ∷ rs) (v ∷ vs) =
+    (v.reader ≡ r) × HasOpened (asked_of r script) v × (v.known ≡ shots) × AllAnswered v.known v.opens × AllRead script shots rs vs
+
+-- the last two entries are the draws of `settle`
+abbrev pub IsSettled : CatalogueState → Type 0
+IsSettled c = (before : CatalogueState) × (c ≡ drawn (drawn before 1048576) 1048576)
+
+-- the script was played: this is the catalogue at the end, and what was drawn, shown and opened
+pub record IsPlayed (script : Fields) (c : CatalogueState) (drawings : List Drawing) (shots : List Shot) (readers : List ReaderView) : Type 0 where
+  pub carousel : c.carousel ≡ 1
+  pub gathered : IsGathered (map (λ (editor : ℕ). commits_by editor (events_of script)) script.editors) (draws_in (events_of script)) c drawings
+  pub shown : AreShots drawings shots
+  pub read : AllRead script shots script.readers readers
+  pub settled : settles script ≡ true → IsSettled c
+
+abbrev pub fates_of : Fields → List (List Fate)
+fates_of script = map (λ (d : DrawFields). d.fates) (draws_in (events_of script))
+
+-- the parts of what was played fit together, and their merge is a session of the script
+abbrev pub PlayedIsASession : Type 0
+PlayedIsASession = (script : Fields) (c : CatalogueState) (drawings : List Drawing) (shots : List Shot) (readers : List ReaderView)
+    → IsArranged script → IsPlayed script c drawings shots readers
+    → AreParts c.entries (fates_of script) script.editors (map opens_of readers)
+    × IsSession script (merge_of (merging script.editors) (map opens_of readers) (fates_of script) c.entries)

@@ -1,0 +1,106 @@
+-- What a session is: a history of its script's commits, draws and opens. The order in which a script's actors run is this project's own.
+use Rattle.std.specs.Prelude.{◌≡◌, ◌⊎◌, ℕ, ◌+◌, ◌<◌, ◌≤◌, Bool, true, false, List, [], ◌∷◌, ◌++◌, map, length, if◌then◌else◌}
+use Rattle.std.specs.List.{All, filter, count_by, sum_by}
+use Rattle.path_tree.specs.Paths.{PathNames}
+use Rattle.path_tree.specs.Trees.{node_at}
+use Rattle.path_tree.specs.declared.tree.Edit.{Edit}
+use Rattle.generation.specs.Lawful.{tree_at}
+use Rattle.generation_catalogue.specs.History.{put_bytes, trees_of}
+use Rattle.carousel_world.specs.Events.{Step, Commit, Draw, Open}
+use Rattle.carousel_world.specs.World.{InRange, candidates_in}
+use Rattle.carousel_world.specs.Premises.{IsWhole}
+use Rattle.carousel_world.specs.Promises.{MeetsHeadline, IsUndamaged, world_after, broadcast_of}
+use Rattle.carousel_world.specs.Settling.{IsOpening, Answers}
+use Rattle.carousel_world.specs.declared.event.Reply.{Reply}
+use Rattle.carousel_world.specs.declared.event.Reply.TheVariants as replies
+use Rattle.session_history.specs.Laws.{placed}
+use Rattle.session_history.specs.Merged.{is_draw_step, is_commit_of, is_open_by}
+use Rattle.session_history.specs.Merges.{IsRunOfWorld}
+use Rattle.session_script.specs.Scripts.{Fields}
+use Rattle.rehearsal.specs.Lines.{events_of, settling}
+use Rattle.session_actors.specs.Opened.{Asked}
+use Rattle.session.specs.Lines.{commits_by, draws_in, asked_of, settles}
+
+-- ---- commits
+
+abbrev pub is_accepted : Reply → Bool
+is_accepted (replies.Committed number) = true
+is_accepted (replies.Refused refusal) = false
+is_accepted (replies.Drawn generation first count) = false
+is_accepted (replies.DrawsFull draws) = false
+is_accepted (replies.Opened label answer) = false
+
+abbrev pub put_by_step : Step → ℕ
+put_by_step (Commit editor edits) = put_bytes edits
+put_by_step (Draw asked fates) = 0
+put_by_step (Open reader path) = 0
+
+-- how many commits were accepted, and how many bytes all commits put
+abbrev pub accepted_in : List (Step × Reply) → ℕ
+accepted_in told = count_by (λ (x : Step × Reply). is_accepted x.1) told
+
+abbrev pub put_in : List (Step × Reply) → ℕ
+put_in told = sum_by (λ (x : Step × Reply). put_by_step x.0) told
+
+-- after these events there is no room for a commit of these edits: the season is full, or the journal would be
+abbrev pub IsFull : List (Step × Reply) → List Edit → Type 0
+IsFull part edits = (16383 ≤ accepted_in part) ⊎ (536870912 < put_in part + put_bytes edits)
+
+-- what comes before this editor's next commit; all of it where there is none
+abbrev pub up_to_next : ℕ → List (Step × Reply) → List (Step × Reply)
+up_to_next editor [] = []
+up_to_next editor (x ∷ xs) = if is_commit_of editor x.0 then [] else x ∷ up_to_next editor xs
+
+-- Of an editor's commit lines, in order, each stands in the history as its next commit, or is missing: it found no room, and there is
+-- none in the history up to the editor's next commit. `before` is the history up to here, and `told` what follows.
+abbrev pub AreCommitted : ℕ → List (Step × Reply) → List (List Edit) → List (Step × Reply) → Type 0
+AreCommitted editor before [] told = filter (λ (x : Step × Reply). is_commit_of editor x.0) told ≡ []
+AreCommitted editor before (edits ∷ lines) told =
+    ((between : List (Step × Reply)) × (reply : Reply) × (later : List (Step × Reply)) × (told ≡ between ++ (Commit editor edits, reply) ∷ later)
+    × (filter (λ (x : Step × Reply). is_commit_of editor x.0) between ≡ []) × (AreCommitted editor (before ++ between ++ (Commit editor edits, reply) ∷ []) lines later))
+    ⊎ (IsFull (before ++ up_to_next editor told) edits × AreCommitted editor before lines told)
+
+-- ---- opens
+
+-- each path that a reader is asked for is opened, in order, after at least so many draws
+abbrev pub AreTold : ℕ → List Asked → List (ℕ × (Step × Reply)) → Type 0
+AreTold reader [] [] = Unit {0}
+AreTold reader [] (x ∷ xs) = ⊥
+AreTold reader (a ∷ asked) [] = ⊥
+AreTold reader (a ∷ asked) (x ∷ xs) = (x.1.0 ≡ Open reader a.path) × (a.least ≤ x.0) × AreTold reader asked xs
+
+-- ---- the whole
+
+-- the last events but opens are the two draws of `settle`
+abbrev pub EndsSettled : List Step → Type 0
+EndsSettled events = (before : List Step) × (between : List Step) × (after : List Step) × (events ≡ before ++ settling ∷ (between ++ settling ∷ after))
+    × All IsOpening between × All IsOpening after
+
+-- the last generation was heard whole
+abbrev pub EndsWhole : List Step → Type 0
+EndsWhole events =
+    IsWhole 1 (broadcast_of (world_after 1 events)).layouts (length (trees_of (world_after 1 events).catalogue)) (candidates_in (world_after 1 events))
+
+-- so each open after all draws answers the path's lookup in the last generation, if damaged sections failed their CRC and blocks are near
+abbrev pub EndsAnswered : List (Step × Reply) → Type 0
+EndsAnswered told =
+    let w = world_after 1 (map (λ (x : Step × Reply). x.0) told) in
+    IsUndamaged w → (before after : List (Step × Reply)) (reader : ℕ) (path : PathNames) (reply : Reply) → told ≡ before ++ (Open reader path, reply) ∷ after
+    → filter (λ (x : Step × Reply). is_draw_step x.0) after ≡ []
+    → Answers reply (node_at (tree_at (broadcast_of w).trees (length (trees_of w.catalogue))) path)
+
+-- The events are those of the script: each editor's commits in written order, but for those that found no room; the draws in written
+-- order; each reader's opens in written order, an open above `start` after the draws above it, one below `start` after those above
+-- `start`, and a finale after all. The draws of `settle` are the last events but opens. Together they are one run of a world of
+-- carousel 1, which keeps what is promised of every run; and after `settle` the last generation was heard whole, and finales answer it.
+pub record IsSession (script : Fields) (told : List (Step × Reply)) : Type 0 where
+  pub run : IsRunOfWorld 1 told
+  pub steps : All InRange (map (λ (x : Step × Reply). x.0) told)
+  pub headline : MeetsHeadline 1 (map (λ (x : Step × Reply). x.0) told)
+  pub commits : (editor : ℕ) → 1 ≤ editor → editor ≤ 64 → AreCommitted editor [] (commits_by editor (events_of script)) told
+  pub draws : draws_in (map (λ (x : Step × Reply). x.0) told) ≡ draws_in (events_of script)
+  pub opens : (reader : ℕ) → 1 ≤ reader → reader ≤ 64
+      → AreTold reader (asked_of reader script) (placed (λ (x : Step × Reply). is_open_by reader x.0) (λ (x : Step × Reply). is_draw_step x.0) 0 told)
+  pub settled : settles script ≡ true → EndsSettled (map (λ (x : Step × Reply). x.0) told)
+  pub whole : settles script ≡ true → EndsWhole (map (λ (x : Step × Reply). x.0) told)
+  pub answered : settles script ≡ true → EndsAnswered told

@@ -1,0 +1,4 @@
+pub mod Linking
+pub mod Showing
+pub mod Opening
+pub mod Turning

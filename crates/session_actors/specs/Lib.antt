@@ -1,0 +1,4 @@
+pub mod Chains
+pub mod Shown
+pub mod Opened
+pub mod Seats
