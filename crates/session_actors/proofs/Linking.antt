@@ -22,7 +22,7 @@ use Rattle.station.specs.declared.kept.Kept.{Kept}
 use Rattle.station.specs.declared.kept.KeptItem.{KeptItem}
 use Rattle.station.specs.declared.station.Station.{Station}
 use Rattle.session_actors.specs.Chains.{Seen, GoesOnWith, seen_after, seen_in, Commits, Draws, DrawFields, nothing_seen}
-use Rattle.session_actors.specs.Seats.{HasCommitted, HasFed, drawing_in}
+use Rattle.session_actors.specs.Seats.{HasCommitted, HasFed, WouldBeEntered, drawing_in}
 use Rattle.session_actors.specs.Shown.{HasShown}
 use Rattle.session_actors.specs.declared.feeder.FeederSeat.{FeederSeat}
 
@@ -75,6 +75,13 @@ one_commit_more s p q edits result answered pass number h place lines done =
       commits = subst (Commits id place nothing_seen (lines ++ edits ∷ [])) (sym (seen_then id p q Call h (committed h.before place edits) made))
           (commits_push id place nothing_seen lines edits (seen_in p) h.before done.commits (goes_on id p q Call h));
     }
+
+-- out of memory comes only of a commit that would be entered
+pub would_be_entered : (s : Station) (p q : Pass Kept KeptItem) (edits : List Edit) (result : Result ℕ CommitFault) → result ≡ Err commits.NoMemory
+    → InOneHold (carousel_of s) p q (λ c d. IsCommitted c (number_of p) edits result d) → WouldBeEntered s p edits
+would_be_entered s p q edits result none h =
+    let Call : CatalogueState → CatalogueState → Type 0 = λ c d. IsCommitted c (number_of p) edits result d in
+    (h.before, goes_on (carousel_of s) p q Call h, h.call.memory none)
 
 -- ---- draws
 

@@ -15,6 +15,7 @@ use Rattle.station.specs.declared.station.Station.{Station}
 use Rattle.station.specs.Passes.{IsStationPass, carousel_of}
 use Rattle.std.specs.Arc.{arc_value}
 use Rattle.ts_packet.specs.declared.Fate.{Fate}
+use Rattle.generation_catalogue.specs.History.{CatalogueState, outcome_of, is_entered}
 use Rattle.generation_catalogue.specs.declared.entry.Batch.{Batch}
 use Rattle.carousel_world.specs.World.{Drawing}
 use Rattle.open_history.specs.Opens.{ReaderView, IsSameReader}
@@ -23,7 +24,7 @@ use Rattle.session_actors.specs.declared.editor.EditorSeat.{EditorSeat}
 use Rattle.session_actors.specs.declared.feeder.DrawLine.{DrawLine}
 use Rattle.session_actors.specs.declared.feeder.FeederSeat.{FeederSeat}
 use Rattle.session_actors.specs.declared.reader.ReaderSeat.{ReaderSeat}
-use Rattle.session_actors.specs.Chains.{Commits, Draws, DrawFields, nothing_seen, seen_in}
+use Rattle.session_actors.specs.Chains.{Commits, Draws, DrawFields, GoesOnWith, nothing_seen, seen_in}
 use Rattle.session_actors.specs.Shown.{HasShown}
 use Rattle.session_actors.specs.Opened.{Asked, HasOpened}
 
@@ -31,6 +32,10 @@ use Rattle.session_actors.specs.Opened.{Asked, HasOpened}
 
 abbrev pub edits_of : CommitLine → List Edit
 edits_of line = line.edits.items
+
+-- a commit of these edits would be entered, on a history that goes on with what the pass has seen
+abbrev pub WouldBeEntered : Station → Pass Kept KeptItem → List Edit → Type 0
+WouldBeEntered s p edits = (c : CatalogueState) × (GoesOnWith (carousel_of s) (seen_in p) c) × (is_entered (outcome_of c edits) ≡ true)
 
 -- the editor of this place made these commits, in order, and no others
 pub record HasCommitted (s : Station) (place : ℕ) (lines : List (List Edit)) (p : Pass Kept KeptItem) : Type 0 where

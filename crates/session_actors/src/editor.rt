@@ -1,8 +1,8 @@
 //! What an editor does.
-ghost use Rattle.std.specs.Prelude.{◌≡◌, ◌++◌, ◌∷◌, [], List, ℕ, OnOk};
+ghost use Rattle.std.specs.Prelude.{◌≡◌, ◌++◌, ◌∷◌, [], List, ℕ, OnOk, OnErr};
 ghost use Rattle.path_tree.specs.declared.tree.Edit.{Edit as EditFields};
 ghost use Rattle.station.specs.Passes.{IsStationPass};
-ghost use Rattle.session_actors.specs.Seats.{HasCommitted, DidEdit};
+ghost use Rattle.session_actors.specs.Seats.{HasCommitted, WouldBeEntered, DidEdit};
 
 use generation_catalogue::CommitFault;
 use oc_bytes::NoMemory;
@@ -31,7 +31,8 @@ pub struct EditorSeat {
     pub whole: bool,
 }
 
-/// Makes one commit. A commit that the station refuses is made too. Out of memory is the only refusal.
+/// Makes one commit. A commit that the station refuses is made too. Out of memory is the only refusal, and comes only where the commit
+/// would be entered.
 pub fn commit<R: Wait>(
     rt: &R,
     station: &Station,
@@ -42,6 +43,7 @@ pub fn commit<R: Wait>(
     ensures pass { IsStationPass station.now pass.new }
     ensures commits { OnOk result ((place : ℕ) (lines : List (List EditFields)) → HasCommitted station.now place lines pass.old
         → HasCommitted station.now place (lines ++ edits.items ∷ []) pass.new) }
+    ensures memory { OnErr result (WouldBeEntered station.now pass.old edits.items) }
 {
     match station.commit(rt, pass, edits) {
         Ok(_) => Ok(()),

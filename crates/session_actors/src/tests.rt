@@ -132,6 +132,14 @@ fn reader_seat(
     })
 }
 
+fn all_edited(editors: &[EditorSeat]) -> bool {
+    editors.iter().all(|seat| seat.whole)
+}
+
+fn all_read(readers: &[ReaderSeat]) -> bool {
+    readers.iter().all(|seat| seat.whole)
+}
+
 /// Two editors, the feeder and two readers at once. Answers whether all are whole.
 fn meet<R: Threads + Wait + Sync>(
     rt: &R,
@@ -161,9 +169,7 @@ fn meet<R: Threads + Wait + Sync>(
         &mut feeder,
         &mut readers,
     );
-    let [first, second] = editors;
-    let [one, other] = readers;
-    Ok(feeder.whole && first.whole && second.whole && one.whole && other.whole)
+    Ok(feeder.whole && all_edited(&editors) && all_read(&readers))
 }
 
 #[test]
