@@ -11,17 +11,19 @@ use crate::place_fresh;
 use oc_bytes::NoMemory;
 use std::alloc::Global;
 
-/// The module of each object, a number from 1 to 139, of a placement that leaves each object in the module where it was
-/// as far as there is room. `objects` has, in object order, each object's size in bytes and its old module, if it had one.
+/// The module of each object, a number from 1 to 139, where an object keeps the module that it had as long as that one
+/// doesn't grow too large.
 ///
-/// The first object goes to module 1. Then each other object with an old module is tried, in order: one of at most 65,536
-/// bytes stays in that module where its size and the sizes placed there so far sum to at most 65,536, and a larger one
-/// where nothing is placed there. Then each object that isn't placed yet is taken, in order: one of at most 65,536 bytes
-/// goes to the least module in use where the sum stays at most 65,536, and else, as a larger one always does, to the least
-/// module that isn't in use. Where that one would be above 139, the whole placement is that of `place_fresh`.
+/// `objects` has each object's size in bytes, in object order, and the module that it had, if any.
+/// - Module 1 always has the first object.
+/// - Those that had a module come next, in object order. An object of up to 65,536 bytes keeps its module if that one has
+///   at most 65,536 bytes with it, and a larger object if nothing lies there yet.
+/// - What is left is placed last, in object order: up to 65,536 bytes in the lowest numbered module that isn't empty and has
+///   at most 65,536 bytes with it. Where there is none, and for any larger object, it is the lowest numbered empty one.
+/// - If a number above 139 came out, no module is kept, and the answer is that of `place_fresh`.
 ///
-/// `objects` isn't empty, `need` of the sizes is at most 139, the first object's old module is none or 1, and old modules
-/// lie in 1 to 139. Out of memory is the only refusal. The rule is this project's own.
+/// `objects` isn't empty, and `need` of the sizes is at most 139. The first object had module 1 or none, and each other one
+/// a module from 1 to 139 or none. Out of memory is the only refusal. The rule is this project's own.
 pub fn place(alloc: Global, objects: &[(u32, Option<u16>)]) -> Result<Vec<u16>, NoMemory>
     requires { AreObjects 139 objects.now }
     ensures kept { IfOk result (λ ms. ms.items ≡ kept 139 objects.now) }
