@@ -13,7 +13,8 @@ const HELLO: [u8; 35] = [
 ];
 
 /// A new file, a new content of it, and a draw that loses the message that tells of it.
-const NEWS: &[u8] = b"put 1 /a 6f6e65\ncommit 1\ndraw 1048576\nopen 1 /a\nput 1 /a 74776f\ncommit 1\n\
+const NEWS: &[u8] =
+    b"put 1 /a 6f6e65\ncommit 1\ndraw 1048576\nopen 1 /a\nput 1 /a 74776f\ncommit 1\n\
     draw 1048576 k1 d1 k2\nopen 1 /a\ndraw 1048576\nopen 1 /a\n";
 
 /// One of the three ends of a command.
@@ -41,7 +42,12 @@ fn folder(alloc: Global, fail_at: Vec<u64>) -> Result<MemFolders, Fail> {
 
 /// Runs a command on an input that comes in pieces of 20 bytes, and with a sink that takes two bytes. One call of an end fails,
 /// if any.
-fn run(alloc: Global, line: &str, input: &[u8], failing: Option<(End, u64)>) -> Result<Ended, Fail> {
+fn run(
+    alloc: Global,
+    line: &str,
+    input: &[u8],
+    failing: Option<(End, u64)>,
+) -> Result<Ended, Fail> {
     let mut reads = Vec::new(alloc);
     let mut writes = Vec::new(alloc);
     let mut calls = Vec::new(alloc);
@@ -66,7 +72,9 @@ fn is_right(end: End, call: u64, good: &[u8], ended: &Ended) -> bool {
     match end {
         End::Source => ended.code == 4 && written.is_empty(),
         End::Sink => {
-            ended.code == 5 && written.len() as u64 == call * 2 && good.starts_with(written)
+            ended.code == 5
+                && written.len() as u64 == call.saturating_mul(2)
+                && good.starts_with(written)
         }
         End::Folders => ended.code == 6 && written.is_empty(),
     }
@@ -101,9 +109,21 @@ fn each_call_fails_in_turn(rt: HostRuntime) -> Result<(), Fail> {
     ];
     for (line, input, reads, writes, calls) in rows {
         let good = run(alloc, line, input, None)?;
-        assert_eq!(rt; failing(alloc, line, input, &good, End::Source)?, reads, "{line}");
-        assert_eq!(rt; failing(alloc, line, input, &good, End::Sink)?, writes, "{line}");
-        assert_eq!(rt; failing(alloc, line, input, &good, End::Folders)?, calls, "{line}");
+        assert_eq!(rt;
+            failing(alloc, line, input, &good, End::Source)?,
+            reads,
+            "{line}"
+        );
+        assert_eq!(rt;
+            failing(alloc, line, input, &good, End::Sink)?,
+            writes,
+            "{line}"
+        );
+        assert_eq!(rt;
+            failing(alloc, line, input, &good, End::Folders)?,
+            calls,
+            "{line}"
+        );
     }
     Ok(())
 }
