@@ -12,7 +12,6 @@ use Rattle.carousel_world.specs.Promises.{world_after}
 use Rattle.carousel_world.specs.Publishing.{layouts_for, items_sent, publication}
 use Rattle.carousel_world.specs.Settling.{IsOpening, whole_draw, settled}
 use Rattle.carousel_world.specs.World.{WorldState, opening, happens, after_all}
-
 -- A draw that is sent in pieces: `SentSo` says what the pieces so far left of a downlink, from `none_sent_so` on, and `piece_sent` adds one, which
 -- `piece_of` cuts from the draw's items. The sections of a generation are as a downlink asks by `framed_is_like`. `stands_after_draw` says that a downlink
 -- which stood for some draws, and sent one more, stands for these and it.

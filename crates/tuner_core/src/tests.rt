@@ -282,8 +282,14 @@ fn broken_and_distant_messages(rt: HostRuntime) -> Result<(), Fail> {
     let over = Fed::Nothing(Cause::DiiOverLimit);
     assert_eq!(rt; fed_with(alloc, &mut tuner, &DII, 16, &[0, 0])?, over);
     assert_eq!(rt; fed_with(alloc, &mut tuner, &DII, 34, &[1, 1, 0, 1])?, over);
-    assert_eq!(rt; fed_with(alloc, &mut tuner, &TWO_MODULES[8..107], 61, &[0, 1])?, over);
-    assert_eq!(rt; tuner.feed(&block)?, Fed::Nothing(Cause::Block(Taken::Again)));
+    assert_eq!(rt;
+        fed_with(alloc, &mut tuner, &TWO_MODULES[8..107], 61, &[0, 1])?,
+        over
+    );
+    assert_eq!(rt;
+        tuner.feed(&block)?,
+        Fed::Nothing(Cause::Block(Taken::Again))
+    );
     for version in [1u8, 2] {
         let fed = fed_with(alloc, &mut tuner, &DII, 4, &[0x80 + version, 0])?;
         assert!(rt; fed == Fed::Changed);
