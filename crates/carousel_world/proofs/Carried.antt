@@ -21,7 +21,6 @@ use Rattle.carousel_world.specs.Premises.{AcceptedAreSent, IsWhole}
 use Rattle.carousel_world.specs.Instances.{tree_of, seven, carried_over, same_file, IsPremised, Tells, CarryingIsPremised}
 use Rattle.carousel_world.proofs.Instances.{seven_publishable}
 use Rattle.carousel_world.proofs.Premised.{never_back_by, heard_by, its_blocks}
-use Rattle.module_packer.specs.Kept as placement
 
 abbrev pub section : ℕ → Item → Bytes
 section g item = section_in 1 same_file.layouts g item
@@ -35,31 +34,24 @@ abbrev pub From : ℕ → ℕ → Type 0
 From i k = IsAscribed same_file 256 carried_over.packets (slice_get carried_over.numbers) i k
 
 of_dsi : From 0 0
-unfolding placement.kept placement.least_with
 of_dsi = record { cut = record { packet = 0; offset = 5; bytes = section 1 Dsi }; is = refl; packet = 0; came = refl; begins = refl }
 
 of_dii : From 1 1
-unfolding placement.kept placement.least_with
 of_dii = record { cut = record { packet = 1; offset = 5; bytes = section 1 Dii }; is = refl; packet = 1; came = refl; begins = refl }
 
 of_first_block : From 2 6
-unfolding placement.kept placement.least_with
 of_first_block = record { cut = record { packet = 2; offset = 5; bytes = section 2 (Block 1 0) }; is = refl; packet = 28; came = refl; begins = refl }
 
 of_second_dii : From 3 9
-unfolding placement.kept placement.least_with
 of_second_dii = record { cut = record { packet = 25; offset = 5; bytes = section 2 Dii }; is = refl; packet = 53; came = refl; begins = refl }
 
 of_second_block : From 4 11
-unfolding placement.kept placement.least_with
 of_second_block = record { cut = record { packet = 26; offset = 5; bytes = section 2 (Block 1 1) }; is = refl; packet = 77; came = refl; begins = refl }
 
 of_last_block : From 5 14
-unfolding placement.kept placement.least_with
 of_last_block = record { cut = record { packet = 27; offset = 5; bytes = section 2 (Block 1 0) }; is = refl; packet = 80; came = refl; begins = refl }
 
 accepted_are_sent : AcceptedAreSent same_file all From
-unfolding placement.kept placement.least_with
 accepted_are_sent zero bytes e accepted = (0, of_dsi, e)
 accepted_are_sent (suc zero) bytes e accepted = (1, of_dii, e)
 accepted_are_sent (suc (suc zero)) bytes e accepted = (6, of_first_block, e)
@@ -82,7 +74,6 @@ each_block (suc zero) lt = (0, lit< tt, refl)
 each_block (suc (suc b)) lt = absurd (omega (arith, lt))
 
 whole : IsWhole 1 same_file.layouts 2 all
-unfolding placement.kept placement.least_with
 whole = record {
   generation = lit< tt;
   gateway = (0, lit< tt, refl);
@@ -104,7 +95,6 @@ both = record {
 }
 
 premised : LayoutsAreLawful → IsPremised carried_over 2
-unfolding placement.kept placement.least_with
 premised lawful = record {
   never_back = never_back_by carried_over.numbers refl;
   heard = heard_by lawful (tree_of seven ∷ tree_of seven ∷ []) (1 ∷ 2 ∷ 2 ∷ 2 ∷ []) all From both refl refl refl accepted_are_sent;
@@ -114,15 +104,15 @@ premised lawful = record {
 -- ---- what is answered
 
 before : Tells carried_over 25 (Some 1) (answers.NotYet 1)
-unfolding message_at block_at each_at tap_at component_at location_at taps_at components_at profile_at ior_at info_at line_at dii_at dsi_at binding_at context_at file_at folder_at object_at head_at sized_at frame_at private_at inside_at placement.kept placement.least_with
+unfolding message_at block_at each_at tap_at component_at location_at taps_at components_at profile_at ior_at info_at line_at dii_at dsi_at binding_at context_at file_at folder_at object_at head_at sized_at frame_at private_at inside_at
 before = record { label_is = refl; answer_is = refl }
 
 turned : Tells carried_over 26 (Some 2) (answers.NotYet 1)
-unfolding message_at block_at each_at tap_at component_at location_at taps_at components_at profile_at ior_at info_at line_at dii_at dsi_at binding_at context_at file_at folder_at object_at head_at sized_at frame_at private_at inside_at placement.kept placement.least_with
+unfolding message_at block_at each_at tap_at component_at location_at taps_at components_at profile_at ior_at info_at line_at dii_at dsi_at binding_at context_at file_at folder_at object_at head_at sized_at frame_at private_at inside_at
 turned = record { label_is = refl; answer_is = refl }
 
 carried : Tells carried_over 27 (Some 2) (answers.File seven)
-unfolding message_at block_at each_at tap_at component_at location_at taps_at components_at profile_at ior_at info_at line_at dii_at dsi_at binding_at context_at file_at folder_at object_at head_at sized_at frame_at private_at inside_at placement.kept placement.least_with
+unfolding message_at block_at each_at tap_at component_at location_at taps_at components_at profile_at ior_at info_at line_at dii_at dsi_at binding_at context_at file_at folder_at object_at head_at sized_at frame_at private_at inside_at
 carried = record { label_is = refl; answer_is = refl }
 
 pub carrying : LayoutsAreLawful → CarryingIsPremised

@@ -23,7 +23,6 @@ use Rattle.carousel_world.specs.Premises.{AcceptedAreSent, IsWhole}
 use Rattle.carousel_world.specs.Instances.{tree_of, damaged, changed_file, IsPremised, Tells, DamageIsPremised}
 use Rattle.carousel_world.proofs.Instances.{first_content, second_content, first_publishable, second_publishable}
 use Rattle.carousel_world.proofs.Premised.{never_back_by, heard_by, its_blocks}
-use Rattle.module_packer.specs.Kept as placement
 
 abbrev pub section : ℕ → Item → Bytes
 section g item = section_in 1 changed_file.layouts g item
@@ -37,39 +36,30 @@ abbrev pub From : ℕ → ℕ → Type 0
 From i k = IsAscribed changed_file 256 damaged.packets (slice_get damaged.numbers) i k
 
 of_first_dii : From 0 1
-unfolding placement.kept placement.least_with
 of_first_dii = record { cut = record { packet = 0; offset = 5; bytes = section 1 Dii }; is = refl; packet = 1; came = refl; begins = refl }
 
 of_first_block : From 1 2
-unfolding placement.kept placement.least_with
 of_first_block = record { cut = record { packet = 2; offset = 5; bytes = section 1 (Block 1 0) }; is = refl; packet = 2; came = refl; begins = refl }
 
 of_dsi : From 2 3
-unfolding placement.kept placement.least_with
 of_dsi = record { cut = record { packet = 4; offset = 5; bytes = section 2 Dsi }; is = refl; packet = 4; came = refl; begins = refl }
 
 of_dii : From 3 4
-unfolding placement.kept placement.least_with
 of_dii = record { cut = record { packet = 5; offset = 5; bytes = section 2 Dii }; is = refl; packet = 5; came = refl; begins = refl }
 
 of_last_dsi : From 5 6
-unfolding placement.kept placement.least_with
 of_last_dsi = record { cut = record { packet = 8; offset = 5; bytes = section 2 Dsi }; is = refl; packet = 8; came = refl; begins = refl }
 
 of_last_dii : From 6 7
-unfolding placement.kept placement.least_with
 of_last_dii = record { cut = record { packet = 9; offset = 5; bytes = section 2 Dii }; is = refl; packet = 9; came = refl; begins = refl }
 
 of_block : From 7 8
-unfolding placement.kept placement.least_with
 of_block = record { cut = record { packet = 10; offset = 5; bytes = section 2 (Block 1 0) }; is = refl; packet = 10; came = refl; begins = refl }
 
 fails : is_accepted (slice_index_or all 4 []) ≡ false
-unfolding placement.kept placement.least_with
 fails = refl
 
 accepted_are_sent : AcceptedAreSent changed_file all From
-unfolding placement.kept placement.least_with
 accepted_are_sent zero bytes e accepted = (1, of_first_dii, e)
 accepted_are_sent (suc zero) bytes e accepted = (2, of_first_block, e)
 accepted_are_sent (suc (suc zero)) bytes e accepted = (3, of_dsi, e)
@@ -92,7 +82,6 @@ the_block zero lt = (0, lit< tt, refl)
 the_block (suc b) lt = absurd (omega (arith, lt))
 
 whole : IsWhole 1 changed_file.layouts 2 all
-unfolding placement.kept placement.least_with
 whole = record {
   generation = lit< tt;
   gateway = (2, lit< tt, refl);
@@ -114,7 +103,6 @@ both = record {
 }
 
 premised : LayoutsAreLawful → IsPremised damaged 2
-unfolding placement.kept placement.least_with
 premised lawful = record {
   never_back = never_back_by damaged.numbers refl;
   heard = heard_by lawful (tree_of first_content ∷ tree_of second_content ∷ []) (1 ∷ 2 ∷ 2 ∷ []) all From both refl refl refl accepted_are_sent;
@@ -124,15 +112,15 @@ premised lawful = record {
 -- ---- what is answered
 
 before : Tells damaged 4 (Some 1) answers.NoCarousel
-unfolding message_at block_at each_at tap_at component_at location_at taps_at components_at profile_at ior_at info_at line_at dii_at dsi_at binding_at context_at file_at folder_at object_at head_at sized_at frame_at private_at inside_at placement.kept placement.least_with
+unfolding message_at block_at each_at tap_at component_at location_at taps_at components_at profile_at ior_at info_at line_at dii_at dsi_at binding_at context_at file_at folder_at object_at head_at sized_at frame_at private_at inside_at
 before = record { label_is = refl; answer_is = refl }
 
 between : Tells damaged 8 (Some 2) (answers.NotYet 1)
-unfolding message_at block_at each_at tap_at component_at location_at taps_at components_at profile_at ior_at info_at line_at dii_at dsi_at binding_at context_at file_at folder_at object_at head_at sized_at frame_at private_at inside_at placement.kept placement.least_with
+unfolding message_at block_at each_at tap_at component_at location_at taps_at components_at profile_at ior_at info_at line_at dii_at dsi_at binding_at context_at file_at folder_at object_at head_at sized_at frame_at private_at inside_at
 between = record { label_is = refl; answer_is = refl }
 
 after : Tells damaged 12 (Some 2) (answers.File second_content)
-unfolding message_at block_at each_at tap_at component_at location_at taps_at components_at profile_at ior_at info_at line_at dii_at dsi_at binding_at context_at file_at folder_at object_at head_at sized_at frame_at private_at inside_at placement.kept placement.least_with
+unfolding message_at block_at each_at tap_at component_at location_at taps_at components_at profile_at ior_at info_at line_at dii_at dsi_at binding_at context_at file_at folder_at object_at head_at sized_at frame_at private_at inside_at
 after = record { label_is = refl; answer_is = refl }
 
 pub damage : LayoutsAreLawful → DamageIsPremised

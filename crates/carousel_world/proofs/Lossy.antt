@@ -24,7 +24,6 @@ use Rattle.carousel_world.specs.Promises.{broadcast_of, IsAscribedIn, IsUndamage
 use Rattle.carousel_world.specs.Runs.{lossy_run, RunIsPremised}
 use Rattle.carousel_world.proofs.Instances.{first_content, second_content, first_publishable, second_publishable}
 use Rattle.carousel_world.proofs.Premised.{heard_by, its_blocks}
-use Rattle.module_packer.specs.Kept as placement
 
 abbrev pub after_run : WorldState
 after_run = world_after 1 lossy_run
@@ -34,7 +33,6 @@ abbrev pub sent : Broadcast
 sent = cycles_of (tree_of first_content ∷ tree_of second_content ∷ []) (1 ∷ 2 ∷ 2 ∷ [])
 
 same_broadcast : broadcast_of after_run ≡ sent
-unfolding placement.kept placement.least_with
 same_broadcast = refl
 
 abbrev pub section : ℕ → Item → Bytes
@@ -49,39 +47,30 @@ abbrev pub From : ℕ → ℕ → Type 0
 From = IsAscribedIn after_run
 
 of_first_dii : From 0 1
-unfolding placement.kept placement.least_with
 of_first_dii = record { cut = record { packet = 0; offset = 5; bytes = section 1 Dii }; is = refl; packet = 1; came = refl; begins = refl }
 
 of_first_block : From 1 2
-unfolding placement.kept placement.least_with
 of_first_block = record { cut = record { packet = 1; offset = 5; bytes = section 1 (Block 1 0) }; is = refl; packet = 2; came = refl; begins = refl }
 
 of_dsi : From 2 3
-unfolding placement.kept placement.least_with
 of_dsi = record { cut = record { packet = 3; offset = 5; bytes = section 2 Dsi }; is = refl; packet = 4; came = refl; begins = refl }
 
 of_dii : From 3 4
-unfolding placement.kept placement.least_with
 of_dii = record { cut = record { packet = 4; offset = 5; bytes = section 2 Dii }; is = refl; packet = 5; came = refl; begins = refl }
 
 of_last_dsi : From 5 6
-unfolding placement.kept placement.least_with
 of_last_dsi = record { cut = record { packet = 7; offset = 5; bytes = section 2 Dsi }; is = refl; packet = 8; came = refl; begins = refl }
 
 of_last_dii : From 6 7
-unfolding placement.kept placement.least_with
 of_last_dii = record { cut = record { packet = 8; offset = 5; bytes = section 2 Dii }; is = refl; packet = 9; came = refl; begins = refl }
 
 of_block : From 7 8
-unfolding placement.kept placement.least_with
 of_block = record { cut = record { packet = 9; offset = 5; bytes = section 2 (Block 1 0) }; is = refl; packet = 10; came = refl; begins = refl }
 
 fails : is_accepted (slice_index_or all 4 []) ≡ false
-unfolding placement.kept placement.least_with
 fails = refl
 
 accepted_are_sent : AcceptedAreSent (broadcast_of after_run) all From
-unfolding placement.kept placement.least_with
 accepted_are_sent zero bytes e accepted = (1, of_first_dii, e)
 accepted_are_sent (suc zero) bytes e accepted = (2, of_first_block, e)
 accepted_are_sent (suc (suc zero)) bytes e accepted = (3, of_dsi, e)
@@ -104,7 +93,6 @@ the_block zero lt = (0, lit< tt, refl)
 the_block (suc b) lt = absurd (omega (arith, lt))
 
 whole : IsWhole 1 (broadcast_of after_run).layouts 2 all
-unfolding placement.kept placement.least_with
 whole = record {
   generation = lit< tt;
   gateway = (2, lit< tt, refl);
@@ -128,11 +116,10 @@ both = record {
 -- ---- the premises
 
 undamaged : LayoutsAreLawful → IsUndamaged after_run
-unfolding placement.kept placement.least_with
 undamaged lawful =
     let heard : IsHeardOf sent all From = heard_by lawful (tree_of first_content ∷ tree_of second_content ∷ []) (1 ∷ 2 ∷ 2 ∷ []) all From both refl refl refl accepted_are_sent in
     record { accepted = accepted_are_sent; near = heard.near }
 
 pub run_is_premised : LayoutsAreLawful → RunIsPremised
-unfolding message_at block_at each_at tap_at component_at location_at taps_at components_at profile_at ior_at info_at line_at dii_at dsi_at binding_at context_at file_at folder_at object_at head_at sized_at frame_at private_at inside_at placement.kept placement.least_with
+unfolding message_at block_at each_at tap_at component_at location_at taps_at components_at profile_at ior_at info_at line_at dii_at dsi_at binding_at context_at file_at folder_at object_at head_at sized_at frame_at private_at inside_at
 run_is_premised lawful = record { published = both; undamaged = undamaged lawful; whole = whole; replies = refl }

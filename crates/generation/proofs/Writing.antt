@@ -16,17 +16,18 @@ use Rattle.dsmcc_section.specs.Sections as sections
 use Rattle.dsmcc_section.specs.declared.Table.TheVariants as tables
 use Rattle.generation.specs.declared.made.Listed.{Listed}
 use Rattle.generation.specs.Publication.{Spot as SpotFields}
-use Rattle.generation.specs.Layouts.{Placed, key_in, placed_at, old_keys, taken_in, free_keys, filled, keys_of, count_in, dii_lines, gateway_location, control_section, block_section, GenerationState, section_of}
+use Rattle.generation.specs.Layouts.{Placed, old_keys, taken_in, free_keys, filled, keys_of, count_in, dii_lines, gateway_location, control_section, block_section, GenerationState, section_of}
 use Rattle.biop_object.specs.Names.{module_in}
 use Rattle.std.specs.Option.{unwrap_or}
 use Rattle.cycle_planner.specs.declared.Item.{Item}
 use Rattle.generation.specs.View.{view_listed}
 use Rattle.generation.proofs.Limiting.{len_map}
 
-pub keys_are : (old : List Placed) (spots : List SpotFields) (keys : List (Option ℕ)) → keys ≡ old_keys old spots → filled keys (free_keys (taken_in keys) (length keys)) ≡ keys_of old spots
-keys_are old spots keys e =
-    ap (λ k. filled k (free_keys (taken_in k) (length k))) e
-    ∙ ap (λ n. filled (old_keys old spots) (free_keys (taken_in (old_keys old spots)) n)) (len_map (λ s. key_in (placed_at old s)) spots)
+pub keys_are : (old : List Placed) (spots : List SpotFields) (k : List (Option ℕ)) (t f : List ℕ) (n : ℕ)
+    → k ≡ old_keys old spots → t ≡ taken_in k → f ≡ free_keys t n → n ≡ length spots → filled k f ≡ keys_of old spots
+keys_are old spots k t f n ek et ef en =
+    ap (λ g. filled k g) (ef ∙ (ap (λ s. free_keys s n) et ∙ ap (λ m. free_keys (taken_in k) m) en))
+    ∙ ap (λ j. filled j (free_keys (taken_in j) (length spots))) ek
 
 -- ---- bindings
 

@@ -2,7 +2,6 @@
 #![tactic(auto)]
 
 mod control;
-mod former;
 mod keys;
 mod laws;
 mod limit;

@@ -24,7 +24,7 @@ pub enum Limit {
     TooManyBytes(u64),
     /// More than 139 modules: how many the fresh placement takes.
     TooManyModules(usize),
-    /// Out of memory.
+    /// Want of memory.
     NoMemory,
 }
 

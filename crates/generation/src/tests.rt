@@ -94,24 +94,6 @@ fn next_generations(rt: HostRuntime) -> Result<(), Fail> {
     Ok(())
 }
 
-// The first file goes with the gateway, the second one stays in the module where it is.
-#[test]
-fn a_file_leaves(rt: HostRuntime) -> Result<(), Fail> {
-    let alloc = rt.alloc();
-    let tree = files(alloc, "/", 2, 40_000)?;
-    passes(alloc, &tree)?;
-    let both = Generation::first(alloc, 1)?.next(tree)?;
-    assert_eq!(rt; both.lines(), [(1, 10), (2, 10)].as_slice());
-    let left = [Edit::Remove(Path::parse(alloc, b"/00000")?)];
-    let tree = apply(alloc, both.tree(), &left)?;
-    passes(alloc, &tree)?;
-    let one = both.next(tree)?;
-    assert_eq!(rt; one.lines(), [(1, 1), (2, 10)].as_slice());
-    assert_eq!(rt; one.count(1), 2);
-    assert_eq!(rt; one.count(2), 1);
-    Ok(())
-}
-
 #[test]
 fn limits(rt: HostRuntime) -> Result<(), Fail> {
     let alloc = rt.alloc();
