@@ -79,16 +79,18 @@ class Tally:
             print(f"  the model: status {wanted.status} {wanted.error.decode()!r}, the program: {got.status} {got.error.decode()!r}")
             print(excerpt(wanted.out, got.out), flush=True)
 
-    def differ(self, text, stream):
-        """Reports a difference. In its text {} is the file in which its input is kept."""
+    def differ(self, text, *streams):
+        """Reports a difference. In its text each {} is the file in which the input at its place is kept."""
         self.differences += 1
         if self.differences > MOST_SHOWN:
             return
         self.folder = self.folder or tempfile.mkdtemp(prefix="carousel-bench-")
-        kept = os.path.join(self.folder, f"input-{self.differences}")
-        with open(kept, "wb") as out:
-            out.write(stream)
-        print(f"difference {self.differences}: {text.format(kept)}", flush=True)
+        kept = [os.path.join(self.folder, f"input-{self.differences}" + (f"-{place}" if place else "")) for place in range(len(streams))]
+        for name, stream in zip(kept, streams):
+            with open(name, "wb") as out:
+                out.write(stream)
+            text = text.replace("{}", name, 1)
+        print(f"difference {self.differences}: {text}", flush=True)
 
     def end(self, said):
         """Prints the counts and ends, with 1 where something differed."""

@@ -169,9 +169,9 @@ def lines_of(text):
             raise BadLine(at, str(fault)) from None
 
 
-def events_of(text):
-    """The events of a script, in written order."""
-    edits, events = {}, []
+def steps_of(text):
+    """The first word of each line that is no edit, in written order, and its event; `start` and `settle` have none."""
+    edits = {}
     for _, keyword, values in [*lines_of(text)]:
         if keyword == b"put":
             edits.setdefault(values[0], []).append(Put(*values[1:]))
@@ -180,13 +180,28 @@ def events_of(text):
         elif keyword == b"remove":
             edits.setdefault(values[0], []).append(Remove(values[1]))
         elif keyword == b"commit":
-            events.append(Commit(values[0], edits.pop(values[0], [])))
+            yield keyword, Commit(values[0], edits.pop(values[0], []))
         elif keyword == b"draw":
-            events.append(Draw(*values))
+            yield keyword, Draw(*values)
         elif keyword in (b"open", b"finale"):
-            events.append(Open(*values))
-        elif keyword == b"settle":
-            events += [Draw(MOST_DRAW, [])] * 2
+            yield keyword, Open(*values)
+        else:
+            yield keyword, None
+
+
+def settling():
+    """The two draws of `settle`."""
+    return [Draw(MOST_DRAW, []), Draw(MOST_DRAW, [])]
+
+
+def events_of(text):
+    """The events of a script, in written order."""
+    events = []
+    for keyword, event in steps_of(text):
+        if keyword == b"settle":
+            events += settling()
+        elif event is not None:
+            events.append(event)
     return events
 
 
@@ -249,6 +264,10 @@ def check(files):
         raise Refused(f"too-many-modules {need}")
 
 
+def put_bytes(edits):
+    return sum(len(it.content) for it in edits if isinstance(it, Put))
+
+
 class Station:
     """Commits and draws, one after another."""
 
@@ -260,14 +279,18 @@ class Station:
     def current(self):
         return self.generations[-1]
 
+    def full(self, edits):
+        """Why no such commit is entered any more, or None."""
+        if self.current.number == MOST_NUMBER:
+            return f"season-full {MOST_NUMBER}"
+        put = self.put + put_bytes(edits)
+        return f"journal-full {put}" if put > MOST_PUT else None
+
     def commit(self, edits):
         """The new generation's number, or Refused."""
-        if self.current.number == MOST_NUMBER:
-            raise Refused(f"season-full {MOST_NUMBER}")
-        put = self.put + sum(len(it.content) for it in edits if isinstance(it, Put))
-        if put > MOST_PUT:
-            raise Refused(f"journal-full {put}")
-        self.put = put
+        if full := self.full(edits):
+            raise Refused(full)
+        self.put += put_bytes(edits)
         files = self.current.files
         if edits:
             files = applied(files, edits)
@@ -411,14 +434,20 @@ class World:
 Rehearsed = namedtuple("Rehearsed", "status report error")
 
 
-def rehearse(text, rules=streams.BUILT):
-    """The status, the report and the line on standard error of a script."""
+def ended(text, reported):
+    """The ending of a command that reports of a script, `reported` being what it writes of a right one."""
     if len(text) > MOST_SCRIPT:
         return Rehearsed(8, b"", b"carousel: input too long\n")
     try:
-        events = events_of(text)
+        return Rehearsed(0, reported(text), b"")
     except BadLine as fault:
         return Rehearsed(3, b"", f"carousel: {fault}\n".encode())
-    world = World(rules)
-    return Rehearsed(0, b"".join(world.step(event).encode() + b"\n" for event in events), b"")
 
+
+def rehearse(text, rules=streams.BUILT):
+    """The status, the report and the line on standard error of a script."""
+    def reported(text):
+        events, world = events_of(text), World(rules)
+        return b"".join(world.step(event).encode() + b"\n" for event in events)
+
+    return ended(text, reported)

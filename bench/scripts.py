@@ -1,4 +1,4 @@
-"""Random scripts for bench/rehearse and the models' own tests, each by its number."""
+"""Random scripts for bench/rehearse, bench/session and the models' own tests, each by its number."""
 
 import random
 
@@ -40,8 +40,8 @@ def fates(chance):
     return [chance.choice(kinds) if chance.random() < 0.6 else b"k%d" % chance.randrange(1, 400) for _ in range(chance.randrange(1, 6))]
 
 
-def edit(chance):
-    editor, kind = chance.randrange(1, 4), chance.random()
+def edit(chance, editors=range(1, 4)):
+    editor, kind = chance.choice(editors), chance.random()
     if kind < 0.5:
         content = chance.randbytes(chance.choice([0, 1, 3, 30])).hex().encode() or b"-"
         return b"put %d %s %s" % (editor, pick(chance), content.upper() if chance.random() < 0.2 else content)
@@ -56,8 +56,8 @@ def draw(chance):
     return b" ".join([b"draw %d" % asked, *fates(chance)])
 
 
-def opened(chance, word=b"open"):
-    return b"%s %d %s" % (word, chance.choice([1, 2, 3, 64]), pick(chance, ASKED))
+def opened(chance, word=b"open", readers=(1, 2, 3, 64)):
+    return b"%s %d %s" % (word, chance.choice(readers), pick(chance, ASKED))
 
 
 def line(chance):
@@ -146,6 +146,58 @@ def script(number):
         return any_bytes(chance)
     lines = wrong(chance) if number % 4 == 3 else right(chance)
     return b"\n".join(lines) + (b"\n" if lines and chance.random() < 0.9 else b"")
+
+
+# Scripts of sessions.
+
+def fill_of_the_first(chance, editors):
+    """Large files before `start`, so that draws and opens take their time."""
+    editor = chance.choice(editors)
+    fills = [b"fill %d /large/%d %d %d" % (editor, n, chance.choice([9000, 40_000, 150_000]), n) for n in range(chance.randrange(1, 3))]
+    return [*fills, b"commit %d" % editor, b"draw 1048576"]
+
+
+def session_line(chance, editors, readers, shares):
+    kind = chance.choices(["edit", "commit", "draw", "open"], shares)[0]
+    if kind == "edit":
+        return edit(chance, editors)
+    if kind == "commit":
+        return b"commit %d" % chance.choice(editors)
+    if kind == "draw" or not readers:
+        return draw(chance)
+    return opened(chance, readers=readers)
+
+
+def right_session(chance):
+    """The lines of a session of 1 to 5 editors and 0 to 5 readers, all right: some actors have no line, others many."""
+    editors, readers = (chance.sample(range(1, 65), count) for count in (chance.randrange(1, 6), chance.randrange(6)))
+    shares = chance.choice([[3, 2, 1, 3], [3, 2, 1, 3], [1, 1, 1, 12], [2, 9, 1, 2], [1, 1, 3, 6]])
+    lines = [session_line(chance, editors, readers, shares) for _ in range(chance.choice([0, 4, 30, 100, 100, 250]))]
+    if chance.random() < 0.1:
+        lines += [b"put %d /a %02x\ncommit %d" % (editor, n % 256, editor) for n in range(130) for editor in editors[:3]]
+    if chance.random() < 0.6:
+        lines.insert(int(len(lines) * chance.random() ** 3), b"start")
+    if chance.random() < 0.2:
+        lines = fill_of_the_first(chance, editors) + lines
+    lines += [b"settle"] if chance.random() < 0.6 else []
+    return lines + [opened(chance, b"finale", readers or [1]) for _ in range(chance.randrange(6))]
+
+
+def session(number):
+    """A script for `session`; every tenth has another line somewhere, which is wrong in most."""
+    chance = random.Random(f"session {number}")
+    lines = right_session(chance)
+    if number % 10 == 9:
+        lines.insert(chance.randrange(len(lines) + 1), chance.choice(WRONG[chance.choice(sorted(WRONG))] + [b"start", b"settle", b"finale 1 /a"]))
+    return b"\n".join(lines) + b"\n"
+
+
+def full_sessions():
+    """Sessions with more commits than a season has, and with more bytes than may be put, beside their names."""
+    commits = [b"commit %d" % (1 + n % 5) for n in range(16_400)]
+    yield "a full season", [*commits, *[b"draw 3\nopen 1 /\nopen 2 /"] * 40, b"settle", b"finale 2 /"]
+    puts = [b"fill %d /%d %d 1\ncommit %d" % (editor, editor, length, editor) for length in (16_777_216, 16_000_000, 5) for _ in range(9) for editor in (1, 2)]
+    yield "a full journal", [*puts, b"fill 1 /1 5 7", b"commit 1", b"start", *puts, b"put 2 /2 32", b"commit 2", b"settle", b"finale 2 /2"]
 
 
 # Scripts at the limits. Each is large, or takes a while.

@@ -330,9 +330,9 @@ class Rules:
     place: object = fresh_placement
 
 
-# What the program does today. Weights of modules, sections packed back to back and objects kept in their modules stand
-# ready: Rules({1: 2}, packed, kept_placement) is all three.
-BUILT = Rules()
+# What the program does today. Weights of modules and sections packed back to back stand ready:
+# Rules({1: 2}, packed, kept_placement) is all three.
+BUILT = Rules(place=kept_placement)
 
 
 def published(files, cycles, carousel=1, rules=BUILT):

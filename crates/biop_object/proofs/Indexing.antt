@@ -77,7 +77,7 @@ enough k c le = same_steps k (length c.rest) c le (omega arith)
 
 -- ---- the loop
 
--- objects read before, and what is read behind them
+-- objects read before, and what is read after them
 abbrev pub with_objects : List Object → Index → Index
 with_objects front i = (front ++ i.0, i.1)
 

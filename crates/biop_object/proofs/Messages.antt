@@ -16,7 +16,7 @@ use Rattle.biop_object.proofs.Placed.{AgreesAt, Anywhere, anywhere, ThenAt, then
 
 -- ---- an IOR in a message
 
--- the bytes are read as the IOR, at any place and whatever stands behind them
+-- the bytes are read as the IOR, at any place and whatever stands after them
 pub record IorStands (bytes : List ℕ) (ior : iors.Fields) : Type 0 where
   pub reads : iors.Reads bytes ior
   pub stands : (place : ℕ) (rest : List ℕ) → ior_at (at place (bytes ++ rest)) ≡ Ok (ior, at (place + length bytes) rest)

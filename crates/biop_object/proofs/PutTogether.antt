@@ -1,4 +1,4 @@
--- Parts put one behind another.
+-- Parts put one after another.
 use Rattle.std.proofs.Common.{◌≡◌, List, ℕ, ◌++◌, append_assoc}
 
 pub four_parts : (o k b s t : List ℕ) → o ++ k ++ b ++ s ++ t ≡ o ++ k ++ (b ++ s ++ t)

@@ -126,6 +126,6 @@ object_back place bytes o fits h =
     let body_fits : IsBytes h.body = fits_back p.head h.body (fits_front (p.head ++ h.body) p.trailing (subst IsBytes p.inner rest_fits)) in
     object_put place bytes o h.kind h.info h.body h.before p (shape_back h.kind h.body (place + h.before) o.shape body_fits h.means)
 
--- what reads as an object is read, whatever stands behind it
+-- what reads as an object is read, whatever stands after it
 pub object_again : (place : ℕ) (front rest : List ℕ) (o : Object) → ObjectParts place front o → object_at (at place (front ++ rest)) ≡ Ok (o, at (place + length front) rest)
 object_again place front rest o h = object_agrees.again front rest place o h

@@ -32,7 +32,7 @@ context_at c = do
   context_data ← bytes_at data_length.0 data_length.1
   Ok ((id.0, context_data.0), context_data.1)
 
--- a reading of which only the place behind it counts
+-- a reading of which only the place after it counts
 abbrev pub passed : {A : Type 0} → Reading A → Reading (Unit {0})
 passed m = m >>= λ x. Ok (tt, x.1)
 
@@ -44,14 +44,14 @@ contexts_at count c = passed (each_at context_at count c)
 abbrev pub nested_at : {A : Type 0} → ℕ → (Cursor → Reading A) → Cursor → Reading A
 nested_at n read c = bytes_at n c >>= λ bytes. read (within n c) >>= λ x. Ok (x.0, bytes.1)
 
--- bytes behind the content are passed over
+-- bytes after the content are passed over
 unfoldable pub file_at : Cursor → Reading Shape
 file_at c = do
   content_length ← number_at 4 c
   content ← bytes_at content_length.0 content_length.1
   Ok (IsFile content_length.1.place content_length.0, content.1)
 
--- bytes behind the bindings are passed over
+-- bytes after the bindings are passed over
 unfoldable pub folder_at : Cursor → Reading Shape
 folder_at c = do
   bindings_count ← number_at 2 c
@@ -68,7 +68,7 @@ shape_at kind c =
 abbrev pub biop_head : ℕ
 biop_head = 0x42494F5001000000
 
--- what stands in a message behind its size
+-- what stands in a message after its size
 unfoldable pub inside_at : Cursor → Reading Object
 inside_at c = do
   key_length ← number_at 1 c

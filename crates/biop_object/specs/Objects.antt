@@ -73,7 +73,7 @@ pub record ReadsBinding (bytes : List ℕ) (b : BindingFields) : Type 0 where
   pub name : IsIdOf id b.name
   pub target : iors.Reads reference b.target
 
--- a file's body, `before` bytes behind the front of its module; the objectInfo isn't looked at, and bytes behind the content are passed over
+-- a file's body, `before` bytes after the front of its module; the objectInfo isn't looked at, and bytes after the content are passed over
 pub record IsFileBody (body : List ℕ) (before first n : ℕ) : Type 0 where
   pub content : List ℕ
   pub trailing : List ℕ
@@ -81,7 +81,7 @@ pub record IsFileBody (body : List ℕ) (before first n : ℕ) : Type 0 where
   pub whole : body ≡ four_bytes (length content) ++ content ++ trailing
   pub place : (first ≡ before + 4) × (n ≡ length content)
 
--- a folder's body; bytes behind the bindings are passed over
+-- a folder's body; bytes after the bindings are passed over
 pub record IsFolderBody (body : List ℕ) (bindings : List BindingFields) : Type 0 where
   pub lines : List ℕ
   pub trailing : List ℕ

@@ -249,7 +249,7 @@ fn inside_of(alloc: Global, fields: &mut Fields<'_>) -> Result<Indexed, ReadFaul
     Ok(Indexed { key, kind })
 }
 
-/// A message of so many bytes behind its size, which is taken whole.
+/// A message of so many bytes after its size, which is taken whole.
 fn message_of(alloc: Global, fields: &mut Fields<'_>, size: usize) -> Result<Indexed, ReadFault>
     ensures { Gives (λ i. (view_indexed i, fields.new)) cause result (nested_at size inside_at fields.old) }
 {

@@ -125,8 +125,8 @@ fn reads_other_layouts(rt: HostRuntime) -> Result<(), Fail> {
         first: 78,
         length: 5,
     });
-    // Behind an empty gateway: what is found under the key 2 with one byte of the file changed, and with the file itself
-    // behind it. A size one too great, which takes a byte of the next message, or too small, another head, no `fil`, a content that the body hasn't, a body
+    // After an empty gateway: what is found under the key 2 with one byte of the file changed, and with the file itself
+    // after it. A size one too great, which takes a byte of the next message, or too small, another head, no `fil`, a content that the body hasn't, a body
     // longer than its content, a file's size that isn't its content's, and another key.
     let behind = Found::File(Span {
         first: 127,

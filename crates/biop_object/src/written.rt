@@ -42,7 +42,7 @@ pub enum Bound {
 /// A binding to be written.
 #[derive(Drop)]
 pub struct Written {
-    /// The name, 1 to 254 bytes, which is written with a zero byte behind it.
+    /// The name, 1 to 254 bytes, which is written with a zero byte after it.
     pub name: Name,
     /// What it leads to.
     pub bound: Bound,
@@ -223,7 +223,7 @@ fn put_binding(out: &mut Writer, entry: &Written) -> Result<(), NoMemory>
     Ok(())
 }
 
-/// A name with a zero byte behind it, as the one name component.
+/// A name with a zero byte after it, as the one name component.
 fn put_id(out: &mut Writer, name: &[u8]) -> Result<(), NoMemory>
     requires { length name.now ≤ 254 }
     ensures { OnOk result (out.new ≡ out.old ++ 1 ∷ (length name.now + 1) ∷ name.now ++ 0 ∷ 4 ∷ []) }

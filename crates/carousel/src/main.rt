@@ -1,9 +1,11 @@
 //! The program: it runs the command that its words name on standard input, standard output and the system's folders.
 #![tactic(auto)]
 
-use carousel_shell::{Status, run_plain};
+use carousel_shell::Status;
 use folder_store::OsFolders;
 use oc_bytes::{StdSink, StdSource};
+use section_workers::NoGate;
+use session_shell::run;
 use std::process::ExitCode;
 use std::{env, io};
 
@@ -13,7 +15,15 @@ fn main(rt: HostRuntime) -> ExitCode {
             let mut source = StdSource::new(rt.stdin());
             let mut sink = StdSink::new(rt.stdout());
             let mut folders = OsFolders::new(&rt);
-            run_plain(rt.alloc(), &words, &mut source, &mut sink, &mut folders)
+            run(
+                &rt,
+                rt.alloc(),
+                &words,
+                &mut source,
+                &mut sink,
+                &mut folders,
+                &NoGate,
+            )
         }
         Err(status) => status,
     };
@@ -23,7 +33,7 @@ fn main(rt: HostRuntime) -> ExitCode {
     ExitCode::from(status.code())
 }
 
-/// The words behind the program's name. A word that isn't UTF-8 is a faulty one.
+/// The words after the program's name. A word that isn't UTF-8 is a faulty one.
 fn words(rt: &HostRuntime) -> Result<Vec<String>, Status> {
     let arguments = match env::args(rt) {
         Ok(arguments) => arguments,

@@ -1,5 +1,5 @@
 -- What is promised where nothing was done.
-use Rattle.std.proofs.Common.{◌≡◌, ℕ, [], Option, Result, Ok, Err, inl, inr, refl, sym, append-nil, subst}
+use Rattle.std.proofs.Common.{◌≡◌, ℕ, Bool, false, [], Option, Result, Ok, Err, inl, inr, refl, sym, ap, ◌∙◌, append-nil, subst}
 use Rattle.oc_bytes.specs.Outcome.{Told}
 use Rattle.folder_store.specs.Folders.{FolderTree}
 use Rattle.shell_words.specs.Words as commands
@@ -82,3 +82,8 @@ promises_over {X} c s source folders content faults begin end first last a b p =
     let P : X → Type 0 = λ x. Promises c s source (over content faults x end) folders in
     let Q : X → Type 0 = λ x. Promises c s source (over content faults first x) folders in
     subst Q b (subst P a p)
+
+-- nor is a write tried there after one that failed
+pub in_time_over : {X : Type 0} (failed late : X → Bool) (begin end first last : X) → begin ≡ first → end ≡ last → (failed begin ≡ false → late end ≡ late begin)
+    → failed first ≡ false → late last ≡ late first
+in_time_over failed late begin end first last a b p h = sym (ap late b) ∙ p (ap failed a ∙ h) ∙ ap late a

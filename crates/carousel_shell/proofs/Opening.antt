@@ -35,7 +35,7 @@ none_within carousel packets zero h = refl
 none_within carousel packets (suc n) h =
     or_none _ _ (none_within carousel packets n (λ m le. h m (omega arith))) ∙ nowhere_behind (suc n) (found_in carousel (take (suc n) packets)) (h (suc n) (omega arith))
 
--- it is found behind one packet at least
+-- it is found after one packet at least
 not_at_once : (carousel pid : ℕ) (packets : List Bytes) → found_in carousel (take 0 packets) ≡ At pid → ⊥
 not_at_once carousel pid packets e = cc
 

@@ -44,7 +44,7 @@ hears_no_memory reading Heard before faults = record {
   cause = λ e. absurd (cc);
 }
 
--- there was none behind what was read
+-- there was none after what was read
 pub hears_memory_after : {T : Type 0} (reading : Reading) (Heard : T → List Bytes → Type 0) {before after : Option Bytes} {taken : List Bytes} {faults later : ℕ}
     → Told before after (AllTaken reading.standing_in reading.goes_on taken) → faults ≤ later → Hears {T = T} reading Heard (Err inputs.NoMemory) before after faults later
 hears_memory_after reading Heard t le = record {

@@ -18,7 +18,7 @@ use Rattle.path_resolver.specs.declared.answer.Answer.TheVariants as answers
 use Rattle.shell_streams.specs.Cuts.{Bytes}
 use Rattle.shell_streams.specs.Sending.{OutputState, Puts}
 use Rattle.shell_streams.specs.declared.output.OutputFault.{OutputFault}
-use Rattle.carousel_shell.specs.Texts.{is_found}
+use Rattle.shell_words.specs.Texts.{is_found}
 use Rattle.carousel_shell.specs.Listing.{first_only, names_in, folder_in, walk, list_line, lines_in, are_found, paths_below, paths_by, Lists, list_text, more_unless, all_listed}
 use Rattle.shell_streams.proofs.CallerLemmas.{puts_as, puts_then, puts_stop}
 
@@ -28,7 +28,7 @@ same_as [] (b ∷ n) = refl
 same_as (a ∷ m) [] = refl
 same_as (a ∷ m) (b ∷ n) = ap (λ (rest : Bool). eqb a b && rest) (same_as m n)
 
--- ---- lines of lists one behind another
+-- ---- lines of lists one after another
 
 le_or_above : (m n : ℕ) → (b : Bool) → nat_le m n ≡ b → (m ≤ n → b ≡ true) × (n < m → b ≡ false)
 le_or_above m n b e = ((λ h. sym e ∙ le-leb m n h), λ h. sym e ∙ lt-leb m n h)
@@ -60,7 +60,7 @@ and_true : (a : Bool) → (a && true) ≡ a
 and_true true = refl
 and_true false = refl
 
--- ---- listings one behind another
+-- ---- listings one after another
 
 pub lists_nothing : (answer : PathNames → Answer) (l : ℕ) (a : Bool) → Lists answer [] l a l a true
 lists_nothing answer l a = record {
@@ -114,7 +114,7 @@ stops_front answer n ps qs p = puts_as (sym (lines_both answer n ps qs)) (puts_s
 
 -- ---- the names of a folder, one after another
 
--- what stays of later names behind earlier ones
+-- what stays of later names after earlier ones
 unfoldable pub rest_of : List Bytes → List Bytes → List Bytes
 rest_of [] ys = first_only ys
 rest_of (m ∷ ms) ys = filter (λ n. not (same_name m n)) (rest_of ms ys)
@@ -165,7 +165,7 @@ below_new answer room p xs i n e new =
     ∙ ap (λ (ns : List Bytes). paths_below answer room p (take i xs) ++ flat_map (λ m. walk answer room (p ++ m ∷ [])) (filter is_name ns)) (rest_of-one (take i xs) n ∙ ap (λ b. cond b [] (n ∷ [])) new)
     ∙ ap (λ (qs : List PathNames). paths_below answer room p (take i xs) ++ qs) (by_one answer room p n)
 
--- the paths by a front of the names are a front of all
+-- the paths by a prefix of the names are a prefix of all
 pub below_rest : (answer : PathNames → Answer) (room : ℕ) (p : PathNames) (xs : List Bytes) (i : ℕ) → (rest : List PathNames) × (paths_below answer room p xs ≡ paths_below answer room p (take i xs) ++ rest)
 below_rest answer room p xs i = (
   flat_map (λ n. walk answer room (p ++ n ∷ [])) (filter is_name (rest_of (take i xs) (drop i xs))),

@@ -18,7 +18,7 @@ Refused folder carousel folders (status.TreeRefused fault) = Refuses folder caro
 Refused folder carousel folders status.NoMemory = Unit {0}
 Refused folder carousel folders _ = ⊥
 
--- generation 1 of the carousel, of a tree that is the folder's where the folders are told
+-- generation 1 of the carousel, of a tree that is the folder's where the folders are known
 pub record IsOfFolder (folder : Bytes) (carousel : ℕ) (told : Option FolderTree) (g : GenerationState) : Type 0 where
   pub tree : Tree
   pub is : g ≡ generation_of carousel (tree ∷ [])

@@ -13,7 +13,7 @@ use Rattle.shell_streams.specs.Cuts.{Bytes}
 use Rattle.shell_streams.specs.Packets.{packets_of}
 use Rattle.shell_streams.specs.Carriers.{all_packets}
 use Rattle.carousel_shell.specs.Over.{Over}
-use Rattle.carousel_shell.specs.Texts.{line}
+use Rattle.shell_words.specs.Texts.{line}
 use Rattle.carousel_shell.specs.Replies.{Reply, Replies}
 use Rattle.carousel_shell.specs.declared.status.Status.{Status}
 

@@ -1,7 +1,6 @@
 pub mod Over
 pub mod Input
 pub mod Accepted
-pub mod Texts
 pub mod Listing
 pub mod Statuses
 pub mod Publishing

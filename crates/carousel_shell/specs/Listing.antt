@@ -6,7 +6,7 @@ use Rattle.path_tree.specs.Texts.{is_name}
 use Rattle.path_resolver.specs.declared.answer.Answer.{Answer}
 use Rattle.path_resolver.specs.declared.answer.Answer.TheVariants as answers
 use Rattle.shell_streams.specs.Cuts.{Bytes}
-use Rattle.carousel_shell.specs.Texts.{line, is_found, answered_line}
+use Rattle.shell_words.specs.Texts.{line, is_found, answered_line}
 
 -- ---- the paths
 

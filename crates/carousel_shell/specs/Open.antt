@@ -9,7 +9,7 @@ use Rattle.shell_streams.specs.Cuts.{Bytes}
 use Rattle.shell_streams.specs.Carriers.{sections_by}
 use Rattle.shell_streams.specs.declared.carrier.Carrier.{Carrier}
 use Rattle.carousel_shell.specs.Over.{Over}
-use Rattle.carousel_shell.specs.Texts.{open_text, is_found}
+use Rattle.shell_words.specs.Texts.{open_text, is_found}
 use Rattle.carousel_shell.specs.Listing.{list_text, all_listed}
 use Rattle.carousel_shell.specs.Replies as replies
 use Rattle.carousel_shell.specs.Replies.{Reply, Replies}

@@ -1,4 +1,4 @@
--- What `open-id CAROUSEL PATH..` promises: it is `open` on the packets behind the first one at which the carousel is found, with the PID
+-- What `open-id CAROUSEL PATH..` promises: it is `open` on the packets after the first one at which the carousel is found, with the PID
 -- that is found there. Where it isn't found no carousel was heard.
 use Rattle.std.specs.Prelude.{◌≡◌, ℕ, zero, suc, ◌*◌, ◌<◌, ◌≤◌, List, [], length, take, drop, Option, Some, None}
 use Rattle.path_tree.specs.Paths.{PathNames}
@@ -20,7 +20,7 @@ use Rattle.carousel_shell.specs.declared.status.Status.{Status}
 
 -- ---- the packet at which the carousel is found
 
--- the number of packets behind which it is found, with its PID
+-- the number of packets after which it is found, with its PID
 abbrev pub behind : ℕ → Find → Option (ℕ × ℕ)
 behind n NoPat = None
 behind n NotNamed = None
@@ -57,7 +57,7 @@ IsNowhere NoPat = Unit {0}
 IsNowhere NotNamed = Unit {0}
 IsNowhere (At pid) = ⊥
 
--- the carousel is found at this PID behind so many packets, and behind no fewer
+-- the carousel is found at this PID after so many packets, and after no fewer
 pub record IsFirst (carousel : ℕ) (packets : List Bytes) (n pid : ℕ) : Type 0 where
   pub within : n ≤ length packets
   pub found : found_in carousel (take n packets) ≡ At pid
@@ -66,7 +66,7 @@ pub record IsFirst (carousel : ℕ) (packets : List Bytes) (n pid : ℕ) : Type 
 abbrev pub IsNeverFound : ℕ → List Bytes → Type 0
 IsNeverFound carousel packets = (m : ℕ) → m ≤ length packets → IsNowhere (found_in carousel (take m packets))
 
--- what `open` with this PID hears of the input behind so many packets, and all that holds of that
+-- what `open` with this PID hears of the input after so many packets, and all that holds of that
 pub record OpensBehind (carousel : ℕ) (input : Bytes) (n pid : ℕ) : Type 0 where
   pub sections : sections_among carousel (packets_of input) ≡ candidates_of pid (drop (188 * n) input)
   pub reception : Reception (carriers.Packets pid) (drop (188 * n) input)

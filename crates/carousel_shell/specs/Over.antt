@@ -1,4 +1,4 @@
--- One end of the outside over a run: its content before and after, where it is told, and its count of faults.
+-- One end of the outside over a run: its content before and after, where it is known, and its count of faults.
 use Rattle.std.specs.Prelude.{◌≡◌, ◌≤◌, ℕ, ◌++◌, length, Option}
 use Rattle.oc_bytes.specs.Outcome.{Rose, Told}
 use Rattle.shell_streams.specs.Cuts.{Bytes}

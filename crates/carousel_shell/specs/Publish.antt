@@ -14,7 +14,7 @@ use Rattle.carousel_shell.specs.Reception.{SentOpens}
 use Rattle.carousel_shell.specs.declared.status.Status.{Status}
 use Rattle.carousel_shell.specs.declared.status.Status.TheVariants as status
 
--- A tree that can be published. Where the folders are told, it is that of the folder's files, which has a file of these bytes at a path
+-- A tree that can be published. Where the folders are known, it is that of the folder's files, which has a file of these bytes at a path
 -- exactly where the folder has it at the path's text; and nothing refuses it.
 pub record IsTreeOf (folder : Bytes) (carousel : ℕ) (told : Option FolderTree) (tree : Tree) : Type 0 where
   pub publishable : IsPublishable tree
@@ -34,7 +34,7 @@ pub record Sending (folder : Bytes) (carousel : ℕ) (sent_of : Tree → Bytes) 
   pub of : IsTreeOf folder carousel folders.before tree
   pub writes : WritesPrefix sink (sent_of tree)
 
--- the walk's first fault refuses the told tree, or else the commit's refusal
+-- the walk's first fault refuses the known tree, or else the commit's refusal
 abbrev pub Refuses : Bytes → ℕ → Over FolderTree → TreeFault → Type 0
 Refuses folder carousel folders fault = (t : FolderTree) → folders.before ≡ Some t → publish_end folder carousel t ≡ status.TreeRefused fault
 

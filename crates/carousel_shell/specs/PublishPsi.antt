@@ -1,4 +1,4 @@
--- What `publish-psi FOLDER CAROUSEL CYCLES` promises: the cycles of `publish`, each behind the tables that name the carousel.
+-- What `publish-psi FOLDER CAROUSEL CYCLES` promises: the cycles of `publish`, each after the tables that name the carousel.
 use Rattle.std.specs.Prelude.{◌≡◌, ℕ, zero, suc, List, [], ◌++◌}
 use Rattle.std.specs.List.{concat, fold}
 use Rattle.path_tree.specs.Trees.{Tree}

@@ -12,7 +12,7 @@ pub record Seeks (carousel : ℕ) (finder : finders.FinderState) (packets : List
   pub carousel_is : finder.directory.carousel ≡ carousel
   pub stands : finders.StandsFor finder packets
 
--- it was found behind so many packets at this PID, whose packets are heard since
+-- it was found after so many packets at this PID, whose packets are heard since
 pub record Hears (demux : streams.DemuxState) (packets : List Bytes) (n pid : ℕ) : Type 0 where
   pub pid_is : demux.pid ≡ pid
   pub within : n ≤ length packets

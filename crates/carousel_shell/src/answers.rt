@@ -1,16 +1,14 @@
 ghost use Rattle.std.specs.Prelude.{◌≡◌, ◌&&◌, [], IfOk, OnOk};
 ghost use Rattle.std.specs.List.{list_all, flat_map};
-ghost use Rattle.std.specs.String.{string_bytes};
 ghost use Rattle.path_resolver.specs.Resolving.{answer_of};
 ghost use Rattle.path_resolver.specs.Shots.{held_of};
 ghost use Rattle.shell_streams.specs.Sending.{Puts};
-ghost use Rattle.carousel_shell.specs.Texts as texts;
+ghost use Rattle.shell_words.specs.Texts as texts;
 
-use oc_bytes::NoMemory;
 use path_resolver::{Answer, FolderRef, Shot, resolve};
 use path_tree::{Path, print_name};
 use shell_streams::{Output, OutputFault};
-use shell_words::answer_text;
+use shell_words::answered_text;
 use std::alloc::Global;
 
 /// Writes the answers to the paths, in order, and says whether each is a file or a folder.
@@ -64,7 +62,7 @@ pub(crate) fn put_line<O: Output>(
 ) -> Result<(), OutputFault>
     ensures { Puts result (O.state out.old) (O.state out.new) (texts.answered_line path.now answer.now) }
 {
-    let line = answered_line(alloc, path, answer)?;
+    let line = answered_text(alloc, path, answer)?;
     out.put(line.as_bytes())
 }
 
@@ -94,17 +92,6 @@ fn put_names<O: Output>(alloc: Global, folder: &FolderRef, out: &mut O) -> Resul
         put_bytes_line(text.as_bytes(), out)?;
     }
     Ok(())
-}
-
-fn answered_line(alloc: Global, path: &Path, answer: &Answer) -> Result<String, NoMemory>
-    ensures { IfOk result (λ text. string_bytes text ≡ texts.answered_line path.now answer.now) }
-{
-    let answer = answer_text(alloc, answer)?;
-    let mut text = path.print()?;
-    text.push(' ')?;
-    text.push_str(answer.as_str())?;
-    text.push('\n')?;
-    Ok(text)
 }
 
 pub(crate) fn is_found(answer: &Answer) -> bool

@@ -1,11 +1,11 @@
-ghost use Rattle.std.specs.Prelude.{◌≡◌, ◌≤◌, ◌++◌, ◌∷◌, List, [], OnOk};
+ghost use Rattle.std.specs.Prelude.{◌≡◌, ◌==◌, ◌&&◌, ◌≤◌, ◌++◌, ◌∷◌, List, [], OnOk};
 ghost use Rattle.std.specs.Option.{option_map};
 ghost use Rattle.ddb_block.specs.Blocks as ddb;
 ghost use Rattle.shell_streams.specs.Cuts.{Bytes};
 ghost use Rattle.carousel_shell.specs.Over.{over, sent};
-ghost use Rattle.carousel_shell.specs.Input.{block_heard, if_asked};
+ghost use Rattle.carousel_shell.specs.Input.{block_heard};
 ghost use Rattle.carousel_shell.specs.Gathering.{asked_of, HasBlocks};
-ghost use Rattle.shell_streams.specs.Sending.{Puts};
+ghost use Rattle.shell_streams.specs.Sending.{Puts, IsInTime};
 ghost use Rattle.carousel_shell.specs.Assemble.{Assembles, IsModule};
 
 use crate::status::Status;
@@ -60,6 +60,7 @@ pub fn assemble<S: Source, O: Output>(
     requires pending { (O.state out.old).pending ≡ [] }
     ensures assembles { Assembles (asked_of wanted) result (over S.left S.faults source.old source.new) (sent (O.state out.old) (O.state out.new)) }
     ensures same { (O.state out.new).name ≡ (O.state out.old).name }
+    ensures in_time { IsInTime (O.state out.old) (O.state out.new) }
 {
     let assembler = match Assembler::new(alloc, wanted.size, BLOCK_SIZE) {
         Ok(assembler) => assembler,
@@ -83,6 +84,7 @@ fn write_module<O: Output>(assembler: &Assembler, out: &mut O) -> Status
     requires { (O.state out.old).pending ≡ [] }
     ensures writes { IsModule assembler.now.blocks (sent (O.state out.old) (O.state out.new)) result }
     ensures same { (O.state out.new).name ≡ (O.state out.old).name }
+    ensures in_time { IsInTime (O.state out.old) (O.state out.new) }
 {
     if let Some(block) = assembler.first_missing() {
         return Status::Incomplete(u32::from(block));
@@ -108,24 +110,20 @@ fn write_all<O: Output>(bytes: &[u8], out: &mut O) -> Result<(), OutputFault>
 fn offer_section(wanted: Wanted, section: &[u8], assembler: &mut Assembler)
     ensures { (sections : List Bytes) → HasBlocks (asked_of wanted) assembler.old sections → HasBlocks (asked_of wanted) assembler.new (sections ++ section.now ∷ []) }
 {
-    if let Some(block) = asked_block(wanted, section) {
-        let _ = assembler.offer(block.block, block.bytes);
+    if let Some(block) = block_in(section) {
+        if is_wanted(wanted, &block) {
+            let _ = assembler.offer(block.block, block.bytes);
+        }
     }
 }
 
-/// The block message of the module that a section carries.
-fn asked_block(wanted: Wanted, section: &[u8]) -> Option<Parts<'_>>
-    ensures { option_map ddb.parts_view result ≡ if_asked (asked_of wanted) (block_heard section.now) }
+/// Whether it is a block of the module.
+fn is_wanted(wanted: Wanted, block: &Parts<'_>) -> bool
+    ensures { result ≡ ((block.now.download == wanted.download) && (block.now.module == wanted.id) && (block.now.version == wanted.version)) }
 {
-    let block = block_in(section)?;
-    if block.download == wanted.download
+    block.download == wanted.download
         && block.module == wanted.id
         && block.version == wanted.version
-    {
-        Some(block)
-    } else {
-        None
-    }
 }
 
 /// The block message that a section carries.

@@ -2,7 +2,7 @@ ghost use Rattle.std.specs.Prelude.{◌≡◌, [], IfOk, OnOk};
 ghost use Rattle.std.specs.String.{string_bytes};
 ghost use Rattle.psi_tables.specs.Finding.{found_in};
 ghost use Rattle.shell_streams.specs.Carriers.{Hears, all_packets};
-ghost use Rattle.shell_streams.specs.Sending.{Puts};
+ghost use Rattle.shell_streams.specs.Sending.{Puts, IsInTime};
 ghost use Rattle.carousel_shell.specs.Over.{over, sent};
 ghost use Rattle.carousel_shell.specs.Find as finding;
 ghost use Rattle.carousel_shell.specs.Find.{Finds};
@@ -51,6 +51,7 @@ pub fn find<S: Source, O: Output>(
     requires { (O.state out.old).pending ≡ [] }
     ensures finds { Finds carousel result (over S.left S.faults source.old source.new) (sent (O.state out.old) (O.state out.new)) }
     ensures same { (O.state out.new).name ≡ (O.state out.old).name }
+    ensures in_time { IsInTime (O.state out.old) (O.state out.new) }
 {
     receptions();
     match place(alloc, carousel, source) {

@@ -4,7 +4,7 @@ ghost use Rattle.path_tree.specs.Paths.{same_name};
 ghost use Rattle.path_resolver.specs.Resolving.{answer_of};
 ghost use Rattle.path_resolver.specs.Shots.{held_of};
 ghost use Rattle.shell_streams.specs.Sending.{Puts};
-ghost use Rattle.carousel_shell.specs.Texts.{is_found as found};
+ghost use Rattle.shell_words.specs.Texts.{is_found as found};
 ghost use Rattle.carousel_shell.specs.Listing.{Lists, folder_in, walk, paths_below, paths_by, list_line, lines_in, list_text, all_listed, more_unless};
 
 use crate::answers::{is_found, put_line};

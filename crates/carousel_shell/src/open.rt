@@ -1,4 +1,5 @@
 ghost use Rattle.std.specs.Prelude.{◌≡◌, []};
+ghost use Rattle.shell_streams.specs.Sending.{IsInTime};
 ghost use Rattle.carousel_shell.specs.Over.{over, sent};
 ghost use Rattle.carousel_shell.specs.Open.{Answers, asks_paths, asks_all};
 ghost use Rattle.carousel_shell.specs.Statuses.{answer_status};
@@ -24,6 +25,7 @@ pub fn open<S: Source, O: Output>(
     requires { (O.state out.old).pending ≡ [] }
     ensures answers { Answers carrier (asks_paths paths.now) result (over S.left S.faults source.old source.new) (sent (O.state out.old) (O.state out.new)) }
     ensures same { (O.state out.new).name ≡ (O.state out.old).name }
+    ensures in_time { IsInTime (O.state out.old) (O.state out.new) }
 {
     receptions();
     match receive(alloc, carrier, source) {
@@ -42,6 +44,7 @@ pub fn list<S: Source, O: Output>(
     requires { (O.state out.old).pending ≡ [] }
     ensures answers { Answers carrier asks_all result (over S.left S.faults source.old source.new) (sent (O.state out.old) (O.state out.new)) }
     ensures same { (O.state out.new).name ≡ (O.state out.old).name }
+    ensures in_time { IsInTime (O.state out.old) (O.state out.new) }
 {
     receptions();
     match receive(alloc, carrier, source) {

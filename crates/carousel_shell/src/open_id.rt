@@ -5,6 +5,7 @@ ghost use Rattle.section_stream.specs.Cuts.{Bytes};
 ghost use Rattle.tuner_core.specs.Heard.{heard};
 ghost use Rattle.tuner_core.specs.LookBack.{held_after};
 ghost use Rattle.shell_streams.specs.Carriers.{Hears};
+ghost use Rattle.shell_streams.specs.Sending.{IsInTime};
 ghost use Rattle.carousel_shell.specs.Over.{over, sent};
 ghost use Rattle.carousel_shell.specs.OpenId.{OpensId, sections_by_id};
 ghost use Rattle.carousel_shell.specs.Seeking.{HasHeard};
@@ -66,7 +67,7 @@ impl Seeker {
 }
 
 /// Writes the answers to the paths out of the packets of the source, by the id of the carousel, any 32-bit number: what `open` with the
-/// PID that `find` gives writes of the packets behind the first one at which `find` gives a PID. Where there is none each answer is
+/// PID that `find` gives writes of the packets after the first one at which `find` gives a PID. Where there is none each answer is
 /// `no-carousel`.
 ///
 /// The whole input is read first, once; a last piece of fewer than 188 bytes is passed over. `ReadFault` comes where the source fails,
@@ -85,6 +86,7 @@ pub fn open_id<S: Source, O: Output>(
     requires { (O.state out.old).pending ≡ [] }
     ensures opens { OpensId carousel paths.now result (over S.left S.faults source.old source.new) (sent (O.state out.old) (O.state out.new)) }
     ensures same { (O.state out.new).name ≡ (O.state out.old).name }
+    ensures in_time { IsInTime (O.state out.old) (O.state out.new) }
 {
     receptions();
     match receive_by_id(alloc, carousel, source) {

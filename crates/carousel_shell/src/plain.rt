@@ -1,6 +1,7 @@
-ghost use Rattle.std.specs.Prelude.{◌≡◌, [], map};
+ghost use Rattle.std.specs.Prelude.{◌≡◌, false, [], map};
 ghost use Rattle.std.specs.String.{string_bytes};
 ghost use Rattle.shell_words.specs.Words as commands;
+ghost use Rattle.shell_streams.specs.Sending.{IsInTime};
 ghost use Rattle.carousel_shell.specs.Over.{over, sent};
 ghost use Rattle.carousel_shell.specs.Promises.{Promises, Keeps};
 
@@ -44,7 +45,8 @@ const MOST_SECTIONS: u32 = 16_777_216;
 ///   comes when all did and the whole report was.
 /// - `NoMemory` comes where there is no memory, at any of these steps. A prefix of the output was written, maybe none of it.
 ///
-/// What was written stands after what the sink had. These rules are this project's own.
+/// What was written stands after what the sink had. A write that fails is the last one that is tried, where none had failed
+/// before. These rules are this project's own.
 pub fn run_plain<S: Source, K: Sink, F: Folders>(
     alloc: Global,
     words: &[String],
@@ -52,8 +54,9 @@ pub fn run_plain<S: Source, K: Sink, F: Folders>(
     sink: &mut K,
     folders: &mut F,
 ) -> Status
-    ensures { Keeps (commands.command_of (map string_bytes words.now)) result (over S.left S.faults source.old source.new)
+    ensures keeps { Keeps (commands.command_of (map string_bytes words.now)) result (over S.left S.faults source.old source.new)
         (over K.written K.faults sink.old sink.new) (over F.tree F.faults folders.old folders.new) }
+    ensures in_time { K.failed sink.old ≡ false → K.late sink.new ≡ K.late sink.old }
 {
     receptions();
     let command = match command(alloc, words) {
@@ -81,6 +84,7 @@ fn run_command<S: Source, O: Output, F: Folders>(
     ensures promises { Promises (commands.view command) result (over S.left S.faults source.old source.new) (sent (O.state out.old) (O.state out.new))
         (over F.tree F.faults folders.old folders.new) }
     ensures same { (O.state out.new).name ≡ (O.state out.old).name }
+    ensures in_time { IsInTime (O.state out.old) (O.state out.new) }
 {
     match command {
         Command::Assemble {

@@ -5,7 +5,7 @@ ghost use Rattle.cycle_planner.specs.Cycle.{cycle_of};
 ghost use Rattle.generation.specs.Layouts.{items_of, lines_of, section_of};
 ghost use Rattle.section_stream.specs.Packing.{packets_of, packets_of_all, past};
 ghost use Rattle.carousel_world.specs.Publishing.{repeated};
-ghost use Rattle.shell_streams.specs.Sending.{Puts};
+ghost use Rattle.shell_streams.specs.Sending.{Puts, IsInTime};
 ghost use Rattle.carousel_shell.specs.Over.{over, sent};
 ghost use Rattle.carousel_shell.specs.Publish.{Publishes};
 ghost use Rattle.carousel_shell.specs.Cycles.{IsOfFolder, Refused, packed, mux_start};
@@ -44,6 +44,7 @@ pub fn publish<O: Output, F: Folders>(
     requires { (O.state out.old).pending ≡ [] }
     ensures publishes { Publishes folder.now carousel cycles result (sent (O.state out.old) (O.state out.new)) (over F.tree F.faults folders.old folders.new) }
     ensures same { (O.state out.new).name ≡ (O.state out.old).name }
+    ensures in_time { IsInTime (O.state out.old) (O.state out.new) }
 {
     generations_are_of_the_lists();
     receptions();

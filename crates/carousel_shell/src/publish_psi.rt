@@ -3,7 +3,7 @@ ghost use Rattle.std.specs.List.{concat};
 ghost use Rattle.cycle_planner.specs.Cycle.{cycle_of};
 ghost use Rattle.generation.specs.Layouts.{lines_of, section_of};
 ghost use Rattle.psi_tables.specs.Written.{announced, after_announcing};
-ghost use Rattle.shell_streams.specs.Sending.{Puts};
+ghost use Rattle.shell_streams.specs.Sending.{Puts, IsInTime};
 ghost use Rattle.carousel_shell.specs.Over.{over, sent};
 ghost use Rattle.carousel_shell.specs.PublishPsi.{PublishesPsi, cycles_sent, senders_start};
 
@@ -31,6 +31,7 @@ pub fn publish_psi<O: Output, F: Folders>(
     requires { (O.state out.old).pending ≡ [] }
     ensures publishes { PublishesPsi folder.now carousel cycles result (sent (O.state out.old) (O.state out.new)) (over F.tree F.faults folders.old folders.new) }
     ensures same { (O.state out.new).name ≡ (O.state out.old).name }
+    ensures in_time { IsInTime (O.state out.old) (O.state out.new) }
 {
     generations_are_of_the_lists();
     match first_generation(alloc, folder, carousel, folders) {
@@ -42,7 +43,7 @@ pub fn publish_psi<O: Output, F: Folders>(
     }
 }
 
-/// Writes so many cycles of a generation, each behind the tables.
+/// Writes so many cycles of a generation, each after the tables.
 fn send_announced<O: Output>(
     alloc: Global,
     generation: &Generation,

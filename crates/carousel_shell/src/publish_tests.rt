@@ -32,7 +32,7 @@ fn one_file(alloc: Global, content: &[u8]) -> Result<MemFolders, Fail> {
 }
 
 /// A folder with 139 files of 65,493 bytes. With the 44 bytes before them each is an object of 65,537 bytes, which has a
-/// module of its own. What stands in the folder isn't told.
+/// module of its own. What stands in the folder isn't known.
 #[derive(Drop)]
 struct ManyFiles;
 
@@ -50,11 +50,13 @@ impl ManyFiles {
 }
 
 impl Folders for ManyFiles {
-    ghost use Rattle.std.specs.Prelude.{None};
+    ghost use Rattle.std.specs.Prelude.{None, false};
 
     ghost tree = { λ f. None };
 
     ghost faults = { λ f. 0 };
+
+    ghost strayed = { λ f. false };
 
     fn list(&mut self, alloc: Global, _path: &str) -> Result<Vec<FolderEntry>, FolderFault> {
         match ManyFiles::entries(alloc) {

@@ -1,6 +1,6 @@
 ghost use Rattle.std.specs.Prelude.{◌≡◌, ◌≤◌, ◌<◌, [], length, map, OnOk};
 ghost use Rattle.section_stream.specs.Kept.{view_bytes};
-ghost use Rattle.shell_streams.specs.Sending.{Puts};
+ghost use Rattle.shell_streams.specs.Sending.{Puts, IsInTime};
 ghost use Rattle.carousel_shell.specs.Over.{over, sent};
 ghost use Rattle.carousel_shell.specs.Accepted as sections;
 ghost use Rattle.carousel_shell.specs.Record.{Records};
@@ -27,6 +27,7 @@ pub fn record<S: Source, O: Output>(alloc: Global, pid: u16, source: &mut S, out
     requires { (O.state out.old).pending ≡ [] }
     ensures records { Records pid result (over S.left S.faults source.old source.new) (sent (O.state out.old) (O.state out.new)) }
     ensures same { (O.state out.new).name ≡ (O.state out.old).name }
+    ensures in_time { IsInTime (O.state out.old) (O.state out.new) }
 {
     match record_all(alloc, pid, source, out) {
         Ok(()) => Status::Done,
@@ -44,6 +45,7 @@ fn record_all<S: Source, O: Output>(
     requires { (O.state out.old).pending ≡ [] }
     ensures records { Records pid (end_status result) (over S.left S.faults source.old source.new) (sent (O.state out.old) (O.state out.new)) }
     ensures same { (O.state out.new).name ≡ (O.state out.old).name }
+    ensures in_time { IsInTime (O.state out.old) (O.state out.new) }
 {
     candidates_grow();
     let mut reader = PacketReader::new(alloc, pid)?;

@@ -1,4 +1,5 @@
 ghost use Rattle.std.specs.Prelude.{◌≡◌, []};
+ghost use Rattle.shell_streams.specs.Sending.{IsInTime};
 ghost use Rattle.carousel_shell.specs.Over.{over, sent};
 ghost use Rattle.carousel_shell.specs.Rehearse.{Rehearses};
 
@@ -25,6 +26,7 @@ pub fn rehearse<S: Source, O: Output>(alloc: Global, source: &mut S, out: &mut O
     requires { (O.state out.old).pending ≡ [] }
     ensures rehearses { Rehearses result (over S.left S.faults source.old source.new) (sent (O.state out.old) (O.state out.new)) }
     ensures same { (O.state out.new).name ≡ (O.state out.old).name }
+    ensures in_time { IsInTime (O.state out.old) (O.state out.new) }
 {
     let text = match read_all(alloc, source, MOST_BYTES) {
         Ok(text) => text,

@@ -14,10 +14,11 @@ use Rattle.carousel_world.specs.Settling.{IsOpening, whole_draw, settled}
 use Rattle.carousel_world.specs.World.{WorldState, opening, happens, after_all}
 -- A draw that is sent in pieces: `SentSo` says what the pieces so far left of a downlink, from `none_sent_so` on, and `piece_sent` adds one, which
 -- `piece_of` cuts from the draw's items. The sections of a generation are as a downlink asks by `framed_is_like`. `stands_after_draw` says that a downlink
--- which stood for some draws, and sent one more, stands for these and it.
+-- which stood for some draws, and sent one more, stands for these and it. `generation_with` writes out a generation of a tree of one small file.
 pub use Rattle.carousel_world.proofs.Carrying.{SentSo, none_sent_so, piece_sent}
 pub use Rattle.carousel_world.proofs.Happening.{piece_of, framed_is_like}
 pub use Rattle.carousel_world.proofs.Sending.{stands_after_draw}
+pub use Rattle.carousel_world.proofs.Laid.{generation_with}
 
 map_map : {X Y Z : Type 0} (f : Y → Z) (h : X → Y) (xs : List X) → map f (map h xs) ≡ map (λ x. f (h x)) xs
 map_map f h [] = refl

@@ -1,9 +1,10 @@
 -- A reception in which a block is carried over a turn meets the premises.
-use Rattle.std.proofs.Common.{ℕ, zero, suc, ◌<◌, List, [], ◌∷◌, take, Some, refl, slice_get, arith, lit<, lit≤}
+use Rattle.std.proofs.Common.{◌≡◌, ℕ, zero, suc, ◌<◌, List, [], ◌∷◌, take, Some, refl, ap, sym, subst, slice_get, arith, lit<, lit≤}
 use Rattle.std.specs.List.{Contains}
 use Rattle.std.specs.Option.{unwrap_or}
 use Rattle.std.proofs.lemmas.List.Elements.{All-nil, All-cons}
 use Rattle.path_tree.specs.Paths.{Bytes}
+use Rattle.path_tree.specs.Trees.{Tree}
 use Rattle.biop_object.specs.Names.{module_in}
 use Rattle.cycle_planner.specs.declared.Item.{Item}
 use Rattle.cycle_planner.specs.declared.Item.TheVariants.{Dsi, Dii, Block}
@@ -16,22 +17,39 @@ use Rattle.generation.specs.Kept.{LayoutsAreLawful}
 use Rattle.generation.specs.Lawful.{ArePublishable, IsPublishable, layout_at, section_in}
 use Rattle.path_resolver.specs.declared.answer.Answer.TheVariants as answers
 use Rattle.section_stream.specs.Cuts.{candidates}
-use Rattle.carousel_world.specs.Broadcasts.{IsAscribed}
+use Rattle.carousel_world.specs.Broadcasts.{Broadcast, IsAscribed}
 use Rattle.carousel_world.specs.Premises.{AcceptedAreSent, IsWhole}
-use Rattle.carousel_world.specs.Instances.{tree_of, seven, carried_over, same_file, IsPremised, Tells, CarryingIsPremised}
+use Rattle.carousel_world.specs.Instances.{tree_of, seven, cycles_with, Reception, carried_of, same_file, IsPremised, Tells, CarryingIsPremised}
 use Rattle.carousel_world.proofs.Instances.{seven_publishable}
 use Rattle.carousel_world.proofs.Premised.{never_back_by, heard_by, its_blocks}
+use Rattle.carousel_world.proofs.Laid.{laid, same_laid}
+
+abbrev pub trees : List Tree
+trees = tree_of seven ∷ tree_of seven ∷ []
+
+abbrev pub generations : List ℕ
+generations = 1 ∷ 2 ∷ 2 ∷ 2 ∷ []
+
+-- what is sent, with the layouts written out
+abbrev pub given : Broadcast
+given = cycles_with (laid seven seven) trees generations
+
+same : given ≡ same_file
+same = ap (λ ls. cycles_with ls trees generations) (sym same_laid)
+
+abbrev pub received : Reception
+received = carried_of given
 
 abbrev pub section : ℕ → Item → Bytes
-section g item = section_in 1 same_file.layouts g item
+section g item = section_in 1 given.layouts g item
 
 abbrev pub all : List Bytes
-all = candidates 256 carried_over.packets
+all = candidates 256 received.packets
 
 -- ---- each accepted candidate was sent
 
 abbrev pub From : ℕ → ℕ → Type 0
-From i k = IsAscribed same_file 256 carried_over.packets (slice_get carried_over.numbers) i k
+From i k = IsAscribed given 256 received.packets (slice_get received.numbers) i k
 
 of_dsi : From 0 0
 of_dsi = record { cut = record { packet = 0; offset = 5; bytes = section 1 Dsi }; is = refl; packet = 0; came = refl; begins = refl }
@@ -51,7 +69,7 @@ of_second_block = record { cut = record { packet = 26; offset = 5; bytes = secti
 of_last_block : From 5 14
 of_last_block = record { cut = record { packet = 27; offset = 5; bytes = section 2 (Block 1 0) }; is = refl; packet = 80; came = refl; begins = refl }
 
-accepted_are_sent : AcceptedAreSent same_file all From
+accepted_are_sent : AcceptedAreSent given all From
 accepted_are_sent zero bytes e accepted = (0, of_dsi, e)
 accepted_are_sent (suc zero) bytes e accepted = (1, of_dii, e)
 accepted_are_sent (suc (suc zero)) bytes e accepted = (6, of_first_block, e)
@@ -63,7 +81,7 @@ accepted_are_sent (suc (suc (suc (suc (suc (suc i)))))) bytes e accepted = cc
 -- ---- a whole cycle
 
 abbrev module_bytes : Bytes
-module_bytes = unwrap_or (module_in (layout_at same_file.layouts 2) 1) []
+module_bytes = unwrap_or (module_in (layout_at given.layouts 2) 1) []
 
 abbrev pub later : List Bytes
 later = section 2 (Block 1 1) ∷ section 2 (Block 1 0) ∷ []
@@ -73,7 +91,7 @@ each_block zero lt = (1, lit< tt, refl)
 each_block (suc zero) lt = (0, lit< tt, refl)
 each_block (suc (suc b)) lt = absurd (omega (arith, lt))
 
-whole : IsWhole 1 same_file.layouts 2 all
+whole : IsWhole 1 given.layouts 2 all
 whole = record {
   generation = lit< tt;
   gateway = (0, lit< tt, refl);
@@ -81,7 +99,7 @@ whole = record {
     before = take 3 all;
     after = later;
     place = refl;
-    blocks = λ m b every item. its_blocks same_file.layouts 2 module_bytes later 1 2 refl refl each_block m b item;
+    blocks = λ m b every item. its_blocks given.layouts 2 module_bytes later 1 2 refl refl each_block m b item;
   };
   no_later = λ h above below has. let few : h < 3 = below in absurd (omega (arith, above, few));
 }
@@ -94,26 +112,31 @@ both = record {
       (All-cons IsPublishable (tree_of seven) [] seven_publishable (All-nil IsPublishable));
 }
 
-premised : LayoutsAreLawful → IsPremised carried_over 2
+premised : LayoutsAreLawful → IsPremised received 2
 premised lawful = record {
-  never_back = never_back_by carried_over.numbers refl;
-  heard = heard_by lawful (tree_of seven ∷ tree_of seven ∷ []) (1 ∷ 2 ∷ 2 ∷ 2 ∷ []) all From both refl refl refl accepted_are_sent;
+  never_back = never_back_by received.numbers refl;
+  heard = heard_by lawful (laid seven seven) trees generations all From same_laid both refl refl refl accepted_are_sent;
   whole = whole;
 }
 
 -- ---- what is answered
 
-before : Tells carried_over 25 (Some 1) (answers.NotYet 1)
+before : Tells received 25 (Some 1) (answers.NotYet 1)
 unfolding message_at block_at each_at tap_at component_at location_at taps_at components_at profile_at ior_at info_at line_at dii_at dsi_at binding_at context_at file_at folder_at object_at head_at sized_at frame_at private_at inside_at
 before = record { label_is = refl; answer_is = refl }
 
-turned : Tells carried_over 26 (Some 2) (answers.NotYet 1)
+turned : Tells received 26 (Some 2) (answers.NotYet 1)
 unfolding message_at block_at each_at tap_at component_at location_at taps_at components_at profile_at ior_at info_at line_at dii_at dsi_at binding_at context_at file_at folder_at object_at head_at sized_at frame_at private_at inside_at
 turned = record { label_is = refl; answer_is = refl }
 
-carried : Tells carried_over 27 (Some 2) (answers.File seven)
+carried : Tells received 27 (Some 2) (answers.File seven)
 unfolding message_at block_at each_at tap_at component_at location_at taps_at components_at profile_at ior_at info_at line_at dii_at dsi_at binding_at context_at file_at folder_at object_at head_at sized_at frame_at private_at inside_at
 carried = record { label_is = refl; answer_is = refl }
 
 pub carrying : LayoutsAreLawful → CarryingIsPremised
-carrying lawful = record { premised = premised lawful; before = before; turned = turned; carried = carried }
+carrying lawful = record {
+  premised = subst (λ b. IsPremised (carried_of b) 2) same (premised lawful);
+  before = subst (λ b. Tells (carried_of b) 25 (Some 1) (answers.NotYet 1)) same before;
+  turned = subst (λ b. Tells (carried_of b) 26 (Some 2) (answers.NotYet 1)) same turned;
+  carried = subst (λ b. Tells (carried_of b) 27 (Some 2) (answers.File seven)) same carried;
+}

@@ -1,10 +1,11 @@
 -- A reception with a loss, a repeat and damage that meets the premises.
-use Rattle.std.proofs.Common.{◌≡◌, ℕ, zero, suc, ◌<◌, true, false, List, [], ◌∷◌, take, Some, refl, sym, subst, slice_get, slice_index_or, IsTrue, arith, lit<, lit≤}
+use Rattle.std.proofs.Common.{◌≡◌, ℕ, zero, suc, ◌<◌, true, false, List, [], ◌∷◌, take, Some, refl, ap, sym, subst, slice_get, slice_index_or, IsTrue, arith, lit<, lit≤}
 use Rattle.std.specs.List.{Contains}
 use Rattle.std.specs.Option.{unwrap_or}
 use Rattle.std.proofs.lemmas.Option.{same_Some}
 use Rattle.std.proofs.lemmas.List.Elements.{All-nil, All-cons}
 use Rattle.path_tree.specs.Paths.{Bytes}
+use Rattle.path_tree.specs.Trees.{Tree}
 use Rattle.biop_object.specs.Names.{module_in}
 use Rattle.cycle_planner.specs.declared.Item.{Item}
 use Rattle.cycle_planner.specs.declared.Item.TheVariants.{Dsi, Dii, Block}
@@ -18,22 +19,39 @@ use Rattle.generation.specs.Lawful.{ArePublishable, IsPublishable, layout_at, se
 use Rattle.path_resolver.specs.declared.answer.Answer.TheVariants as answers
 use Rattle.section_stream.specs.Cuts.{candidates}
 use Rattle.tuner_core.specs.Heard.{is_accepted}
-use Rattle.carousel_world.specs.Broadcasts.{IsAscribed}
+use Rattle.carousel_world.specs.Broadcasts.{Broadcast, IsAscribed}
 use Rattle.carousel_world.specs.Premises.{AcceptedAreSent, IsWhole}
-use Rattle.carousel_world.specs.Instances.{tree_of, damaged, changed_file, IsPremised, Tells, DamageIsPremised}
+use Rattle.carousel_world.specs.Instances.{tree_of, cycles_with, Reception, damaged_of, changed_file, IsPremised, Tells, DamageIsPremised}
 use Rattle.carousel_world.proofs.Instances.{first_content, second_content, first_publishable, second_publishable}
 use Rattle.carousel_world.proofs.Premised.{never_back_by, heard_by, its_blocks}
+use Rattle.carousel_world.proofs.Laid.{laid, changed_laid}
+
+abbrev pub trees : List Tree
+trees = tree_of first_content ∷ tree_of second_content ∷ []
+
+abbrev pub generations : List ℕ
+generations = 1 ∷ 2 ∷ 2 ∷ []
+
+-- what is sent, with the layouts written out
+abbrev pub given : Broadcast
+given = cycles_with (laid first_content second_content) trees generations
+
+same : given ≡ changed_file
+same = ap (λ ls. cycles_with ls trees generations) (sym changed_laid)
+
+abbrev pub received : Reception
+received = damaged_of given
 
 abbrev pub section : ℕ → Item → Bytes
-section g item = section_in 1 changed_file.layouts g item
+section g item = section_in 1 given.layouts g item
 
 abbrev pub all : List Bytes
-all = candidates 256 damaged.packets
+all = candidates 256 received.packets
 
 -- ---- each accepted candidate was sent
 
 abbrev pub From : ℕ → ℕ → Type 0
-From i k = IsAscribed changed_file 256 damaged.packets (slice_get damaged.numbers) i k
+From i k = IsAscribed given 256 received.packets (slice_get received.numbers) i k
 
 of_first_dii : From 0 1
 of_first_dii = record { cut = record { packet = 0; offset = 5; bytes = section 1 Dii }; is = refl; packet = 1; came = refl; begins = refl }
@@ -59,7 +77,7 @@ of_block = record { cut = record { packet = 10; offset = 5; bytes = section 2 (B
 fails : is_accepted (slice_index_or all 4 []) ≡ false
 fails = refl
 
-accepted_are_sent : AcceptedAreSent changed_file all From
+accepted_are_sent : AcceptedAreSent given all From
 accepted_are_sent zero bytes e accepted = (1, of_first_dii, e)
 accepted_are_sent (suc zero) bytes e accepted = (2, of_first_block, e)
 accepted_are_sent (suc (suc zero)) bytes e accepted = (3, of_dsi, e)
@@ -75,13 +93,13 @@ accepted_are_sent (suc (suc (suc (suc (suc (suc (suc (suc i)))))))) bytes e acce
 -- ---- a whole cycle
 
 abbrev module_bytes : Bytes
-module_bytes = unwrap_or (module_in (layout_at changed_file.layouts 2) 1) []
+module_bytes = unwrap_or (module_in (layout_at given.layouts 2) 1) []
 
 the_block : (b : ℕ) → b < 1 → Contains (section 2 (Block 1 0) ∷ []) (section 2 (Block 1 b))
 the_block zero lt = (0, lit< tt, refl)
 the_block (suc b) lt = absurd (omega (arith, lt))
 
-whole : IsWhole 1 changed_file.layouts 2 all
+whole : IsWhole 1 given.layouts 2 all
 whole = record {
   generation = lit< tt;
   gateway = (2, lit< tt, refl);
@@ -89,7 +107,7 @@ whole = record {
     before = take 6 all;
     after = section 2 (Block 1 0) ∷ [];
     place = refl;
-    blocks = λ m b every item. its_blocks changed_file.layouts 2 module_bytes (section 2 (Block 1 0) ∷ []) 1 1 refl refl the_block m b item;
+    blocks = λ m b every item. its_blocks given.layouts 2 module_bytes (section 2 (Block 1 0) ∷ []) 1 1 refl refl the_block m b item;
   };
   no_later = λ h above below has. let few : h < 3 = below in absurd (omega (arith, above, few));
 }
@@ -102,26 +120,31 @@ both = record {
       (All-cons IsPublishable (tree_of second_content) [] second_publishable (All-nil IsPublishable));
 }
 
-premised : LayoutsAreLawful → IsPremised damaged 2
+premised : LayoutsAreLawful → IsPremised received 2
 premised lawful = record {
-  never_back = never_back_by damaged.numbers refl;
-  heard = heard_by lawful (tree_of first_content ∷ tree_of second_content ∷ []) (1 ∷ 2 ∷ 2 ∷ []) all From both refl refl refl accepted_are_sent;
+  never_back = never_back_by received.numbers refl;
+  heard = heard_by lawful (laid first_content second_content) trees generations all From changed_laid both refl refl refl accepted_are_sent;
   whole = whole;
 }
 
 -- ---- what is answered
 
-before : Tells damaged 4 (Some 1) answers.NoCarousel
+before : Tells received 4 (Some 1) answers.NoCarousel
 unfolding message_at block_at each_at tap_at component_at location_at taps_at components_at profile_at ior_at info_at line_at dii_at dsi_at binding_at context_at file_at folder_at object_at head_at sized_at frame_at private_at inside_at
 before = record { label_is = refl; answer_is = refl }
 
-between : Tells damaged 8 (Some 2) (answers.NotYet 1)
+between : Tells received 8 (Some 2) (answers.NotYet 1)
 unfolding message_at block_at each_at tap_at component_at location_at taps_at components_at profile_at ior_at info_at line_at dii_at dsi_at binding_at context_at file_at folder_at object_at head_at sized_at frame_at private_at inside_at
 between = record { label_is = refl; answer_is = refl }
 
-after : Tells damaged 12 (Some 2) (answers.File second_content)
+after : Tells received 12 (Some 2) (answers.File second_content)
 unfolding message_at block_at each_at tap_at component_at location_at taps_at components_at profile_at ior_at info_at line_at dii_at dsi_at binding_at context_at file_at folder_at object_at head_at sized_at frame_at private_at inside_at
 after = record { label_is = refl; answer_is = refl }
 
 pub damage : LayoutsAreLawful → DamageIsPremised
-damage lawful = record { premised = premised lawful; before = before; damaged_block = between; after = after }
+damage lawful = record {
+  premised = subst (λ b. IsPremised (damaged_of b) 2) same (premised lawful);
+  before = subst (λ b. Tells (damaged_of b) 4 (Some 1) answers.NoCarousel) same before;
+  damaged_block = subst (λ b. Tells (damaged_of b) 8 (Some 2) (answers.NotYet 1)) same between;
+  after = subst (λ b. Tells (damaged_of b) 12 (Some 2) (answers.File second_content)) same after;
+}

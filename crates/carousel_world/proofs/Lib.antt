@@ -21,6 +21,7 @@ mod Opening
 mod Instances
 mod Waiting
 mod Premised
+mod Laid
 mod Damaged
 mod Carried
 mod Reaching

@@ -19,7 +19,7 @@ use Rattle.generation.specs.Kept.{LayoutsAreLawful, layouts_of}
 use Rattle.generation.specs.Lawful.{Lawful, ArePublishable, IsItem, layout_at, section_in}
 use Rattle.carousel_world.specs.Broadcasts.{Sending, sendings_of, sendings, NeverBack}
 use Rattle.carousel_world.specs.Premises.{Ascribed, AcceptedAreSent, IsHeardOf}
-use Rattle.carousel_world.specs.Instances.{cycles_of}
+use Rattle.carousel_world.specs.Instances.{cycles_with}
 use Rattle.carousel_world.proofs.Climbing.{Climbs, climbs_at}
 use Rattle.carousel_world.proofs.Cycles.{cycle_items}
 use Rattle.carousel_world.proofs.Modules.{is_sent}
@@ -68,21 +68,22 @@ each_at test (x ∷ xs) all (suc k) s e = each_at test xs (and_parts (test x) (l
 abbrev pub is_early : Sending → Bool
 is_early s = nat_lt s.0 256
 
-pub heard_by : LayoutsAreLawful → (trees : List Tree) (gs : List ℕ) (cs : List Bytes) (is_from : Ascribed) → ArePublishable 1 trees
-    → list_all (λ g. nat_lt g (length (layouts_of 1 trees))) gs ≡ true → is_climbing 0 (map (λ s. s.0) (sendings (cycles_of trees gs))) ≡ true
-    → list_all is_early (sendings (cycles_of trees gs)) ≡ true → AcceptedAreSent (cycles_of trees gs) cs is_from → IsHeardOf (cycles_of trees gs) cs is_from
-heard_by lawful trees gs cs is_from publishable below climbing early accepted =
-    let l : Lawful 1 (layouts_of 1 trees) ([] ∷ trees) = lawful 1 trees publishable in
+-- where these are the layouts that the rules make
+pub heard_by : LayoutsAreLawful → (ls : List Layout) (trees : List Tree) (gs : List ℕ) (cs : List Bytes) (is_from : Ascribed) → layouts_of 1 trees ≡ ls → ArePublishable 1 trees
+    → list_all (λ g. nat_lt g (length ls)) gs ≡ true → is_climbing 0 (map (λ s. s.0) (sendings (cycles_with ls trees gs))) ≡ true
+    → list_all is_early (sendings (cycles_with ls trees gs)) ≡ true → AcceptedAreSent (cycles_with ls trees gs) cs is_from → IsHeardOf (cycles_with ls trees gs) cs is_from
+heard_by lawful ls trees gs cs is_from laid publishable below climbing early accepted =
+    let l : Lawful 1 ls ([] ∷ trees) = subst (λ x. Lawful 1 x ([] ∷ trees)) laid (lawful 1 trees publishable) in
     record {
       first = omega (arith, l.as_many);
       lawful = l;
       in_order = record {
-        items = items_of_groups 1 (layouts_of 1 trees) ([] ∷ trees) l gs (AllPass-from_list_all (λ g. nat_lt g (length (layouts_of 1 trees))) gs below);
-        order = pairs_by (sendings (cycles_of trees gs)) climbing;
+        items = items_of_groups 1 ls ([] ∷ trees) l gs (AllPass-from_list_all (λ g. nat_lt g (length ls)) gs below);
+        order = pairs_by (sendings (cycles_with ls trees gs)) climbing;
       };
       accepted = accepted;
       near = λ i j g h block last p q.
-          let few : q.1.0 < 256 = ltb-true q.1.0 256 (each_at is_early (sendings (cycles_of trees gs)) early q.0 q.1 q.3) in
+          let few : q.1.0 < 256 = ltb-true q.1.0 256 (each_at is_early (sendings (cycles_with ls trees gs)) early q.0 q.1 q.3) in
           let same : q.1.0 ≡ h = q.4 in
           omega (arith, few, same);
     }

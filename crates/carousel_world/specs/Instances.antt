@@ -3,6 +3,7 @@ use Rattle.std.specs.Prelude.{◌≡◌, ℕ, suc, ◌<◌, List, [], ◌∷◌,
 use Rattle.std.specs.List.{range_with_len}
 use Rattle.path_tree.specs.Paths.{Bytes, PathNames}
 use Rattle.path_tree.specs.Trees.{Tree, File, node_at}
+use Rattle.biop_object.specs.Names.{Layout}
 use Rattle.cycle_planner.specs.Cycle.{cycle_of}
 use Rattle.cycle_planner.specs.declared.Item.TheVariants.{Dsi, Dii}
 use Rattle.generation.specs.Layouts.{lines_in}
@@ -36,14 +37,18 @@ control_alone carousel t = section_in carousel (layouts_for carousel t) 1 Dsi �
 abbrev pub tree_of : Bytes → Tree
 tree_of content = ((97 ∷ []) ∷ [], content) ∷ []
 
--- a whole cycle of each of these generations, of carousel 1, where the first tree is that of generation 1
-abbrev pub cycles_of : List Tree → List ℕ → Broadcast
-cycles_of trees generations = record {
+-- a whole cycle of each of these generations, of carousel 1, with these layouts; the first tree is that of generation 1
+abbrev pub cycles_with : List Layout → List Tree → List ℕ → Broadcast
+cycles_with ls trees generations = record {
   carousel = 1;
   trees = [] ∷ trees;
-  layouts = layouts_of 1 trees;
-  groups = map (λ g. record { generation = g; items = cycle_of (lines_in (layout_at (layouts_of 1 trees) g)) }) generations;
+  layouts = ls;
+  groups = map (λ g. record { generation = g; items = cycle_of (lines_in (layout_at ls g)) }) generations;
 }
+
+-- with the layouts that the rules make
+abbrev pub cycles_of : List Tree → List ℕ → Broadcast
+cycles_of trees generations = cycles_with (layouts_of 1 trees) trees generations
 
 -- what was sent on PID 256, what was received of it, and for each received packet the number of the sent one that it is from
 pub record Reception : Type 0 where
@@ -71,14 +76,16 @@ pub record Tells (r : Reception) (n : ℕ) (label : Option ℕ) (answer : Answer
 abbrev pub changed_file : Broadcast
 changed_file = cycles_of (tree_of (1 ∷ 2 ∷ 3 ∷ []) ∷ tree_of (4 ∷ 5 ∷ 6 ∷ []) ∷ []) (1 ∷ 2 ∷ 2 ∷ [])
 
-abbrev pub damaged : Reception
-damaged = record {
-  broadcast = changed_file;
-  packets = packet_of changed_file 1 ∷ packet_of changed_file 1 ∷ packet_of changed_file 2 ∷ packet_of changed_file 3 ∷ packet_of changed_file 4
-      ∷ packet_of changed_file 5 ∷ slice_set (packet_of changed_file 6) 100 7 ∷ packet_of changed_file 7 ∷ packet_of changed_file 8
-      ∷ packet_of changed_file 9 ∷ packet_of changed_file 10 ∷ packet_of changed_file 11 ∷ [];
+abbrev pub damaged_of : Broadcast → Reception
+damaged_of b = record {
+  broadcast = b;
+  packets = packet_of b 1 ∷ packet_of b 1 ∷ packet_of b 2 ∷ packet_of b 3 ∷ packet_of b 4 ∷ packet_of b 5 ∷ slice_set (packet_of b 6) 100 7
+      ∷ packet_of b 7 ∷ packet_of b 8 ∷ packet_of b 9 ∷ packet_of b 10 ∷ packet_of b 11 ∷ [];
   numbers = 1 ∷ 1 ∷ 2 ∷ 3 ∷ 4 ∷ 5 ∷ 6 ∷ 7 ∷ 8 ∷ 9 ∷ 10 ∷ 11 ∷ [];
 }
+
+abbrev pub damaged : Reception
+damaged = damaged_of changed_file
 
 pub record DamageIsPremised : Type 0 where
   pub premised : IsPremised damaged 2
@@ -100,8 +107,11 @@ same_file = cycles_of (tree_of seven ∷ tree_of seven ∷ []) (1 ∷ 2 ∷ 2 �
 abbrev pub numbers_taken : List ℕ
 numbers_taken = 0 ∷ 1 ∷ range_with_len 28 23 ++ 53 ∷ 77 ∷ range_with_len 80 23
 
+abbrev pub carried_of : Broadcast → Reception
+carried_of b = record { broadcast = b; packets = map (packet_of b) numbers_taken; numbers = numbers_taken }
+
 abbrev pub carried_over : Reception
-carried_over = record { broadcast = same_file; packets = map (packet_of same_file) numbers_taken; numbers = numbers_taken }
+carried_over = carried_of same_file
 
 pub record CarryingIsPremised : Type 0 where
   pub premised : IsPremised carried_over 2

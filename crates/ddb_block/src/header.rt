@@ -92,7 +92,7 @@ fn body_of(payload: &[u8], place: usize, adaptation: usize, size: usize) -> Fiel
 ///
 /// Places are counted from the payload's first byte. An `Err` is the place of the first field that is cut, or that breaks its
 /// rule: protocolDiscriminator is 0x11, dsmccType 0x03 and messageId `id`; messageLength is at least adaptationLength and
-/// at most the number of bytes behind it.
+/// at most the number of bytes after it.
 #[tactic(auto, unfolding(crate::specs::Message::message_at))]
 pub fn message(payload: &[u8], id: u16) -> Result<(u32, Fields<'_>), usize>
     ensures { Gives (λ x. x) (λ place. Some place) result (message_at id (from_start payload.now)) }

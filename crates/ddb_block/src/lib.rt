@@ -95,8 +95,8 @@ fn block_fields(parts: &Parts<'_>) -> [u8; 6]
     ]
 }
 
-/// What a block message has before the block's bytes: its header and the fields behind that, 18 bytes (ISO/IEC 13818-6,
-/// clause 7.3.7). With the block's bytes behind them they are what `encode` writes, so that a writer that is lent the block's
+/// What a block message has before the block's bytes: its header and the fields after that, 18 bytes (ISO/IEC 13818-6,
+/// clause 7.3.7). With the block's bytes after them they are what `encode` writes, so that a writer that is lent the block's
 /// bytes copies them only once.
 ///
 /// `parts.bytes` has at most 4,066 bytes, so that the message fits in one section.
@@ -189,7 +189,7 @@ fn owned(alloc: Global, parts: &Parts<'_>) -> Result<Ddb, AllocError>
 ///
 /// `NotDdb` comes exactly where the payload is no block message: at the place of the first field that is cut or breaks a rule.
 /// The rules are protocolDiscriminator 0x11, dsmccType 0x03, messageId 0x1003, and a messageLength, at place 10, that is at
-/// least adaptationLength and at most the number of bytes behind it. `NoMemory` comes where the block's bytes find no memory.
+/// least adaptationLength and at most the number of bytes after it. `NoMemory` comes where the block's bytes find no memory.
 pub fn decode(alloc: Global, payload: &[u8]) -> Result<Ddb, DdbFault>
     ensures found { IfOk result (λ d. Reads payload.now (view d)) }
     ensures only { (b : Block) → Reads payload.now b → Gives view cause result (Ok b) }

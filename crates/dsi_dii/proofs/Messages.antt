@@ -33,7 +33,7 @@ this_parses n value = record { takes = takes; again = again } where
       let test : eqb v value ≡ true = eq-eqb v value h.same in
       (one.0, rw (one.1, test) refl)
 
--- a reader by what stands before it and behind it
+-- a reader by what stands before it and after it
 record Passes {A : Type 0} (read : Cursor → Reading A) (R : List ℕ → A → List ℕ → Type 0) : Type 0 where
   takes : (c : Cursor) (x : A × Cursor) → read c ≡ Ok x → R c.rest x.0 x.1.rest
   again : (place : ℕ) (bytes rest : List ℕ) (v : A) → R bytes v rest → (after : ℕ) × (read (cursor place bytes) ≡ Ok (v, cursor after rest))

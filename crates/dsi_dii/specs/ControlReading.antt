@@ -21,7 +21,7 @@ abbrev pub cursor_of : {A : Type 0} → Reading A → Option Cursor
 cursor_of (Ok x) = Some x.1
 cursor_of (Err place) = None
 
--- the user info of a moduleInfo: behind three time-outs and the taps
+-- the user info of a moduleInfo: after three time-outs and the taps
 unfoldable pub info_at : Cursor → Reading (List ℕ)
 info_at c = do
   times ← bytes_at 12 c

@@ -68,7 +68,7 @@ tags (suc steps) bytes = onto_tags (tags steps) (next_descriptor bytes)
 abbrev pub is_compressed : List ℕ → Bool
 is_compressed user_info = list_any (λ tag. tag == 0x09) (tags (length user_info) user_info)
 
--- a moduleInfo that reads, and its user info; bytes behind that are passed over
+-- a moduleInfo that reads, and its user info; bytes after that are passed over
 pub record ReadsInfo (bytes user_info : List ℕ) : Type 0 where
   pub times : List ℕ
   pub taps : List iors.TapFields

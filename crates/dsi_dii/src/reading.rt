@@ -100,7 +100,7 @@ fn head_fields(fields: &mut Fields) -> Result<Head, ControlFault>
     })
 }
 
-/// The bytes of a message's body: behind the header and the adaptation, and no more than the message has.
+/// The bytes of a message's body: after the header and the adaptation, and no more than the message has.
 fn body_of(payload: &[u8], adaptation: usize, size: usize) -> Fields<'_>
     requires adaptation { adaptation ≤ size }
     requires fits { 12 + size ≤ length payload.now }

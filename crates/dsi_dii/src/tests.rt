@@ -5,27 +5,9 @@ ghost use Rattle.ior_tap.specs.declared.Location.{Location};
 
 use super::*;
 use ior_tap::{Binder, Key, Location, Profile, Tap, biop_of, delivery_of};
+use sample_sections::{DII_MESSAGE, DSI_MESSAGE};
 use std::alloc::Global;
 use std::test::Fail;
-
-/// The payload of the DSI of carousel 1: the gateway has key 1 in module 1.
-static DSI: [u8; 103] = [
-    0x11, 0x03, 0x10, 0x06, 0x80, 0x00, 0x00, 0x00, 0xFF, 0x00, 0x00, 0x5B, 0xFF, 0xFF, 0xFF, 0xFF,
-    0xFF, 0xFF, 0xFF, 0xFF, 0xFF, 0xFF, 0xFF, 0xFF, 0xFF, 0xFF, 0xFF, 0xFF, 0xFF, 0xFF, 0xFF, 0xFF,
-    0x00, 0x00, 0x00, 0x43, 0x00, 0x00, 0x00, 0x04, 0x73, 0x72, 0x67, 0x00, 0x00, 0x00, 0x00, 0x01,
-    0x49, 0x53, 0x4F, 0x06, 0x00, 0x00, 0x00, 0x2B, 0x00, 0x02, 0x49, 0x53, 0x4F, 0x50, 0x0D, 0x00,
-    0x00, 0x00, 0x01, 0x00, 0x01, 0x01, 0x00, 0x04, 0x00, 0x00, 0x00, 0x01, 0x49, 0x53, 0x4F, 0x40,
-    0x12, 0x01, 0x00, 0x00, 0x00, 0x16, 0x00, 0x01, 0x0A, 0x00, 0x01, 0x80, 0x00, 0x00, 0x02, 0xFF,
-    0xFF, 0xFF, 0xFF, 0x00, 0x00, 0x00, 0x00,
-];
-
-/// The payload of the DII of generation 0 of carousel 1: one module of 34 bytes.
-static DII: [u8; 63] = [
-    0x11, 0x03, 0x10, 0x02, 0x80, 0x00, 0x00, 0x02, 0xFF, 0x00, 0x00, 0x33, 0x00, 0x00, 0x00, 0x01,
-    0x0F, 0xE2, 0x00, 0x00, 0x00, 0x00, 0x00, 0x00, 0x00, 0x00, 0x00, 0x00, 0x00, 0x00, 0x00, 0x01,
-    0x00, 0x01, 0x00, 0x00, 0x00, 0x22, 0x00, 0x15, 0xFF, 0xFF, 0xFF, 0xFF, 0xFF, 0xFF, 0xFF, 0xFF,
-    0x00, 0x00, 0x00, 0x00, 0x01, 0x00, 0x00, 0x00, 0x17, 0x00, 0x01, 0x00, 0x00, 0x00, 0x00,
-];
 
 /// The first `length` bytes, with this value at this place.
 fn changed(
@@ -62,9 +44,9 @@ fn lines_of(alloc: Global, payload: &[u8]) -> Option<Dii> {
 fn with_info(alloc: Global, front: &[u8], tail: &[u8]) -> Result<Vec<u8>, AllocError> {
     let length = front.len().saturating_add(tail.len());
     let mut payload = Vec::new(alloc);
-    payload.extend_from_slice(&DII[..11])?;
+    payload.extend_from_slice(&DII_MESSAGE[..11])?;
     payload.push(length.saturating_add(30).min(255) as u8)?;
-    payload.extend_from_slice(&DII[12..39])?;
+    payload.extend_from_slice(&DII_MESSAGE[12..39])?;
     payload.push(length.min(255) as u8)?;
     payload.extend_from_slice(front)?;
     payload.extend_from_slice(tail)?;
@@ -116,9 +98,9 @@ fn gateway(alloc: Global) -> Result<Ior, AllocError>
 #[test]
 fn a_dsi(rt: HostRuntime) -> Result<(), Fail> {
     let alloc = rt.alloc();
-    let read = match decode(alloc, &DSI)? {
+    let read = match decode(alloc, &DSI_MESSAGE)? {
         Control::Dsi(dsi) => dsi,
-        Control::Dii(_) => return Err(Fail::from("a DII")),
+        Control::Dii(_) => return Err(Fail::from("a DII_MESSAGE")),
     };
     assert_eq!(rt; read.transaction, TransactionId::dsi());
     let (location, binder) = biop_of(&read.gateway).ok_or("no location")?;
@@ -129,7 +111,10 @@ fn a_dsi(rt: HostRuntime) -> Result<(), Fail> {
         transaction: TransactionId::dsi(),
         gateway: gateway(alloc)?,
     };
-    assert_eq!(rt; encode_dsi(alloc, &written)?.as_slice(), DSI.as_slice());
+    assert_eq!(rt;
+        encode_dsi(alloc, &written)?.as_slice(),
+        DSI_MESSAGE.as_slice()
+    );
     Ok(())
 }
 
@@ -160,7 +145,7 @@ fn faults(rt: HostRuntime) -> Result<(), Fail> {
         (103, 47, 2, 103),
     ];
     for (length, place, value, fault) in of_dsi {
-        let payload = changed(alloc, &DSI, length, place, value)?;
+        let payload = changed(alloc, &DSI_MESSAGE, length, place, value)?;
         assert_eq!(rt; fault_of(alloc, &payload), Some(fault));
     }
     let of_dii: [(usize, usize, u8, usize); 20] = [
@@ -186,7 +171,7 @@ fn faults(rt: HostRuntime) -> Result<(), Fail> {
         (63, 31, 2, 63),
     ];
     for (length, place, value, fault) in of_dii {
-        let payload = changed(alloc, &DII, length, place, value)?;
+        let payload = changed(alloc, &DII_MESSAGE, length, place, value)?;
         assert_eq!(rt; fault_of(alloc, &payload), Some(fault));
     }
     Ok(())
@@ -201,7 +186,10 @@ fn a_dii(rt: HostRuntime) -> Result<(), Fail> {
         transaction: TransactionId::dii(0),
         modules: modules(alloc, 1)?,
     };
-    assert_eq!(rt; encode_dii(alloc, &written)?.as_slice(), DII.as_slice());
+    assert_eq!(rt;
+        encode_dii(alloc, &written)?.as_slice(),
+        DII_MESSAGE.as_slice()
+    );
     let many = Dii {
         modules: modules(alloc, 140)?,
         ..written
@@ -218,7 +206,7 @@ fn a_dii(rt: HostRuntime) -> Result<(), Fail> {
         (&[2, 0x09], false),
     ];
     for (info, compressed) in infos {
-        let payload = with_info(alloc, &DII[40..60], info)?;
+        let payload = with_info(alloc, &DII_MESSAGE[40..60], info)?;
         let dii = lines_of(alloc, &payload).ok_or("no DII")?;
         assert_eq!(rt;
             (dii.download, dii.block_size, dii.transaction),

@@ -80,7 +80,7 @@ fields_of table bytes = record {
   payload = take (length bytes - 12) (drop 8 bytes);
 }
 
--- a frame that a stream of sections can be cut by: its length field counts the bytes behind it, and it doesn't begin with stuffing
+-- a frame that a stream of sections can be cut by: its length field counts the bytes after it, and it doesn't begin with stuffing
 pub record IsFramed (bytes : List ℕ) : Type 0 where
   pub least : 12 ≤ length bytes
   pub most : length bytes ≤ 4096

@@ -58,7 +58,7 @@ files_of [] = []
 files_of (Put p b ∷ es) = (p, b) ∷ files_of es
 files_of (Remove p ∷ es) = files_of es
 
--- behind all others
+-- after all others
 insert_last : (t : Tree) (p : PathNames) (b : Bytes) → AllByRecursion (λ e. path_cmp e.0 p ≡ Less) t → insert_entry path_cmp t p b ≡ t ++ (p, b) ∷ []
 insert_last [] p b h = refl
 insert_last (e ∷ t) p b h =

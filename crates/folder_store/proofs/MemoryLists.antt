@@ -19,9 +19,9 @@ fold-append : {A B : Type 0} (f : B → A → B) (a : B) (xs ys : List A) → fo
 fold-append f a [] ys = refl
 fold-append f a (x ∷ xs) ys = fold-append f (f a x) xs ys
 
--- ---- texts behind a prefix, each once
+-- ---- texts after a prefix, each once
 
--- a name behind the prefix is the text without it
+-- a name after the prefix is the text without it
 pub named : (q s n : Bytes) → name_behind q s ≡ Some n → behind q s ≡ Some n
 named q s n e = go (behind q s) refl where
   pick : (rest : Bytes) (b : Bool) → behind q s ≡ Some rest → cond b (Some rest) None ≡ Some n → behind q s ≡ Some n

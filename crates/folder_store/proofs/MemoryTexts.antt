@@ -1,4 +1,4 @@
--- Texts behind a prefix, and the folders in which a text stands.
+-- Texts after a prefix, and the folders in which a text stands.
 use Rattle.std.proofs.Common.{◌≡◌, ◌≢◌, ◌⊎◌, ℕ, suc, ◌+◌, ◌<◌, Bool, true, false, not, ◌&&◌, ◌||◌, eqb, List, [], ◌∷◌, ◌++◌, length, take, map, Option, Some, None, cond, is_some, MatchOption, refl, ap, sym, ◌∙◌, subst, inl, inr, append_assoc, arith}
 use Rattle.std.specs.Cmp.Lexicographic.{pointwise, same_text}
 use Rattle.std.specs.List.{list_any, filter_map, position_or_len}
@@ -92,7 +92,7 @@ no_slash (c ∷ cs) e = go (no_slash cs) (true_or_false (eqb c 47)) where
 
 -- ---- the folders in which a text stands, seen from a prefix
 
--- the name that a text is behind a prefix
+-- the name that a text is after a prefix
 abbrev pub name_behind : Bytes → Bytes → Option Bytes
 name_behind q s = file_name (behind q s)
 

@@ -197,7 +197,7 @@ unique {A} (x ∷ xs) (y ∷ ys) up also there back =
 abbrev less : FolderEntry → FolderEntry → Bool
 less x y = is_lt (string_cmp x.name y.name)
 
--- a name that isn't less and differs stands behind
+-- a name that isn't less and differs stands after
 stands_behind : (m n : Bytes) → is_lt (name_cmp n m) ≡ false → same_name m n ≡ false → name_cmp m n ≡ Less
 stands_behind m n e f = go (name_cmp n m) refl e where
   go : (o : Ordering) → name_cmp n m ≡ o → is_lt o ≡ false → name_cmp m n ≡ Less

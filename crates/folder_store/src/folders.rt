@@ -1,4 +1,4 @@
-ghost use Rattle.std.specs.Prelude.{◌≡◌, ◌≤◌, List, ℕ, Some, Option, map, false, None, IfOk, IsErrOf};
+ghost use Rattle.std.specs.Prelude.{◌≡◌, ◌≤◌, List, ℕ, Bool, Some, Option, map, true, false, None, is_some, IfOk, IsErrOf};
 ghost use Rattle.oc_bytes.specs.Outcome.{Rose};
 
 use oc_bytes::NoMemory;
@@ -28,7 +28,7 @@ pub struct FolderEntry {
 #[derive(Clone, Copy, Debug, PartialEq, Eq)]
 pub enum FolderFault {
     /// The system answered with an error, or the path is wrong. It comes only where the count of faults
-    /// rose in this call, or stands at its type's end, or where the tree is told and the path is no
+    /// rose in this call, or stands at its type's end, or where the tree is known and the path is no
     /// folder (`list`) or no file (`read`) of it.
     Failed,
     /// There is no memory.
@@ -49,29 +49,36 @@ impl From<AllocError> for FolderFault {
 /// Folders and files of the outside. This trait is this project's own.
 ///
 /// A path text is the names of a file or a folder, the outermost first, with a `/` between two of them:
-/// `site/img/logo.png`. No call changes what stands there, nor whether that is told.
+/// `site/img/logo.png`. No call changes what stands there, nor whether that is known.
 pub trait Folders {
     ghost use Rattle.folder_store.specs.Folders.{FolderTree, entry_at, content_of, is_folder_at, view_entry, IsListed, IsRead, MayFail};
 
-    /// What stands there, where it is told.
+    /// What stands there, where it is known.
     ghost tree: { Self → Option FolderTree };
 
     /// How often a call failed. It never falls.
     ghost faults: { Self → ℕ };
+
+    /// Whether a call asked for a folder or a file that isn't there, where what stands there is known.
+    ghost strayed: { Self → Bool };
 
     /// The entries right below the folder `path`, each once, in no stated order.
     fn list(&mut self, alloc: Global, path: &str) -> Result<Vec<FolderEntry>, FolderFault>
         ensures same { tree self.new ≡ tree self.old }
         ensures entries { IfOk result (λ es. (t : FolderTree) → tree self.old ≡ Some t → IsListed t path.now (map view_entry es.items)) }
         ensures later { faults self.old ≤ faults self.new }
-        ensures cause { IsErrOf result FolderFault.Failed → MayFail (Rose (faults self.old) (faults self.new)) (tree self.old) (λ t. is_folder_at t path.now ≡ false) };
+        ensures cause { IsErrOf result FolderFault.Failed → MayFail (Rose (faults self.old) (faults self.new)) (tree self.old) (λ t. is_folder_at t path.now ≡ false) }
+        ensures owed { (t : FolderTree) → tree self.old ≡ Some t → is_folder_at t path.now ≡ true → strayed self.new ≡ strayed self.old }
+        ensures strays { (t : FolderTree) → tree self.old ≡ Some t → is_folder_at t path.now ≡ false → strayed self.new ≡ true };
 
     /// The first `most` bytes of the file `path`, or all of them where it has fewer.
     fn read(&mut self, alloc: Global, path: &str, most: usize) -> Result<Vec<u8>, FolderFault>
         ensures same { tree self.new ≡ tree self.old }
         ensures bytes { IfOk result (λ bs. (t : FolderTree) → tree self.old ≡ Some t → IsRead t path.now most bs.items) }
         ensures later { faults self.old ≤ faults self.new }
-        ensures cause { IsErrOf result FolderFault.Failed → MayFail (Rose (faults self.old) (faults self.new)) (tree self.old) (λ t. content_of (entry_at t path.now) ≡ None) };
+        ensures cause { IsErrOf result FolderFault.Failed → MayFail (Rose (faults self.old) (faults self.new)) (tree self.old) (λ t. content_of (entry_at t path.now) ≡ None) }
+        ensures owed { (t : FolderTree) → tree self.old ≡ Some t → is_some (content_of (entry_at t path.now)) ≡ true → strayed self.new ≡ strayed self.old }
+        ensures strays { (t : FolderTree) → tree self.old ≡ Some t → content_of (entry_at t path.now) ≡ None → strayed self.new ≡ true };
 
     /// The count of faults, which stays at the greatest `u64`.
     fn faults(&self) -> u64

@@ -21,6 +21,7 @@ pub struct MemFolders {
     fail_at: Vec<u64>,
     calls: u64,
     failures: u64,
+    strayed: bool,
     ghost form: { AreEntries (entries_in entries.items) },
 }
 
@@ -46,6 +47,7 @@ impl MemFolders {
             fail_at,
             calls: 0,
             failures: 0,
+            strayed: false,
         }
     }
 
@@ -53,6 +55,7 @@ impl MemFolders {
     fn begin(&mut self) -> Result<(), FolderFault>
         ensures entries { self.new.entries ≡ self.old.entries }
         ensures plan { self.new.fail_at ≡ self.old.fail_at }
+        ensures strayed { self.new.strayed ≡ self.old.strayed }
         ensures made { self.new.calls ≡ capped (self.old.calls + 1) }
         ensures later { self.old.failures ≤ self.new.failures }
         ensures err { IfErr result (λ e. (e ≡ FolderFault.Failed) × Contains self.old.fail_at.items self.old.calls × (self.new.failures ≡ capped (self.old.failures + 1))) }
@@ -75,11 +78,15 @@ impl Folders for MemFolders {
 
     ghost faults = { λ f. f.failures };
 
+    ghost strayed = { λ f. f.strayed };
+
     fn list(&mut self, alloc: Global, path: &str) -> Result<Vec<FolderEntry>, FolderFault>
         ensures same { Some (tree_in self.new) ≡ Some (tree_in self.old) }
         ensures entries { IfOk result (λ es. (t : FolderTree) → Some (tree_in self.old) ≡ Some t → IsListed t path.now (map view_entry es.items)) }
         ensures later { calls_failed self.old ≤ calls_failed self.new }
         ensures cause { IsErrOf result FolderFault.Failed → MayFail (Rose (calls_failed self.old) (calls_failed self.new)) (Some (tree_in self.old)) (λ t. is_folder_at t path.now ≡ false) }
+        ensures owed { (t : FolderTree) → Some (tree_in self.old) ≡ Some t → is_folder_at t path.now ≡ true → self.new.strayed ≡ self.old.strayed }
+        ensures strays { (t : FolderTree) → Some (tree_in self.old) ≡ Some t → is_folder_at t path.now ≡ false → self.new.strayed ≡ true }
         // The plan of failures.
         ensures planned { IsErrOf result FolderFault.Failed ↔ (Contains (failing_calls self.old) (calls_made self.old) ⊎ (is_folder_at (tree_in self.old) path.now ≡ false)) }
         ensures counted { Contains (failing_calls self.old) (calls_made self.old) → calls_failed self.new ≡ capped (calls_failed self.old + 1) }
@@ -87,8 +94,10 @@ impl Folders for MemFolders {
         ensures made { calls_made self.new ≡ capped (calls_made self.old + 1) }
         ensures plan { failing_calls self.new ≡ failing_calls self.old }
     {
+        let is_there = is_folder(&self.entries, path);
+        self.strayed = self.strayed || !is_there;
         self.begin()?;
-        if !is_folder(&self.entries, path) {
+        if !is_there {
             return Err(FolderFault::Failed);
         }
         Ok(listing(alloc, &self.entries, path)?)
@@ -99,6 +108,8 @@ impl Folders for MemFolders {
         ensures bytes { IfOk result (λ bs. (t : FolderTree) → Some (tree_in self.old) ≡ Some t → IsRead t path.now most bs.items) }
         ensures later { calls_failed self.old ≤ calls_failed self.new }
         ensures cause { IsErrOf result FolderFault.Failed → MayFail (Rose (calls_failed self.old) (calls_failed self.new)) (Some (tree_in self.old)) (λ t. content_of (entry_at t path.now) ≡ None) }
+        ensures owed { (t : FolderTree) → Some (tree_in self.old) ≡ Some t → is_some (content_of (entry_at t path.now)) ≡ true → self.new.strayed ≡ self.old.strayed }
+        ensures strays { (t : FolderTree) → Some (tree_in self.old) ≡ Some t → content_of (entry_at t path.now) ≡ None → self.new.strayed ≡ true }
         // The plan of failures.
         ensures planned { IsErrOf result FolderFault.Failed ↔ (Contains (failing_calls self.old) (calls_made self.old) ⊎ (content_of (entry_at (tree_in self.old) path.now) ≡ None)) }
         ensures counted { Contains (failing_calls self.old) (calls_made self.old) → calls_failed self.new ≡ capped (calls_failed self.old + 1) }
@@ -106,6 +117,8 @@ impl Folders for MemFolders {
         ensures made { calls_made self.new ≡ capped (calls_made self.old + 1) }
         ensures plan { failing_calls self.new ≡ failing_calls self.old }
     {
+        let is_there = content_at(&self.entries, path).is_some();
+        self.strayed = self.strayed || !is_there;
         self.begin()?;
         let Some(content) = content_at(&self.entries, path) else {
             return Err(FolderFault::Failed);
@@ -210,7 +223,7 @@ fn list_folders(
     Ok(found)
 }
 
-/// Puts a folder behind those that were found, unless it is among them.
+/// Puts a folder after those that were found, unless it is among them.
 fn add_folder(alloc: Global, found: &mut Vec<FolderEntry>, name: &str) -> Result<(), NoMemory>
     ensures { OnOk result (map view_entry found.new.items ≡ with_folder (map view_entry found.old.items) name.now) }
 {

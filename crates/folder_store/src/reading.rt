@@ -150,6 +150,7 @@ fn sorted_entries<F: Folders>(
 ) -> Result<Vec<FolderEntry>, ReadTree>
     ensures entries { IfOk result (λ es. (t : FolderTree) → F.tree folders.old ≡ Some t → IsSortedListing t path.now (map view_entry es.items)) }
     ensures fault { IsErrOf result ReadTree.FolderFault → MayFail (Rose (F.faults folders.old) (F.faults folders.new)) (F.tree folders.old) (λ t. is_folder_at t path.now ≡ false) }
+    ensures owed { (t : FolderTree) → F.tree folders.old ≡ Some t → is_folder_at t path.now ≡ true → F.strayed folders.new ≡ F.strayed folders.old }
     ensures not_deep { IsErrOf result ReadTree.TooDeep → ⊥ }
     ensures not_bad { IsErrOf result ReadTree.BadName → ⊥ }
     ensures same { F.tree folders.new ≡ F.tree folders.old }
@@ -171,6 +172,7 @@ fn read_file<F: Folders>(
     ensures walk { (t : FolderTree) (content : Bytes) → F.tree folders.old ≡ Some t → entry_at t (string_bytes place.text) ≡ Some (AFile content)
         → Walks (Ok (Edit.Put place.path (take 16777217 content)) ∷ []) gathered.old.edits.items gathered.old.read result gathered.new.edits.items gathered.new.read }
     ensures fault { IsErrOf result ReadTree.FolderFault → MayFail (Rose (F.faults folders.old) (F.faults folders.new)) (F.tree folders.old) (λ t. content_of (entry_at t (string_bytes place.text)) ≡ None) }
+    ensures owed { (t : FolderTree) (content : Bytes) → F.tree folders.old ≡ Some t → entry_at t (string_bytes place.text) ≡ Some (AFile content) → F.strayed folders.new ≡ F.strayed folders.old }
     ensures same { F.tree folders.new ≡ F.tree folders.old }
     ensures later { F.faults folders.old ≤ F.faults folders.new }
 {
@@ -192,6 +194,7 @@ fn walk_folder<F: Folders>(
     ensures fault { IsErrOf result ReadTree.FolderFault → MayFail (Rose (F.faults folders.old) (F.faults folders.new)) (F.tree folders.old) (λ t. is_folder_at t (string_bytes place.now.text) ≡ false) }
     ensures no_folder { (t : FolderTree) → F.tree folders.old ≡ Some t → is_folder_at t (string_bytes place.now.text) ≡ false
         → (result ≡ Err ReadTree.FolderFault) ⊎ (result ≡ Err ReadTree.NoMemory) }
+    ensures owed { (t : FolderTree) → F.tree folders.old ≡ Some t → is_folder_at t (string_bytes place.now.text) ≡ true → F.strayed folders.new ≡ F.strayed folders.old }
     ensures same { F.tree folders.new ≡ F.tree folders.old }
     ensures later { F.faults folders.old ≤ F.faults folders.new }
 {
@@ -215,6 +218,8 @@ fn walk_entry<F: Folders>(
         → Walks (met_one t (16 - length place.now.path) place.now.path (string_bytes place.now.text) (string_bytes entry.now.name, e)) gathered.old.edits.items gathered.old.read result gathered.new.edits.items gathered.new.read }
     ensures fault { IsErrOf result ReadTree.FolderFault → MayFail (Rose (F.faults folders.old) (F.faults folders.new)) (F.tree folders.old)
         (λ t. kind_at t (string_bytes place.now.text ++ 47 ∷ string_bytes entry.now.name) ≡ Some entry.now.kind → ⊥) }
+    ensures owed { (t : FolderTree) → F.tree folders.old ≡ Some t → kind_at t (string_bytes place.now.text ++ 47 ∷ string_bytes entry.now.name) ≡ Some entry.now.kind
+        → F.strayed folders.new ≡ F.strayed folders.old }
     ensures same { F.tree folders.new ≡ F.tree folders.old }
     ensures later { F.faults folders.old ≤ F.faults folders.new }
 {
@@ -245,7 +250,8 @@ fn walk_entry<F: Folders>(
 /// The walk refuses the first entry that it can't take, and then alone. It is `TooDeep` where sixteen names lead to its folder
 /// already, whether it is a file or a folder. Else it is a `BadName` where its name is none of a path: without a byte, of 255
 /// bytes or more, with a zero byte or a `/` in it. `FolderFault` comes only where the count of faults rose in this call, or stands at the greatest u64, or where the
-/// tree is told and `root` is no folder of it, and always in this last case. Out of memory aside, there is no other refusal.
+/// tree is known and `root` is no folder of it, and always in this last case. Where the tree is known and `root` is a folder of it, no
+/// folder and no file is asked for that isn't there. Out of memory aside, there is no other refusal.
 /// These rules are this project's own.
 pub fn read_tree<F: Folders>(
     alloc: Global,
@@ -259,6 +265,7 @@ pub fn read_tree<F: Folders>(
     ensures fault { IsErrOf result ReadTree.FolderFault → MayFail (Rose (F.faults folders.old) (F.faults folders.new)) (F.tree folders.old) (λ t. is_folder_at t root.now ≡ false) }
     ensures no_folder { (t : FolderTree) → F.tree folders.old ≡ Some t → is_folder_at t root.now ≡ false
         → (result ≡ Err ReadTree.FolderFault) ⊎ (result ≡ Err ReadTree.NoMemory) }
+    ensures owed { (t : FolderTree) → F.tree folders.old ≡ Some t → is_folder_at t root.now ≡ true → F.strayed folders.new ≡ F.strayed folders.old }
     ensures same { F.tree folders.new ≡ F.tree folders.old }
     ensures later { F.faults folders.old ≤ F.faults folders.new }
 {

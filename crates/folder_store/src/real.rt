@@ -1,4 +1,4 @@
-ghost use Rattle.std.specs.Prelude.{◌≡◌, ◌≤◌, ◌+◌, ◌-◌, ◌^◌, ◌<◌, [], length, take, min, None, IfOk, OnOk, IsErrOf};
+ghost use Rattle.std.specs.Prelude.{◌≡◌, ◌≤◌, ◌+◌, ◌-◌, ◌^◌, ◌<◌, [], length, take, min, None, false, IfOk, OnOk, IsErrOf};
 ghost use Rattle.oc_bytes.specs.Outcome.{Rose, Told};
 ghost use Rattle.oc_bytes.specs.Streams.{Takes};
 
@@ -16,7 +16,7 @@ const TRIES: u32 = 17;
 /// The most bytes that one read of a file asks for.
 const PIECE: usize = 65_536;
 
-/// Folders of the system as [`Folders`]. What stands there isn't told.
+/// Folders of the system as [`Folders`]. What stands there isn't known.
 ///
 /// Each error that the system answers raises the count of faults. A call that a signal interrupts is
 /// repeated at most 16 times. A path text is the system's, from the current folder on where it doesn't
@@ -71,6 +71,8 @@ impl<R: Files + Clone + Drop> Folders for OsFolders<R> {
     ghost tree = { λ _. None };
 
     ghost faults = { λ f. f.faults };
+
+    ghost strayed = { λ _. false };
 
     fn list(&mut self, alloc: Global, path: &str) -> Result<Vec<FolderEntry>, FolderFault> {
         for _ in 0..TRIES {

@@ -1,8 +1,9 @@
 -- The layouts of a list of trees are lawful.
-use Rattle.std.proofs.Common.{◌≡◌, ℕ, zero, suc, ◌+◌, ◌<◌, ◌≤◌, Bool, true, false, List, [], ◌∷◌, length, map, Some, cond, refl, sym, ◌∙◌, ap, subst, arith, get_or, length-append, nat_le, lit<}
+use Rattle.std.proofs.Common.{◌≡◌, ℕ, zero, suc, ◌+◌, ◌<◌, ◌≤◌, Bool, true, false, List, [], ◌∷◌, length, map, Some, cond, refl, sym, ◌∙◌, ap, subst, arith, get_or, length-append, nat_le, lit<, lit≤}
 use Rattle.std.specs.List.{All, list_any, range_with_len, filter, filter_map, flat_map, sum_by}
 use Rattle.std.proofs.lemmas.Bool.Decides.{nat_tests}
 use Rattle.std.proofs.lemmas.List.Elements.{All-cons}
+use Rattle.std.proofs.lemmas.Option.{same_Some}
 use Rattle.std.proofs.lemmas.List.Sums.{sum_by-cons}
 use Rattle.std.proofs.lemmas.List.FromFn.{length-range_with_len}
 use Rattle.oc_bytes.specs.Numbers.{IsBytes}
@@ -10,8 +11,8 @@ use Rattle.path_tree.specs.Paths.{Bytes}
 use Rattle.path_tree.specs.Trees.{Tree, IsTree}
 use Rattle.biop_object.specs.Names.{Layout, module_in}
 use Rattle.biop_object.specs.Spelled.{SpellingsReadBack}
-use Rattle.module_packer.specs.Placement.{fresh, FreshIsAPlacement}
-use Rattle.generation.specs.Publication.{sizes_of, gateway_spot}
+use Rattle.module_packer.specs.Kept.{KeptIsAPlacement}
+use Rattle.generation.specs.Publication.{gateway_spot}
 use Rattle.generation.specs.Layouts.{GenerationState, Placed, object_bytes, is_in, module_bytes, listed, layout_of, greatest, first_of, next_of, gateway_before}
 use Rattle.generation.specs.Lawful.{IsLayout, Carries, HasBytes, IsPublishable, layout_at, tree_at}
 use Rattle.generation.specs.Kept.{states_from, layouts_of, LayoutsAreLawful}
@@ -79,13 +80,13 @@ byte_spots c t objects made has =
     all_unmap IsByteSpot (λ o. o.spot) objects (subst (All IsByteSpot) (sym made.sound.spots) (tree_octets t names has.contents))
 
 filled_of : (c : ℕ) (t : Tree) (objects : List Placed) → Made c t objects → Filled t objects
-filled_of c t objects made = record { tree = made.sound.tree; within = made.within; spots = made.sound.spots; modules = made.modules; placement = made.placement }
+filled_of c t objects made = record { tree = made.sound.tree; within = made.within; spots = made.sound.spots; placement = made.placement }
 
 fine : (c : ℕ) (t : Tree) (objects : List Placed) → Made c t objects → HasBytes t → IsFine (layout_of c objects)
 fine c t objects made has =
     let sound = made.sound in
     let top = greatest (map (λ o. o.module_id) objects) in
-    let most : top ≤ 139 = rw made.modules (greatest_most (fresh (sizes_of t)) 139 made.placement.numbers) in
+    let most : top ≤ 139 = greatest_most (map (λ o. o.module_id) objects) 139 made.placement.numbers in
     let octets = byte_spots c t objects made has in
     let first : module_in (layout_of c objects) sound.gateway.module_id ≡ Some (module_bytes c objects sound.gateway.module_id) = module_found c objects sound.gateway sound.has_gateway (omega (arith, sound.is_gateway.2)) in
     let sum : sum_by (λ o. length (object_bytes c objects o)) objects ≤ 268435456 = rw (total_length c objects objects, sound.spots) made.within.total in
@@ -124,13 +125,21 @@ before_first = record {
   gateway = record { spot = gateway_spot; key = 1; module_id = 1 };
   rest = [];
   first = refl;
+  within = record {
+    ids = λ i d lt. in_one i d lt;
+    gateway = λ m e. sym (same_Some 1 m e);
+  };
   is = (refl, refl, refl);
 } where
   one : (i : ℕ) (d : Placed) → i < 1 → (get_or gateway_before i d).key < 8194
   one zero d lt = lit< tt
   one (suc i) d lt = absurd (omega (arith, lt))
 
-first_state : FreshIsAPlacement → (c : ℕ) → c < 4294967296 → State c (first_of c)
+  in_one : (i : ℕ) (d : Placed) → i < 1 → (1 ≤ (get_or gateway_before i d).module_id) × ((get_or gateway_before i d).module_id ≤ 139)
+  in_one zero d lt = (lit≤ tt, lit≤ tt)
+  in_one (suc i) d lt = absurd (omega (arith, lt))
+
+first_state : KeptIsAPlacement → (c : ℕ) → c < 4294967296 → State c (first_of c)
 first_state places c small = record {
   carousel = refl;
   layout = refl;
@@ -138,7 +147,7 @@ first_state places c small = record {
   bytes = record { names = λ i d lt. absurd (omega (arith, lt)); contents = λ i d lt. absurd (omega (arith, lt)) };
 }
 
-next_state : FreshIsAPlacement → (c : ℕ) → c < 4294967296 → (s : GenerationState) (t : Tree) → State c s → IsPublishable t → State c (next_of s t)
+next_state : KeptIsAPlacement → (c : ℕ) → c < 4294967296 → (s : GenerationState) (t : Tree) → State c s → IsPublishable t → State c (next_of s t)
 next_state places c small s t state publishable = record {
   carousel = state.carousel;
   layout = ap (λ k. layout_of k (next_of s t).objects) state.carousel;
@@ -146,13 +155,13 @@ next_state places c small s t state publishable = record {
   bytes = publishable.bytes;
 }
 
-each_state : FreshIsAPlacement → (c : ℕ) → c < 4294967296 → (P : Layout → Type 0) → ((s : GenerationState) → State c s → P s.layout)
+each_state : KeptIsAPlacement → (c : ℕ) → c < 4294967296 → (P : Layout → Type 0) → ((s : GenerationState) → State c s → P s.layout)
     → (s : GenerationState) → State c s → (ts : List Tree) → All IsPublishable ts → All P (map (λ x. x.layout) (states_from s ts))
 each_state places c small P h s state [] all = All-cons P s.layout [] (h s state) (λ i d lt. absurd (omega (arith, lt)))
 each_state places c small P h s state (t ∷ ts) all = All-cons P s.layout (map (λ x. x.layout) (states_from (next_of s t) ts)) (h s state)
     (each_state places c small P h (next_of s t) (next_state places c small s t state (all 0 t (omega arith))) ts (λ i d lt. all (suc i) d (omega (arith, lt))))
 
-state_of : FreshIsAPlacement → (c : ℕ) → c < 4294967296 → (s : GenerationState) → State c s → (ts : List Tree) → All IsPublishable ts → (g : ℕ) → State c (state_at s ts g)
+state_of : KeptIsAPlacement → (c : ℕ) → c < 4294967296 → (s : GenerationState) → State c s → (ts : List Tree) → All IsPublishable ts → (g : ℕ) → State c (state_at s ts g)
 unfolding state_at
 state_of places c small s state ts all zero = state
 state_of places c small s state [] all (suc g) = state
@@ -161,7 +170,7 @@ state_of places c small s state (t ∷ ts) all (suc g) = state_of places c small
 fine_state : (c : ℕ) (s : GenerationState) → State c s → IsFine s.layout
 fine_state c s state = subst IsFine (sym state.layout) (fine c s.tree s.objects state.made state.bytes)
 
-pub lawful : SpellingsReadBack → FreshIsAPlacement → LayoutsAreLawful
+pub lawful : SpellingsReadBack → KeptIsAPlacement → LayoutsAreLawful
 lawful spells places c trees publishable =
     let small = publishable.carousel_id in
     let first = first_state places c small in

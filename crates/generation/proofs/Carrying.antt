@@ -47,7 +47,7 @@ drop_front : (before rest : List ℕ) (n : ℕ) → drop (length before + n) (be
 drop_front [] rest n = ap (λ k. drop k rest) (omega arith)
 drop_front (x ∷ xs) rest n = let e : suc (length xs) + n ≡ suc (length xs + n) = omega arith in ap (λ k. drop k (x ∷ xs ++ rest)) e ∙ drop_front xs rest n
 
--- a file's content stands 44 bytes behind the front of its object
+-- a file's content stands 44 bytes after the front of its object
 file_content : (before rest : List ℕ) (k : ℕ) (b : Bytes) → take (length b) (drop (length before + 44) (before ++ (file_spelling (key_bytes k) b ++ rest))) ≡ b
 file_content before rest k b = ap (λ d. take (length b) d) (drop_front before (file_spelling (key_bytes k) b ++ rest) 44) ∙ take_front b rest
 

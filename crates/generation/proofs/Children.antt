@@ -18,7 +18,7 @@ kids p spots = filter_map (λ s. child_name p s.path) spots
 kids-append : (p : PathNames) (xs ys : List Spot) → kids p (xs ++ ys) ≡ kids p xs ++ kids p ys
 kids-append p xs ys = filter_map-append (λ s. child_name p s.path) xs ys
 
--- a front of a path lies right below a folder where it has one name more
+-- a prefix of a path lies right below a folder where it has one name more
 child_take : (p q : PathNames) (k : ℕ) → k ≤ length q → child_name p (take k q) ≡ cond (k == (length p + 1)) (next_name p q) None
 child_take [] [] zero le = refl
 child_take [] [] (suc k) le = absurd (omega (arith, le))
@@ -125,7 +125,7 @@ no_more p before (e ∷ es) later ordered none =
     let rest = no_more p e.0 es ordered.0 ordered.1 (λ k d lt. none (suc k) d (omega (arith, lt))) in
     (rw (here, rest.0) refl, gives_none p before e.0 e.1 (spots_after e.0 es) (shared_less before e.0 later.0) here ∙ rest.1)
 
--- behind a file that isn't below a folder, where one before it was
+-- after a file that isn't below a folder, where one before it was
 past : (p f b : PathNames) (m : Bytes) → next_name p f ≡ Some m → path_cmp f b ≡ Less → next_name p b ≡ None → (es : Tree) → Later b es → All (λ e. next_name p e.0 ≡ None) es
 past p f b m some less none [] later = λ k d lt. absurd (omega (arith, lt))
 past p f b m some less none (e ∷ es) later =

@@ -11,7 +11,7 @@ use Rattle.std.proofs.lemmas.List.Kept.{AllPairs-cons}
 use Rattle.std.proofs.lemmas.List.Sums.{sum_by-cons}
 use Rattle.path_tree.specs.Paths.{Bytes}
 use Rattle.path_tree.specs.Trees.{Tree, IsTree}
-use Rattle.module_packer.specs.Placement.{fresh, IsPlacement, sum_in}
+use Rattle.module_packer.specs.Placement.{IsPlacement, sum_in}
 use Rattle.ddb_block.specs.Blocks.{block_count_of}
 use Rattle.cycle_planner.specs.Cycle.{AreLines}
 use Rattle.generation.specs.declared.objects.Placed.{Placed as CodePlaced}
@@ -28,8 +28,7 @@ pub record Filled (t : Tree) (objects : List Placed) : Type 0 where
   pub tree : IsTree t
   pub within : Within t
   pub spots : map (λ o. o.spot) objects ≡ spots_of t
-  pub modules : map (λ o. o.module_id) objects ≡ fresh (sizes_of t)
-  pub placement : IsPlacement 139 (sizes_of t) (fresh (sizes_of t))
+  pub placement : IsPlacement 139 (sizes_of t) (map (λ o. o.module_id) objects)
 
 -- ---- ids
 
@@ -112,9 +111,7 @@ pub module_size : (c : ℕ) (t : Tree) (objects : List Placed) → Filled t obje
 module_size c t objects made m = elim (cases_lt 1 (count_by (λ k. k == m) (map (λ o. o.module_id) objects))) [
   | inl many ↦
       let sum : sum_in (zip (map (λ o. o.module_id) objects) (map (size_of (map (λ o. o.spot) objects)) (map (λ o. o.spot) objects))) m ≤ 65536 =
-      subst (λ ms. sum_in (zip ms (map (size_of (map (λ o. o.spot) objects)) (map (λ o. o.spot) objects))) m ≤ 65536) (sym made.modules)
-      (subst (λ s. sum_in (zip (fresh (sizes_of t)) (map (size_of s) s)) m ≤ 65536) (sym made.spots)
-      (made.placement.sums m (subst (λ ms. 1 < count_by (λ k. k == m) ms) made.modules many))) in
+      subst (λ s. sum_in (zip (map (λ o. o.module_id) objects) (map (size_of s) s)) m ≤ 65536) (sym made.spots) (made.placement.sums m many) in
       omega (arith, sum, piece_sum c objects objects m)
   | inr few ↦
       let one = piece_one (object_bytes c objects) m 16777260 objects (each_small c t objects made) few in
@@ -153,8 +150,8 @@ pub lines_of_filled : (c : ℕ) (t : Tree) (objects : List Placed) → Filled t 
 lines_of_filled c t objects made =
     let top = greatest (map (λ o. o.module_id) objects) in
     let layout = layout_of c objects in
-    let most : top ≤ 139 = rw made.modules (greatest_most (fresh (sizes_of t)) 139 made.placement.numbers) in
-    let first = first_in objects (rw made.modules made.placement.first) in
+    let most : top ≤ 139 = greatest_most (map (λ o. o.module_id) objects) 139 made.placement.numbers in
+    let first = first_in objects made.placement.first in
     let line : ℕ × Bytes → ℕ × ℕ = λ m. (m.0, block_count_of (length m.1) 4066) in
     let sizes = each_listed (λ m. length m.1 ≤ 16842752) c objects 1 top (λ m lt used. module_size c t objects made m) in
     let above = ids_from c objects 1 top in
@@ -166,21 +163,19 @@ lines_of_filled c t objects made =
       blocks = All-map (λ l. l.1 ≤ 65536) line layout (λ k d lt. few_blocks (length (get_or layout k d).1) (sizes k d lt));
     }
 
-pub lines_arm : {E : Type 0} (r : Result (Vec CodePlaced Global) E) (t : Tree) (old : List Placed) → IsTree t → limit_of t ≡ None → IsPlacement 139 (sizes_of t) (fresh (sizes_of t))
-    → IfOk r (λ v. map (view_placed t) v.items ≡ placed_all (spots_of t) (keys_of old (spots_of t)) (fresh (sizes_of t)))
+pub lines_arm : {E : Type 0} (r : Result (Vec CodePlaced Global) E) (t : Tree) (old : List Placed) (ms : List ℕ) → IsTree t → limit_of t ≡ None → IsPlacement 139 (sizes_of t) ms
+    → IfOk r (λ v. map (view_placed t) v.items ≡ placed_all (spots_of t) (keys_of old (spots_of t)) ms)
     → IfOk r (λ v. (c : ℕ) → AreLines (lines_in (layout_of c (map (view_placed t) v.items))))
-lines_arm (Ok v) t old tree limit placement is =
+lines_arm (Ok v) t old ms tree limit placement is =
     let spots = spots_of t in
     let keys = keys_of old spots in
-    let ms = fresh (sizes_of t) in
     let nk = length-keys_of old spots in
     let nm : length ms ≡ length spots = placement.each ∙ len_map (size_of spots) spots in
     let made : Filled t (placed_all spots keys ms) = record {
       tree = tree;
       within = within_limits t limit;
       spots = placed_spots spots keys ms nk nm;
-      modules = placed_modules spots keys ms nk nm;
-      placement = placement;
+      placement = subst (IsPlacement 139 (sizes_of t)) (sym (placed_modules spots keys ms nk nm)) placement;
     } in
     λ c. subst (λ os. AreLines (lines_in (layout_of c os))) (sym is) (lines_of_filled c t (placed_all spots keys ms) made)
-lines_arm (Err e) t old tree limit placement is = is
+lines_arm (Err e) t old ms tree limit placement is = is

@@ -14,6 +14,7 @@ pub mod Keyed
 pub mod Carrying
 pub mod Walking
 pub mod Inside
+pub mod Staying
 pub mod Soundness
 pub mod Filling
 pub mod Octets

@@ -5,17 +5,16 @@ use Rattle.std.specs.Option.{is_none}
 use Rattle.std.proofs.lemmas.List.Elements.{All-map, All-append, All-filter}
 use Rattle.path_tree.specs.Trees.{Tree}
 use Rattle.biop_object.specs.Names.{Layout, module_in}
-use Rattle.module_packer.specs.Placement.{fresh}
-use Rattle.generation.specs.Publication.{spots_of, sizes_of}
-use Rattle.generation.specs.Layouts.{GenerationState, Placed, placed_all, keys_of, layout_of, counts_after, count_after, count_in, same_module, first_of, next_of, generation_of}
+use Rattle.generation.specs.Publication.{spots_of}
+use Rattle.generation.specs.Layouts.{GenerationState, Placed, modules_for, placed_all, keys_of, layout_of, counts_after, count_after, count_in, same_module, first_of, next_of, generation_of}
 use Rattle.generation.specs.Kept.{StandsFor}
 use Rattle.generation.proofs.Writing.{small_count}
 
 pub next_is : (s : GenerationState) (t : Tree) (objects : List Placed) (layout : Layout) (counts : List (ℕ × ℕ))
-    → objects ≡ placed_all (spots_of t) (keys_of s.objects (spots_of t)) (fresh (sizes_of t)) → layout ≡ layout_of s.carousel objects → counts ≡ counts_after s.layout layout s.counts
+    → objects ≡ placed_all (spots_of t) (keys_of s.objects (spots_of t)) (modules_for s.objects t) → layout ≡ layout_of s.carousel objects → counts ≡ counts_after s.layout layout s.counts
     → record { carousel = s.carousel; number = s.number + 1; tree = t; objects = objects; layout = layout; counts = counts } ≡ next_of s t
 next_is s t objects layout counts eo el ec =
-    let all = placed_all (spots_of t) (keys_of s.objects (spots_of t)) (fresh (sizes_of t)) in
+    let all = placed_all (spots_of t) (keys_of s.objects (spots_of t)) (modules_for s.objects t) in
     let placed : layout ≡ layout_of s.carousel all = el ∙ ap (layout_of s.carousel) eo in
     let counted : counts ≡ counts_after s.layout (layout_of s.carousel all) s.counts = ec ∙ ap (λ l. counts_after s.layout l s.counts) placed in
     ap (λ o. let x : GenerationState = record { carousel = s.carousel; number = s.number + 1; tree = t; objects = o; layout = layout; counts = counts } in x) eo

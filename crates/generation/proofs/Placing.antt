@@ -14,7 +14,7 @@ use Rattle.biop_object.specs.declared.written.FolderKind.{FolderKind}
 use Rattle.biop_object.specs.declared.written.FolderKind.TheVariants.{Directory, Gateway}
 use Rattle.std.proofs.lemmas.List.FromFn.{length-range_with_len}
 use Rattle.oc_bytes.specs.Outcome.{capped, capped32}
-use Rattle.module_packer.specs.Placement.{fresh, needed}
+use Rattle.module_packer.specs.Placement.{needed, IsPlacement}
 use Rattle.generation.specs.declared.spots.Spot.{Spot as CodeSpot}
 use Rattle.generation.specs.declared.objects.Placed.{Placed as CodePlaced}
 use Rattle.generation.specs.Publication.{Spot, size_of, spots_of, sizes_of, binding_size, binding_rest, child_name, is_large_folder, large_folder, limit_of, or_else, over, Passed, Objects, Total, Modules}
@@ -281,12 +281,12 @@ pub ids_same : {A : Type 0} (f : ℕ → Option (ℕ × Bytes)) (v : A → ℕ �
 ids_same f v k xs le so_far is = sym (ids_before f k le ∙ rw (← is, ← so_far) (append-nil (map v xs)))
 
 pub are_ready : (c : ℕ) (t : Tree) (objects : List CodePlaced) → IsTree t → limit_of t ≡ None → All (λ o. IsSpotIn t o.spot) objects
-    → map (λ o. o.spot) (map (view_placed t) objects) ≡ spots_of t → map (λ o. o.module_id) (map (view_placed t) objects) ≡ fresh (sizes_of t)
-    → All (λ m. (1 ≤ m) × (m ≤ 139)) (fresh (sizes_of t)) → AreReady c t objects
-are_ready c t objects tree limit valid spots modules numbers =
+    → map (λ o. o.spot) (map (view_placed t) objects) ≡ spots_of t
+    → All (λ m. (1 ≤ m) × (m ≤ 139)) (map (λ o. o.module_id) (map (view_placed t) objects)) → AreReady c t objects
+are_ready c t objects tree limit valid spots numbers =
     let w = within_limits t limit in
     let objs = map (view_placed t) objects in
-    let most : greatest (map (λ o. o.module_id) objs) ≤ 139 = rw modules (greatest_most (fresh (sizes_of t)) 139 numbers) in
+    let most : greatest (map (λ o. o.module_id) objs) ≤ 139 = greatest_most (map (λ o. o.module_id) objs) 139 numbers in
     let total : sum_by (λ o. length (object_bytes c objs o)) objs ≤ 268435456 = rw (total_length c objs objs, spots) w.total in
     let folders : All (λ s. is_large_folder (spots_of t) s ≡ false) (spots_of t) = find_none (is_large_folder (spots_of t)) (spots_of t) w.folders in
     record {
@@ -303,28 +303,27 @@ are_ready c t objects tree limit valid spots modules numbers =
       sizes = listed_small c objs 268435456 total (range_with_len 1 (greatest (map (λ o. o.module_id) objs)));
     }
 
-pub objects_arm : {E : Type 0} (r : Result (Vec CodePlaced Global) E) (t : Tree) (old : List Placed) (spots : List CodeSpot) (keys ms : List ℕ)
-    → map (view_spot t) spots ≡ spots_of t → keys ≡ keys_of old (spots_of t) → ms ≡ fresh (sizes_of t)
+pub objects_arm : {E : Type 0} (r : Result (Vec CodePlaced Global) E) (t : Tree) (old : List Placed) (modules : List ℕ) (spots : List CodeSpot) (keys ms : List ℕ)
+    → map (view_spot t) spots ≡ spots_of t → keys ≡ keys_of old (spots_of t) → ms ≡ modules
     → IfOk r (λ v. v.items ≡ placed_from spots keys ms)
-    → IfOk r (λ v. map (view_placed t) v.items ≡ placed_all (spots_of t) (keys_of old (spots_of t)) (fresh (sizes_of t)))
-objects_arm (Ok v) t old spots keys ms es ek em is = ap (λ os. map (view_placed t) os) is ∙ (placed_view t spots keys ms ∙ (ap (λ s. placed_all s keys ms) es ∙ (ap (λ k. placed_all (spots_of t) k ms) ek ∙ ap (λ m. placed_all (spots_of t) (keys_of old (spots_of t)) m) em)))
-objects_arm (Err e) t old spots keys ms es ek em is = is
+    → IfOk r (λ v. map (view_placed t) v.items ≡ placed_all (spots_of t) (keys_of old (spots_of t)) modules)
+objects_arm (Ok v) t old modules spots keys ms es ek em is = ap (λ os. map (view_placed t) os) is ∙ (placed_view t spots keys ms ∙ (ap (λ s. placed_all s keys ms) es ∙ (ap (λ k. placed_all (spots_of t) k ms) ek ∙ ap (λ m. placed_all (spots_of t) (keys_of old (spots_of t)) m) em)))
+objects_arm (Err e) t old modules spots keys ms es ek em is = is
 
-pub ready_arm : {E : Type 0} (r : Result (Vec CodePlaced Global) E) (t : Tree) (old : List Placed) (spots : List CodeSpot) (keys ms : List ℕ)
-    → IsTree t → limit_of t ≡ None → All (IsSpotIn t) spots → All (λ m. (1 ≤ m) × (m ≤ 139)) ms → length ms ≡ length (spots_of t)
-    → map (view_spot t) spots ≡ spots_of t → keys ≡ keys_of old (spots_of t) → ms ≡ fresh (sizes_of t)
+pub ready_arm : {E : Type 0} (r : Result (Vec CodePlaced Global) E) (t : Tree) (old : List Placed) (modules : List ℕ) (spots : List CodeSpot) (keys ms : List ℕ)
+    → IsTree t → limit_of t ≡ None → All (IsSpotIn t) spots → IsPlacement 139 (sizes_of t) modules
+    → map (view_spot t) spots ≡ spots_of t → keys ≡ keys_of old (spots_of t) → ms ≡ modules
     → IfOk r (λ v. v.items ≡ placed_from spots keys ms)
     → IfOk r (λ v. (c : ℕ) → AreReady c t v.items)
-ready_arm (Ok v) t old spots keys ms tree limit valid numbers each es ek em is =
-    let made : map (view_placed t) v.items ≡ placed_all (spots_of t) (keys_of old (spots_of t)) (fresh (sizes_of t)) =
+ready_arm (Ok v) t old modules spots keys ms tree limit valid placement es ek em is =
+    let made : map (view_placed t) v.items ≡ placed_all (spots_of t) (keys_of old (spots_of t)) modules =
     ap (λ os. map (view_placed t) os) is ∙ (placed_view t spots keys ms ∙ (ap (λ s. placed_all s keys ms) es ∙ (ap (λ k. placed_all (spots_of t) k ms) ek ∙ ap (λ m. placed_all (spots_of t) (keys_of old (spots_of t)) m) em))) in
     let nk = length-keys_of old (spots_of t) in
-    let nm : length (fresh (sizes_of t)) ≡ length (spots_of t) = ap length (sym em) ∙ each in
+    let nm : length modules ≡ length (spots_of t) = placement.each ∙ len_map (size_of (spots_of t)) (spots_of t) in
     λ c. are_ready c t v.items tree limit (rw is (placed_valid t spots keys ms valid))
-    (rw made (placed_spots (spots_of t) (keys_of old (spots_of t)) (fresh (sizes_of t)) nk nm))
-    (rw made (placed_modules (spots_of t) (keys_of old (spots_of t)) (fresh (sizes_of t)) nk nm))
-    (subst (λ l. All (λ m. (1 ≤ m) × (m ≤ 139)) l) em numbers)
-ready_arm (Err e) t old spots keys ms tree limit valid numbers each es ek em is = is
+    (ap (map (λ o. o.spot)) made ∙ placed_spots (spots_of t) (keys_of old (spots_of t)) modules nk nm)
+    (subst (All (λ m. (1 ≤ m) × (m ≤ 139))) (sym (ap (map (λ o. o.module_id)) made ∙ placed_modules (spots_of t) (keys_of old (spots_of t)) modules nk nm)) placement.numbers)
+ready_arm (Err e) t old modules spots keys ms tree limit valid placement es ek em is = is
 
 pub listed_some : (c : ℕ) (objects : List Placed) (id : ℕ) (b : Bytes) → list_any (is_in id) objects ≡ true → b ≡ module_bytes c objects id → Some (id, b) ≡ listed c objects id
 listed_some c objects id b used is = rw (used, is) refl

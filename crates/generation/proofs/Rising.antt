@@ -71,7 +71,7 @@ front_below [] k lt = absurd (omega (arith, lt))
 front_below (n ∷ ns) zero lt = refl
 front_below (n ∷ ns) (suc k) lt = rw (same_self n) (front_below ns k (omega (arith, lt)))
 
--- a front of a file's path stands before the folders and the file that come after it
+-- a prefix of a file's path stands before the folders and the file that come after it
 rises : (b q : PathNames) (k j : ℕ) → path_cmp b q ≡ Less → is_below b q ≡ false → k ≤ length b → shared_folders b q < j → j ≤ length q → path_cmp (take k b) (take j q) ≡ Less
 rises b q k zero less apart lk lt lj = absurd (omega (arith, lt))
 rises b [] k (suc j) less apart lk lt lj = absurd (omega (arith, lj))
@@ -91,7 +91,7 @@ rises (m ∷ ms) (n ∷ ns) (suc k) (suc j) less apart lk lt lj = elim (then_les
   later [] (x ∷ xs) apart less shared same step = cc
   later (m' ∷ ms') ns apart less shared same step = let s = rw same at (shared m' ms' refl) in step less apart 0 (omega (arith, s))
 
--- ---- each object stands before those behind it
+-- ---- each object stands before those after it
 
 abbrev pub Rising : List Spot → Type 0
 Rising [] = Unit {0}
@@ -102,7 +102,7 @@ folders_rise q p a zero le less = λ k d lt. absurd (omega (arith, lt))
 folders_rise q p a (suc n) le less = All-cons (λ r. path_cmp p r.path ≡ Less) (folder_of q a) (map (folder_of q) (range_with_len (a + 1) n)) (less a (omega arith) (omega (arith, le)))
     (folders_rise q p (a + 1) n (omega (arith, le)) (λ k l. less k (omega (arith, l))))
 
--- what comes after a file stands behind each front of its path
+-- what comes after a file stands after each prefix of its path
 behind : (before : PathNames) (es : Tree) → Later before es → Ordered es → (k : ℕ) → k ≤ length before → All (λ r. path_cmp (take k before) r.path ≡ Less) (spots_after before es)
 behind before [] later ordered k le = λ i d lt. absurd (omega (arith, lt))
 behind before (e ∷ es) later ordered k le =

@@ -8,10 +8,13 @@ use Rattle.path_tree.specs.Paths.{Bytes, PathNames, same_name, IsName}
 use Rattle.path_tree.specs.Trees.{Tree, IsTree}
 use Rattle.biop_object.specs.Objects.{folder_spelling}
 use Rattle.biop_object.specs.Spelled.{IsSpellable, IsSpellableEntry}
-use Rattle.module_packer.specs.Placement.{fresh, IsPlacement, FreshIsAPlacement}
+use Rattle.module_packer.specs.Placement.{IsPlacement}
+use Rattle.module_packer.specs.Kept.{KeptIsAPlacement}
 use Rattle.generation.specs.Publication.{Spot, gateway_spot, spots_of, spots_after, sizes_of, size_of, child_name, folders_after, shared_folders, limit_of, is_large_folder}
-use Rattle.generation.specs.Layouts.{Placed, placed_all, placed_at, key_in, old_keys, taken_in, free_keys, filled, keys_of, key_bytes, entries_of, folder_kind_of, object_bytes, is_same_spot}
+use Rattle.generation.specs.Layouts.{Placed, modules_for, placed_all, placed_at, key_in, old_keys, taken_in, free_keys, filled, keys_of, key_bytes, entries_of, folder_kind_of, object_bytes, is_same_spot}
+use Rattle.generation.specs.View.{AreOld}
 use Rattle.generation.proofs.Limiting.{len_map}
+use Rattle.generation.proofs.Staying.{placement_for, old_after}
 use Rattle.generation.proofs.Placing.{Within, within_limits, length-keys_of, placed_spots, placed_modules, placed_keys, length-object_bytes, all_unmap, folder_small, find_none}
 use Rattle.generation.proofs.Rising.{rising_all, each_folder}
 use Rattle.generation.proofs.Keyed.{Distinct, keys_distinct, keys_small}
@@ -105,6 +108,7 @@ pub record Before (old : List Placed) : Type 0 where
   pub gateway : Placed
   pub rest : List Placed
   pub first : old ≡ gateway ∷ rest
+  pub within : AreOld old
   pub is : (gateway.spot ≡ gateway_spot) × (gateway.key ≡ 1) × (gateway.module_id ≡ 1)
 
 gateway_key : (old : List Placed) → Before old → (spots : List Spot) (free : List ℕ) → (ks : List ℕ) × (filled (old_keys old (gateway_spot ∷ spots)) free ≡ 1 ∷ ks)
@@ -121,20 +125,19 @@ first_one (m ∷ ms) e = (ms, ap (λ k. k ∷ ms) (same_Some m 1 e))
 pub record Made (c : ℕ) (t : Tree) (objects : List Placed) : Type 0 where
   pub sound : Sound c t objects
   pub before : Before objects
-  pub modules : map (λ o. o.module_id) objects ≡ fresh (sizes_of t)
-  pub placement : IsPlacement 139 (sizes_of t) (fresh (sizes_of t))
+  pub placement : IsPlacement 139 (sizes_of t) (map (λ o. o.module_id) objects)
   pub within : Within t
 
-pub made_of : FreshIsAPlacement → (c : ℕ) (t : Tree) (old : List Placed) → c < 4294967296 → IsTree t → limit_of t ≡ None → Before old
-    → Made c t (placed_all (spots_of t) (keys_of old (spots_of t)) (fresh (sizes_of t)))
+pub made_of : KeptIsAPlacement → (c : ℕ) (t : Tree) (old : List Placed) → c < 4294967296 → IsTree t → limit_of t ≡ None → Before old
+    → Made c t (placed_all (spots_of t) (keys_of old (spots_of t)) (modules_for old t))
 made_of law c t old small tree limit b =
     let within = within_limits t limit in
     let spots = spots_of t in
     let keys = keys_of old spots in
-    let ms = fresh (sizes_of t) in
+    let ms : List ℕ = modules_for old t in
     let objects = placed_all spots keys ms in
     let nsizes : length (sizes_of t) ≡ length spots = len_map (size_of spots) spots in
-    let placement = law 139 (sizes_of t) (omega (arith, nsizes)) within.modules in
+    let placement : IsPlacement 139 (sizes_of t) ms = placement_for law old t b.within within.modules in
     let nk = length-keys_of old spots in
     let nm : length ms ≡ length spots = placement.each ∙ nsizes in
     let es = placed_spots spots keys ms nk nm in
@@ -164,8 +167,7 @@ made_of law c t old small tree limit b =
         has_gateway = subst (In g) (sym first) (inl refl);
         is_gateway = (refl, refl, refl);
       };
-      before = record { keys = dk; small = sk; gateway = g; rest = rest; first = first; is = (refl, refl, refl) };
-      modules = em;
-      placement = placement;
+      before = record { keys = dk; small = sk; gateway = g; rest = rest; first = first; within = old_after t keys ms placement; is = (refl, refl, refl) };
+      placement = subst (IsPlacement 139 (sizes_of t)) (sym em) placement;
       within = within;
     }

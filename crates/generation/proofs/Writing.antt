@@ -16,18 +16,17 @@ use Rattle.dsmcc_section.specs.Sections as sections
 use Rattle.dsmcc_section.specs.declared.Table.TheVariants as tables
 use Rattle.generation.specs.declared.made.Listed.{Listed}
 use Rattle.generation.specs.Publication.{Spot as SpotFields}
-use Rattle.generation.specs.Layouts.{Placed, old_keys, taken_in, free_keys, filled, keys_of, count_in, dii_lines, gateway_location, control_section, block_section, GenerationState, section_of}
+use Rattle.generation.specs.Layouts.{Placed, key_in, placed_at, old_keys, taken_in, free_keys, filled, keys_of, count_in, dii_lines, gateway_location, control_section, block_section, GenerationState, section_of}
 use Rattle.biop_object.specs.Names.{module_in}
 use Rattle.std.specs.Option.{unwrap_or}
 use Rattle.cycle_planner.specs.declared.Item.{Item}
 use Rattle.generation.specs.View.{view_listed}
 use Rattle.generation.proofs.Limiting.{len_map}
 
-pub keys_are : (old : List Placed) (spots : List SpotFields) (k : List (Option ℕ)) (t f : List ℕ) (n : ℕ)
-    → k ≡ old_keys old spots → t ≡ taken_in k → f ≡ free_keys t n → n ≡ length spots → filled k f ≡ keys_of old spots
-keys_are old spots k t f n ek et ef en =
-    ap (λ g. filled k g) (ef ∙ (ap (λ s. free_keys s n) et ∙ ap (λ m. free_keys (taken_in k) m) en))
-    ∙ ap (λ j. filled j (free_keys (taken_in j) (length spots))) ek
+pub keys_are : (old : List Placed) (spots : List SpotFields) (keys : List (Option ℕ)) → keys ≡ old_keys old spots → filled keys (free_keys (taken_in keys) (length keys)) ≡ keys_of old spots
+keys_are old spots keys e =
+    ap (λ k. filled k (free_keys (taken_in k) (length k))) e
+    ∙ ap (λ n. filled (old_keys old spots) (free_keys (taken_in (old_keys old spots)) n)) (len_map (λ s. key_in (placed_at old s)) spots)
 
 -- ---- bindings
 
@@ -151,7 +150,7 @@ block_arm r c id block n n' bytes bytes' en eb is =
     subst (λ k. IfOk r (λ v. v.items ≡ sections.spelling (block_section c id (k % 256) block bytes))) en
     (subst (λ b. IfOk r (λ v. v.items ≡ sections.spelling (block_section c id (n' % 256) block b))) eb is)
 
--- what is sent of listed modules, where they stand behind a reference
+-- what is sent of listed modules, where they stand after a reference
 abbrev pub DiiSection : {E : Type 0} → Result (Vec ℕ Global) E → (carousel number : ℕ) → List (ℕ × ℕ) → List Listed → Type 0
 DiiSection r c g counts modules = IfOk r (λ v. v.items ≡ sections.spelling (control_section (dii_transaction g % 65536)
     (dii_spelling (record { download = c; block_size = 4066; transaction = dii_transaction g; modules = dii_lines counts (map view_listed modules) }))))

@@ -1,7 +1,7 @@
 -- How a tree becomes modules, one generation after another.
 use Rattle.std.specs.Prelude.{ℕ, ◌+◌, ◌-◌, ◌%◌, Bool, true, false, not, ◌&&◌, List, [], ◌∷◌, ◌++◌, length, map, Option, Some, None, is_none, ◌==◌, min, max, if◌then◌else◌}
 use Rattle.std.specs.Option.{unwrap_or}
-use Rattle.std.specs.List.{flat_map, filter, filter_map, find, fold, list_any, range_with_len}
+use Rattle.std.specs.List.{flat_map, filter, filter_map, find, fold, list_any, range_with_len, zip}
 use Rattle.oc_bytes.specs.Numbers.{four_bytes}
 use Rattle.path_tree.specs.Paths.{Bytes, PathNames, same_path, same_name}
 use Rattle.path_tree.specs.Trees.{Tree}
@@ -18,11 +18,11 @@ use Rattle.dsi_dii.specs.Controls as controls
 use Rattle.dsi_dii.specs.declared.ModuleLine.{ModuleLine}
 use Rattle.dsmcc_section.specs.Sections as sections
 use Rattle.dsmcc_section.specs.declared.Table.TheVariants as tables
-use Rattle.module_packer.specs.Placement.{fresh}
+use Rattle.module_packer.specs.Kept.{kept}
 use Rattle.cycle_planner.specs.Cycle.{Line}
 use Rattle.cycle_planner.specs.declared.Item.{Item}
 use Rattle.cycle_planner.specs.declared.Item.TheVariants.{Dsi, Dii, Block}
-use Rattle.generation.specs.Publication.{Spot, gateway_spot, spots_of, sizes_of, child_name}
+use Rattle.generation.specs.Publication.{Spot, gateway_spot, spots_of, sizes_of, child_name, most_modules}
 
 -- an object with its key and its module
 pub record Placed : Type 0 where
@@ -150,9 +150,13 @@ count_after old counts m = (m.0, if same_module (module_in old m.0) (Some m.1) t
 abbrev pub counts_after : Layout → Layout → List (ℕ × ℕ) → List (ℕ × ℕ)
 counts_after old new counts = map (count_after old counts) new ++ filter (λ c. is_none (module_in new c.0)) counts
 
--- the module of each object, by the placement rule, which is always the fresh one
+-- the modules of the objects that were there before under the same path and kind
+abbrev pub old_modules : List Placed → List Spot → List (Option ℕ)
+old_modules old spots = map (λ s. module_of (placed_at old s)) spots
+
+-- the module of each object: the one where it was, as far as there is room
 abbrev pub modules_for : List Placed → Tree → List ℕ
-modules_for old t = fresh (sizes_of t)
+modules_for old t = kept most_modules (zip (sizes_of t) (old_modules old (spots_of t)))
 
 abbrev pub made : ℕ → ℕ → Tree → List Placed → Layout → List (ℕ × ℕ) → GenerationState
 made carousel number t old before counts =

@@ -7,8 +7,8 @@ use Rattle.path_tree.specs.Trees.{Tree, IsTree}
 use Rattle.biop_object.specs.declared.written.FolderKind.{FolderKind}
 use Rattle.biop_object.specs.declared.written.FolderKind.TheVariants.{Directory, Gateway}
 use Rattle.cycle_planner.specs.Cycle.{AreLines}
-use Rattle.generation.specs.Publication.{Spot as SpotFields, spots_of}
-use Rattle.generation.specs.Layouts.{GenerationState, Placed as PlacedState, lines_of, object_bytes, layout_of, greatest}
+use Rattle.generation.specs.Publication.{Spot as SpotFields, spots_of, gateway_spot, most_modules}
+use Rattle.generation.specs.Layouts.{GenerationState, Placed as PlacedState, lines_of, object_bytes, layout_of, greatest, placed_at, module_of}
 use Rattle.generation.specs.declared.spots.Spot.{Spot}
 use Rattle.generation.specs.declared.objects.Placed.{Placed}
 use Rattle.generation.specs.declared.made.Listed.{Listed}
@@ -60,6 +60,11 @@ view_generation g = record {
   counts = g.counts.items;
 }
 
+-- objects after which others can be placed: each has a module within the limit, and the gateway has module 1
+pub record AreOld (old : List PlacedState) : Type 0 where
+  pub ids : All (λ o. (1 ≤ o.module_id) × (o.module_id ≤ most_modules)) old
+  pub gateway : (m : ℕ) → module_of (placed_at old gateway_spot) ≡ Some m → m ≡ 1
+
 -- what holds of what is kept: the lines are those of the layout and make a cycle, and numbers have room in their fields
 pub record IsMade (g : Inside) : Type 0 where
   pub lines : g.lines.items ≡ lines_of (view_generation g)
@@ -69,6 +74,7 @@ pub record IsMade (g : Inside) : Type 0 where
   pub modules : length g.modules.items ≤ 139
   pub sizes : All (λ m. length m.1 ≤ 268435456) (map view_listed g.modules.items)
   pub spots : All (λ o. IsSpotIn g.tree o.spot) g.objects.items
+  pub old : AreOld (view_generation g).objects
 
 -- objects that have bytes: each lies in the tree, no folder is too large, and the modules have room in their fields
 pub record AreReady (carousel : ℕ) (t : Tree) (objects : List Placed) : Type 0 where

@@ -123,7 +123,7 @@ fn control(alloc: Global, extension: u16, payload: Vec<u8>) -> Result<Vec<u8>, N
     section(alloc, &header, &[], &payload)
 }
 
-/// The section whose payload is both parts, one behind the other.
+/// The section whose payload is both parts, one after the other.
 fn section(alloc: Global, header: &Header, front: &[u8], rest: &[u8]) -> Result<Vec<u8>, NoMemory>
     requires version { header.now.version < 32 }
     requires room { length front.now + length rest.now ≤ 4084 }

@@ -1,33 +1,19 @@
 //! Which key each object has: its own key of the generation before, or the least number that is free.
-ghost use Rattle.std.specs.Prelude.{◌≡◌, ◌≤◌, ◌<◌, ◌+◌, ◌^◌, List, ℕ, Option, length, map, IfOk, OnOk};
-ghost use Rattle.std.specs.List.{All};
-ghost use Rattle.std.specs.Option.{option_map};
-ghost use Rattle.generation.specs.Layouts.{placed_at, key_in, old_keys, taken_in, free_keys, filled, keys_of, is_same_spot};
-ghost use Rattle.generation.specs.View.{view_spot, view_placed, IsSpotIn};
 
-use crate::objects::Placed;
-use crate::spots::{Spot, is_same_object};
+ghost use Rattle.std.specs.Prelude.{◌≡◌, ◌≤◌, ◌<◌, ◌+◌, ◌^◌, List, ℕ, Option, length, map, IfOk, OnOk};
+ghost use Rattle.generation.specs.Layouts.{taken_in, free_keys, filled};
+
 use oc_bytes::NoMemory;
-use path_tree::Tree;
 use std::alloc::Global;
 
-/// The key of each of a tree's objects, in their order, after the objects of another tree.
-pub(crate) fn keys(
-    alloc: Global,
-    old: &[Placed],
-    old_tree: &Tree,
-    spots: &[Spot],
-    tree: &Tree,
-) -> Result<Vec<u32>, NoMemory>
-    requires few { length spots.now ≤ 8192 }
-    requires old { All (λ o. IsSpotIn old_tree.now o.spot) old.now }
-    requires spots { All (IsSpotIn tree.now) spots.now }
-    ensures { IfOk result (λ v. v.items ≡ keys_of (map (view_placed old_tree.now) old.now) (map (view_spot tree.now) spots.now)) }
+/// The key of each object: its own where it had one, and else the least that is free.
+pub(crate) fn keys(alloc: Global, former: &[Option<u32>]) -> Result<Vec<u32>, NoMemory>
+    requires { length former.now ≤ 8192 }
+    ensures { IfOk result (λ v. v.items ≡ filled former.now (free_keys (taken_in former.now) (length former.now))) }
 {
-    let kept = kept_keys(alloc, old, old_tree, spots, tree)?;
-    let taken = taken(alloc, &kept)?;
-    let free = free(alloc, &taken, spots.len() as u32)?;
-    fill(alloc, &kept, &free)
+    let taken = taken(alloc, former)?;
+    let free = free(alloc, &taken, former.len() as u32)?;
+    fill(alloc, former, &free)
 }
 
 /// The keys among these that are there.
@@ -35,38 +21,6 @@ fn taken(alloc: Global, kept: &[Option<u32>]) -> Result<Vec<u32>, NoMemory>
     ensures { IfOk result (λ v. v.items ≡ taken_in kept.now) }
 {
     kept.iter().filter_map(|key| *key).collect(alloc)
-}
-
-/// The keys that objects had before, where an object of the same path and kind was there.
-fn kept_keys(
-    alloc: Global,
-    old: &[Placed],
-    old_tree: &Tree,
-    spots: &[Spot],
-    tree: &Tree,
-) -> Result<Vec<Option<u32>>, NoMemory>
-    requires old { All (λ o. IsSpotIn old_tree.now o.spot) old.now }
-    requires spots { All (IsSpotIn tree.now) spots.now }
-    ensures { IfOk result (λ v. v.items ≡ old_keys (map (view_placed old_tree.now) old.now) (map (view_spot tree.now) spots.now)) }
-{
-    let mut keys = Vec::new(alloc);
-    for spot in spots {
-        keys.push(kept_key(old, old_tree, *spot, tree))?;
-    }
-    Ok(keys)
-}
-
-fn kept_key(old: &[Placed], old_tree: &Tree, spot: Spot, tree: &Tree) -> Option<u32>
-    requires old { All (λ o. IsSpotIn old_tree.now o.spot) old.now }
-    requires spot { IsSpotIn tree.now spot }
-    ensures { result ≡ key_in (placed_at (map (view_placed old_tree.now) old.now) (view_spot tree.now spot)) }
-{
-    for object in old {
-        if is_same_object(old_tree, object.spot, tree, spot) {
-            return Some(object.key);
-        }
-    }
-    None
 }
 
 /// The numbers from 2 on that aren't taken, among so many.

@@ -7,12 +7,12 @@ ghost use Rattle.generation.specs.Lawful.{EqualVersionsMeanEqualBytes};
 /// The layouts of a list of trees that can be published are lawful for these trees, generation 0 having the empty tree:
 /// in each of them every path names, from the gateway on, just what stands there in the tree, each module reads to its
 /// end, every binding leads into a listed module, and the limits of this project hold. It stands on two laws of the
-/// crates below: spellings are read back as their objects, and a fresh placement within the limit is a placement.
+/// crates below: spellings are read back as their objects, and a placement that leaves objects where they were is a placement.
 pub fn layouts_are_lawful()
     ensures { LayoutsAreLawful }
 {
     biop_object::spellings_read_back();
-    module_packer::fresh_is_a_placement();
+    module_packer::kept_is_a_placement();
 }
 
 /// A generation has the number, the tree, the layout, the counts and the sections that the lists of trees and layouts give.

@@ -2,6 +2,7 @@
 #![tactic(auto)]
 
 mod control;
+mod former;
 mod keys;
 mod laws;
 mod limit;

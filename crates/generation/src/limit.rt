@@ -24,7 +24,7 @@ pub enum Limit {
     TooManyBytes(u64),
     /// More than 139 modules: how many the fresh placement takes.
     TooManyModules(usize),
-    /// Want of memory.
+    /// Out of memory.
     NoMemory,
 }
 
@@ -82,7 +82,7 @@ fn is_large(spot: Spot, size: u32) -> bool
     !spot.whole && size > 1_048_576
 }
 
-/// The path of an object. That of the gateway is the front of any file's path.
+/// The path of an object. That of the gateway is a prefix of any file's path.
 fn front_of(tree: &Tree, spot: Spot) -> Result<Path, NoMemory>
     requires some { 0 < length tree.now }
     requires valid { IsSpotIn tree.now spot }

@@ -6,13 +6,13 @@ ghost use Rattle.path_tree.specs.Trees.{Tree};
 ghost use Rattle.biop_object.specs.Names.{Layout, module_in};
 ghost use Rattle.cycle_planner.specs.Cycle.{AreLines};
 ghost use Rattle.dsmcc_section.specs.Sections.{IsFramed};
-ghost use Rattle.generation.specs.Layouts.{GenerationState, first_of, next_of, generation_of, lines_of, lines_in, items_of, section_of, count_in as count_at, count_after as count_next, counts_after, same_module, layout_of, listed, greatest, placed_all, keys_of};
+ghost use Rattle.generation.specs.Layouts.{GenerationState, first_of, next_of, generation_of, lines_of, lines_in, items_of, section_of, count_in as count_at, count_after as count_next, counts_after, same_module, layout_of, listed, greatest, placed_all, keys_of, modules_for};
 ghost use Rattle.generation.specs.Kept.{StandsFor, layouts_of};
-ghost use Rattle.generation.specs.Publication.{limit_of, spots_of, sizes_of};
-ghost use Rattle.module_packer.specs.Placement.{fresh};
-ghost use Rattle.generation.specs.View.{view_listed, view_placed, AreReady, IsSpotIn};
+ghost use Rattle.generation.specs.Publication.{limit_of, spots_of};
+ghost use Rattle.generation.specs.View.{view_listed, view_placed, AreReady, AreOld, IsSpotIn};
 
 use crate::control::{block_of_module, dii_section, dsi_section};
+use crate::former::{former_of, modules};
 use crate::keys::keys;
 use crate::limit::sizes;
 use crate::objects::{Placed, module_bytes, place_all};
@@ -20,7 +20,6 @@ use crate::spots::{Spot, is_equal, spots};
 use biop_object::Module;
 use cycle_planner::Item;
 use ddb_block::block_count;
-use module_packer::place_fresh;
 use oc_bytes::NoMemory;
 use path_tree::Tree;
 use std::alloc::Global;
@@ -67,7 +66,7 @@ impl Model for Generation {
 impl Generation {
     /// Generation 0 of a carousel, with the empty tree: the gateway alone, in module 1, and no module counted yet.
     ///
-    /// `carousel` is the carousel's id, any 32-bit number. The only refusal is want of memory.
+    /// `carousel` is the carousel's id, any 32-bit number. The only refusal is out of memory.
     pub fn first(alloc: Global, carousel: u32) -> Result<Generation, NoMemory>
         ensures first { IfOk result (λ g. g ≡ first_of carousel) }
         ensures stands { IfOk result (λ g. StandsFor g []) }
@@ -99,9 +98,9 @@ impl Generation {
 
     /// The generation after this one, with another tree.
     ///
-    /// An object whose path and kind are in this generation keeps its key. A module whose bytes are as before is shared
-    /// with this generation. The tree has to pass `check`, and this generation's number has to be below 16,383. The
-    /// only refusal is want of memory.
+    /// An object whose path and kind are in this generation keeps its key, and stays in its module as far as there is room.
+    /// A module whose bytes are as before is shared with this generation. The tree has to pass `check`, and this generation's number has to be below 16,383. The
+    /// only refusal is out of memory.
     pub fn next(&self, tree: Tree) -> Result<Generation, NoMemory>
         requires tree { limit_of tree ≡ None }
         requires number { self.now.number < 16383 }
@@ -163,7 +162,7 @@ impl Generation {
     }
 
     /// The section of one of the generation's items: the DSI, the DII, or a block of a listed module whose number is
-    /// below the module's number of blocks. A stream of sections can be cut by it. The only refusal is want of memory.
+    /// below the module's number of blocks. A stream of sections can be cut by it. The only refusal is out of memory.
     pub fn section(&self, item: Item) -> Result<Vec<u8>, NoMemory>
         requires { Contains (items_of self.now) item }
         ensures exact { IfOk result (λ bytes. bytes.items ≡ section_of self.now item) }
@@ -190,7 +189,7 @@ impl Generation {
     }
 }
 
-/// The objects of a tree, with their keys after those of another tree, and with their modules.
+/// The objects of a tree, with their keys and modules after those of another tree.
 fn objects_after(
     alloc: Global,
     old: &[Placed],
@@ -198,16 +197,19 @@ fn objects_after(
     tree: &Tree,
 ) -> Result<Vec<Placed>, NoMemory>
     requires tree { limit_of tree.now ≡ None }
-    requires old { All (λ o. IsSpotIn old_tree.now o.spot) old.now }
+    requires spots { All (λ o. IsSpotIn old_tree.now o.spot) old.now }
+    requires old { AreOld (map (view_placed old_tree.now) old.now) }
     ensures objects { IfOk result (λ v. map (view_placed tree.now) v.items
-        ≡ placed_all (spots_of tree.now) (keys_of (map (view_placed old_tree.now) old.now) (spots_of tree.now)) (fresh (sizes_of tree.now))) }
+        ≡ placed_all (spots_of tree.now) (keys_of (map (view_placed old_tree.now) old.now) (spots_of tree.now)) (modules_for (map (view_placed old_tree.now) old.now) tree.now)) }
     ensures ready { IfOk result (λ v. (carousel : ℕ) → AreReady carousel tree.now v.items) }
+    ensures old { IfOk result (λ v. AreOld (map (view_placed tree.now) v.items)) }
     ensures lines { IfOk result (λ v. (carousel : ℕ) → AreLines (lines_in (layout_of carousel (map (view_placed tree.now) v.items)))) }
 {
     let spots = spots(alloc, tree)?;
     let sizes = sizes(alloc, tree, &spots)?;
-    let modules = place_fresh(alloc, &sizes)?;
-    let keys = keys(alloc, old, old_tree, &spots, tree)?;
+    let former = former_of(alloc, old, old_tree, &spots, tree)?;
+    let modules = modules(alloc, &sizes, &former.modules)?;
+    let keys = keys(alloc, &former.keys)?;
     place_all(alloc, &spots, &keys, &modules)
 }
 

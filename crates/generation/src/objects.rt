@@ -198,7 +198,7 @@ pub(crate) fn module_bytes(
     Ok(bytes)
 }
 
-/// Puts bytes behind others; the first bytes become the whole, without a copy.
+/// Puts bytes after others; the first bytes become the whole, without a copy.
 fn append(bytes: &mut Vec<u8>, more: Vec<u8>) -> Result<(), NoMemory>
     ensures { OnOk result (bytes.new.items ≡ bytes.old.items ++ more.items) }
 {

@@ -3,7 +3,7 @@ use generation::Generation;
 
 fn crosses<T: Send + Sync>() {}
 
-/// What threads share of this crate, and the generations behind it, can be sent to other threads and shared with them. Does
+/// What threads share of this crate, and the generations below it, can be sent to other threads and shared with them. Does
 /// nothing.
 pub fn cross_threads() {
     crosses::<Catalogue>();

@@ -13,7 +13,7 @@ module _ {V E : Type 0} where
   abbrev pub lock_of : Hold V E → HistoryLock V E
   lock_of h = h.lock.now
 
-  -- the pass behind it
+  -- the pass that holds it
   abbrev pub holder_of : Hold V E → Pass V E
   holder_of h = h.pass.now
 

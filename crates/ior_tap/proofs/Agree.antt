@@ -334,7 +334,7 @@ each_agrees {A} {r} {R} agrees (suc n) = agrees_by (then_agrees agrees (λ first
         second = record { value = xs; front = each.1; back = []; whole = sym (append-nil each.1); first = record { count = omega (arith, count); each = each.4 }; second = (refl, refl) };
       }
 
--- ---- a reading of some bytes, with others behind it passed over
+-- ---- a reading of some bytes, with others after it passed over
 
 value_some : {A : Type 0} (m : Reading A) (a : A) → value_read m ≡ Some a → (d : Cursor) × (m ≡ Ok (a, d))
 value_some (Ok x) a e = (x.1, grind arith)

@@ -48,7 +48,7 @@ begins read count c = let k : count - 0 ≡ count = omega arith in rw k (unchang
 
 -- ---- the first components of two tags
 
--- what was found before, and what is found behind it
+-- what was found before, and what is found after it
 abbrev pub with_parts : Parts → Reading Parts → Reading Parts
 with_parts p read = read >>= λ x. Ok ((option_or p.0 x.0.0, option_or p.1 x.0.1), x.1)
 

@@ -121,7 +121,7 @@ pub is_found : (bytes : List ℕ) (r : Result (Ior × ℕ) IorFault) → IsBytes
 is_found bytes (Ok x) fits given = found_at bytes (view x.0, x.1) fits given
 is_found bytes (Err e) fits given = tt
 
--- what reads as an IOR is read, whatever stands behind it
+-- what reads as an IOR is read, whatever stands after it
 pub read_again : (front rest : List ℕ) (ior : Fields) → IsBytes front → Reads front ior → read_from_start (ior_at (from_start (front ++ rest))) ≡ Ok (ior, length front)
 read_again front rest ior fits h = ap read_from_start (ior_agrees.again front rest 0 ior (record { fit = fits; reads = h })) ∙ (let start : 0 + length front ≡ length front = omega arith in rw start refl)
 
@@ -151,7 +151,7 @@ spelling_parts kind l four key room = ior_put (spelling kind l) (written kind l)
   refl,
 )
 
--- what is written is read at any place, whatever stands behind it
+-- what is written is read at any place, whatever stands after it
 pub written_again : (kind : List ℕ) (l : Location) → IsWritten (written kind l) l → IsLocation l → (place : ℕ) (rest : List ℕ) → ior_at (at place (spelling kind l ++ rest)) ≡ Ok (written kind l, at (place + 63) rest)
 written_again kind l form room place rest = parts_agree.again (spelling kind l) rest place (written kind l) (spelling_parts kind l form.four form.key room) ∙ ap (λ (n : ℕ). done (place + n)) (spelling_length kind l form.four form.key) where
   done : ℕ → Reading Fields

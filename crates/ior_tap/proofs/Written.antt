@@ -41,7 +41,7 @@ key_is ior l m taps form e = ap (λ (x : Location). length x.key) (location_is i
 regrouped : (o a k b t n p : List ℕ) → o ++ a ++ k ++ b ++ t ++ n ++ p ≡ o ++ (a ++ k ++ b ++ t ++ n ++ p)
 regrouped o a k b t n p = simp append_assoc
 
--- a reference put behind other bytes
+-- a reference put after other bytes
 pub put_is : (out kind : List ℕ) (l : Location) → length l.key ≡ 4 → out ++ four_bytes 4 ++ kind ++ four_bytes 1 ++ four_bytes biop_tag ++ four_bytes 43 ++ content_of l ≡ out ++ spelling kind l
 put_is out kind l key =
     regrouped out (four_bytes 4) kind (four_bytes 1) (four_bytes biop_tag) (four_bytes 43) (content_of l)

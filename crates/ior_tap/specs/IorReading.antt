@@ -68,7 +68,7 @@ abbrev pub both : Option Location → Option (List TapFields) → Option Profile
 both (Some location) (Some taps) = Some (Biop location taps)
 both _ _ = None
 
--- what a component's bytes stand for; bytes behind it are passed over
+-- what a component's bytes stand for; bytes after it are passed over
 abbrev pub part_of : {A : Type 0} → (Cursor → Reading A) → Option (List ℕ) → Option A
 part_of read (Some content) = value_read (read (from_start content))
 part_of read None = None
@@ -81,7 +81,7 @@ abbrev pub or_other : ℕ → List ℕ → Option ProfileFields → ProfileField
 or_other tag content (Some reference) = reference
 or_other tag content None = Other tag content
 
--- what a profile's bytes stand for; bytes behind the last component are passed over
+-- what a profile's bytes stand for; bytes after the last component are passed over
 abbrev pub profile_of : ℕ → List ℕ → ProfileFields
 profile_of tag content = or_other tag content (if tag == biop_tag then biop_in (value_read (components_at (from_start content))) else None)
 

@@ -59,13 +59,13 @@ location_tag = 0x49534F50
 abbrev pub binder_tag : ℕ
 binder_tag = 0x49534F40
 
--- an ObjectLocation; bytes behind the key are passed over
+-- an ObjectLocation; bytes after the key are passed over
 pub record ReadsLocation (bytes : List ℕ) (l : Location) : Type 0 where
   pub trailing : List ℕ
   pub ranges : (l.carousel < 4294967296) × (l.module < 65536) × (length l.key < 256)
   pub whole : bytes ≡ four_bytes l.carousel ++ two_bytes l.module ++ 1 ∷ 0 ∷ length l.key ∷ l.key ++ trailing
 
--- a ConnBinder; bytes behind the taps are passed over
+-- a ConnBinder; bytes after the taps are passed over
 pub record ReadsBinder (bytes : List ℕ) (taps : List TapFields) : Type 0 where
   pub tap_lines : List ℕ
   pub trailing : List ℕ
@@ -78,7 +78,7 @@ abbrev pub component_of : ℕ → List Component → Option (List ℕ)
 component_of tag [] = None
 component_of tag (c ∷ cs) = if c.0 == tag then Some c.1 else component_of tag cs
 
--- the content of a BIOP profile; other components, and bytes behind the last one, are passed over
+-- the content of a BIOP profile; other components, and bytes after the last one, are passed over
 pub record ReadsBiop (bytes : List ℕ) (l : Location) (taps : List TapFields) : Type 0 where
   pub components : List Component
   pub component_lines : List ℕ

@@ -175,7 +175,7 @@ struct Parts<'a> {
 }
 
 impl<'a> Parts<'a> {
-    /// With one more component behind those seen so far.
+    /// With one more component after those seen so far.
     fn with(self, component: Component<'a>) -> Parts<'a>
         ensures location { option_copied result.location ≡ option_or (option_copied self.entry.location) (if component.entry.tag == 0x49534F50 then Some component.entry.content.now else None) }
         ensures binder { option_copied result.binder ≡ option_or (option_copied self.entry.binder) (if component.entry.tag == 0x49534F40 then Some component.entry.content.now else None) }
@@ -303,12 +303,12 @@ fn read(alloc: Global, bytes: &[u8]) -> Result<(Ior, usize), IorFault>
     Ok((ior, fields.place()))
 }
 
-/// Reads an IOR at the front of these bytes, and gives it with the number of bytes that it has. What stands behind
+/// Reads an IOR at the front of these bytes, and gives it with the number of bytes that it has. What stands after
 /// it is passed over.
 ///
 /// A profile of the BIOP tag that hasn't both an ObjectLocation and a ConnBinder, or in whose bytes a rule is broken,
-/// is `Other`, as one of any other tag is; the first component of each of the two tags counts. Bytes behind a
-/// profile's last component, behind a location's key and behind a binder's taps are passed over.
+/// is `Other`, as one of any other tag is; the first component of each of the two tags counts. Bytes after a
+/// profile's last component, after a location's key and after a binder's taps are passed over.
 ///
 /// `BadIor(place)` comes exactly where a field outside the profiles' bytes is cut, or the type_id_length isn't 4; the
 /// place is the first byte of the first such field.
@@ -316,7 +316,7 @@ fn read(alloc: Global, bytes: &[u8]) -> Result<(Ior, usize), IorFault>
 pub fn decode(alloc: Global, bytes: &[u8]) -> Result<(Ior, usize), IorFault>
     ensures found { IfOk result (λ x. (x.1 ≤ length bytes.now) × Reads (take x.1 bytes.now) (view x.0)) }
     ensures only { (ior : IorFields) (n : ℕ) → n ≤ length bytes.now → Reads (take n bytes.now) ior → Gives {Y = IorFields × ℕ} (λ x. (view x.0, x.1)) cause result (Ok (ior, n)) }
-    // A spelling with any bytes behind it is read as its value.
+    // A spelling with any bytes after it is read as its value.
     ensures again { (kind rest : List ℕ) (l : Location) → IsWritten (written kind l) l → IsLocation l → bytes.now ≡ spelling kind l ++ rest
         → Gives {Y = IorFields × ℕ} (λ x. (view x.0, x.1)) cause result (Ok (written kind l, length (spelling kind l))) }
     ensures exact { Gives (λ x. (view x.0, x.1)) cause result (read_from_start (ior_at (from_start bytes.now))) }
@@ -326,7 +326,7 @@ pub fn decode(alloc: Global, bytes: &[u8]) -> Result<(Ior, usize), IorFault>
 }
 
 /// Reading an IOR from left to right and the grammar of IORs say the same, and places count from any start; what is
-/// written is in the grammar, and is read at any place whatever stands behind it. A law about the definitions alone,
+/// written is in the grammar, and is read at any place whatever stands after it. A law about the definitions alone,
 /// which the crates above call where an IOR stands inside a message of theirs.
 pub fn one_reading()
     ensures agree { Agrees ior_at (InBytes Reads) }

@@ -27,7 +27,7 @@ pub fn encode(alloc: Global, ior: &Ior) -> Result<Vec<u8>, NoMemory>
 /// Puts the spelling of a reference to an object, 63 bytes: what `encode` gives for the IOR of this kind and location.
 ///
 /// The kind has 4 bytes by the standard's profile, and the location's key has 4 bytes. After a refusal the writer holds
-/// a front of the spelling, and is good for nothing more.
+/// a prefix of the spelling, and is good for nothing more.
 pub fn put_reference(out: &mut Writer, kind: &[u8], location: &Location) -> Result<(), NoMemory>
     requires { length location.now.key ≡ 4 }
     ensures put { OnOk result (out.new ≡ out.old ++ spelling kind.now location.now) }

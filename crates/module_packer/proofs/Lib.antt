@@ -1,1 +1,6 @@
 pub mod Fresh
+pub mod Kept
+pub mod Passing
+pub mod Telling
+pub mod Rows
+pub mod Remaining

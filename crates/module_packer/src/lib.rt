@@ -7,12 +7,19 @@
 
 ghost use Rattle.std.specs.Prelude.{◌≡◌, ◌≤◌, ◌<◌, length, IfOk};
 ghost use Rattle.module_packer.specs.Placement.{fresh, needed, IsPlacement, FreshIsAPlacement};
+ghost use Rattle.module_packer.specs.Kept.{KeptIsAPlacement, ObjectsStay};
 
+mod filling;
+mod keeping;
 mod packing;
 
+pub use keeping::place;
 use oc_bytes::NoMemory;
 use packing::Packing;
 use std::alloc::Global;
+
+/// The most modules that a placement has; they are numbered from 1.
+const MOST_MODULES: usize = 139;
 
 /// How many modules a fresh placement of objects of these sizes opens. `sizes` has the objects' sizes in bytes, in
 /// object order, and isn't empty. Takes no memory.
@@ -33,7 +40,7 @@ pub fn need(sizes: &[u32]) -> usize
 /// module that was opened last for such objects while the sum of sizes stays at most 65,536 there, and else opens a new
 /// one. Modules are numbered from 1 in order of opening, so the first object is in module 1.
 ///
-/// `sizes` isn't empty, and `need` of it is at most 139. Want of memory is the only refusal.
+/// `sizes` isn't empty, and `need` of it is at most 139. Out of memory is the only refusal.
 pub fn place_fresh(alloc: Global, sizes: &[u32]) -> Result<Vec<u16>, NoMemory>
     requires some { 0 < length sizes.now }
     requires few { needed sizes.now ≤ 139 }
@@ -49,7 +56,19 @@ pub fn place_fresh(alloc: Global, sizes: &[u32]) -> Result<Vec<u16>, NoMemory>
     Ok(modules)
 }
 
-/// The law behind `place_fresh`, for every limit: each object has a module from 1 to the limit, the first object is in
+/// The law of `place`, for every limit.
+pub fn kept_is_a_placement()
+    ensures { KeptIsAPlacement }
+{}
+
+/// Of `place`, for every limit: unless the whole placement is the fresh one, an object stays in its old module where the
+/// objects before it that were there leave room for it. So what changes after an object in object order never moves it,
+/// and neither does what changes in another module.
+pub fn objects_stay_where_there_is_room()
+    ensures { ObjectsStay }
+{}
+
+/// The law of `place_fresh`, for every limit: each object has a module from 1 to the limit, the first object is in
 /// module 1, and no module of more than one object has more than 65,536 bytes.
 pub fn fresh_is_a_placement()
     ensures { FreshIsAPlacement }
@@ -67,6 +86,20 @@ mod tests {
         assert_eq!(rt; need(&[16_777_300]), 1);
         let modules = place_fresh(rt.alloc(), &sizes)?;
         assert_eq!(rt; modules.as_slice(), [1, 1, 2, 3, 2].as_slice());
+        Ok(())
+    }
+
+    #[test]
+    fn objects_stay(rt: HostRuntime) -> Result<(), Fail> {
+        let grown = [
+            (117, Some(1)),
+            (65_500, Some(1)),
+            (500, Some(2)),
+            (65_537, Some(3)),
+            (400, Some(2)),
+        ];
+        let modules = place(rt.alloc(), &grown)?;
+        assert_eq!(rt; modules.as_slice(), [1, 4, 2, 3, 2].as_slice());
         Ok(())
     }
 }

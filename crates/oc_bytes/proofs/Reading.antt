@@ -5,7 +5,7 @@ use Rattle.byteorder.specs.Endian.{big_from}
 use Rattle.byteorder.specs.Numbers.{big_from-cons}
 use Rattle.oc_bytes.specs.Numbers.{number_of}
 
--- the digits behind a number that was read so far
+-- the digits after a number that was read so far
 one_more : (a x p r : ℕ) → (a * 256 + x) * p + r ≡ a * (256 * p) + (x * p + r)
 one_more a x p r = omega (arith, add-mul (a * 256) x p, mul_assoc a 256 p)
 

@@ -1,4 +1,4 @@
-ghost use Rattle.std.specs.Prelude.{◌≡◌, ◌<◌, ◌≤◌, ◌+◌, ◌↔◌, ◌++◌, [], Some, vec_len, length, min, take, Contains, IfOk, IsErr, IsErrOf, OnErr};
+ghost use Rattle.std.specs.Prelude.{◌≡◌, ◌<◌, ◌≤◌, ◌+◌, ◌↔◌, ◌++◌, ◌||◌, true, false, [], Some, vec_len, length, min, take, Contains, IfOk, IsErr, IsErrOf, OnErr};
 ghost use Rattle.oc_bytes.specs.Outcome.{Rose, Told, capped};
 ghost use Rattle.oc_bytes.specs.Streams.{Takes};
 
@@ -91,6 +91,8 @@ pub struct MemSink {
     fail_at: Vec<u64>,
     calls: u64,
     failures: u64,
+    has_failed: bool,
+    is_late: bool,
     piece: usize,
     ghost positive: { 1 ≤ piece },
 }
@@ -103,6 +105,7 @@ impl MemSink {
         requires { 1 ≤ piece }
         ensures written { written_to result ≡ [] }
         ensures fresh { (writes_made result ≡ 0) × (writes_failed result ≡ 0) }
+        ensures unfailed { (result.has_failed ≡ false) × (result.is_late ≡ false) }
         ensures plan { (failing_writes result ≡ fail_at.items) × (write_piece result ≡ piece) }
     {
         MemSink {
@@ -110,6 +113,8 @@ impl MemSink {
             fail_at,
             calls: 0,
             failures: 0,
+            has_failed: false,
+            is_late: false,
             piece,
         }
     }
@@ -129,6 +134,10 @@ impl Sink for MemSink {
 
     ghost faults = { λ s. s.failures };
 
+    ghost failed = { λ s. s.has_failed };
+
+    ghost late = { λ s. s.is_late };
+
     fn write(&mut self, from: &[u8]) -> Result<usize, WriteFault>
         requires { 0 < length from.now }
         ensures within { IfOk result (λ n. (0 < n) × (n ≤ length from.now)) }
@@ -136,6 +145,9 @@ impl Sink for MemSink {
         ensures nothing { OnErr result (Some (written_to self.new) ≡ Some (written_to self.old)) }
         ensures later { writes_failed self.old ≤ writes_failed self.new }
         ensures cause { IsErrOf result WriteFault.Failed → Rose (writes_failed self.old) (writes_failed self.new) }
+        ensures tried { self.new.is_late ≡ (self.old.has_failed || self.old.is_late) }
+        ensures fails { IsErrOf result WriteFault.Failed → self.new.has_failed ≡ true }
+        ensures goes_on { (IsErrOf result WriteFault.Failed → ⊥) → self.new.has_failed ≡ self.old.has_failed }
         // The plan of failures and pieces.
         ensures planned { IsErrOf result WriteFault.Failed ↔ Contains (failing_writes self.old) (writes_made self.old) }
         ensures piece { IfOk result (λ n. n ≡ min (write_piece self.old) (length from.now)) }
@@ -143,10 +155,12 @@ impl Sink for MemSink {
         ensures made { writes_made self.new ≡ capped (writes_made self.old + 1) }
         ensures same { (failing_writes self.new ≡ failing_writes self.old) × (write_piece self.new ≡ write_piece self.old) }
     {
+        self.is_late = self.has_failed || self.is_late;
         let call = self.calls;
         self.calls = self.calls.saturating_add(1);
         if self.fail_at.contains(&call) {
             self.failures = self.failures.saturating_add(1);
+            self.has_failed = true;
             return Err(WriteFault::Failed);
         }
         let n = self.piece.min(from.len());

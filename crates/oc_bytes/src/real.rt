@@ -1,4 +1,4 @@
-ghost use Rattle.std.specs.Prelude.{◌≡◌, None};
+ghost use Rattle.std.specs.Prelude.{◌≡◌, None, false};
 
 use crate::sink::{Sink, WriteFault};
 use crate::source::{Failed, Source};
@@ -8,7 +8,7 @@ use std::io::{Error, ErrorKind};
 /// How often one call is tried, where a signal interrupts it: once, and 16 times again.
 const TRIES: u32 = 17;
 
-/// A reader of the system as a [`Source`]. What it has left isn't told.
+/// A reader of the system as a [`Source`]. What it has left isn't known.
 ///
 /// Each error that the system answers raises the count of faults. A read that a signal interrupts
 /// is repeated at most 16 times.
@@ -52,7 +52,7 @@ impl<R: io::Read + Drop> Source for StdSource<R> {
     }
 }
 
-/// A writer of the system as a [`Sink`]. What it was given isn't told.
+/// A writer of the system as a [`Sink`]. What it was given isn't known.
 ///
 /// Each error that the system answers raises the count of faults, and so does a write that takes no
 /// byte. A write that a signal interrupts is repeated at most 16 times.
@@ -60,14 +60,22 @@ impl<R: io::Read + Drop> Source for StdSource<R> {
 pub struct StdSink<W: Drop> {
     writer: W,
     faults: u64,
+    has_failed: bool,
+    is_late: bool,
 }
 
 impl<W: io::Write + Drop> StdSink<W> {
     /// A sink over this writer, with no fault counted yet.
     pub fn new(writer: W) -> StdSink<W>
-        ensures { result.faults ≡ 0 }
+        ensures fresh { result.faults ≡ 0 }
+        ensures unfailed { (result.has_failed ≡ false) × (result.is_late ≡ false) }
     {
-        StdSink { writer, faults: 0 }
+        StdSink {
+            writer,
+            faults: 0,
+            has_failed: false,
+            is_late: false,
+        }
     }
 }
 
@@ -76,22 +84,30 @@ impl<W: io::Write + Drop> Sink for StdSink<W> {
 
     ghost faults = { λ s. s.faults };
 
+    ghost failed = { λ s. s.has_failed };
+
+    ghost late = { λ s. s.is_late };
+
     fn write(&mut self, from: &[u8]) -> Result<usize, WriteFault> {
+        self.is_late = self.has_failed || self.is_late;
         for _ in 0..TRIES {
             match self.writer.write(from) {
                 Ok(n) if n > 0 => return Ok(n),
                 Ok(_) => {
                     self.faults = self.faults.saturating_add(1);
+                    self.has_failed = true;
                     return Err(WriteFault::Failed);
                 }
                 Err(error) => {
                     self.faults = self.faults.saturating_add(1);
                     if !is_interrupted(&error) {
+                        self.has_failed = true;
                         return Err(WriteFault::Failed);
                     }
                 }
             }
         }
+        self.has_failed = true;
         Err(WriteFault::Failed)
     }
 

@@ -1,4 +1,4 @@
-ghost use Rattle.std.specs.Prelude.{◌≡◌, ◌<◌, ◌≤◌, ◌++◌, List, ℕ, Option, length, take, IfOk, OnOk, OnErr, IsErrOf};
+ghost use Rattle.std.specs.Prelude.{◌≡◌, ◌<◌, ◌≤◌, ◌++◌, ◌||◌, Bool, true, false, List, ℕ, Option, length, take, IfOk, OnOk, OnErr, IsErrOf};
 ghost use Rattle.oc_bytes.specs.Outcome.{Rose, Told};
 ghost use Rattle.oc_bytes.specs.Streams.{AppendsFront};
 
@@ -22,6 +22,12 @@ pub trait Sink {
     /// How often a call failed. It never falls.
     ghost faults: { Self → ℕ };
 
+    /// Whether a write has failed.
+    ghost failed: { Self → Bool };
+
+    /// Whether a write was tried after one that had failed.
+    ghost late: { Self → Bool };
+
     /// Appends the first bytes of `from`, which has at least one byte, and answers how many: at least
     /// one. A fault appends nothing.
     fn write(&mut self, from: &[u8]) -> Result<usize, WriteFault>
@@ -30,20 +36,26 @@ pub trait Sink {
         ensures appends { IfOk result (λ n. Told (written self.old) (written self.new) (λ before after. after ≡ before ++ take n from.now)) }
         ensures nothing { OnErr result (written self.new ≡ written self.old) }
         ensures later { faults self.old ≤ faults self.new }
-        ensures cause { IsErrOf result WriteFault.Failed → Rose (faults self.old) (faults self.new) };
+        ensures cause { IsErrOf result WriteFault.Failed → Rose (faults self.old) (faults self.new) }
+        ensures tried { late self.new ≡ (failed self.old || late self.old) }
+        ensures fails { IsErrOf result WriteFault.Failed → failed self.new ≡ true }
+        ensures goes_on { (IsErrOf result WriteFault.Failed → ⊥) → failed self.new ≡ failed self.old };
 
     /// The count of faults, which stays at the greatest `u64`.
     fn faults(&self) -> u64
         ensures { result ≡ faults self.now };
 }
 
-/// Writes all of the bytes, in as many calls as the sink needs. After a fault a front of them was
+/// Writes all of the bytes, in as many calls as the sink needs. After a fault a prefix of them was
 /// written.
 pub fn write_all<K: Sink>(sink: &mut K, from: &[u8]) -> Result<(), WriteFault>
     ensures ok { OnOk result (Told (K.written sink.old) (K.written sink.new) (λ before after. after ≡ before ++ from.now)) }
     ensures err { OnErr result (Told (K.written sink.old) (K.written sink.new) (λ before after. AppendsFront before after from.now)) }
     ensures later { K.faults sink.old ≤ K.faults sink.new }
     ensures cause { IsErrOf result WriteFault.Failed → Rose (K.faults sink.old) (K.faults sink.new) }
+    ensures in_time { K.failed sink.old ≡ false → K.late sink.new ≡ K.late sink.old }
+    ensures fails { IsErrOf result WriteFault.Failed → K.failed sink.new ≡ true }
+    ensures goes_on { (IsErrOf result WriteFault.Failed → ⊥) → K.failed sink.new ≡ K.failed sink.old }
 {
     let mut done = 0;
     while done < from.len() {

@@ -87,7 +87,7 @@ impl ReaderPass {
         self.answers.count()
     }
 
-    /// Tells the pass of the list of a front of its own board. What it knows stays. It takes no memory.
+    /// Tells the pass of the list of a prefix of its own board. What it knows stays. It takes no memory.
     pub fn learn(&mut self, front: Front<Shot>)
         requires { front_board front ≡ self.old.board }
         ensures same { IsSameReader self.old self.new × (self.new.known ≡ self.old.known) × (self.new.opens ≡ self.old.opens) }
@@ -108,7 +108,7 @@ impl ReaderPass {
         Ok(())
     }
 
-    /// Takes a shot, resolves the whole path on it, and puts the open behind the others. There has to be room for it. The
+    /// Takes a shot, resolves the whole path on it, and puts the open after the others. There has to be room for it. The
     /// answer is the place of the open in `opens`.
     ///
     /// Out of memory is the only refusal: it gives the path back, and there is no new open.

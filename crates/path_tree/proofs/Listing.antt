@@ -1,4 +1,4 @@
--- The names in a folder, from the files behind its place.
+-- The names in a folder, from the files after its place.
 use Rattle.std.proofs.Common.{◌≡◌, ◌⊎◌, ℕ, suc, ◌+◌, ◌-◌, ◌<◌, ◌≤◌, true, false, List, [], ◌∷◌, ◌++◌, length, drop, take, get_or, Some, None, refl, ap, sym, inl, inr, drop-cons, add-one, arith}
 use Rattle.std.specs.declared.cmp.Ordering.TheVariants.{Less}
 use Rattle.std.specs.List.{AllByRecursion, dedup, dedup_from, filter_map, cons_option}

@@ -14,7 +14,7 @@ use Rattle.path_tree.proofs.Order.{true_or_false, same_name-is, same_name-pointw
 use Rattle.path_tree.proofs.Places.{File, Rises, Apart, rises_tree}
 use Rattle.path_tree.proofs.Listing.{names_in}
 
--- a name that isn't less than another is it or stands behind it
+-- a name that isn't less than another is it or stands after it
 not_less : (m n : Bytes) → is_lt (name_cmp n m) ≡ false → (n ≡ m) ⊎ (name_cmp m n ≡ Less)
 not_less m n e = go (name_cmp n m) refl e where
   go : (o : Ordering) → name_cmp n m ≡ o → is_lt o ≡ false → (n ≡ m) ⊎ (name_cmp m n ≡ Less)

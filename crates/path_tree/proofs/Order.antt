@@ -98,7 +98,7 @@ names_not_both_less m n e f = let back = name_total.antisymm m n in cc
 names_differ : {m n : Bytes} → name_cmp m n ≡ Less → m ≡ n → ⊥
 names_differ {m} {n} e same = let self : name_cmp m n ≡ Equal = subst (λ (k : Bytes). name_cmp m k ≡ Equal) same (name_cmp-refl m) in cc
 
--- what lies below a path stands behind it
+-- what lies below a path stands after it
 pub below-less : (p q : PathNames) → is_below p q ≡ true → path_cmp p q ≡ Less
 below-less [] [] e = cc
 below-less [] (n ∷ ns) e = refl

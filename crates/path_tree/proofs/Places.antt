@@ -76,7 +76,7 @@ lt_is Less e = refl
 lt_is Equal e = cc
 lt_is Greater e = cc
 
--- a file that doesn't stand before a path stands at it or behind it
+-- a file that doesn't stand before a path stands at it or after it
 pub behind : (p q : PathNames) → is_lt (path_cmp q p) ≡ false → (q ≡ p) ⊎ (path_cmp p q ≡ Less)
 behind p q e = go (path_cmp q p) refl e where
   go : (o : Ordering) → path_cmp q p ≡ o → is_lt o ≡ false → (q ≡ p) ⊎ (path_cmp p q ≡ Less)
@@ -128,7 +128,7 @@ before_not_below p q e = go (true_or_false (is_below p q)) where
   go (inl b) = absurd (not_both_less p q (below-less p q b) (lt_is (path_cmp q p) e))
   go (inr b) = b
 
--- once a file at a path's place or behind it isn't below it, no later one is
+-- once a file at a path's place or after it isn't below it, no later one is
 pub none_below : (p : PathNames) (e : File) (es : Tree) → (e.0 ≡ p) ⊎ (path_cmp p e.0 ≡ Less) → is_below p e.0 ≡ false → AllByRecursion (Apart e) es → AllByRecursion (λ f. is_below p f.0 ≡ false) es
 none_below p e es (inl same) out h = each_weaker es (λ f a. subst (λ (q : PathNames). is_below q f.0 ≡ false) same a.1) h
 none_below p e es (inr less) out h = each_weaker es (λ f a. go f a (true_or_false (is_below p f.0))) h where

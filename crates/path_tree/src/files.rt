@@ -1,5 +1,5 @@
 //! Searches among a tree's files, which stand in the order of paths: what lies below a path stands right
-//! behind it, and a file that it leads through right before it.
+//! after it, and a file that it leads through right before it.
 ghost use Rattle.std.specs.Prelude.{◌≡◌, ◌≤◌, ◌||◌, ◌==◌, length, take, drop, IfOk, OnOk};
 ghost use Rattle.std.specs.List.{dedup, filter_map};
 ghost use Rattle.path_tree.specs.Paths.{same_name, next_name, IsPath};
@@ -81,7 +81,7 @@ fn last_name_is(names: &[Name], name: &[u8]) -> bool
     }
 }
 
-/// Puts a name behind the listed ones, unless it is the last of them.
+/// Puts a name after the listed ones, unless it is the last of them.
 fn list_name(names: &mut Vec<Name>, name: &Name) -> Result<(), NoMemory>
     ensures { OnOk result (names.new.items ≡ with_name names.old.items name.now) }
 {

@@ -94,7 +94,7 @@ fn put(alloc: Global, text: &str, content: &[u8]) -> Result<Edit, Fail> {
     Ok(Edit::Put(path(alloc, text)?, blob(alloc, content)?))
 }
 
-/// What stands at a path, as a text: a file's bytes behind `=`, or a folder's names, each behind a `/`.
+/// What stands at a path, as a text: a file's bytes after `=`, or a folder's names, each after a `/`.
 fn shown(alloc: Global, tree: &Tree, text: &str) -> Result<Vec<u8>, Fail> {
     let mut shown = Vec::new(alloc);
     match tree.lookup(&path(alloc, text)?)? {

@@ -84,8 +84,8 @@ EachIsFollowed = (packets : List Bytes) (p : PatFields) (l : PatLine) → All (�
 abbrev pub example : List Bytes
 example = announced (announcer_start 1)
 
--- The written tables are as usual: each premise of the laws holds of their packets. The carousel is found behind both packets; behind the
--- first one it isn't named, nor is another carousel behind both, and the packet of the map table alone says that no PAT came.
+-- The written tables are as usual: each premise of the laws holds of their packets. The carousel is found after both packets; after the
+-- first one it isn't named, nor is another carousel after both, and the packet of the map table alone says that no PAT came.
 pub record PremisesMet : Type 0 where
   pub usual : IsUsual 1 example pat_value (λ (n : ℕ). pmt_value 1) 256
   pub pat : Contains (pats_in example) pat_value

@@ -26,7 +26,7 @@ view_pmt p = record { program = p.program; lines = map view_line p.lines.items }
 
 -- ---- what stands one after another
 
--- the items that stand whole one after another from the front on, and what is left behind the last of them; each item has a byte
+-- the items that stand whole one after another from the front on, and what is left after the last of them; each item has a byte
 -- at least, so that the bytes bound the steps
 abbrev pub onto_run : {A : Type 0} → (List ℕ → List A × List ℕ) → List ℕ → Option (A × List ℕ) → List A × List ℕ
 onto_run more bytes (Some x) = (x.0 ∷ (more x.1).0, (more x.1).1)
@@ -119,7 +119,7 @@ stream_bytes body = drop (4 + info_length body) body
 abbrev pub streams_run : List ℕ → List Stream × List ℕ
 streams_run bytes = run next_stream (length bytes) bytes
 
--- what is left behind the last stream: the place of a stream that is cut, or of its descriptors
+-- what is left after the last stream: the place of a stream that is cut, or of its descriptors
 abbrev pub left_fault : (size : ℕ) → List ℕ → Option ℕ
 left_fault size left = if length left == 0 then None else Some (8 + size - length left + (if nat_lt (length left) 5 then 0 else 5))
 

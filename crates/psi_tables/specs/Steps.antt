@@ -11,7 +11,7 @@ use Rattle.psi_tables.specs.Pats.{PatFields}
 use Rattle.psi_tables.specs.Receiving.{HeardOn}
 use Rattle.psi_tables.specs.Stands.{FollowedState, FinderState, Hears, Keeps}
 
--- an item in the place of the first that passes a test, and else behind all
+-- an item in the place of the first that passes a test, and else after all
 abbrev pub put : {A : Type 0} → (A → Bool) → A → List A → List A
 put test y [] = y ∷ []
 put test y (x ∷ xs) = if test x then y ∷ xs else x ∷ put test y xs

@@ -48,7 +48,7 @@ impl Announcer {
         })
     }
 
-    /// Puts the packets of the PAT and then those of the map table behind those in `out`.
+    /// Puts the packets of the PAT and then those of the map table after those in `out`.
     ///
     /// After `NoMemory` `out` may have the packets of the PAT, and nothing more is said of the counters.
     pub fn packets(&mut self, out: &mut Vec<[u8; 188]>) -> Result<(), NoMemory>

@@ -49,7 +49,7 @@ fn place_of(sections: &[Pat], version: u8, number: u8) -> Option<usize>
         .position(|kept| kept.version == version && kept.number == number)
 }
 
-/// Puts a section in the place of the one before of its version and number, or behind all.
+/// Puts a section in the place of the one before of its version and number, or after all.
 fn note(sections: &mut Vec<Pat>, pat: Pat) -> Result<(), AllocError>
     ensures { OnOk result (map view_pat sections.new.items ≡ put (is_section pat.version pat.number) (view_pat pat) (map view_pat sections.old.items)) }
 {

@@ -65,7 +65,7 @@ fn place_of(programs: &[Program], program: u16) -> Option<usize>
     programs.iter().position(|entry| entry.program == program)
 }
 
-/// Puts a program's entry in the place of the one before, or behind all.
+/// Puts a program's entry in the place of the one before, or after all.
 fn note(programs: &mut Vec<Program>, entry: Program) -> Result<(), AllocError>
     ensures { OnOk result (programs.new.items ≡ put (λ e. e.program == entry.program) entry programs.old.items) }
 {

@@ -10,7 +10,7 @@ use oc_bytes::NoMemory;
 use section_crc::crc;
 use std::alloc::Global;
 
-/// A section with its CRC behind it.
+/// A section with its CRC after it.
 fn with_crc(alloc: Global, front: &[u8]) -> Result<Vec<u8>, NoMemory>
     ensures { IfOk result (λ v. v.items ≡ front.now ++ four_bytes (crc_of front.now)) }
 {

@@ -1,8 +1,9 @@
 mod Adding
 mod Digits
 mod Examples
-mod Filled
+mod FilledBytes
 mod Lining
 mod Nothing
 mod Running
 mod Texts
+mod Telling

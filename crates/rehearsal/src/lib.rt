@@ -7,8 +7,12 @@ mod pending;
 mod rehearsal;
 mod report;
 mod subject;
+mod told;
 
+pub use filling::filled;
+pub use pending::PendingEdits;
 pub use rehearsal::rehearse;
+pub use told::put_report;
 
 #[cfg(test)]
 mod tests;

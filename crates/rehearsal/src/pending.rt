@@ -7,15 +7,16 @@ use path_tree::Edit;
 use std::alloc::Global;
 use std::collections::BTreeMap;
 
-/// The edits of each editor that no commit line followed yet.
+/// The edits of each editor, 1 to 64, that no commit line of it followed yet, in written order.
 #[derive(Drop)]
-pub(crate) struct PendingEdits {
+pub struct PendingEdits {
     alloc: Global,
     by_editor: BTreeMap<u32, Vec<Edit>>,
 }
 
 impl PendingEdits {
-    pub(crate) fn new(alloc: Global) -> PendingEdits
+    /// None. It takes no memory.
+    pub fn new(alloc: Global) -> PendingEdits
         ensures { Holds result none_pending }
     {
         PendingEdits {
@@ -24,8 +25,8 @@ impl PendingEdits {
         }
     }
 
-    /// Adds an edit of the editor behind its others. After out of memory, which is the only refusal, they are given up.
-    pub(crate) fn add(&mut self, editor: u32, edit: Edit) -> Result<(), NoMemory>
+    /// Adds an edit of the editor after its others. After out of memory, which is the only refusal, they are given up.
+    pub fn add(&mut self, editor: u32, edit: Edit) -> Result<(), NoMemory>
         ensures { OnOk result ((p : Pending) → Holds self.old p → Holds self.new (with_edit p editor edit)) }
     {
         let mut edits = self.take(editor);
@@ -35,7 +36,7 @@ impl PendingEdits {
     }
 
     /// Takes the editor's edits out, in written order.
-    pub(crate) fn take(&mut self, editor: u32) -> Vec<Edit>
+    pub fn take(&mut self, editor: u32) -> Vec<Edit>
         ensures edits { (p : Pending) → Holds self.old p → result.items ≡ p editor }
         ensures left { (p : Pending) → Holds self.old p → Holds self.new (without p editor) }
     {

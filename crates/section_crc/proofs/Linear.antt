@@ -115,7 +115,7 @@ parts k d q h =
     ∙ sym (xor_block k d 0 0 q (pow_pos k) h)
     ∙ ap (λ x. bit_xor x (0 * 2 ^ k + q)) zeroed ∙ ap (λ x. bit_xor (d * 2 ^ k) x) whole
 
--- one bit of a byte, and the bits behind it
+-- one bit of a byte, and the bits after it
 one_bit : (s d q : ℕ) → s < 2 ^ 32 → d < 2 → q < 2 ^ 31 → crc_bit (bit_xor s (d * 2 ^ 31 + q)) 0 ≡ bit_xor (crc_bit s d) (q * 2)
 one_bit s d q hs hd hq =
     ap (λ x. crc_bit (bit_xor s x) 0) (parts 31 d q hq)
@@ -178,7 +178,7 @@ at_the_top a b =
     sym (low (bit_xor a b)) ∙ sym (xor_block 24 a b 0 0 (omega arith) (omega arith))
     ∙ ap (λ x. bit_xor x (b * 2 ^ 24 + 0)) (low a) ∙ ap (λ x. bit_xor (a * 2 ^ 24) x) (low b)
 
--- what some bytes add to the state behind them
+-- what some bytes add to the state after them
 abbrev pub added : List ℕ → ℕ
 added [] = 0
 added (byte ∷ bytes) = bit_xor (entry (length bytes) byte) (added bytes)
@@ -236,7 +236,7 @@ state_bytes s h =
     ∙ ap (λ x. bit_xor (byte_at 24 s * 2 ^ 24) x) (parts 16 (byte_at 16 s) (byte_at 8 s * 2 ^ 8 + byte_at 0 s * 2 ^ 0) low
     ∙ ap (λ x. bit_xor (byte_at 16 s * 2 ^ 16) x) (parts 8 (byte_at 8 s) (byte_at 0 s * 2 ^ 0) (omega arith)))
 
--- what a state adds to the state that stands four bytes or more behind it
+-- what a state adds to the state that stands four bytes or more after it
 pub state_added : (n s : ℕ) → s < 2 ^ 32
     → zeros (8 * (n + 4)) s ≡ bit_xor (entry (n + 3) (byte_at 24 s)) (bit_xor (entry (n + 2) (byte_at 16 s)) (bit_xor (entry (n + 1) (byte_at 8 s)) (entry n (byte_at 0 s))))
 unfolding entry

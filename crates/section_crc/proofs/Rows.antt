@@ -1,10 +1,10 @@
--- Each entry of the rows is what the byte adds to the state so many bytes behind it.
+-- Each entry of the rows is what the byte adds to the state so many bytes after it.
 use Rattle.std.proofs.Common.{◌≡◌, ℕ, zero, suc, ◌+◌, ◌*◌, ◌^◌, ◌<◌, ◌≤◌, ◌==◌, ◌&&◌, Bool, true, false, List, [], ◌∷◌, length, get_or, slice_index, refl, sym, ap, ◌∙◌, subst, arith}
 use Rattle.section_crc.specs.Tables.{zeros, entry}
 use Rattle.section_crc.proofs.Linear.{zeros_more}
 use Rattle.section_crc.specs.declared.tables.TheConstants.{ROWS}
 
--- the row of the bytes from i on with nothing behind them
+-- the row of the bytes from i on with nothing after them
 abbrev is_first_row : ℕ → List ℕ → Bool
 is_first_row i [] = true
 is_first_row i (x ∷ xs) = (x == entry 0 i) && is_first_row (suc i) xs
@@ -38,7 +38,7 @@ both false b e = cc
 same : (m n : ℕ) → (m == n) ≡ true → m ≡ n
 same m n e = grind (arith)
 
--- the row has each byte's entry for the state k bytes behind it
+-- the row has each byte's entry for the state k bytes after it
 pub record IsRow (k : ℕ) (row : List ℕ) : Type 0 where
   pub count : length row ≡ 256
   pub each : (i : ℕ) → i < 256 → slice_index row i ≡ entry k i

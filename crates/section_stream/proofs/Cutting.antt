@@ -45,11 +45,11 @@ append_closed x k = go (grown x) refl where
 abbrev pub bytes_of : List Cut → List Bytes
 bytes_of cs = map (λ c. c.bytes) cs
 
--- a section that grows is not whole with what goes on, and else ends behind this packet
+-- a section that grows is not whole with what goes on, and else ends after this packet
 grows_past : (here more : Bytes) (n : ℕ) → grown here ≡ Growing → whole_len (here ++ more) ≡ Some n → nat_le n (length here) ≡ false
 grows_past here more n e w = grind (arith, common_steps)
 
--- what is opened in a packet, with the bytes that go on behind it
+-- what is opened in a packet, with the bytes that go on after it
 opens : (steps number : ℕ) (here more : Bytes) (k : Counts) → (open_on steps here k).out ++ finish (open_on steps here k).opened more ≡ bytes_of (opened_in steps number here more)
 opens zero number here more k = refl
 opens (suc steps) number here more k = ends (λ rest. opens steps number rest more k) ((length here == 0) || (slice_index here 0 == 0xFF)) refl where
@@ -156,7 +156,7 @@ starts_with o q more k s h = go (pointer_fits q) refl where
         rw f (open_keeps 188 (drop (1 + pointer_of q) q.payload) first.counts),
       )
 
--- what goes on in one packet, where `more` goes on behind it
+-- what goes on in one packet, where `more` goes on after it
 abbrev pub part_of : Received → Bytes → Bytes
 part_of q more = if q.start then (if pointer_fits q then take (pointer_of q) (drop 1 q.payload) else []) else q.payload ++ more
 

@@ -41,7 +41,7 @@ two_writes front rest part written payload n h e p w q =
 
 -- ---- one packet more
 
--- the bytes behind the next payload
+-- the bytes after the next payload
 drop_at_most : (n : ℕ) (bytes : Bytes) → drop (min n (length bytes)) bytes ≡ drop n bytes
 drop_at_most n bytes = go (cases_lt n (length bytes)) where
   go : (n < length bytes) ⊎ (length bytes ≤ n) → drop (min n (length bytes)) bytes ≡ drop n bytes

@@ -111,7 +111,7 @@ goes-on (suc n) k a bytes later e = rw same (ap (λ b. filled (take 184 bytes) +
   same : ((a + 1) % 16 == (a + 1) % 16) ≡ true
   same = grind arith
 
--- the payloads are the bytes, with stuffing behind them
+-- the payloads are the bytes, with stuffing after them
 payloads-are : (n : ℕ) (bytes : Bytes) → length bytes ≤ 184 * n → payloads n bytes ≡ bytes ++ replicate (184 * n - length bytes) 0xFF
 payloads-are zero bytes h = grind (arith, common_steps)
 payloads-are (suc n) bytes h = go (λ rest x. payloads-are n rest x) (cases_lt (length bytes) 184) where
@@ -149,7 +149,7 @@ nothing_either_way true b = refl
 nothing_either_way false true = refl
 nothing_either_way false false = refl
 
--- behind a section's packets comes a packet that begins a section at once, or none
+-- after a section's packets comes a packet that begins a section at once, or none
 nothing-goes-on : (k c : ℕ) (m : MuxState) (sections : List Bytes) → going_on c (all_taken k m sections) ≡ []
 nothing-goes-on k c m [] = refl
 nothing-goes-on k c m (s ∷ ss) = go (packet_count s) some where
@@ -177,11 +177,11 @@ opens_none k bytes more n e = rw (stuffing_begins_none bytes more n e) refl
 whole_with_stuffing : (s : Bytes) (n : ℕ) → IsSectionLike s → whole_len (s ++ replicate n 0xFF) ≡ Some (length s)
 whole_with_stuffing s n h = grind (arith, common_steps, h.size.0, h.size.1, h.length_field)
 
--- the candidate of a section that begins behind the pointer field of packet k
+-- the candidate of a section that begins after the pointer field of packet k
 abbrev pub cut_at : ℕ → Bytes → Cut
 cut_at k s = record { packet = k; offset = 5; bytes = s }
 
--- a section with stuffing behind it is the one candidate that opens there
+-- a section with stuffing after it is the one candidate that opens there
 opens-section : (s : Bytes) (k : ℕ) (here more : Bytes) (n : ℕ) → IsSectionLike s → length here ≡ 183 → here ++ more ≡ s ++ replicate n 0xFF
     → opened_in 188 k here more ≡ cut_at k s ∷ []
 opens-section s k here more n h size e = go (nat_le (length s) (length here)) refl where
@@ -210,7 +210,7 @@ opens-section s k here more n h size e = go (nat_le (length s) (length here)) re
   go false t = rw (begins, whole, t, taken, place) refl
   go true t = rw (begins, whole, t, taken, place, opens_none k (drop (length s) here) more n (rest (leb-true (length s) (length here) t))) refl
 
--- the packets of one section cut that section, and then what comes behind them
+-- the packets of one section cut that section, and then what comes after them
 one-section : (s : Bytes) (n k c : ℕ) (later : List Received) → IsSectionLike s → length s + 1 ≤ 184 * n → ((d : ℕ) → going_on d later ≡ [])
     → cuts_of (taken_as n k true c (0 ∷ s) ++ later) ≡ cut_at k s ∷ cuts_of later
 one-section s zero k c later h fits none = absurd (omega (arith, fits))

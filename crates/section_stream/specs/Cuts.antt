@@ -1,5 +1,5 @@
 -- What is cut out of packets, looking forward from each place where a section opens (ISO/IEC 13818-1, 2.4.4):
--- its bytes are what is left of that packet, the payloads of the packets behind it in its run, and the next start
+-- its bytes are what is left of that packet, the payloads of the packets after it in its run, and the next start
 -- packet's bytes before the place that its pointer field names. A run is a stretch of packets without duplicates in
 -- which each counter is one above the last.
 use Rattle.std.specs.Prelude.{ℕ, zero, suc, ◌+◌, ◌-◌, ◌*◌, ◌%◌, Bool, not, ◌&&◌, ◌||◌, List, [], ◌∷◌, ◌++◌, length, map, take, drop, slice_index, Option, Some, None, Result, Ok, Err, nat_lt, nat_le, ◌==◌, if◌then◌else◌}
@@ -48,7 +48,7 @@ pointer_of p = slice_index p.payload 0
 abbrev pub pointer_fits : Received → Bool
 pointer_fits p = nat_lt (pointer_of p) (length p.payload)
 
--- the bytes behind a packet that go on in its run, up to the next start packet and that packet's first part
+-- the bytes after a packet that go on in its run, up to the next start packet and that packet's first part
 abbrev pub going_on : ℕ → List Received → Bytes
 going_on counter [] = []
 going_on counter (q ∷ qs) =
@@ -68,7 +68,7 @@ pub record Cut : Type 0 where
   pub offset : ℕ
   pub bytes : Bytes
 
--- the candidates that open in one packet, where `here` is what is left of it and `later` the bytes behind it
+-- the candidates that open in one packet, where `here` is what is left of it and `later` the bytes after it
 abbrev pub opened_in : ℕ → ℕ → Bytes → Bytes → List Cut
 opened_in zero number here later = []
 opened_in (suc steps) number here later =
@@ -96,7 +96,7 @@ cuts pid packets = cuts_of (without_repeats (received pid packets))
 abbrev pub candidates : ℕ → List Bytes → List Bytes
 candidates pid packets = map (λ c. c.bytes) (cuts pid packets)
 
--- Sections that stand one after another: at each place where three bytes are left, and as many behind them as
+-- Sections that stand one after another: at each place where three bytes are left, and as many after them as
 -- their length field says, those are the next. Else the input ends, and what is left is passed over.
 abbrev pub back_to_back_in : ℕ → Bytes → List Bytes
 back_to_back_in zero bytes = []

@@ -1,5 +1,5 @@
 -- The packets of sections: each section begins a packet. The layout of a packet's payload with a pointer
--- field is that of ISO/IEC 13818-1, 2.4.4; that a section never begins behind another one in a packet is
+-- field is that of ISO/IEC 13818-1, 2.4.4; that a section never begins after another one in a packet is
 -- this project's own rule.
 use Rattle.std.specs.Prelude.{◌≡◌, ℕ, zero, suc, ◌+◌, ◌-◌, ◌*◌, ◌%◌, ◌≤◌, ◌≢◌, Bool, true, false, List, [], ◌∷◌, ◌++◌, length, take, drop, replicate, slice_index, map}
 use Rattle.std.specs.Int.{div_ceil}
@@ -18,7 +18,7 @@ pub record IsSectionLike (section : Bytes) : Type 0 where
   pub length_field : slice_index section 1 % 16 * 256 + slice_index section 2 + 3 ≡ length section
   pub first : slice_index section 0 ≢ 0xFF
 
--- a payload with stuffing behind these bytes
+-- a payload with stuffing after these bytes
 abbrev pub filled : Bytes → Bytes
 filled piece = piece ++ replicate (184 - length piece) 0xFF
 
@@ -31,7 +31,7 @@ pieces (suc n) pid start counter bytes = packet_bytes pid start counter (filled 
 abbrev pub packet_count : Bytes → ℕ
 packet_count section = div_ceil (length section + 1) 184
 
--- the packets of a section, behind a pointer field of 0
+-- the packets of a section, after a pointer field of 0
 abbrev pub packets_of : MuxState → Bytes → List Bytes
 packets_of m section = pieces (packet_count section) m.pid true m.counter (0 ∷ section)
 
@@ -47,7 +47,7 @@ abbrev pub first_packets : ℕ → List Bytes → List ℕ
 first_packets n [] = []
 first_packets n (s ∷ ss) = n ∷ first_packets (n + packet_count s) ss
 
--- where each section begins: the number of its packet, and the byte of that packet, behind its header of four
+-- where each section begins: the number of its packet, and the byte of that packet, after its header of four
 -- bytes and the pointer field
 abbrev pub starts : List Bytes → List (ℕ × ℕ)
 starts sections = map (λ n. (n, 5)) (first_packets 0 sections)

@@ -81,7 +81,7 @@ open_on (suc steps) here c =
       go more Oversize = record { opened = None; out = []; counts = record c { oversize = up c.oversize } }
       go more (Whole n) = with_out (take n here ∷ []) (more (drop n here))
 
--- Bytes behind those of the open section. Those beyond its end are passed over. Where the section closes
+-- Bytes after those of the open section. Those beyond its end are passed over. Where the section closes
 -- and still isn't whole, it is dropped and counted.
 abbrev pub appended : Bool → Bytes → Counts → After
 appended closes bytes c = go (grown bytes) where

@@ -30,7 +30,7 @@ pub struct Counts {
     pub jumps: u64,
     /// Packets that begin no section and come while none is open.
     pub orphans: u64,
-    /// Packets whose pointer field points behind their payload.
+    /// Packets whose pointer field points after their payload.
     pub bad_pointer: u64,
     /// Sections that weren't complete where the next one began.
     pub cut: u64,

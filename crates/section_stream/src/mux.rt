@@ -44,12 +44,12 @@ impl Mux {
         Mux { pid, counter: 0 }
     }
 
-    /// Puts the packets of a section behind those in `out`: the pointer field 0 and the section, in
+    /// Puts the packets of a section after those in `out`: the pointer field 0 and the section, in
     /// pieces of 184 bytes, the last one filled with 0xFF. The first packet has the payload unit start
     /// indicator, and the continuity counters go on from the last packet of the call before.
     ///
     /// The section has 12 to 4,096 bytes, its length field, the last 12 bits of the second and third
-    /// byte, is the number of the bytes behind it, and its first byte isn't 0xFF.
+    /// byte, is the number of the bytes after it, and its first byte isn't 0xFF.
     ///
     /// Out of memory leaves `out` and the counter as before.
     pub fn packets(&mut self, section: &[u8], out: &mut Vec<[u8; 188]>) -> Result<(), NoMemory>
@@ -82,7 +82,7 @@ impl Mux {
     }
 }
 
-/// Puts one packet behind those in `out`, where there is room for it.
+/// Puts one packet after those in `out`, where there is room for it.
 fn put(pid: u16, counter: u8, pointer: &[u8], rest: &[u8], out: &mut Vec<[u8; 188]>)
     requires pid { pid < 8192 }
     requires counter { counter < 16 }
@@ -97,7 +97,7 @@ fn put(pid: u16, counter: u8, pointer: &[u8], rest: &[u8], out: &mut Vec<[u8; 18
     let _ = out.push(build(pid, !pointer.is_empty(), counter, &payload));
 }
 
-/// The next payload of these bytes: 184 of them, or fewer and stuffing behind them.
+/// The next payload of these bytes: 184 of them, or fewer and stuffing after them.
 fn payload_of(pointer: &[u8], rest: &[u8]) -> [u8; 184]
     requires { length pointer.now ≤ 1 }
     ensures { result ≡ filled (take 184 (pointer.now ++ rest.now)) }

@@ -89,7 +89,7 @@ impl OpenSection {
     }
 }
 
-/// Puts more bytes behind these, where there is room for them.
+/// Puts more bytes after these, where there is room for them.
 fn append(bytes: &mut Vec<u8>, more: &[u8])
     requires { vec_len bytes.old + length more.now ≤ vec_capacity bytes.old }
     ensures items { bytes.new.items ≡ bytes.old.items ++ more.now }

@@ -66,7 +66,7 @@ fn growth_with(front: &[u8], back: &[u8]) -> Growth
     }
 }
 
-/// Puts the section of the first `n` bytes of two pieces behind the candidates so far.
+/// Puts the section of the first `n` bytes of two pieces after the candidates so far.
 fn complete(
     alloc: Global,
     front: &[u8],
@@ -174,7 +174,7 @@ fn open_sections<'a>(
     Ok(None)
 }
 
-/// A packet in which a section begins, behind a pointer field.
+/// A packet in which a section begins, after a pointer field.
 fn starts<'a>(
     alloc: Global,
     opened: Option<&[u8]>,

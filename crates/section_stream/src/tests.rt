@@ -5,7 +5,7 @@ use std::alloc::Global;
 use std::test::Fail;
 use ts_packet::build;
 
-// Packet k of a section of 4,096 bytes: its payload has the byte `fill` plus k, behind the pointer
+// Packet k of a section of 4,096 bytes: its payload has the byte `fill` plus k, after the pointer
 // field and the header of the section.
 fn part(fill: u8, k: u8, counter: u8) -> [u8; 188] {
     let mut payload = [fill.wrapping_add(k); 184];
@@ -18,7 +18,7 @@ fn part(fill: u8, k: u8, counter: u8) -> [u8; 188] {
     build(256, k == 0, counter % 16, &payload)
 }
 
-// A packet that begins a section, with stuffing behind these bytes.
+// A packet that begins a section, with stuffing after these bytes.
 fn start(counter: u8, bytes: &[u8]) -> [u8; 188] {
     let mut payload = [0xFF; 184];
     for (to, from) in payload.iter_mut().zip(bytes) {
@@ -114,7 +114,7 @@ fn duplicate_and_jump(rt: HostRuntime) -> Result<(), Fail> {
     Ok(())
 }
 
-// The pointer field and the sections of one packet, behind a packet of another PID.
+// The pointer field and the sections of one packet, after a packet of another PID.
 #[test]
 fn sections_of_one_packet(rt: HostRuntime) -> Result<(), Fail> {
     let other = build(257, true, 0, &[0; 184]);

@@ -1,15 +1,32 @@
-pub mod Lists
-pub mod Entering
-pub mod Rooms
-pub mod Entered
-pub mod Feeding
-pub mod Gathered
-pub mod Grown
-pub mod Telling
-pub mod Committed
-pub mod Scripted
-pub mod Opened
-pub mod Ending
-pub mod Session
-pub mod Arranged
-pub mod Examples
+mod Lists
+mod Entering
+mod Rooms
+mod Entered
+mod Feeding
+mod Gathered
+mod Grown
+mod Telling
+mod Committed
+mod Scripted
+mod Opened
+mod Settled
+mod InPlace
+mod Session
+mod Arranged
+mod Examples
+mod Staged
+mod Planning
+mod Editing
+mod Reading
+mod Casting
+mod Events
+mod Doing
+mod Parted
+mod Closing
+mod Lasting
+mod Finale
+mod Handed
+mod Parting
+mod Counting
+mod Seated
+mod Begun

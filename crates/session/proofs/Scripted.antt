@@ -94,7 +94,7 @@ no_finale_draws p (l ∷ lines) h =
     let here : events_of_line p l.act ≡ Open f.1 f.2 ∷ [] = ap (events_of_line p) f.3 in
     ap (λ es. draws_in (es ++ events_from (pending_after p l.act) lines)) here ∙ no_finale_draws (pending_after p l.act) lines (All-tail IsFinale l lines h)
 
-none_settle : (stage : Stage) (lines : List LineFields) → All (IsLineOf stage) lines → list_any (λ (l : LineFields). is_settle l.act) lines ≡ false
+pub none_settle : (stage : Stage) (lines : List LineFields) → All (IsLineOf stage) lines → list_any (λ (l : LineFields). is_settle l.act) lines ≡ false
 none_settle stage [] h = refl
 none_settle stage (l ∷ lines) h =
     ap (λ (b : Bool). b || list_any (λ (l : LineFields). is_settle l.act) lines) (All-head (IsLineOf stage) l lines h).1 ∙ none_settle stage lines (All-tail (IsLineOf stage) l lines h)
@@ -110,7 +110,7 @@ settling_draw = record { asked = 1048576; fates = [] }
 abbrev pub EndsDrawn : List DrawFields → Type 0
 EndsDrawn ds = (earlier : List DrawFields) × (ds ≡ earlier ++ settling_draw ∷ settling_draw ∷ [])
 
-ends_settle : (p : Pending) (ends : List LineFields) → AreEnds ends → list_any (λ (l : LineFields). is_settle l.act) ends ≡ true → draws_in (events_from p ends) ≡ settling_draw ∷ settling_draw ∷ []
+pub ends_settle : (p : Pending) (ends : List LineFields) → AreEnds ends → list_any (λ (l : LineFields). is_settle l.act) ends ≡ true → draws_in (events_from p ends) ≡ settling_draw ∷ settling_draw ∷ []
 ends_settle p [] h s = absurd (cc)
 ends_settle p (l ∷ lines) (inl h) s =
     ap (λ (act : Act). draws_in (events_of_line p act ++ events_from (pending_after p act) lines)) h.1
@@ -120,17 +120,25 @@ ends_settle p (l ∷ lines) (inr h) s =
     ap (λ (act : Act). is_settle act || list_any (λ (l : LineFields). is_settle l.act) lines) (h.0).3 ∙ none_finale lines h.1 in
     absurd (let e : true ≡ false = sym s ∙ none in cc)
 
+abbrev any_settles : List LineFields → Bool
+any_settles ls = list_any (λ (l : LineFields). is_settle l.act) ls
+
+-- where the script settles, it does so at its end
+pub settles_at_end : (script : Fields) (a : IsArranged script) → settles script ≡ true → list_any (λ (l : LineFields). is_settle l.act) a.ends ≡ true
+settles_at_end script a s =
+    let first = a.before ++ a.during in
+    let cut : script.lines ≡ first ++ a.ends = a.lines in
+    let none : any_settles first ≡ false =
+    list_any-append (λ (l : LineFields). is_settle l.act) a.before a.during ∙ (λ i. none_settle Before a.before a.are_before i || none_settle During a.during a.are_during i) in
+    sym (ap (λ (b : Bool). b || any_settles a.ends) none) ∙ sym (list_any-append (λ (l : LineFields). is_settle l.act) first a.ends) ∙ ap any_settles (sym cut) ∙ s
+
 -- where the script settles, its last two draws are those of `settle`
 pub settles_last : (script : Fields) → IsArranged script → settles script ≡ true → EndsDrawn (draws_in (events_of script))
 settles_last script a s =
-    let any : List LineFields → Bool = λ ls. list_any (λ (l : LineFields). is_settle l.act) ls in
     let first = a.before ++ a.during in
     let cut : script.lines ≡ first ++ a.ends = a.lines in
-    let none : any first ≡ false =
-    list_any-append (λ (l : LineFields). is_settle l.act) a.before a.during ∙ (λ i. none_settle Before a.before a.are_before i || none_settle During a.during a.are_during i) in
-    let last : any a.ends ≡ true = sym (ap (λ (b : Bool). b || any a.ends) none) ∙ sym (list_any-append (λ (l : LineFields). is_settle l.act) first a.ends) ∙ ap any (sym cut) ∙ s in
     let parts = events_append none_pending first a.ends in (
       draws_in (events_from none_pending first),
       ap (λ ls. draws_in (events_from none_pending ls)) cut ∙ ap draws_in parts.1 ∙ draws_append (events_from none_pending first) (events_from parts.0 a.ends)
-          ∙ ap (λ ds. draws_in (events_from none_pending first) ++ ds) (ends_settle parts.0 a.ends a.are_ends last),
+          ∙ ap (λ ds. draws_in (events_from none_pending first) ++ ds) (ends_settle parts.0 a.ends a.are_ends (settles_at_end script a s)),
     )

@@ -31,8 +31,9 @@ use Rattle.session.proofs.Feeding.{fates_in, asked_by}
 use Rattle.session.proofs.Telling.{Told, Tells, merge_tells, none_of_other}
 use Rattle.session.proofs.Committed.{committed, HasPlace, HasNone, find_place, place_mapped}
 use Rattle.session.proofs.Scripted.{none_of_editor, none_of_reader, EndsDrawn, settles_last}
+use Rattle.session.proofs.InPlace.{opens_in_place}
 use Rattle.session.proofs.Opened.{in_order, are_answered, are_apart, are_numbers, actor_at, reader_told, none_opened}
-use Rattle.session.proofs.Ending.{steps, ends_settled, ends_whole, ends_answered}
+use Rattle.session.proofs.Settled.{steps, ends_settled, ends_whole, ends_answered}
 
 -- ---- draws
 
@@ -162,6 +163,7 @@ module _ (script : Fields) (c : CatalogueState) (drawings : List Drawing) (shots
       commits = λ editor some most. commits editor;
       draws = draws;
       opens = opens;
+      in_place = opens_in_place script.editors opened (fates_of script) c.entries;
       settled = settled;
       whole = λ s. ends_whole grow whole (steps merge) (settled s) published few;
       answered = λ s. ends_answered grow opening merge run (settled s) published few;

@@ -3,3 +3,8 @@ pub mod Sessions
 pub mod Gathering
 pub mod Played
 pub mod Texts
+pub mod Acting
+pub mod Casting
+pub mod Threads
+pub mod Ending
+pub mod Playing

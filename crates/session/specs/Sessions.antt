@@ -69,6 +69,14 @@ AreTold reader [] (x ∷ xs) = ⊥
 AreTold reader (a ∷ asked) [] = ⊥
 AreTold reader (a ∷ asked) (x ∷ xs) = (x.1.0 ≡ Open reader a.path) × (a.least ≤ x.0) × AreTold reader asked xs
 
+-- The opens stand right after the last draw that they answer by, or before all else: none right after a commit, and those after one draw
+-- in the order of their readers' numbers. Only a reader of `least` or above may open at the front; 65 is above all readers.
+abbrev pub OpensInPlace : ℕ → List Step → Type 0
+OpensInPlace least [] = Unit {0}
+OpensInPlace least (Commit editor edits ∷ steps) = OpensInPlace 65 steps
+OpensInPlace least (Draw asked fates ∷ steps) = OpensInPlace 0 steps
+OpensInPlace least (Open reader path ∷ steps) = (least ≤ reader) × OpensInPlace reader steps
+
 -- ---- the whole
 
 -- the last events but opens are the two draws of `settle`
@@ -91,8 +99,9 @@ EndsAnswered told =
 
 -- The events are those of the script: each editor's commits in written order, but for those that found no room; the draws in written
 -- order; each reader's opens in written order, an open above `start` after the draws above it, one below `start` after those above
--- `start`, and a finale after all. The draws of `settle` are the last events but opens. Together they are one run of a world of
--- carousel 1, which keeps what is promised of every run; and after `settle` the last generation was heard whole, and finales answer it.
+-- `start`, and a finale after all. Each open stands right after the draw that it answers by, in the order of the readers' numbers. The
+-- draws of `settle` are the last events but opens. Together they are one run of a world of carousel 1, which keeps what is promised of
+-- every run; and after `settle` the last generation was heard whole, and finales answer it.
 pub record IsSession (script : Fields) (told : List (Step × Reply)) : Type 0 where
   pub run : IsRunOfWorld 1 told
   pub steps : All InRange (map (λ (x : Step × Reply). x.0) told)
@@ -101,6 +110,7 @@ pub record IsSession (script : Fields) (told : List (Step × Reply)) : Type 0 wh
   pub draws : draws_in (map (λ (x : Step × Reply). x.0) told) ≡ draws_in (events_of script)
   pub opens : (reader : ℕ) → 1 ≤ reader → reader ≤ 64
       → AreTold reader (asked_of reader script) (placed (λ (x : Step × Reply). is_open_by reader x.0) (λ (x : Step × Reply). is_draw_step x.0) 0 told)
+  pub in_place : OpensInPlace 0 (map (λ (x : Step × Reply). x.0) told)
   pub settled : settles script ≡ true → EndsSettled (map (λ (x : Step × Reply). x.0) told)
   pub whole : settles script ≡ true → EndsWhole (map (λ (x : Step × Reply). x.0) told)
   pub answered : settles script ≡ true → EndsAnswered told

@@ -10,7 +10,7 @@ at_turn P [] k x all lt at = absurd (omega (arith, lt))
 at_turn P (y ∷ ys) zero x all lt at = subst P (sym at) (All-head P y ys all)
 at_turn P (y ∷ ys) (suc k) x all lt at = at_turn P ys k x (All-tail P y ys all) (omega (arith, lt)) at
 
--- one line more, behind those that were done
+-- one line more, after those that were done
 pub one_more : {A B : Type 0} (f : A → B) (before : List B) (done : List A) (x : A) → (before ++ map f done) ++ f x ∷ [] ≡ before ++ map f (done ++ x ∷ [])
 one_more f before done x = append_assoc before (map f done) (f x ∷ []) ∙ ap (λ l. before ++ l) (sym (map-append f done (x ∷ [])))
 

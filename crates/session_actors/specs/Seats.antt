@@ -46,6 +46,7 @@ pub record HasCommitted (s : Station) (place : ℕ) (lines : List (List Edit)) (
 -- if it is whole, it made all the commits that lay before it, after those that it had made
 pub record DidEdit (s : Station) (before after : EditorSeat) : Type 0 where
   pub pass : IsStationPass s after.pass
+  pub editor : after.number ≡ before.number
   pub whole : after.whole ≡ true → (place : ℕ) (lines : List (List Edit)) → HasCommitted s place lines before.pass
       → HasCommitted s place (lines ++ map edits_of before.commits.items) after.pass
 

@@ -31,7 +31,7 @@ module _ {W S R E F O P : Type 0} (reply : W → S → R) (happens : W → S →
     pub open_of : (w : W) (k : ℕ) (fates : List F) (es : List E) → Stands w k fates es → (r : ℕ) → Each (λ o. m.draws o ≡ k → IsReplied w r o) (opens_by m r passes)
 
   module _ (passes : List P) (Stands : W → ℕ → List F → List E → Type 0) (laws : Machine passes Stands) where
-    -- all entries are behind it
+    -- all entries are after it
     abbrev pub Ends : W → Type 0
     Ends w = (k : ℕ) × (fates : List F) × Stands w k fates []
 

@@ -9,11 +9,16 @@ use Rattle.ior_tap.specs.IorReading.{each_at, tap_at, component_at, location_at,
 use Rattle.dsi_dii.specs.ControlReading.{info_at, line_at, dii_at, dsi_at, head_at, sized_at, frame_at, private_at}
 use Rattle.biop_object.specs.ObjectReading.{binding_at, context_at, file_at, folder_at, object_at, inside_at}
 use Rattle.path_resolver.specs.declared.answer.Answer.TheVariants as answers
+use Rattle.module_packer.specs.Kept as placement
+use Rattle.cycle_planner.specs.declared.Item.TheVariants.{Dsi, Dii, Block}
+use Rattle.generation.specs.Layouts.{GenerationState}
 use Rattle.generation.specs.Lawful.{ArePublishable}
 use Rattle.generation_catalogue.specs.History.{CatalogueState, IsHistory, IsEntered, entry_after, trees_of}
 use Rattle.generation_catalogue.specs.declared.entry.Entry.{Entry}
 use Rattle.generation_catalogue.specs.declared.entry.Entry.TheVariants as entries
+use Rattle.carousel_world.specs.World.{Drawing}
 use Rattle.carousel_world.specs.Runs.{RunIsPremised, the_path, puts}
+use Rattle.carousel_world.proofs.CallerLemmas.{generation_with}
 use Rattle.session_history.specs.declared.opens.Open.{Open}
 use Rattle.session_history.specs.Merges.{ReaderFields, state_of, drawings_of, AreAnswered}
 use Rattle.session_history.specs.Merged.{AMergeIsReady, AreParts}
@@ -42,12 +47,33 @@ readers = record { reader = 1; opens = first_opens } ∷ record { reader = 2; op
 at : (k : ℕ) (x e : Entry) → Some x ≡ Some e → x ≡ entry_after (state_of 1 (take k those)) x → e ≡ entry_after (state_of 1 (take k those)) e
 at k x e h is = let s : x ≡ e = cc in subst (λ (y : Entry). y ≡ entry_after (state_of 1 (take k those)) y) s is
 
+-- each entry is what the rules give after those before it
+first_commit : entries.Commit 0 (puts (1 ∷ 2 ∷ 3 ∷ [])) (Ok 1) ≡ entry_after (state_of 1 (take 0 those)) (entries.Commit 0 (puts (1 ∷ 2 ∷ 3 ∷ [])) (Ok 1))
+unfolding placement.kept placement.least_with
+first_commit = refl
+
+first_draw : entries.Draw 1048576 1 0 3 ≡ entry_after (state_of 1 (take 1 those)) (entries.Draw 1048576 1 0 3)
+unfolding placement.kept placement.least_with
+first_draw = refl
+
+second_commit : entries.Commit 1 (puts (4 ∷ 5 ∷ 6 ∷ [])) (Ok 2) ≡ entry_after (state_of 1 (take 2 those)) (entries.Commit 1 (puts (4 ∷ 5 ∷ 6 ∷ [])) (Ok 2))
+unfolding placement.kept placement.least_with
+second_commit = refl
+
+second_draw : entries.Draw 1048576 2 0 3 ≡ entry_after (state_of 1 (take 3 those)) (entries.Draw 1048576 2 0 3)
+unfolding placement.kept placement.least_with
+second_draw = refl
+
+last_draw : entries.Draw 1048576 2 0 3 ≡ entry_after (state_of 1 (take 4 those)) (entries.Draw 1048576 2 0 3)
+unfolding placement.kept placement.least_with
+last_draw = refl
+
 each_in : (k : ℕ) (e : Entry) → slice_get those k ≡ Some e → e ≡ entry_after (state_of 1 (take k those)) e
-each_in zero e h = at 0 (entries.Commit 0 (puts (1 ∷ 2 ∷ 3 ∷ [])) (Ok 1)) e h refl
-each_in (suc zero) e h = at 1 (entries.Draw 1048576 1 0 3) e h refl
-each_in (suc (suc zero)) e h = at 2 (entries.Commit 1 (puts (4 ∷ 5 ∷ 6 ∷ [])) (Ok 2)) e h refl
-each_in (suc (suc (suc zero))) e h = at 3 (entries.Draw 1048576 2 0 3) e h refl
-each_in (suc (suc (suc (suc zero)))) e h = at 4 (entries.Draw 1048576 2 0 3) e h refl
+each_in zero e h = at 0 (entries.Commit 0 (puts (1 ∷ 2 ∷ 3 ∷ [])) (Ok 1)) e h first_commit
+each_in (suc zero) e h = at 1 (entries.Draw 1048576 1 0 3) e h first_draw
+each_in (suc (suc zero)) e h = at 2 (entries.Commit 1 (puts (4 ∷ 5 ∷ 6 ∷ [])) (Ok 2)) e h second_commit
+each_in (suc (suc (suc zero))) e h = at 3 (entries.Draw 1048576 2 0 3) e h second_draw
+each_in (suc (suc (suc (suc zero)))) e h = at 4 (entries.Draw 1048576 2 0 3) e h last_draw
 each_in (suc (suc (suc (suc (suc k))))) e h = absurd (cc)
 
 entered_in : (k : ℕ) (d : Entry) → k < 5 → IsEntered (slice_index_or those k d)
@@ -94,7 +120,20 @@ parts = record {
   apart = ((λ e. absurd (omega arith), tt), (tt, tt));
 }
 
-answered : AreAnswered (drawings_of kept all_fates) readers
+-- the draws, with their generations written out
+abbrev cycle_drawn : GenerationState → List Fate → Drawing
+cycle_drawn g fates = record { generation = g; items = Dsi ∷ Dii ∷ Block 1 0 ∷ []; fates = fates }
+
+abbrev drawn : List Drawing
+drawn =
+    cycle_drawn (generation_with 1 (1 ∷ 2 ∷ 3 ∷ []) 1) (Lose ∷ Keep ∷ Keep ∷ Keep ∷ [])
+    ∷ cycle_drawn (generation_with 2 (4 ∷ 5 ∷ 6 ∷ []) 2) (Keep ∷ Keep ∷ Flip 800 ∷ Keep ∷ []) ∷ cycle_drawn (generation_with 2 (4 ∷ 5 ∷ 6 ∷ []) 2) [] ∷ []
+
+drawn_is : drawn ≡ drawings_of kept all_fates
+unfolding placement.kept placement.least_with
+drawn_is = refl
+
+answered : AreAnswered drawn readers
 unfolding message_at block_at each_at tap_at component_at location_at taps_at components_at profile_at ior_at info_at line_at dii_at dsi_at binding_at context_at file_at folder_at object_at head_at sized_at frame_at private_at inside_at
 answered = (((refl, refl), ((refl, refl), tt)), (((refl, refl), tt), tt))
 
@@ -108,7 +147,7 @@ ready run = (
     history = history run.published;
     parts = parts;
     numbers = record { some = some_in; most = most_in; apart = apart_in };
-    answered = answered;
+    answered = subst (λ ds. AreAnswered ds readers) drawn_is answered;
   },
   refl,
 )

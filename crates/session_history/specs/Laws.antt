@@ -24,7 +24,7 @@ module _ {X : Type 0} where
   PlacedStands picked drawn = (xs : List X) (early late : List (ℕ × X)) (k : ℕ) (x : X) → placed picked drawn 0 xs ≡ early ++ (k, x) ∷ late
       → (before : List X) × (after : List X) × (xs ≡ before ++ x ∷ after) × (count_by drawn before ≡ k) × (filter picked before ≡ map (λ y. y.1) early)
 
-  -- what has all draws of the list before it has none behind it
+  -- what has all draws of the list before it has none after it
   abbrev pub LastStands : (picked drawn : X → Bool) → Type 0
   LastStands picked drawn = (xs : List X) (early late : List (ℕ × X)) (k : ℕ) (x : X) → placed picked drawn 0 xs ≡ early ++ (k, x) ∷ late → count_by drawn xs ≡ k
       → (before : List X) × (after : List X) × (xs ≡ before ++ x ∷ after) × (filter drawn (x ∷ after) ≡ [])
@@ -68,7 +68,7 @@ module _ {E F O P X : Type 0} where
       → Each (λ q. m.reader q ≢ m.reader p) before → Each (λ q. m.reader q ≢ m.reader p) after
       → opens_by m (m.reader p) (before ++ p ∷ after) ≡ m.opens p
 
-  -- more entries come behind a merge, with the opens behind their draws
+  -- more entries come after a merge, with the opens after their draws
   abbrev pub MergedOnwards : Merging E F O P X → Type 0
   MergedOnwards m = (passes : List P) (fates : List F) (entries more : List E)
       → merge_of m passes fates (entries ++ more) ≡ merge_of m passes fates entries ++ merged m passes (count_by m.is_draw entries) (drop (count_by m.is_draw entries) fates) more

@@ -6,11 +6,11 @@ use Rattle.std.proofs.lemmas.Option.{same_Some}
 use Rattle.oc_bytes.specs.Outcome.{Rose, Told}
 use Rattle.section_stream.specs.Cuts.{Bytes}
 use Rattle.shell_streams.specs.Held.{AllTaken, IsRear}
-use Rattle.shell_streams.specs.Sending.{OutputState, Sends, Puts}
+use Rattle.shell_streams.specs.Sending.{OutputState, Sends, Puts, IsInTime}
 use Rattle.shell_streams.specs.declared.output.OutputFault.{OutputFault}
 use Rattle.shell_streams.specs.declared.output.OutputFault.TheVariants as faults
 
--- ---- content that is told
+-- ---- content that is known
 
 pub told_weaker : {A : Type 0} {P Q : A → A → Type 0} {a b : Option A} → Told a b P → ((x y : A) → P x y → Q x y) → Told a b Q
 told_weaker t f = record { kept = t.kept; each = λ x y e g. f x y (t.each x y e g) }
@@ -61,6 +61,8 @@ puts_nothing x o = record {
   err = tt;
   later = omega arith;
   cause = λ e. absurd (cc);
+  in_time = λ h. refl;
+  goes_on = λ n. refl;
 }
 
 -- nor was the text, since there was no memory
@@ -71,7 +73,13 @@ puts_none o text = record {
   err = told_same o.written (λ y. record { rest = o.pending ++ text; sends = record { sent = []; after_is = sym (append-nil y); split = refl } });
   later = omega arith;
   cause = λ e. absurd (cc);
+  in_time = λ h. refl;
+  goes_on = λ n. refl;
 }
+
+-- a call that did not fail goes on in time
+in_time_then : {T U : Type 0} {x : T} {r : Result U OutputFault} {a b c : OutputState} {t u : Bytes} → Puts (Ok x) a b t → Puts r b c u → IsInTime a c
+in_time_then p q = λ h. q.in_time (p.goes_on (λ e. absurd (cc)) ∙ h) ∙ p.in_time h
 
 -- two texts
 pub puts_then : {T U : Type 0} {x : T} {r : Result U OutputFault} {a b c : OutputState} {t u : Bytes} → Puts (Ok x) a b t → Puts r b c u → Puts r a c (t ++ u)
@@ -81,6 +89,8 @@ puts_then {r = Ok y} p q = record {
   err = tt;
   later = omega (arith, p.later, q.later);
   cause = λ e. absurd (cc);
+  in_time = in_time_then p q;
+  goes_on = λ n. q.goes_on n ∙ p.goes_on (λ e. absurd (cc));
 }
 puts_then {r = Err f} p q = record {
   same = q.same ∙ p.same;
@@ -88,6 +98,8 @@ puts_then {r = Err f} p q = record {
   err = told_then p.ok q.err (λ x y z s e. record { rest = e.rest; sends = sends_then s e.sends });
   later = omega (arith, p.later, q.later);
   cause = λ e. rose_last p.later (q.cause e);
+  in_time = in_time_then p q;
+  goes_on = λ n. q.goes_on n ∙ p.goes_on (λ e. absurd (cc));
 }
 
 -- a fault stops a call before a further text
@@ -98,14 +110,16 @@ puts_stop u p = record {
   err = told_weaker p.err (λ x y e. record { rest = e.rest ++ u; sends = sends_more u e.sends });
   later = p.later;
   cause = λ e. p.cause (cc);
+  in_time = p.in_time;
+  goes_on = λ n. p.goes_on (λ e. n (cc));
 }
 
 -- another result of the same kind
 pub puts_ok : {T U : Type 0} {x : T} (y : U) {a b : OutputState} {t : Bytes} → Puts (Ok x) a b t → Puts (Ok y) a b t
-puts_ok y p = record { same = p.same; ok = p.ok; err = tt; later = p.later; cause = λ e. absurd (cc) }
+puts_ok y p = record { same = p.same; ok = p.ok; err = tt; later = p.later; cause = λ e. absurd (cc); in_time = p.in_time; goes_on = λ n. p.goes_on (λ e. absurd (cc)) }
 
 pub puts_err : {T U : Type 0} {f : OutputFault} {a b : OutputState} {t : Bytes} → Puts {T = T} (Err f) a b t → Puts {T = U} (Err f) a b t
-puts_err p = record { same = p.same; ok = tt; err = p.err; later = p.later; cause = λ e. p.cause (cc) }
+puts_err p = record { same = p.same; ok = tt; err = p.err; later = p.later; cause = λ e. p.cause (cc); in_time = p.in_time; goes_on = λ n. p.goes_on (λ e. n (cc)) }
 
 -- the same text in other words
 pub puts_as : {T : Type 0} {r : Result T OutputFault} {a b : OutputState} {t u : Bytes} → t ≡ u → Puts r a b t → Puts r a b u
@@ -113,7 +127,7 @@ puts_as {r = r} {a = a} {b = b} e p = let P : Bytes → Type 0 = λ bs. Puts r a
 
 -- ---- what was read
 
--- content that is told before is told after
+-- content that is known before is told after
 pub told_here : {A : Type 0} {P : A → A → Type 0} (a b : Option A) (x : A) → Told a b P → a ≡ Some x → (y : A) × (b ≡ Some y) × P x y
 told_here a (Some y) x t i = (y, refl, t.each x y i refl)
 told_here a None x t i = absurd (true≢false (sym (t.kept ∙ ap is_some i)))

@@ -74,7 +74,7 @@ cut_none (c ∷ cs) e =
     let bytes : Bytes = c ∷ cs in
     cond-false (has_front bytes) (take (span bytes) bytes ∷ back_to_back_in (length cs) (drop (span bytes) bytes)) [] (front_false bytes e)
 
--- bytes behind a whole section don't change it
+-- bytes after a whole section don't change it
 front_append : (held rest : Bytes) (n : ℕ) → Front held n → Front (held ++ rest) n
 front_append held rest n f = record {
   header = omega (arith, f.header, length-append held rest);
@@ -105,7 +105,7 @@ cut_next sections input held rest n e c =
 pub cut_begin : (input : Bytes) → AreCut [] input input
 cut_begin input = record { whole = refl; cuts = refl }
 
--- ---- where content is told
+-- ---- where content is known
 
 told_both : (a : Option Bytes) (held : Bytes) (left : Option Bytes) → is_some (onto_left held left) ≡ is_some left
 told_both a held (Some l) = refl
@@ -183,7 +183,7 @@ over_rest most input rest sections c h some =
 
 -- ---- how gathering stops and ends
 
--- a front was taken, and the status isn't that of the limit
+-- a prefix was taken, and the status isn't that of the limit
 pub stopped_other : {over : Bytes → Bool} {a b : Option Bytes} (s : InputFault) → (s ≡ faults.TooLong → ⊥) → Told a b IsRear → Told a b (Stopped over s)
 stopped_other s n t = record { kept = t.kept; each = λ x y i o. record { rear = t.each x y i o; too_long = λ e. absurd (n e) } }
 

@@ -55,7 +55,7 @@ taken_over bytes into n most within over p q = told_then p q (λ x y z e t.
 pub read_front : (n room : ℕ) (into rest : Bytes) → n ≤ room → n ≤ length into → take n (take room (into ++ rest)) ≡ take n into
 read_front n room into rest h k = take-take n room (into ++ rest) h ∙ take-append-le n into rest k
 
--- and goes behind the bytes
+-- and goes after the bytes
 pub gathered : (bytes new front into rest : Bytes) (n room : ℕ) → new ≡ bytes ++ take n front → front ≡ take room (into ++ rest) → n ≤ room → n ≤ length into → new ≡ bytes ++ take n into
 gathered bytes new front into rest n room e f h k = e ∙ ap (λ xs. bytes ++ xs) (ap (take n) f ∙ read_front n room into rest h k)
 

@@ -22,7 +22,7 @@ range_drop n i j xs h =
 pub range_same : (xs ys : List ℕ) (i j : ℕ) → take j xs ≡ take j ys → slice_range xs i j ≡ slice_range ys i j
 range_same xs ys i j e = between_is xs i j ∙ ap (drop i) e ∙ sym (between_is ys i j)
 
--- n bytes more behind a range
+-- n bytes more after a range
 pub range_more : (xs ys : List ℕ) (i j n : ℕ) → take j xs ≡ take j ys → i ≤ j → j ≤ length xs → slice_range xs i (j + n) ≡ slice_range ys i j ++ take n (drop j xs)
 range_more xs ys i j n e h within =
     let parts : take (j + n) xs ≡ take j xs ++ take n (drop j xs) = take-add j n xs in
@@ -56,7 +56,7 @@ reads_nothing new start n None None t z = tt
 pub length-range : (xs : List ℕ) (i j : ℕ) → length (slice_range xs i j) ≤ j - i
 length-range xs i j = omega (arith, length-take (j - i) (drop i xs))
 
--- a buffer in which the bytes that are held were moved, and then more was read behind them
+-- a buffer in which the bytes that are held were moved, and then more was read after them
 pub record Reread (v : Vec ℕ Global) (new last : List ℕ) (first end at : ℕ) : Type 0 where
   pub order : first ≤ end
   pub within : end ≤ vec_len v
@@ -94,7 +94,7 @@ reread_more {v = v} {new = new} {last = last} {first = first} {end = end} {at = 
 drop-put_mid_at : (start k : ℕ) (bytes into : List ℕ) → start ≤ length bytes → drop start (put_mid start k bytes into) ≡ into ++ post_of start k bytes
 drop-put_mid_at start k bytes into h = drop_at (take start bytes) (into ++ post_of start k bytes) start (length-take-le start bytes h)
 
--- what was read behind the first `start`
+-- what was read after the first `start`
 pub reads_behind : (bytes into before after : List ℕ) (start n : ℕ) → start < length bytes → length into ≡ length bytes - start → n ≤ length bytes - start → Takes before after into n
     → ReadsBehind (put_mid start (length bytes - start) bytes into) before after start n
 reads_behind bytes into before after start n lt len within t = record {

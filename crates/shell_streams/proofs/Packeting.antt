@@ -60,7 +60,7 @@ packets_before [] bytes h = refl
 packets_before (p ∷ ps) bytes h =
     ap packets_of (append_assoc p (concat ps) bytes) ∙ packet_at p (concat ps ++ bytes) h.0 ∙ ap (λ t. p ∷ t) (packets_before ps bytes h.1)
 
--- the packets of what stands behind the first n packets
+-- the packets of what stands after the first n packets
 pub packets_behind : (n : ℕ) (bytes : Bytes) → n ≤ length (packets_of bytes) → packets_of (drop (188 * n) bytes) ≡ drop n (packets_of bytes)
 packets_behind zero bytes h = refl
 packets_behind (suc n) bytes h = by (cases_lt (length bytes) 188) (packets_behind n (drop 188 bytes))
@@ -163,7 +163,7 @@ reader_next pid old new held start before after out cs rest h u m f c = record {
 
 -- ---- the end of an input
 
--- what is left of the input behind the packets is held, and is no packet
+-- what is left of the input after the packets is held, and is no packet
 ended : (input held : Bytes) (packets : List Bytes) → AreTaken packets input held → length held < 188 → 188 * length packets + length held ≤ 3154116608 → AreAllTaken packets input []
 ended input held packets t short within = record {
   to_end = refl;
@@ -237,7 +237,7 @@ over packets input rest t n some =
     longer [] h = absurd (h refl)
     longer (c ∷ cs) h = omega arith
 
--- at least a byte more stands behind the limit
+-- at least a byte more stands after the limit
 pub taken_over : (most : ℕ) (held old : Bytes) (start before after : Option Bytes) (packets : List Bytes) → onto_left held after ≡ onto_left old before → most ≡ 0
     → ((rest : Bytes) → onto_left old before ≡ Some rest → rest ≢ []) → HasTaken packets most start (onto_left old before) → Told start after (Stops packets faults.TooLong)
 taken_over most held old start before after packets rest full some c =

@@ -6,7 +6,7 @@ use Rattle.shell_streams.specs.Cuts.{Bytes, back_to_back}
 use Rattle.shell_streams.specs.declared.input.InputFault.{InputFault}
 use Rattle.shell_streams.specs.declared.input.InputFault.TheVariants as faults
 
--- what is still to be taken, where content is told: the bytes that are held, and those that the source has left
+-- what is still to be taken, where content is known: the bytes that are held, and those that the source has left
 abbrev pub onto_left : Bytes → Option Bytes → Option Bytes
 onto_left held left = option_map (λ l. held ++ l) left
 
@@ -25,12 +25,12 @@ pub record AllTaken {A : Type 0} (standing_in : Bytes → A) (over : Bytes → B
   pub within : over input ≡ false
   pub all : standing_in input ≡ taken
 
--- `left` is what is left of the input behind what was taken of it
+-- `left` is what is left of the input after what was taken of it
 pub record IsRear (input left : Bytes) : Type 0 where
   pub taken : Bytes
   pub whole : input ≡ taken ++ left
 
--- so many bytes of a source went behind the first `start` of a buffer
+-- so many bytes of a source went after the first `start` of a buffer
 pub record ReadsBehind (new before after : Bytes) (start n : ℕ) : Type 0 where
   pub within : n ≤ length before
   pub front : take n (drop start new) ≡ take n before

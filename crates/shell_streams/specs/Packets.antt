@@ -22,7 +22,7 @@ packets_of input = packets_in (length input) input
 abbrev pub candidates_of : ℕ → Bytes → List Bytes
 candidates_of pid input = candidates pid (packets_of input)
 
--- at least a byte stands behind the first n packets
+-- at least a byte stands after the first n packets
 abbrev pub is_over_packets : ℕ → Bytes → Bool
 is_over_packets n input = nat_lt (188 * n) (length input)
 
@@ -41,8 +41,8 @@ pub record HasTaken (packets : List Bytes) (most : ℕ) (start rest : Option Byt
   pub number : length packets + most ≡ 16777216
   pub taken : Told start rest (AreTaken packets)
 
--- what was taken of an input when reading stopped: these packets, and perhaps others behind them; where it stopped at the limit, the
--- input goes on behind that
+-- what was taken of an input when reading stopped: these packets, and perhaps others after them; where it stopped at the limit, the
+-- input goes on after that
 pub record Stops (packets : List Bytes) (s : InputFault) (input left : Bytes) : Type 0 where
   pub taken : Bytes
   pub whole : input ≡ taken ++ left
@@ -64,7 +64,7 @@ pub record HasCut (pid : ℕ) (reader : PacketReader) (start left : Option Bytes
   pub all : candidates pid packets ≡ candidates_so_far
 
 -- what was taken of the input when a command stopped: its packets are those of which these are the candidates, and perhaps
--- others behind them; where it stopped at the limit, the input goes on behind that
+-- others after them; where it stopped at the limit, the input goes on after that
 pub record Halts (pid : ℕ) (candidates_so_far : List Bytes) (s : InputFault) (input left : Bytes) : Type 0 where
   pub taken : Bytes
   pub whole : input ≡ taken ++ left

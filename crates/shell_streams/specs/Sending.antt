@@ -1,5 +1,5 @@
 -- Output that is written in large pieces: what was written, and what is pending.
-use Rattle.std.specs.Prelude.{◌≡◌, ◌≤◌, ℕ, ◌++◌, Option, Result, Ok, OnOk, OnErr, IsErrOf}
+use Rattle.std.specs.Prelude.{◌≡◌, ◌≤◌, ℕ, ◌++◌, Bool, false, Option, Result, Ok, OnOk, OnErr, IsErrOf}
 use Rattle.oc_bytes.specs.Outcome.{Rose, Told}
 use Rattle.oc_bytes.specs.declared.sink.WriteFault.{WriteFault}
 use Rattle.oc_bytes.specs.declared.sink.WriteFault.TheVariants as writes
@@ -7,11 +7,14 @@ use Rattle.shell_streams.specs.declared.output.OutputFault.{OutputFault}
 use Rattle.shell_streams.specs.declared.output.OutputFault.TheVariants as faults
 use Rattle.section_stream.specs.Cuts.{Bytes}
 
--- an output: the sink's name, what was written there where that is told, the sink's count of faults, and what is pending
+-- an output: the sink's name, what was written there where that is known, the sink's count of faults, whether a write has failed, whether one
+-- was tried after that, and what is pending
 pub record OutputState : Type 0 where
   pub name : ℕ
   pub written : Option Bytes
   pub faults : ℕ
+  pub failed : Bool
+  pub late : Bool
   pub pending : Bytes
 
 -- what was pending and then the text went to the sink, up to this rest of it
@@ -25,6 +28,10 @@ pub record SendsPart (pending text before after : Bytes) : Type 0 where
   pub rest : Bytes
   pub sends : Sends pending text rest before after
 
+-- where no write had failed before, none was tried after one that failed
+abbrev pub IsInTime : OutputState → OutputState → Type 0
+IsInTime old new = old.failed ≡ false → new.late ≡ old.late
+
 -- A call put the text after what was pending: what isn't written of it is pending then. After a fault a prefix of it was written.
 pub record Puts {T : Type 0} (outcome : Result T OutputFault) (old new : OutputState) (text : Bytes) : Type 0 where
   pub same : new.name ≡ old.name
@@ -32,6 +39,8 @@ pub record Puts {T : Type 0} (outcome : Result T OutputFault) (old new : OutputS
   pub err : OnErr outcome (Told old.written new.written (SendsPart old.pending text))
   pub later : old.faults ≤ new.faults
   pub cause : IsErrOf outcome faults.Failed → Rose old.faults new.faults
+  pub in_time : IsInTime old new
+  pub goes_on : (IsErrOf outcome faults.Failed → ⊥) → new.failed ≡ old.failed
 
 -- the text was put
 abbrev pub HasPut : OutputState → OutputState → Bytes → Type 0

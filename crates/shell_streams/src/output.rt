@@ -39,8 +39,8 @@ impl From<AllocError> for OutputFault {
     }
 }
 
-/// Where output goes: what is put is written in large pieces, and what isn't written yet is pending. This trait is this
-/// project's own.
+/// Where output goes: what is put is written in large pieces, and what isn't written yet is pending. No call tries a write
+/// after one that failed, where none had failed before. This trait is this project's own.
 pub trait Output {
     ghost use Rattle.shell_streams.specs.Sending.{OutputState};
 
@@ -88,7 +88,7 @@ impl<'a, K: Sink> Buffered<'a, K> {
 }
 
 impl<K: Sink> Output for Buffered<'_, K> {
-    ghost state = { λ o. record { name = o.sink.ghost_name; written = K.written o.sink.now; faults = K.faults o.sink.now; pending = o.pending.now.items } };
+    ghost state = { λ o. record { name = o.sink.ghost_name; written = K.written o.sink.now; faults = K.faults o.sink.now; failed = K.failed o.sink.now; late = K.late o.sink.now; pending = o.pending.now.items } };
 
     fn put(&mut self, more: &[u8]) -> Result<(), OutputFault> {
         let used = self.pending.len();

@@ -9,7 +9,7 @@ use std::marker::Model;
 /// The number of bytes from which on no more are held when more are read.
 const MOST_HELD: usize = 4_098;
 
-/// The size of the buffer: 65,536 bytes are free behind what is held, wherever that stands in the first two times
+/// The size of the buffer: 65,536 bytes are free after what is held, wherever that stands in the first two times
 /// `MOST_HELD` bytes.
 const BUFFER: usize = 73_732;
 
@@ -59,7 +59,7 @@ impl Unread {
         self.at += n;
     }
 
-    /// Reads at least one byte more behind those that are held, and says whether there was one.
+    /// Reads at least one byte more after those that are held, and says whether there was one.
     pub fn more<S: Source>(&mut self, source: &mut S) -> Result<bool, Failed>
         requires { length self.old < 4098 }
         ensures rest { onto_left self.new (S.left source.new) ≡ onto_left self.old (S.left source.old) }
@@ -79,7 +79,7 @@ impl Unread {
     }
 }
 
-/// Moves the `n` bytes from `at` on to the front, where they stand far behind it, and says from where on they stand.
+/// Moves the `n` bytes from `at` on to the front, where they stand far after it, and says from where on they stand.
 fn with_room(bytes: &mut [u8], at: usize, n: usize) -> usize
     requires few { n < 4098 }
     requires within { at + n ≤ length bytes.old }

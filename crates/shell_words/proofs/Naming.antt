@@ -1,4 +1,4 @@
--- Words as a name and what stands behind it.
+-- Words as a name and what stands after it.
 use Rattle.std.proofs.Common.{◌≡◌, ℕ, Bool, cond, subst, ◌-◌, ◌+◌, ◌<◌, ◌≤◌, true, false, ◌||◌, List, [], ◌∷◌, ◌++◌, length, get_or, drop, map, Result, Ok, Err, Option, Some, None, IfSome, refl, arith, ◌∙◌, sym, ap, append_assoc, append-nil, codes}
 use Rattle.std.specs.List.{list_any}
 use Rattle.std.specs.Str.{bytes_eq}

@@ -1,4 +1,4 @@
--- How many words stand behind each keyword, and the command of `clap` that counts them.
+-- How many words stand after each keyword, and the command of `clap` that counts them.
 use Rattle.std.specs.Prelude.{◌≡◌, ◌≤◌, ℕ, Some, true, codes}
 use Rattle.clap.specs.Words.{App, Rule, Text, new_app, new_rule, with_rule}
 use Rattle.clap.specs.declared.builder.ArgAction.TheVariants.{Append}

@@ -1,4 +1,4 @@
--- What the words behind each keyword say.
+-- What the words after each keyword say.
 use Rattle.std.specs.Prelude.{List, Option, Some, None}
 use Rattle.path_tree.specs.Paths.{Bytes}
 use Rattle.shell_words.specs.Words as commands
@@ -19,7 +19,7 @@ words_by Find words = commands.find_by words
 words_by OpenId words = commands.open_id_by words
 words_by PublishPsi words = commands.publish_psi_by words
 
--- what the words behind the first one say, where that is a keyword
+-- what the words after the first one say, where that is a keyword
 abbrev pub words_behind : List Bytes → Option Keyword → Option Named
 words_behind words (Some keyword) = words_by keyword words
 words_behind words None = None

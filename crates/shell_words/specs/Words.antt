@@ -87,7 +87,7 @@ abbrev pub paths_in : List Bytes → Option (List PathNames)
 paths_in [] = None
 paths_in (word ∷ words) = all_paths (word ∷ words)
 
--- ---- the commands: what the words behind the first one say, or None where they don't fit
+-- ---- the commands: what the words after the first one say, or None where they don't fit
 
 abbrev pub assemble_by : List Bytes → Option Named
 assemble_by (id ∷ version ∷ size ∷ download ∷ []) = do

@@ -1,4 +1,4 @@
-//! Whether as many words stand behind a keyword as its command takes. `clap` counts them.
+//! Whether as many words stand after a keyword as its command takes. `clap` counts them.
 
 ghost use Rattle.std.specs.Prelude.{◌≡◌, ◌-◌, ◌<◌, Err, false, length, IfOk, OnOk};
 ghost use Rattle.std.specs.String.{string_bytes};

@@ -9,7 +9,7 @@ mod values;
 mod words;
 
 pub use parsing::command;
-pub use texts::{answer_text, refusal_text};
+pub use texts::{answer_text, answered_text, refusal_text};
 pub use words::{Command, WordsFault};
 
 #[cfg(test)]

@@ -57,7 +57,7 @@ fn begins_with_dash(word: &String) -> bool
     word.as_bytes().first() == Some(&b'-')
 }
 
-/// The command of this keyword, with the values of the words behind it.
+/// The command of this keyword, with the values of the words after it.
 fn read(alloc: Global, keyword: Keyword, words: &[String]) -> Result<Command, WordsFault>
     requires { Fits keyword (length words.now) }
     ensures gives { Gives commands.view commands.cause result (commands.or_misfit (words_by keyword (map string_bytes words.now))) }

@@ -1,4 +1,4 @@
-use crate::{Command, WordsFault, answer_text, command, refusal_text};
+use crate::{Command, WordsFault, answer_text, answered_text, command, refusal_text};
 use generation_catalogue::Refusal;
 use path_resolver::Answer;
 use path_tree::{EditFault, Path};
@@ -177,6 +177,14 @@ fn texts_of_answers(rt: HostRuntime) -> Result<(), Fail> {
     for (answer, wanted) in cases {
         assert_eq!(rt; answer_text(rt.alloc(), &answer)?.as_str(), wanted);
     }
+    Ok(())
+}
+
+#[test]
+fn line_of_a_path(rt: HostRuntime) -> Result<(), Fail> {
+    let path = Path::parse(rt.alloc(), b"/a b/c")?;
+    let line = answered_text(rt.alloc(), &path, &Answer::NotYet(3))?;
+    assert_eq!(rt; line.as_str(), "/a%20b/c not-yet 3\n");
     Ok(())
 }
 

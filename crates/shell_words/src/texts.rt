@@ -1,14 +1,14 @@
 ghost use Rattle.std.specs.Prelude.{◌≡◌, IfOk};
 ghost use Rattle.std.specs.String.{string_bytes};
-ghost use Rattle.shell_words.specs.Texts.{answer_line, refusal_line, fault_text};
+ghost use Rattle.shell_words.specs.Texts.{answer_line, answered_line, refusal_line, fault_text};
 
 use generation_catalogue::Refusal;
 use oc_bytes::NoMemory;
 use path_resolver::Answer;
-use path_tree::EditFault;
+use path_tree::{EditFault, Path};
 use std::alloc::Global;
 
-/// The text that stands for an answer, without the path: what it is, and behind it, each after a space, a file's length in
+/// The text that stands for an answer, without the path: what it is, and after it, each after a space, a file's length in
 /// bytes, the number of a folder's names, or the module and the place of a fault, in decimal. This project's own texts.
 ///
 /// Out of memory is the only refusal.
@@ -35,7 +35,21 @@ pub fn answer_text(alloc: Global, answer: &Answer) -> Result<String, NoMemory>
     }
 }
 
-/// The text that stands for a refusal: why, and behind it, each after a space, the number that passes its limit, in decimal,
+/// The line of a path and its answer: the path's text, a space, the answer's text and a line feed. This project's own text.
+///
+/// Out of memory is the only refusal.
+pub fn answered_text(alloc: Global, path: &Path, answer: &Answer) -> Result<String, NoMemory>
+    ensures { IfOk result (λ text. string_bytes text ≡ answered_line path.now answer.now) }
+{
+    let answer = answer_text(alloc, answer)?;
+    let mut text = path.print()?;
+    text.push(' ')?;
+    text.push_str(answer.as_str())?;
+    text.push('\n')?;
+    Ok(text)
+}
+
+/// The text that stands for a refusal: why, and after it, each after a space, the number that passes its limit, in decimal,
 /// the place of an edit, from 0, and its fault, or the path of a folder. This project's own texts.
 ///
 /// Out of memory is the only refusal.

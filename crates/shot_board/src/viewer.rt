@@ -48,7 +48,7 @@ impl<S: Numbered> Viewer<S> {
         }
     }
 
-    /// Tells the viewer of the list of a front of its own board. What it knows stays. It takes no memory.
+    /// Tells the viewer of the list of a prefix of its own board. What it knows stays. It takes no memory.
     pub fn learn(&mut self, front: Front<S>)
         requires { front_board front ≡ viewer_board self.old }
         ensures board { (viewer_board self.new ≡ viewer_board self.old) × (most_of self.new ≡ most_of self.old) }

@@ -14,11 +14,11 @@ pub record Fields : Type 0 where
 abbrev pub view : Packet → Fields
 view p = record { pid = p.pid; start = p.start; counter = p.counter; payload = p.payload.now }
 
--- the two bits that say what stands behind the header: 1 a payload, 2 an adaptation field, 3 both
+-- the two bits that say what stands after the header: 1 a payload, 2 an adaptation field, 3 both
 abbrev pub control : List ℕ → ℕ
 control bytes = slice_index bytes 3 / 16 % 4
 
--- the bytes behind the header of four, and behind the adaptation field's length and its bytes
+-- the bytes after the header of four, and after the adaptation field's length and its bytes
 abbrev pub payload_of : List ℕ → List ℕ
 payload_of bytes =
     if control bytes == 1 then drop 4 bytes

@@ -10,7 +10,7 @@ ghost use Rattle.ts_packet.specs.Fates.{arrived, flipped};
 /// The first byte of each packet.
 const SYNC: u8 = 0x47;
 
-/// The most bytes that an adaptation field has behind its length where a payload follows: one byte
+/// The most bytes that an adaptation field has after its length where a payload follows: one byte
 /// is left for that payload.
 const MOST_ADAPTATION: u8 = 182;
 
@@ -19,11 +19,11 @@ const MOST_ADAPTATION: u8 = 182;
 pub struct Packet<'a> {
     /// The packet identifier, 0 to 8,191.
     pub pid: u16,
-    /// The payload unit start indicator: a section begins in this payload, behind a pointer field.
+    /// The payload unit start indicator: a section begins in this payload, after a pointer field.
     pub start: bool,
     /// The continuity counter, 0 to 15.
     pub counter: u8,
-    /// The bytes behind the header and the adaptation field, 0 to 184 of them.
+    /// The bytes after the header and the adaptation field, 0 to 184 of them.
     pub payload: &'a [u8],
 }
 
@@ -38,7 +38,7 @@ pub enum PacketFault {
     Scrambled,
     /// The adaptation field control is 00, which is reserved.
     Reserved,
-    /// A payload is announced behind an adaptation field whose length is above 182 bytes.
+    /// A payload is announced after an adaptation field whose length is above 182 bytes.
     BadField,
 }
 
@@ -114,7 +114,7 @@ pub fn parse(bytes: &[u8; 188]) -> Result<Packet<'_>, PacketFault>
     })
 }
 
-/// The bytes behind the header and the adaptation field of a packet without a fault.
+/// The bytes after the header and the adaptation field of a packet without a fault.
 fn payload_of(bytes: &[u8]) -> &[u8]
     requires whole { length bytes.now ≡ 188 }
     requires field { control bytes.now ≡ 3 → slice_index bytes.now 4 ≤ 182 }

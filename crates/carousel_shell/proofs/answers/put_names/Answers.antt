@@ -3,7 +3,7 @@ use Rattle.std.specs.List.{flat_map}
 use Rattle.std.proofs.lemmas.Result.{err_from_is_err_and}
 use Rattle.std.proofs.lemmas.List.{take_all}
 use Rattle.shell_streams.proofs.CallerLemmas.{puts_nothing, puts_none, puts_then, puts_stop, puts_as}
-use Rattle.carousel_shell.specs.Texts.{name_line}
+use Rattle.shell_words.specs.Texts.{name_line}
 use Rattle.carousel_shell.proofs.Parts.{parts_more, parts_all}
 use Rattle.carousel_shell.proofs.answers.put_names.Goals as goal
 

@@ -1,7 +1,7 @@
 use Rattle.std.proofs.Common.{take}
 use Rattle.std.specs.List.{flat_map}
 use Rattle.shell_streams.specs.Sending.{HasPut}
-use Rattle.carousel_shell.specs.Texts.{name_line}
+use Rattle.shell_words.specs.Texts.{name_line}
 use Rattle.carousel_shell.proofs.answers.put_names.Given as goal
 
 abbrev pub invariant-loop-i : goal.invariant-loop-i

@@ -6,7 +6,7 @@ use Rattle.path_tree.specs.Paths.{PathNames}
 use Rattle.path_resolver.specs.Resolving.{answer_of}
 use Rattle.path_resolver.specs.Shots.{held_of}
 use Rattle.shell_streams.proofs.CallerLemmas.{puts_nothing, puts_then, puts_stop, puts_as, puts_ok, puts_err}
-use Rattle.carousel_shell.specs.Texts.{open_entry, is_found}
+use Rattle.shell_words.specs.Texts.{open_entry, is_found}
 use Rattle.carousel_shell.proofs.Parts.{parts_next, parts_all, all_next}
 use Rattle.carousel_shell.proofs.answers.write_answers.Goals as goal
 

@@ -3,7 +3,7 @@ use Rattle.std.specs.List.{list_all}
 use Rattle.path_resolver.specs.Resolving.{answer_of}
 use Rattle.path_resolver.specs.Shots.{held_of}
 use Rattle.shell_streams.specs.Sending.{HasPut}
-use Rattle.carousel_shell.specs.Texts.{open_text, is_found}
+use Rattle.shell_words.specs.Texts.{open_text, is_found}
 use Rattle.carousel_shell.proofs.answers.write_answers.Given as goal
 
 abbrev pub invariant-loop-path : goal.invariant-loop-path

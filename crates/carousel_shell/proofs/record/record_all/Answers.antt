@@ -66,3 +66,12 @@ returns-clause-records g c =
     records_all c.args.pid _ _ _ c.loop-reader.invariant.candidates
     (c.in_ok-candidates.ensures.ended (ap Ok c.in_default.is) c.args.pid _ c.loop-reader.invariant.candidates c.loop-reader.invariant.cut)
     c.requires c.in_ok-flush.ensures.empty (puts_as (append-nil _) (puts_then c.loop-reader.invariant.puts c.in_ok-flush.ensures.puts))
+
+pub returns-in_err-put_accepted-clause-in_time : goal.returns-in_err-put_accepted-clause-in_time
+returns-in_err-put_accepted-clause-in_time g c = (puts_then c.loop-reader.invariant.puts c.in_err-put_accepted.ensures.puts).in_time
+
+pub returns-in_err-flush-clause-in_time : goal.returns-in_err-flush-clause-in_time
+returns-in_err-flush-clause-in_time g c = (puts_then c.loop-reader.invariant.puts c.in_err-flush.ensures.puts).in_time
+
+pub returns-clause-in_time : goal.returns-clause-in_time
+returns-clause-in_time g c = (puts_then c.loop-reader.invariant.puts c.in_ok-flush.ensures.puts).in_time

@@ -78,6 +78,18 @@ walk_folder-returns-in_err-walk_entry-clause-fault g t c = λ failed.
     wrong (kind_there tree (text ++ 47 ∷ name) h.entry c.entry-item.result.kind h.there h.kind))
     inner
 
+pub walk_folder-returns-in_err-walk_entry-clause-owed :
+    goal.walk_folder-returns-in_err-walk_entry-clause-owed
+walk_folder-returns-in_err-walk_entry-clause-owed g t c = λ tree told folder.
+    let inv = c.loop-entry.invariant in
+    let text = string_bytes c.args.place.now.text in
+    let listing = rw c.deref.ensures at (c.in_ok-entries.ensures.entries tree told) in
+    let h = found tree text c.in_ok-entries.entries.items c.loop-entry.entry-index c.entry-item.result listing (omega (arith, ap length c.deref-entry-items.ensures.value)) (rw c.deref-entry-items.ensures.value at c.entry-item.is) in
+    c.walk_entry.ensures.owed tree (inv.same ∙ told) (kind_there tree (text ++ 47 ∷ string_bytes c.entry-item.result.name) h.entry c.entry-item.result.kind h.there h.kind) ∙ inv.owed tree told folder
+
+pub walk_folder-returns-clause-owed : goal.walk_folder-returns-clause-owed
+walk_folder-returns-clause-owed g t c = λ tree told folder. c.loop-entry.invariant.owed tree told folder
+
 pub walk_folder-loop-entry-preserved : goal.walk_folder-loop-entry-preserved
 walk_folder-loop-entry-preserved g t c =
     let inv = c.loop-entry.invariant in
@@ -88,6 +100,10 @@ walk_folder-loop-entry-preserved g t c =
           let h = found tree text c.in_ok-entries.entries.items c.loop-entry.entry-index c.entry-item.result listing (omega (arith, ap length c.deref-entry-items.ensures.value)) (rw c.deref-entry-items.ensures.value at c.entry-item.is) in
           entry_goes tree (16 - length c.args.place.now.path) c.args.place.now.path text c.loop-entry.entry-index c.entry-item.result c.args.gathered.now.edits.items c.loop-entry.gathered.edits.items c.walk_entry.new.gathered.edits.items
           c.args.gathered.now.read c.loop-entry.gathered.read c.walk_entry.new.gathered.read h (inv.walk tree told) (c.in_ok-walk_entry.ensures.walk tree h.entry (inv.same ∙ told) h.there h.kind);
+      owed = λ tree told folder.
+          let listing = rw c.deref.ensures at (c.in_ok-entries.ensures.entries tree told) in
+          let h = found tree text c.in_ok-entries.entries.items c.loop-entry.entry-index c.entry-item.result listing (omega (arith, ap length c.deref-entry-items.ensures.value)) (rw c.deref-entry-items.ensures.value at c.entry-item.is) in
+          c.walk_entry.ensures.owed tree (inv.same ∙ told) (kind_there tree (text ++ 47 ∷ string_bytes c.entry-item.result.name) h.entry c.entry-item.result.kind h.there h.kind) ∙ inv.owed tree told folder;
       same = c.walk_entry.ensures.same ∙ inv.same;
       later = omega (arith, inv.later, c.walk_entry.ensures.later);
     }

@@ -2,4 +2,4 @@ use Rattle.generation.proofs.Assembly.{lawful}
 use Rattle.generation.proofs.laws.layouts_are_lawful.Goals as goal
 
 pub returns : goal.returns
-returns c = lawful c.spellings_read_back.ensures c.fresh_is_a_placement.ensures
+returns c = lawful c.spellings_read_back.ensures c.kept_is_a_placement.ensures

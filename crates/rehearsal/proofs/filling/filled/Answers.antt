@@ -1,4 +1,4 @@
-use Rattle.rehearsal.proofs.Filled.{fills_more}
+use Rattle.rehearsal.proofs.FilledBytes.{fills_more}
 use Rattle.rehearsal.proofs.filling.filled.Goals as goal
 
 pub loop-place-preserved : goal.loop-place-preserved

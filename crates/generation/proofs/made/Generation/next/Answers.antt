@@ -1,9 +1,8 @@
 use Rattle.std.proofs.Common.{◌≤◌, ◌+◌, sym, subst, ap, ◌∙◌, map, length, arith, ◌++◌, ◌∷◌, []}
 use Rattle.std.specs.List.{All}
-use Rattle.generation.specs.Layouts.{next_of, layout_of, lines_in, keys_of, placed_all, counts_after, generation_of}
-use Rattle.generation.specs.Publication.{spots_of, sizes_of}
+use Rattle.generation.specs.Layouts.{modules_for, next_of, layout_of, lines_in, keys_of, placed_all, counts_after, generation_of}
+use Rattle.generation.specs.Publication.{spots_of}
 use Rattle.cycle_planner.specs.Cycle.{AreLines}
-use Rattle.module_packer.specs.Placement.{fresh}
 use Rattle.generation.specs.View.{AreReady, view_generation, view_listed, view_placed}
 use Rattle.generation.proofs.Limiting.{len_map}
 use Rattle.generation.proofs.Making.{next_is, stands_next, small_counts}
@@ -25,13 +24,14 @@ invariant_of-result c =
       modules = omega (arith, ready.modules, ap length layout, len_map view_listed c.in_ok-modules.modules.items);
       sizes = subst (All (λ m. length m.1 ≤ 268435456)) (sym layout) ready.sizes;
       spots = ready.spots;
+      old = c.in_ok-objects.ensures.old;
     }
 
 pub returns-clause-exact : goal.returns-clause-exact
 returns-clause-exact c =
     let t = c.args.tree in
     next_is (view_generation c.self.inside) t (map (view_placed t) c.in_ok-objects.objects.items) (map view_listed c.in_ok-modules.modules.items) c.in_ok-counts.counts.items
-    (c.in_ok-objects.ensures.objects ∙ ap (λ os. placed_all (spots_of t) (keys_of (map (view_placed c.self.inside.tree) os) (spots_of t)) (fresh (sizes_of t))) c.deref.ensures.value)
+    (c.in_ok-objects.ensures.objects ∙ ap (λ os. placed_all (spots_of t) (keys_of (map (view_placed c.self.inside.tree) os) (spots_of t)) (modules_for (map (view_placed c.self.inside.tree) os) t)) c.deref.ensures.value)
     (c.in_ok-modules.ensures ∙ ap (λ os. layout_of c.self.inside.carousel (map (view_placed t) os)) c.deref-2.ensures.value)
     (c.in_ok-counts.ensures ∙ (ap (λ m. counts_after (map view_listed m) (map view_listed c.deref-5.result.now) c.deref-6.result.now) c.deref-4.ensures.value
     ∙ (ap (λ m. counts_after (map view_listed c.self.inside.modules.items) (map view_listed m) c.deref-6.result.now) c.deref-5.ensures.value

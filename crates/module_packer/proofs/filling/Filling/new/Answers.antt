@@ -1,0 +1,5 @@
+use Rattle.module_packer.proofs.Telling.{none_told}
+use Rattle.module_packer.proofs.filling.Filling.new.Goals as goal
+
+pub returns : goal.returns
+returns c = none_told 139

@@ -1,0 +1,7 @@
+use Rattle.module_packer.specs.Kept.{Filled}
+use Rattle.module_packer.specs.Told.{Tells}
+use Rattle.module_packer.proofs.Passing.{Settling}
+use Rattle.module_packer.proofs.keeping.numbers.Given as goal
+
+abbrev pub invariant-loop-size : goal.invariant-loop-size
+invariant-loop-size l = (f : Filled) → Tells 139 l.fn.filling.sums f → Settling 139 f l.filling.sums l.modules.items l.others l.size-index

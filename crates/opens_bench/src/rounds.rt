@@ -1,0 +1,87 @@
+// Readers and a feeder at once, again and again.
+ghost use Rattle.std.specs.Prelude.{◌≡◌, ◌≤◌};
+ghost use Rattle.std.specs.List.{All};
+ghost use Rattle.shot_board.specs.Showers.{most_by};
+
+use crate::feeder::{MOST, feed, module, shot};
+use crate::readers::{count_files, passes, read_all};
+use biop_object::Module;
+use oc_bytes::NoMemory;
+use open_history::ReaderPass;
+use path_resolver::Shot;
+use shot_board::{Shower, Viewer, board};
+use std::alloc::Global;
+use std::sync::atomic::AtomicU64;
+use std::sync::{Arc, Wait};
+use std::thread::{Threads, join_mut};
+
+/// The readers and the feeder at once. Where no thread can be had the readers come first, and the feeder shows nothing.
+fn open_and_show<R: Threads + Wait + Sync>(
+    rt: &R,
+    alloc: Global,
+    shower: &mut Shower<Shot>,
+    module: &Arc<Module>,
+    passes: &mut [ReaderPass],
+)
+    requires most { most_by shower.old ≡ 1000000000000 }
+    requires room { All (λ pass. pass.room ≡ 120000) passes.old }
+{
+    let through = AtomicU64::new(0);
+    let readers = passes.len() as u64;
+    join_mut(
+        rt,
+        &mut ||
+            requires { All (λ pass. pass.room ≡ 120000) passes.now }
+        { read_all(rt, alloc, passes, &through) },
+        &mut ||
+            requires { most_by shower.now ≡ 1000000000000 }
+        { feed(rt, alloc, shower, module, &through, readers) },
+    );
+}
+
+/// How many opens of the readers with these viewers answered a file.
+fn opened_before<R: Threads + Wait + Sync>(
+    rt: &R,
+    alloc: Global,
+    shower: &mut Shower<Shot>,
+    module: &Arc<Module>,
+    viewers: Vec<Viewer<Shot>>,
+) -> Result<u64, NoMemory>
+    requires { most_by shower.old ≡ 1000000000000 }
+{
+    let mut passes = passes(alloc, viewers)?;
+    open_and_show(rt, alloc, shower, module, passes.as_mut_slice());
+    Ok(count_files(passes.as_slice()))
+}
+
+/// How many opens of one round answered a file.
+fn opened_once<R: Threads + Wait + Sync>(
+    rt: &R,
+    alloc: Global,
+    readers: u32,
+) -> Result<u64, NoMemory>
+    requires { readers ≤ 64 }
+{
+    let module = module(alloc)?;
+    let first = shot(alloc, 0, &module)?;
+    let (mut shower, viewers) = board(rt, alloc, first, readers, MOST)?;
+    let files = opened_before(rt, alloc, &mut shower, &module, viewers);
+    shower.close(rt);
+    files
+}
+
+/// How many opens answered a file, by so many readers in so many rounds.
+pub fn opened<R: Threads + Wait + Sync>(
+    rt: &R,
+    alloc: Global,
+    readers: u32,
+    rounds: u32,
+) -> Result<u64, NoMemory>
+    requires { readers ≤ 64 }
+{
+    let mut files = 0u64;
+    for _ in 0..rounds {
+        files = files.wrapping_add(opened_once(rt, alloc, readers)?);
+    }
+    Ok(files)
+}

@@ -1,0 +1,6 @@
+use Rattle.std.proofs.Common.{◌≡◌, map}
+use Rattle.session_actors.specs.declared.editor.EditorSeat.{EditorSeat}
+use Rattle.session.proofs.ending.passes_of.Given as goal
+
+abbrev pub invariant-loop-seat : goal.invariant-loop-seat
+invariant-loop-seat l = l.passes.items ≡ map (λ (seat : EditorSeat). seat.pass) l.yielded

@@ -1,0 +1,7 @@
+use Rattle.std.proofs.Common.{ℕ, ◌<◌, ◌≢◌}
+use Rattle.std.specs.Prelude.{slice_index_or}
+use Rattle.session.specs.Acting.{readers_of}
+use Rattle.session.proofs.readers.place_of.Given as goal
+
+abbrev pub invariant-loop-place : goal.invariant-loop-place
+invariant-loop-place l = (k : ℕ) → k < l.place → slice_index_or (readers_of l.seats) k l.number ≢ l.number

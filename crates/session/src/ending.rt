@@ -1,0 +1,280 @@
+//! What comes after the actors' threads.
+ghost use Rattle.std.specs.Prelude.{◌≡◌, ◌++◌, ◌∷◌, ◌+◌, ◌<◌, ◌≤◌, [], List, ℕ, map, length, slice_index_or, OnOk, IfOk};
+ghost use Rattle.std.specs.List.{All};
+ghost use Rattle.path_resolver.specs.declared.shot.Shot.{Shot as ShotFields};
+ghost use Rattle.path_tree.specs.declared.tree.Edit.{Edit as EditFields};
+ghost use Rattle.open_history.specs.Opens.{AllAnswered};
+ghost use Rattle.station.specs.Passes.{IsStationPass, carousel_of, pass_count};
+ghost use Rattle.generation_catalogue.specs.History.{drawn};
+ghost use Rattle.generation_catalogue.specs.View.{state};
+ghost use Rattle.session_script.specs.Scripts.{Fields};
+ghost use Rattle.session_script.specs.declared.script.Stage.{Stage};
+ghost use Rattle.carousel_world.specs.Events.{Step};
+ghost use Rattle.shot_board.specs.Showers.{shown_by, shower_board, most_by, IsSameBoard};
+ghost use Rattle.session_history.specs.Merges.{told_view, reader_view};
+ghost use Rattle.session_actors.specs.Chains.{DrawFields};
+ghost use Rattle.session_actors.specs.Seats.{HasFed, IsEditorSeat};
+ghost use Rattle.session.specs.Lines.{commits_by, draws_in};
+ghost use Rattle.session.specs.Acting.{Setting, draws_of};
+ghost use Rattle.session.specs.Played.{open_of, opens_of as opens_in_history};
+ghost use Rattle.session.specs.Sessions.{IsSession};
+ghost use Rattle.session.specs.Ending.{EditorsDone, HasGathered, HasOpenedLast, AllOpenedLast, MayOpenLast, IsEnd, IsToEnd, AreDone, drawn_all, open_step, opens_in, paths_of, steps_of};
+
+use crate::laws::{actors_gather, gathers_grow, played_is_a_session};
+use crate::plan::Deed;
+use carousel_world::{Downlink, Event, Fate, Reply};
+use generation_catalogue::Catalogue;
+use oc_bytes::NoMemory;
+use open_history::{OpenEntry, ReaderPass, share};
+use path_resolver::Shot;
+use path_tree::Path;
+use section_workers::Gate;
+use session_actors::{EditorSeat, FeederSeat, ReaderSeat, open, send_and_show};
+use session_history::{Open, ReaderOpens, merge};
+use shot_board::Shower;
+use station::{Pass, Station};
+use std::alloc::{AllocError, Global};
+use std::sync::Wait;
+use std::thread::Threads;
+
+/// The catalogue once all passes are back, and the feeder's downlink, with the fates of all draws.
+#[derive(Drop)]
+pub(crate) struct Closed {
+    pub(crate) catalogue: Catalogue,
+    pub(crate) downlink: Downlink,
+    pub(crate) fates: Vec<Vec<Fate>>,
+}
+
+/// A path that is asked for at the end.
+#[derive(Drop)]
+pub(crate) struct LastOpen {
+    pub(crate) reader: u32,
+    pub(crate) path: Path,
+}
+
+/// All passes of a session: the editors' in order, and then the feeder's.
+fn passes_of(alloc: Global, editors: Vec<EditorSeat>, feeder: Pass) -> Result<Vec<Pass>, NoMemory>
+    ensures { IfOk result (λ passes. passes.items ≡ map (λ seat. seat.pass) editors.items ++ feeder ∷ []) }
+{
+    let mut passes = Vec::new(alloc);
+    for seat in editors {
+        passes.push(seat.pass)?;
+    }
+    passes.push(feeder)?;
+    Ok(passes)
+}
+
+/// Takes all passes back to their station. Out of memory is the only refusal.
+fn end_of_threads(
+    alloc: Global,
+    station: Station,
+    editors: Vec<EditorSeat>,
+    feeder: FeederSeat,
+) -> Result<Closed, NoMemory>
+    requires editors { All (IsEditorSeat station) editors.items }
+    requires feeder { IsStationPass station feeder.pass }
+    requires count { pass_count station ≡ length editors.items + 1 }
+    ensures gathered { IfOk result (λ closed. (numbers : List ℕ) (events : List Step) (draws : List DrawFields) (shots : List ShotFields)
+        → EditorsDone station numbers events editors.items → HasFed station draws feeder shots
+        → HasGathered (carousel_of station) (map (λ editor. commits_by editor events) numbers) draws shots closed) }
+{
+    let FeederSeat {
+        pass,
+        downlink,
+        draws: _,
+        fates,
+        whole: _,
+    } = feeder;
+    let passes = passes_of(alloc, editors, pass)?;
+    let catalogue = station.close(passes);
+    catalogue.entries();
+    actors_gather();
+    Ok(Closed {
+        catalogue,
+        downlink,
+        fates,
+    })
+}
+
+impl Closed {
+    /// Draws 1 to 1,048,576 items, sends them, each packet with its fate, and shows the next shot. Out of memory is the only refusal;
+    /// it also comes where 16,777,216 draws are entered.
+    fn draw<R: Threads + Wait + Sync, G: Gate>(
+        &mut self,
+        rt: &R,
+        alloc: Global,
+        gate: &G,
+        shower: &mut Shower<Shot>,
+        asked: u32,
+        fates: Vec<Fate>,
+    ) -> Result<(), NoMemory>
+        requires asked { (1 ≤ asked) × (asked ≤ 1048576) }
+        requires room { length (shown_by shower.old) ≤ most_by shower.old }
+        ensures board { IsSameBoard shower.old shower.new }
+        ensures count { OnOk result (length (shown_by shower.new) ≡ length (shown_by shower.old) + 1) }
+        ensures drawn { OnOk result (state self.new.catalogue ≡ drawn (state self.old.catalogue) asked) }
+        ensures gathered { OnOk result ((id : ℕ) (commits : List (List (List EditFields))) (draws : List DrawFields)
+            → HasGathered id commits draws (shown_by shower.old) self.old
+            → HasGathered id commits (draws ++ record { asked = asked; fates = fates.items } ∷ []) (shown_by shower.new) self.new) }
+    {
+        let Ok(batch) = self.catalogue.draw(asked) else {
+            return Err(AllocError);
+        };
+        gathers_grow();
+        send_and_show(rt, alloc, gate, shower, &mut self.downlink, &batch, &fates)?;
+        self.fates.push(fates)?;
+        Ok(())
+    }
+
+    /// Draws what is drawn at the end, and answers what is opened then. Out of memory is the only refusal.
+    fn draw_all<R: Threads + Wait + Sync, G: Gate>(
+        &mut self,
+        rt: &R,
+        alloc: Global,
+        gate: &G,
+        shower: &mut Shower<Shot>,
+        ends: Vec<Deed>,
+    ) -> Result<Vec<LastOpen>, NoMemory>
+        requires ends { All IsEnd (steps_of ends.items) }
+        requires room { length (shown_by shower.old) + length (draws_in (steps_of ends.items)) ≤ most_by shower.old + 1 }
+        ensures board { IsSameBoard shower.old shower.new }
+        ensures count { OnOk result (length (shown_by shower.new) ≡ length (shown_by shower.old) + length (draws_in (steps_of ends.items))) }
+        ensures opens { IfOk result (λ opens. map open_step opens.items ≡ opens_in (steps_of ends.items)) }
+        ensures drawn { OnOk result (state self.new.catalogue ≡ drawn_all (state self.old.catalogue) (draws_in (steps_of ends.items))) }
+        ensures gathered { OnOk result ((id : ℕ) (commits : List (List (List EditFields))) (draws : List DrawFields)
+            → HasGathered id commits draws (shown_by shower.old) self.old
+            → HasGathered id commits (draws ++ draws_in (steps_of ends.items)) (shown_by shower.new) self.new) }
+    {
+        let mut opens = Vec::new(alloc);
+        for deed in ends {
+            match deed {
+                Deed::Draw(asked, fates) => self.draw(rt, alloc, gate, shower, asked, fates)?,
+                Deed::Open(reader, path) => opens.push(LastOpen { reader, path })?,
+                Deed::Commit(_, _) => unreachable!(),
+            }
+        }
+        Ok(opens)
+    }
+}
+
+/// A reader opens its paths among these, in order. Out of memory is the only refusal.
+fn open_all(pass: &mut ReaderPass, opens: &[LastOpen]) -> Result<(), NoMemory>
+    requires known { length pass.old.known ≡ pass.old.most + 1 }
+    requires room { length pass.old.opens + length (paths_of pass.old.reader opens.now) ≤ pass.old.room }
+    ensures { OnOk result (HasOpenedLast pass.old.known (paths_of pass.old.reader opens.now) pass.old pass.new) }
+{
+    let reader = pass.reader();
+    for asked in opens {
+        if asked.reader == reader {
+            open(pass, asked.path.share()?)?;
+        }
+    }
+    Ok(())
+}
+
+/// A reader takes the last shot, and opens its paths among these. Out of memory is the only refusal.
+fn read_last(
+    seat: &mut ReaderSeat,
+    shower: &mut Shower<Shot>,
+    opens: &[LastOpen],
+) -> Result<(), NoMemory>
+    requires { MayOpenLast (shower_board shower.old) (shown_by shower.old) opens.now seat.old }
+    ensures board { (shown_by shower.new ≡ shown_by shower.old) × IsSameBoard shower.old shower.new }
+    ensures read { OnOk result (HasOpenedLast (shown_by shower.old) (paths_of seat.old.pass.reader opens.now) seat.old.pass seat.new.pass) }
+{
+    seat.pass.catch_up(shower.front())?;
+    open_all(&mut seat.pass, opens)
+}
+
+/// Each reader takes the last shot, and opens its paths among these. Out of memory is the only refusal.
+fn read_all(
+    readers: &mut [ReaderSeat],
+    shower: &mut Shower<Shot>,
+    opens: &[LastOpen],
+) -> Result<(), NoMemory>
+    requires { All (MayOpenLast (shower_board shower.old) (shown_by shower.old) opens.now) readers.old }
+    ensures board { (shown_by shower.new ≡ shown_by shower.old) × IsSameBoard shower.old shower.new }
+    ensures read { OnOk result (AllOpenedLast (shown_by shower.old) opens.now readers.old readers.new) }
+{
+    for place in 0..readers.len() {
+        read_last(&mut readers[place], shower, opens)?;
+    }
+    Ok(())
+}
+
+/// An open as the history has it: its path and its answer are shared. Out of memory is the only refusal.
+fn open_for_history(made: &OpenEntry) -> Result<Open, NoMemory>
+    ensures { IfOk result (λ kept. kept ≡ open_of made.now) }
+{
+    Ok(Open {
+        draws: made.draws,
+        label: made.label,
+        path: made.path.share()?,
+        answer: share(&made.answer)?,
+    })
+}
+
+/// A reader's opens as the history has them. Out of memory is the only refusal.
+fn opens_of(alloc: Global, pass: &ReaderPass) -> Result<ReaderOpens, NoMemory>
+    ensures opens { IfOk result (λ given. reader_view given ≡ opens_in_history pass.now) }
+    ensures answered { AllAnswered pass.now.known pass.now.opens }
+{
+    let made = pass.opens();
+    let mut opens = Vec::with_capacity(alloc, made.len())?;
+    for entry in made {
+        opens.push(open_for_history(entry)?)?;
+    }
+    Ok(ReaderOpens {
+        reader: pass.reader(),
+        opens,
+    })
+}
+
+/// All readers' opens. Out of memory is the only refusal.
+fn all_opens(alloc: Global, readers: &[ReaderSeat]) -> Result<Vec<ReaderOpens>, NoMemory>
+    ensures opens { IfOk result (λ all. map reader_view all.items ≡ map (λ seat. opens_in_history seat.pass) readers.now) }
+    ensures answered { OnOk result (All (λ seat. AllAnswered seat.pass.known seat.pass.opens) readers.now) }
+{
+    let mut all = Vec::with_capacity(alloc, readers.len())?;
+    for seat in readers {
+        all.push(opens_of(alloc, &seat.pass)?)?;
+    }
+    Ok(all)
+}
+
+/// What is left of a session once its threads are done, and its history.
+///
+/// All passes go back to the station, `settle` draws, each reader takes the last shot and opens what is asked of it at the end, and all
+/// is merged. Out of memory is the only refusal. The order is this project's own rule.
+pub(crate) fn end<R: Threads + Wait + Sync, G: Gate>(
+    rt: &R,
+    alloc: Global,
+    gate: &G,
+    station: Station,
+    editors: Vec<EditorSeat>,
+    feeder: FeederSeat,
+    mut readers: Vec<ReaderSeat>,
+    shower: &mut Shower<Shot>,
+    ends: Vec<Deed>,
+    numbers: &[u32],
+) -> Result<Vec<(Event, Reply)>, NoMemory>
+    requires ready { (script : Fields) × (setting : Setting) × (done : List (Stage × Step)) × IsToEnd script setting done (steps_of ends.items)
+        × AreDone script setting done station numbers.now editors.items feeder readers.items (shown_by shower.old)
+        × (shower_board shower.old ≡ setting.board) × (most_by shower.old ≡ draws_of setting) }
+    ensures board { IsSameBoard shower.old shower.new }
+    ensures session { IfOk result (λ told. (script : Fields) (setting : Setting) (done : List (Stage × Step)) → IsToEnd script setting done (steps_of ends.items)
+        → AreDone script setting done station numbers.now editors.items feeder readers.items (shown_by shower.old) → IsSession script (map told_view told.items)) }
+{
+    let mut closed = end_of_threads(alloc, station, editors, feeder)?;
+    let opens = closed.draw_all(rt, alloc, gate, shower, ends)?;
+    read_all(&mut readers, shower, &opens)?;
+    let kept = all_opens(alloc, &readers)?;
+    played_is_a_session();
+    merge(
+        alloc,
+        closed.catalogue.entries(),
+        &closed.fates,
+        numbers,
+        &kept,
+    )
+}

@@ -1,0 +1,78 @@
+//! The seats of the readers.
+ghost use Rattle.std.specs.Prelude.{◌≡◌, ◌++◌, ◌∷◌, ◌<◌, ◌≤◌, ◌+◌, [], List, ℕ, length, map, slice_index_or, OnOk, IfOk};
+ghost use Rattle.std.specs.List.{All, Contains};
+ghost use mathlib.Core.List.{IsPrefix};
+ghost use Rattle.logbook.specs.Pages.{Book};
+ghost use Rattle.path_resolver.specs.declared.shot.Shot.{Shot as ShotFields};
+ghost use Rattle.session_script.specs.declared.script.Stage.TheVariants.{Before, During};
+ghost use Rattle.session_script.specs.declared.script.Stage.{Stage};
+ghost use Rattle.carousel_world.specs.Events.{Step, Open};
+ghost use Rattle.shot_board.specs.Showers.{shown_by, shower_board, most_by, IsSameBoard};
+ghost use Rattle.session.specs.Acting.{AreApart, IsTold, Setting, ReadersStand, IsNext, readers_of, steps_where};
+ghost use Rattle.session.specs.Lines.{draws_in, is_before};
+
+use oc_bytes::NoMemory;
+use path_resolver::Shot;
+use path_tree::Path;
+use session_actors::{ReaderSeat, open};
+use shot_board::Shower;
+
+/// The place of the reader of this number, who is there.
+fn place_of(seats: &[ReaderSeat], number: u32) -> usize
+    requires { Contains (readers_of seats.now) number }
+    ensures { (result < length seats.now) × ((d : _) → (slice_index_or seats.now result d).pass.reader ≡ number) }
+{
+    for place in 0..seats.len() {
+        if seats[place].pass.reader() == number {
+            return place;
+        }
+    }
+    unreachable!()
+}
+
+/// A reader opens a path before the start. Out of memory is the only refusal.
+pub(crate) fn open_now(seats: &mut Vec<ReaderSeat>, reader: u32, path: Path) -> Result<(), NoMemory>
+    requires there { Contains (readers_of seats.old.items) reader }
+    requires apart { AreApart (readers_of seats.old.items) }
+    requires next { (setting : Setting) × (done : List (Stage × Step)) × (shots : List ShotFields) × ReadersStand setting done shots seats.old.items × IsNext setting done (Before, Open reader path) }
+    ensures readers { readers_of seats.new.items ≡ readers_of seats.old.items }
+    ensures stands { OnOk result ((setting : Setting) (done : List (Stage × Step)) (shots : List ShotFields) → ReadersStand setting done shots seats.old.items
+        → length shots ≡ length (draws_in (steps_where is_before done)) + 1 → IsNext setting done (Before, Open reader path)
+        → ReadersStand setting (done ++ (Before, Open reader path) ∷ []) shots seats.new.items) }
+{
+    let place = place_of(seats, reader);
+    open(&mut seats[place].pass, path)
+}
+
+/// A path lies before its reader. Out of memory is the only refusal.
+pub(crate) fn lay_open(seats: &mut Vec<ReaderSeat>, reader: u32, path: Path) -> Result<(), NoMemory>
+    requires there { Contains (readers_of seats.old.items) reader }
+    requires apart { AreApart (readers_of seats.old.items) }
+    ensures readers { readers_of seats.new.items ≡ readers_of seats.old.items }
+    ensures stands { OnOk result ((setting : Setting) (done : List (Stage × Step)) (shots : List ShotFields) → ReadersStand setting done shots seats.old.items
+        → ReadersStand setting (done ++ (During, Open reader path) ∷ []) shots seats.new.items) }
+{
+    let place = place_of(seats, reader);
+    seats[place].paths.push(path)?;
+    Ok(())
+}
+
+/// Tells each reader of all that was shown.
+pub(crate) fn tell(seats: &mut Vec<ReaderSeat>, shower: &mut Shower<Shot>)
+    requires { All (λ seat. seat.pass.board ≡ shower_board shower.old) seats.old.items }
+    ensures board { (shown_by shower.new ≡ shown_by shower.old) × IsSameBoard shower.old shower.new }
+    ensures told { (length seats.new.items ≡ length seats.old.items) × ((k : ℕ) (d : _) → k < length seats.old.items → IsTold (shown_by shower.old) (slice_index_or seats.old.items k d) (slice_index_or seats.new.items k d)) }
+{
+    for place in 0..seats.len() {
+        tell_one(&mut seats[place], shower);
+    }
+}
+
+/// Tells one reader of all that was shown.
+fn tell_one(seat: &mut ReaderSeat, shower: &mut Shower<Shot>)
+    requires { seat.old.pass.board ≡ shower_board shower.old }
+    ensures board { (shown_by shower.new ≡ shown_by shower.old) × IsSameBoard shower.old shower.new }
+    ensures told { IsTold (shown_by shower.old) seat.old seat.new }
+{
+    seat.pass.learn(shower.front());
+}

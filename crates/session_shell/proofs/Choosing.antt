@@ -1,0 +1,208 @@
+-- Which words name a session, by the first of them.
+use Rattle.std.proofs.Common.{◌≡◌, ℕ, Bool, true, false, List, [], ◌∷◌, Option, Some, None, Result, Err, inl, inr, refl, sym, ap, ◌∙◌, subst}
+use Rattle.std.specs.Prelude.{if◌then◌else◌, codes}
+use Rattle.std.specs.List.{list_any, find}
+use Rattle.std.specs.Option.{option_map}
+use Rattle.std.specs.Str.{bytes_eq}
+use Rattle.std.proofs.lemmas.Bool.{true≢false}
+use Rattle.std.proofs.lemmas.Slice.Eq.{bytes_eq-Decides}
+use Rattle.oc_bytes.specs.Decimals.{decimal_in}
+use Rattle.oc_bytes.specs.Outcome.{Told}
+use Rattle.path_tree.specs.Paths.{Bytes, PathNames}
+use Rattle.folder_store.specs.Folders.{FolderTree}
+use Rattle.shell_words.specs.Words as commands
+use Rattle.shell_words.specs.Words.{Named, Misfit, ◌>>=◌, begins_with_dash, or_misfit, command_of}
+use Rattle.shell_streams.specs.Held.{IsRear}
+use Rattle.shell_streams.proofs.CallerLemmas.{told_same}
+use Rattle.carousel_shell.specs.Over.{Over, over, IsUntouched, TakesPrefix}
+use Rattle.carousel_shell.specs.Promises.{Keeps}
+use Rattle.carousel_shell.specs.declared.status.Status.{Status}
+use Rattle.carousel_shell.specs.declared.status.Status.TheVariants as status
+use Rattle.session_shell.specs.Session.{Plays}
+use Rattle.session_shell.specs.Commands.{is_session, names_session, begins_session, PlaysOrDeclines, KeepsSession, PlaysOrKeeps, KeepsAll}
+
+abbrev says_session : Option Named → Bool
+says_session (Some c) = is_session c
+says_session None = false
+
+-- ---- what the words behind each keyword but `session` say
+
+mapped : {A : Type 0} (name : A → Named) → ((a : A) → is_session (name a) ≡ false) → (o : Option A) → says_session (option_map name o) ≡ false
+mapped name h (Some a) = h a
+mapped name h None = refl
+
+assembled : (i v s d : Option ℕ) → says_session (i >>= λ a. v >>= λ b. s >>= λ c. d >>= λ e. Some (commands.Assemble a b c e)) ≡ false
+assembled None v s d = refl
+assembled (Some i) None s d = refl
+assembled (Some i) (Some v) None d = refl
+assembled (Some i) (Some v) (Some s) None = refl
+assembled (Some i) (Some v) (Some s) (Some d) = refl
+
+assemble : (words : List Bytes) → says_session (commands.assemble_by words) ≡ false
+assemble [] = refl
+assemble (a ∷ []) = refl
+assemble (a ∷ b ∷ []) = refl
+assemble (a ∷ b ∷ c ∷ []) = refl
+assemble (a ∷ b ∷ c ∷ d ∷ []) = assembled (decimal_in 0 65535 a) (decimal_in 0 255 b) (decimal_in 0 16842752 c) (commands.any_u32_in d)
+assemble (a ∷ b ∷ c ∷ d ∷ e ∷ words) = refl
+
+opened : (b : Bool) (pid : Option ℕ) (paths : Option (List PathNames))
+    → says_session (if b then option_map commands.OpenSections paths else (pid >>= λ p. option_map (commands.Open p) paths)) ≡ false
+opened true pid (Some paths) = refl
+opened true pid None = refl
+opened false (Some p) (Some paths) = refl
+opened false (Some p) None = refl
+opened false None paths = refl
+
+open_paths : (words : List Bytes) → says_session (commands.open_by words) ≡ false
+open_paths [] = refl
+open_paths (from ∷ words) = opened (bytes_eq from (codes "sections")) (commands.pid_in from) (commands.paths_in words)
+
+rehearse : (words : List Bytes) → says_session (commands.rehearse_by words) ≡ false
+rehearse [] = refl
+rehearse (word ∷ words) = refl
+
+big : (words : List Bytes) → says_session (commands.big_by words) ≡ false
+big [] = refl
+big (n ∷ []) = mapped commands.Big (λ a. refl) (decimal_in 1 16 n)
+big (n ∷ m ∷ words) = refl
+
+find_one : (words : List Bytes) → says_session (commands.find_by words) ≡ false
+find_one [] = refl
+find_one (c ∷ []) = mapped commands.Find (λ a. refl) (commands.any_u32_in c)
+find_one (c ∷ d ∷ words) = refl
+
+opened_by_id : (carousel : Option ℕ) (paths : Option (List PathNames)) → says_session (carousel >>= λ c. option_map (commands.OpenId c) paths) ≡ false
+opened_by_id (Some c) (Some paths) = refl
+opened_by_id (Some c) None = refl
+opened_by_id None paths = refl
+
+open_by_id : (words : List Bytes) → says_session (commands.open_id_by words) ≡ false
+open_by_id [] = refl
+open_by_id (carousel ∷ words) = opened_by_id (commands.any_u32_in carousel) (commands.paths_in words)
+
+-- ---- the first word
+
+abbrev Reader : Type 0
+Reader = Bytes × (List Bytes → Option Named)
+
+-- where the word is this keyword, the words behind it say no session
+abbrev NoneSays : Bytes → List Bytes → List Reader → Type 0
+NoneSays word words [] = Unit {0}
+NoneSays word words (c ∷ cs) = (bytes_eq word c.0 ≡ true → says_session (c.1 words) ≡ false) × (NoneSays word words cs)
+
+one_of : (b : Bool) (words : List Bytes) (c : Reader) (rest : Option Reader) → (b ≡ true → says_session (c.1 words) ≡ false)
+    → says_session (rest >>= λ (r : Reader). r.1 words) ≡ false → says_session ((if b then Some c else rest) >>= λ (r : Reader). r.1 words) ≡ false
+one_of true words c rest h k = h refl
+one_of false words c rest h k = k
+
+among : (word : Bytes) (words : List Bytes) (cs : List Reader) → NoneSays word words cs → says_session (find (λ (c : Reader). bytes_eq word c.0) cs >>= λ (r : Reader). r.1 words) ≡ false
+among word words [] h = refl
+among word words (c ∷ cs) h = one_of (bytes_eq word c.0) words c (find (λ (c : Reader). bytes_eq word c.0) cs) h.0 (among word words cs h.1)
+
+named : (word : Bytes) (words : List Bytes) → bytes_eq word (codes "session") ≡ false → says_session (commands.named word words) ≡ false
+named word words other = among word words commands.commands (
+  λ e. assemble words,
+  (
+    λ e. open_paths words,
+    (
+      λ e. mapped commands.Record (λ a. refl) (commands.pid_by words),
+      (
+        λ e. mapped commands.ListAll (λ a. refl) (commands.pid_by words),
+        (
+          λ e. mapped (λ p. commands.Publish p.0 p.1 p.2) (λ a. refl) (commands.publication_in words),
+          (
+            λ e. rehearse words,
+            (
+              λ e. absurd (true≢false (sym e ∙ other)),
+              (
+                λ e. big words,
+                (λ e. find_one words, (λ e. open_by_id words, (λ e. mapped (λ p. commands.PublishPsi p.0 p.1 p.2) (λ a. refl) (commands.publication_in words), tt))),
+              ),
+            ),
+          ),
+        ),
+      ),
+    ),
+  ),
+)
+
+fitting : (b : Bool) (o : Option Named) → says_session o ≡ false → names_session (if b then Err commands.Words else or_misfit o) ≡ false
+fitting true o h = refl
+fitting false (Some c) h = h
+fitting false None h = refl
+
+pub not_named : (words : List Bytes) → begins_session words ≡ false → names_session (command_of words) ≡ false
+not_named [] other = refl
+not_named (word ∷ words) other = fitting (list_any begins_with_dash (word ∷ words)) (commands.named word words) (named word words other)
+
+-- ---- what is promised
+
+takes_nothing : (source : Over Bytes) → IsUntouched source → TakesPrefix source
+takes_nothing source e = let P : Option Bytes → Type 0 = λ a. Told source.before a IsRear in subst P (sym e) (told_same source.before (λ x. record { taken = []; whole = refl }))
+
+keeps_by : (b : Bool) (r : Result Named Misfit) (s : Status) (source sink : Over Bytes) (folders : Over FolderTree) → b ≡ false → Keeps r s source sink folders
+    → PlaysOrKeeps b r s source sink folders
+keeps_by true r s source sink folders other k = absurd (true≢false other)
+keeps_by false r s source sink folders other k = k
+
+-- where the first word is another one
+pub keeps_plain : (words : List Bytes) (s : Status) (source sink : Over Bytes) (folders : Over FolderTree) → begins_session words ≡ false
+    → Keeps (command_of words) s source sink folders → KeepsAll (command_of words) s source sink folders
+keeps_plain words s source sink folders other k = keeps_by (names_session (command_of words)) (command_of words) s source sink folders (not_named words other) k
+
+behind_session : (b : Bool) (s : Status) (source sink : Over Bytes) (folders : Over FolderTree) → KeepsSession (if b then Err commands.Words else Err commands.Words) s source sink
+    → KeepsAll (if b then Err commands.Words else Err commands.Words) s source sink folders
+behind_session true s source sink folders k = k
+behind_session false s source sink folders k = k
+
+with_session : (words : List Bytes) (s : Status) (source sink : Over Bytes) (folders : Over FolderTree) → KeepsSession (command_of (codes "session" ∷ words)) s source sink
+    → KeepsAll (command_of (codes "session" ∷ words)) s source sink folders
+with_session [] s source sink folders k = k
+with_session (word ∷ words) s source sink folders k = behind_session (list_any begins_with_dash (codes "session" ∷ word ∷ words)) s source sink folders k
+
+-- where it is that of a session
+pub keeps_session : (words : List Bytes) (s : Status) (source sink : Over Bytes) (folders : Over FolderTree) → begins_session words ≡ true → KeepsSession (command_of words) s source sink
+    → KeepsAll (command_of words) s source sink folders
+keeps_session [] s source sink folders first k = absurd (true≢false (sym first))
+keeps_session (word ∷ words) s source sink folders first k =
+    let is : word ≡ codes "session" = (bytes_eq-Decides word (codes "session")).0 first in
+    let P : Bytes → Type 0 = λ w. KeepsSession (command_of (w ∷ words)) s source sink → KeepsAll (command_of (w ∷ words)) s source sink folders in
+    subst P (sym is) (with_session words s source sink folders) k
+
+plays_by : (b : Bool) (s : Status) (source sink : Over Bytes) → b ≡ true → Plays s source sink → PlaysOrDeclines b s source sink
+plays_by true s source sink first p = p
+plays_by false s source sink first p = absurd (true≢false (sym first))
+
+-- where the words name a session
+pub named_plays : (r : Result Named Misfit) (s : Status) (source sink : Over Bytes) → names_session r ≡ true → Plays s source sink → KeepsSession r s source sink
+named_plays r s source sink first p = plays_by (names_session r) s source sink first p
+
+words_by : (b : Bool) (source sink : Over Bytes) → b ≡ false → IsUntouched source → IsUntouched sink → PlaysOrDeclines b status.Words source sink
+words_by true source sink other e f = absurd (true≢false other)
+words_by false source sink other e f = record { ends = inl refl; unread = e; unwritten = f }
+
+-- where they name none, nothing was done
+pub words_decline : (r : Result Named Misfit) (source sink : Over Bytes) → names_session r ≡ false → IsUntouched source → IsUntouched sink → KeepsSession r status.Words source sink
+words_decline r source sink other e f = words_by (names_session r) source sink other e f
+
+memory_by : (b : Bool) (source sink : Over Bytes) → IsUntouched source → IsUntouched sink → PlaysOrDeclines b status.NoMemory source sink
+memory_by true source sink e f = record { ends = inl f; takes = takes_nothing source e }
+memory_by false source sink e f = record { ends = inr refl; unread = e; unwritten = f }
+
+-- there was no memory before a session began
+pub memory_declines : (r : Result Named Misfit) (source sink : Over Bytes) → IsUntouched source → IsUntouched sink → KeepsSession r status.NoMemory source sink
+memory_declines r source sink e f = memory_by (names_session r) source sink e f
+
+-- the sink that the output lends is the one that was handed in
+pub plays_over : {X : Type 0} (s : Status) (source : Over Bytes) (content : X → Option Bytes) (faults : X → ℕ) (begin end first last : X) → begin ≡ first → end ≡ last
+    → Plays s source (over content faults begin end) → Plays s source (over content faults first last)
+plays_over {X} s source content faults begin end first last a b p =
+    let P : X → Type 0 = λ x. Plays s source (over content faults x end) in
+    let Q : X → Type 0 = λ x. Plays s source (over content faults first x) in
+    subst Q b (subst P a p)
+
+-- nor is a write tried there after one that failed
+pub in_time_over : {X : Type 0} (failed late : X → Bool) (begin end first last : X) → begin ≡ first → end ≡ last → (failed begin ≡ false → late end ≡ late begin)
+    → failed first ≡ false → late last ≡ late first
+in_time_over failed late begin end first last a b p h = sym (ap late b) ∙ p (ap failed a ∙ h) ∙ ap late a

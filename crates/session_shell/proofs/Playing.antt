@@ -1,0 +1,114 @@
+-- What `session` promises, by what was read and what was played.
+use Rattle.std.proofs.Common.{◌≡◌, List, [], ◌∷◌, ◌++◌, map, Option, Some, Ok, Err, inl, inr, refl, sym, ◌∙◌, ap, append-nil}
+use Rattle.std.specs.Prelude.{MatchOption, ⊤, true}
+use Rattle.oc_bytes.specs.Outcome.{Told}
+use Rattle.session_script.specs.Scripts.{Fields, cause}
+use Rattle.session_script.specs.Grammar.{meaning_of}
+use Rattle.session_script.specs.declared.script.ScriptFault.{ScriptFault}
+use Rattle.session_script.specs.declared.script.ScriptFault.TheVariants as scripts
+use Rattle.carousel_world.specs.Events.{Step, view}
+use Rattle.carousel_world.specs.declared.event.Event.{Event}
+use Rattle.carousel_world.specs.declared.event.Reply.{Reply}
+use Rattle.rehearsal.specs.Reports.{report}
+use Rattle.session_history.specs.Merges.{told_view}
+use Rattle.session.specs.Sessions.{IsSession}
+use Rattle.shell_streams.specs.Cuts.{Bytes}
+use Rattle.shell_streams.specs.Held.{Stopped, is_longer}
+use Rattle.shell_streams.specs.Sending.{OutputState, Puts}
+use Rattle.shell_streams.specs.declared.input.InputFault.{InputFault}
+use Rattle.shell_streams.specs.declared.input.InputFault.TheVariants as inputs
+use Rattle.shell_streams.specs.declared.output.OutputFault.{OutputFault}
+use Rattle.shell_streams.specs.declared.output.OutputFault.TheVariants as outputs
+use Rattle.shell_streams.proofs.CallerLemmas.{told_weaker, told_here, all_rear}
+use Rattle.carousel_shell.specs.Over.{Over, sent, Failed, IsUntouched, WritesAll, WritesPrefix}
+use Rattle.carousel_shell.specs.Rehearse.{ReadsAll, ReadsScript}
+use Rattle.carousel_shell.specs.Statuses.{input_status, output_status, script_status}
+use Rattle.carousel_shell.specs.declared.status.Status.TheVariants as status
+use Rattle.session_shell.specs.Session.{EndsSession, Plays, report_of_told}
+
+-- ---- what was written, by what was put
+
+writes_all : {T : Type 0} {x : T} {old new : OutputState} {text : Bytes} → old.pending ≡ [] → new.pending ≡ [] → Puts (Ok x) old new text → WritesAll (sent old new) text
+writes_all {text = text} before after puts = told_weaker puts.ok (λ x y s.
+    s.after_is ∙ ap (λ bs. x ++ bs) (sym (append-nil s.sent) ∙ ap (λ bs. s.sent ++ bs) (sym after) ∙ sym s.split ∙ ap (λ bs. bs ++ text) before))
+
+writes_prefix : {T : Type 0} {f : OutputFault} {old new : OutputState} {text : Bytes} → old.pending ≡ [] → Puts {T = T} (Err f) old new text → WritesPrefix (sent old new) text
+writes_prefix {text = text} before puts = told_weaker puts.err (λ x y e. record {
+  part = e.sends.sent;
+  after_is = e.sends.after_is;
+  prefix = record { rest = e.rest; whole_is = sym (ap (λ bs. bs ++ text) before) ∙ e.sends.split };
+})
+
+-- the report of what was told is that of its view
+pub told_report : (told : List (Event × Reply)) → report (map (λ x. view x.0) told) (map (λ x. x.1) told) ≡ report_of_told (map told_view told)
+told_report told = ap (λ es. report es (map (λ x. x.1) told)) (firsts told) ∙ ap (λ rs. report (map (λ (x : Step × Reply). x.0) (map told_view told)) rs) (seconds told)
+  where
+    firsts : (told : List (Event × Reply)) → map (λ x. view x.0) told ≡ map (λ (x : Step × Reply). x.0) (map told_view told)
+    firsts [] = refl
+    firsts (x ∷ xs) = ap (λ es. view x.0 ∷ es) (firsts xs)
+
+    seconds : (told : List (Event × Reply)) → map (λ x. x.1) told ≡ map (λ (x : Step × Reply). x.1) (map told_view told)
+    seconds [] = refl
+    seconds (x ∷ xs) = ap (λ rs. x.1 ∷ rs) (seconds xs)
+
+-- ---- reading
+
+goes_on : (before after : Option Bytes) → Told before after (Stopped (is_longer 16777216) inputs.TooLong) → (input : Bytes) → before ≡ Some input → is_longer 16777216 input ≡ true
+goes_on before after t input is = (told_here before after input t is).2.too_long refl
+
+ends_stopped : (source sink : Over Bytes) (fault : InputFault) → Told source.before source.after (Stopped (is_longer 16777216) fault)
+    → (fault ≡ inputs.Failed → Failed source) → IsUntouched sink → EndsSession source sink (input_status fault)
+ends_stopped source sink inputs.Failed t failed none = (failed refl, none)
+ends_stopped source sink inputs.TooLong t failed none = (goes_on source.before source.after t, none)
+ends_stopped source sink inputs.NoMemory t failed none = inl none
+
+-- a fault stopped the reading
+pub plays_stopped : (source sink : Over Bytes) (fault : InputFault) → Told source.before source.after (Stopped (is_longer 16777216) fault)
+    → (fault ≡ inputs.Failed → Failed source) → IsUntouched sink → Plays (input_status fault) source sink
+plays_stopped source sink fault t failed none = record { ends = ends_stopped source sink fault t failed none; takes = told_weaker t (λ x y s. s.rear) }
+
+ends_misread : (source sink : Over Bytes) (text : Bytes) (fault : ScriptFault) → ReadsAll source text → MatchOption (cause fault) ⊤ (λ f. meaning_of text ≡ Err f)
+    → IsUntouched sink → EndsSession source sink (script_status fault)
+ends_misread source sink text (scripts.BadLine number why) all says none = (record { text = text; reads = all; says = says }, none)
+ends_misread source sink text scripts.NoMemory all says none = inl none
+
+-- the input gave no script
+pub plays_misread : (source sink : Over Bytes) (text : Bytes) (fault : ScriptFault) → ReadsAll source text → MatchOption (cause fault) ⊤ (λ f. meaning_of text ≡ Err f)
+    → IsUntouched sink → Plays (script_status fault) source sink
+plays_misread source sink text fault all says none = record { ends = ends_misread source sink text fault all says none; takes = all_rear all }
+
+-- there was no memory for its session
+pub plays_nothing : (source sink : Over Bytes) (text : Bytes) → ReadsAll source text → IsUntouched sink → Plays status.NoMemory source sink
+plays_nothing source sink text all none = record { ends = inl none; takes = all_rear all }
+
+-- ---- writing
+
+-- the session was played, and its report was put
+pub plays_all : {x : Unit {0}} (source : Over Bytes) (old new : OutputState) (text : Bytes) (script : Fields) (told : List (Step × Reply)) → ReadsAll source text
+    → meaning_of text ≡ Ok script → IsSession script told → old.pending ≡ [] → new.pending ≡ [] → Puts (Ok x) old new (report_of_told told) → Plays status.Done source (sent old new)
+plays_all source old new text script told all says session begin empty puts = record {
+  ends = record {
+    script = script;
+    read = record { text = text; reads = all; says = says };
+    told = told;
+    session = session;
+    writes = writes_all begin empty puts;
+  };
+  takes = all_rear all;
+}
+
+ends_part : (source : Over Bytes) (old new : OutputState) (script : Fields) (told : List (Step × Reply)) (fault : OutputFault) → ReadsScript source script
+    → IsSession script told → old.pending ≡ [] → Puts {T = Unit {0}} (Err fault) old new (report_of_told told) → EndsSession source (sent old new) (output_status fault)
+ends_part source old new script told outputs.Failed read session begin puts =
+    (puts.cause refl, record { script = script; read = read; told = told; session = session; writes = writes_prefix begin puts })
+ends_part source old new script told outputs.NoMemory read session begin puts =
+    inr (record { script = script; read = read; told = told; session = session; writes = writes_prefix begin puts })
+
+-- a fault stopped its report
+pub plays_part : (source : Over Bytes) (old new : OutputState) (text : Bytes) (script : Fields) (told : List (Step × Reply)) (fault : OutputFault) → ReadsAll source text
+    → meaning_of text ≡ Ok script → IsSession script told → old.pending ≡ [] → Puts {T = Unit {0}} (Err fault) old new (report_of_told told)
+    → Plays (output_status fault) source (sent old new)
+plays_part source old new text script told fault all says session begin puts = record {
+  ends = ends_part source old new script told fault (record { text = text; reads = all; says = says }) session begin puts;
+  takes = all_rear all;
+}

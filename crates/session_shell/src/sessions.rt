@@ -1,0 +1,61 @@
+ghost use Rattle.std.specs.Prelude.{◌≡◌, []};
+ghost use Rattle.shell_streams.specs.Sending.{IsInTime};
+ghost use Rattle.carousel_shell.specs.Over.{over, sent};
+ghost use Rattle.session_shell.specs.Session.{Plays};
+
+use carousel_shell::Status;
+use oc_bytes::Source;
+use rehearsal::put_report;
+use section_workers::Gate;
+use session::{play, texts_are_arranged};
+use session_script::parse;
+use shell_streams::{Output, read_all};
+use std::alloc::Global;
+use std::sync::Wait;
+use std::thread::Threads;
+
+/// The most bytes of a script.
+const MOST_BYTES: usize = 16_777_216;
+
+/// Reads a script, plays its session, and writes a line for each commit, draw and open of it, in one order in which they happened. The
+/// language, the order in which actors run and the lines are this project's own.
+///
+/// `ReadFault` comes where the source fails, and `InputTooLong` exactly where at least a byte more than 16,777,216 is read. The whole
+/// input is read before anything else is done. `BadLine` comes exactly where it is no script; it names the first line that doesn't fit,
+/// and that line's first cause. In these three cases nothing is written. Then the session is played to its end, and nothing is written
+/// before that. `Done` comes where the whole report was written, and after `WriteFault`, where the sink fails, a prefix of it was. After
+/// `NoMemory` nothing was written, or a prefix of the report of a session that was played to its end. No other status comes.
+///
+/// Nothing may be pending in the output when it is called.
+pub(crate) fn play_session<R: Threads + Wait + Sync, S: Source, O: Output, G: Gate>(
+    rt: &R,
+    alloc: Global,
+    source: &mut S,
+    out: &mut O,
+    gate: &G,
+) -> Status
+    requires { (O.state out.old).pending ≡ [] }
+    ensures plays { Plays result (over S.left S.faults source.old source.new) (sent (O.state out.old) (O.state out.new)) }
+    ensures same { (O.state out.new).name ≡ (O.state out.old).name }
+    ensures in_time { IsInTime (O.state out.old) (O.state out.new) }
+{
+    texts_are_arranged();
+    let text = match read_all(alloc, source, MOST_BYTES) {
+        Ok(text) => text,
+        Err(fault) => return Status::from(fault),
+    };
+    let script = match parse(alloc, &text) {
+        Ok(script) => script,
+        Err(fault) => return Status::from(fault),
+    };
+    // The text is of no use any more, and may be large.
+    drop(text);
+    let told = match play(rt, alloc, script, gate) {
+        Ok(told) => told,
+        Err(_) => return Status::NoMemory,
+    };
+    match put_report(alloc, &told, out) {
+        Ok(()) => Status::Done,
+        Err(fault) => Status::from(fault),
+    }
+}
