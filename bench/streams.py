@@ -241,9 +241,9 @@ def next_generation(before, files, place=fresh_placement):
     return Generation(before.carousel, before.number + 1, dict(files), keys, places, modules, counts)
 
 
-def generation(files, carousel=1):
-    """The first generation of a tree, after the empty one."""
-    return next_generation(first_generation(carousel), files)
+def generation(files, carousel=1, place=kept_placement):
+    """The first generation of a tree, after the empty one; placed as the program does it where no other rule is given."""
+    return next_generation(first_generation(carousel), files, place)
 
 
 def dsi(carousel, gateway=None):
@@ -330,15 +330,22 @@ class Rules:
     place: object = fresh_placement
 
 
-# What the program does today. Weights of modules and sections packed back to back stand ready:
-# Rules({1: 2}, packed, kept_placement) is all three.
-BUILT = Rules(place=kept_placement)
+# What the program does today. Weights of modules stand ready: Rules({1: 2}, packed, kept_placement).
+BUILT = Rules(lay=packed, place=kept_placement)
 
 
 def published(files, cycles, carousel=1, rules=BUILT):
     """The packets of so many cycles of the first generation of a tree, as `publish` writes them."""
-    first = generation(files, carousel)
+    first = generation(files, carousel, rules.place)
     return rules.lay([section for _ in range(cycles) for section in cycle(first, rules.weights)])
+
+
+def published_in_groups(files, cycles, carousel=1):
+    """The same where each cycle is a group of its own, as `publish-psi` writes them between the tables."""
+    sections, sent = [*cycle(generation(files, carousel), BUILT.weights)], []
+    for _ in range(cycles):
+        sent += BUILT.lay(sections, counter=len(sent) % 16)
+    return sent
 
 
 def files_in(folder):

@@ -148,7 +148,7 @@ def first_found(packets, carousel):
 
 
 def announced(packets, cycles, carousel):
-    """The packets of so many cycles, each cycle behind the packets of the PAT and of the map table that are sent with it."""
+    """The packets of so many cycles, each cycle after the packets of the PAT and of the map table that are sent with it."""
     sender, size = Sender(), len(packets) // cycles
     stream = (0x0B, 256, names(carousel) + descriptor(0x52, b"\1"))
     for first in range(0, len(packets), size):

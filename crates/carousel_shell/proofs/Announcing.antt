@@ -1,13 +1,15 @@
 -- What `publish-psi` sends, cycle by cycle.
-use Rattle.std.proofs.Common.{◌≡◌, ℕ, zero, suc, ◌+◌, ◌-◌, ◌<◌, List, [], ◌∷◌, ◌++◌, map, refl, sym, ap, ap₂, ◌∙◌, append_assoc, append-nil, arith, Err}
-use Rattle.std.specs.List.{concat, fold}
+use Rattle.std.proofs.Common.{◌≡◌, ℕ, zero, suc, ◌+◌, ◌-◌, ◌<◌, List, [], ◌∷◌, ◌++◌, length, map, refl, sym, ap, ap₂, ◌∙◌, append_assoc, append-nil, arith, Err}
+use Rattle.std.specs.List.{concat}
 use Rattle.std.proofs.lemmas.List.Folds.{concat-append}
 use Rattle.path_tree.specs.Trees.{Tree}
 use Rattle.cycle_planner.specs.Cycle.{cycle_of}
 use Rattle.generation.specs.Layouts.{GenerationState, generation_of, lines_of, section_of}
 use Rattle.generation.specs.Kept.{GenerationsAreOfTheLists}
 use Rattle.folder_store.specs.Folders.{FolderTree}
-use Rattle.section_stream.specs.Packing.{MuxState, packets_of_all, past}
+use Rattle.section_stream.specs.Groups.{IsBetween, layout_of, packets_of_group, past_group}
+use Rattle.section_stream.specs.Packing.{MuxState}
+use Rattle.section_stream.proofs.CallerLemmas.{between_idle}
 use Rattle.psi_tables.specs.Written.{AnnouncerState, announced, after_announcing}
 use Rattle.shell_streams.specs.Cuts.{Bytes}
 use Rattle.shell_streams.specs.Sending.{OutputState, Puts, HasPut}
@@ -15,17 +17,15 @@ use Rattle.shell_streams.specs.declared.output.OutputFault.{OutputFault}
 use Rattle.shell_streams.proofs.CallerLemmas.{puts_as}
 use Rattle.carousel_shell.specs.Over.{Over, sent, IsUntouched}
 use Rattle.carousel_shell.specs.Cycles.{IsOfFolder, Refused}
-use Rattle.carousel_shell.specs.PublishPsi.{Senders, senders_start, cycle_sent, after_cycle, cycles_sent, published_psi, PublishesPsi}
+use Rattle.carousel_shell.specs.Announced.{Senders, senders_start, cycle_sent, after_cycle, cycles_sent, after_cycles, published_psi}
+use Rattle.carousel_shell.specs.PublishPsi.{PublishesPsi}
+use Rattle.carousel_shell.specs.Reception.{Receptions}
 use Rattle.carousel_shell.specs.Statuses.{output_status}
 use Rattle.carousel_shell.specs.declared.status.Status.{Status}
 use Rattle.carousel_shell.specs.declared.status.Status.TheVariants as status
 use Rattle.carousel_shell.proofs.Committing.{HasEnded, one_cycle_is, ended_none, ended_all, ended_part}
 
 -- ---- cycles one after another
-
-abbrev pub after_cycles : List Bytes → ℕ → Senders → Senders
-after_cycles cycle zero s = s
-after_cycles cycle (suc n) s = after_cycles cycle n (after_cycle cycle s)
 
 after_one_more : (cycle : List Bytes) (n : ℕ) (s : Senders) → after_cycles cycle (suc n) s ≡ after_cycle cycle (after_cycles cycle n s)
 after_one_more cycle zero s = refl
@@ -40,12 +40,12 @@ cycles_then cycle (suc m) n s =
 
 -- one cycle more: the tables, and then the sections
 pub cycle_more : (cycle : List Bytes) (n : ℕ) (s : Senders) (tables : AnnouncerState) (objects : MuxState) → tables ≡ (after_cycles cycle n s).tables → objects ≡ (after_cycles cycle n s).objects
-    → (concat (cycles_sent cycle n s) ++ concat (announced tables)) ++ concat (packets_of_all objects cycle) ≡ concat (cycles_sent cycle (n + 1) s)
+    → (concat (cycles_sent cycle n s) ++ concat (announced tables)) ++ concat (packets_of_group objects cycle) ≡ concat (cycles_sent cycle (n + 1) s)
 cycle_more cycle n s tables objects t o =
     let now = after_cycles cycle n s in
-    append_assoc (concat (cycles_sent cycle n s)) (concat (announced tables)) (concat (packets_of_all objects cycle))
-    ∙ ap₂ (λ (a : AnnouncerState) (m : MuxState). concat (cycles_sent cycle n s) ++ (concat (announced a) ++ concat (packets_of_all m cycle))) t o
-    ∙ ap (λ bs. concat (cycles_sent cycle n s) ++ bs) (sym (concat-append (announced now.tables) (packets_of_all now.objects cycle)))
+    append_assoc (concat (cycles_sent cycle n s)) (concat (announced tables)) (concat (packets_of_group objects cycle))
+    ∙ ap₂ (λ (a : AnnouncerState) (m : MuxState). concat (cycles_sent cycle n s) ++ (concat (announced a) ++ concat (packets_of_group m cycle))) t o
+    ∙ ap (λ bs. concat (cycles_sent cycle n s) ++ bs) (sym (concat-append (announced now.tables) (packets_of_group now.objects cycle)))
     ∙ ap (λ bs. concat (cycles_sent cycle n s) ++ concat bs) (sym (append-nil (cycle_sent cycle now)))
     ∙ sym (concat-append (cycles_sent cycle n s) (cycles_sent cycle 1 now)) ∙ ap concat (cycles_then cycle n 1 s)
 
@@ -54,10 +54,15 @@ tables_more cycle n s tables t =
     let e : suc n ≡ n + 1 = omega arith in
     ap after_announcing t ∙ ap (λ (x : Senders). x.tables) (sym (after_one_more cycle n s)) ∙ ap (λ k. (after_cycles cycle k s).tables) e
 
-pub objects_more : (cycle : List Bytes) (n : ℕ) (s : Senders) (objects : MuxState) → objects ≡ (after_cycles cycle n s).objects → fold past objects cycle ≡ (after_cycles cycle (n + 1) s).objects
+pub objects_more : (cycle : List Bytes) (n : ℕ) (s : Senders) (objects : MuxState) → objects ≡ (after_cycles cycle n s).objects → past_group objects cycle ≡ (after_cycles cycle (n + 1) s).objects
 objects_more cycle n s objects o =
     let e : suc n ≡ n + 1 = omega arith in
-    ap (λ m. fold past m cycle) o ∙ ap (λ (x : Senders). x.objects) (sym (after_one_more cycle n s)) ∙ ap (λ k. (after_cycles cycle k s).objects) e
+    ap (λ m. past_group m cycle) o ∙ ap (λ (x : Senders). x.objects) (sym (after_one_more cycle n s)) ∙ ap (λ k. (after_cycles cycle k s).objects) e
+
+-- no group is under way between cycles
+pub objects_between : (cycle : List Bytes) (n : ℕ) (s : Senders) → IsBetween s.objects → IsBetween (after_cycles cycle n s).objects
+objects_between cycle zero s b = b
+objects_between cycle (suc n) s b = objects_between cycle n (after_cycle cycle s) (between_idle s.objects.pid (s.objects.counter + length (layout_of cycle)))
 
 -- the first cycles, and the others
 pub cycles_all : (cycle : List Bytes) (i n : ℕ) (s : Senders) → i < n
@@ -69,36 +74,36 @@ cycles_all cycle i n s h =
 
 -- the tables of one cycle more were put, and its sections are to follow
 pub tables_then : (cycle : List Bytes) (n : ℕ) (s : Senders) (tables : AnnouncerState) → tables ≡ (after_cycles cycle n s).tables
-    → (concat (cycles_sent cycle n s) ++ concat (announced tables)) ++ concat (packets_of_all (after_cycles cycle n s).objects cycle) ≡ concat (cycles_sent cycle (n + 1) s)
+    → (concat (cycles_sent cycle n s) ++ concat (announced tables)) ++ concat (packets_of_group (after_cycles cycle n s).objects cycle) ≡ concat (cycles_sent cycle (n + 1) s)
 tables_then cycle n s tables t = cycle_more cycle n s tables (after_cycles cycle n s).objects t refl
 
 -- ---- what is promised
 
-psi_by : (folder : Bytes) (carousel cycles : ℕ) (s : Status) (sink : Over Bytes) (folders : Over FolderTree) → HasEnded folder carousel (published_psi carousel cycles) s sink folders
+psi_by : (folder : Bytes) (carousel cycles : ℕ) (s : Status) (sink : Over Bytes) (folders : Over FolderTree) → Receptions → HasEnded folder carousel (published_psi carousel cycles) s sink folders
     → PublishesPsi folder carousel cycles s sink folders
-psi_by folder carousel cycles s sink folders e = record { ends = e.ends; needs = e.needs }
+psi_by folder carousel cycles s sink folders law e = record { ends = e.ends; needs = e.needs; heard = law.cycles carousel cycles }
 
 psi_is : (carousel cycles : ℕ) (t : Tree) (g : GenerationState) → GenerationsAreOfTheLists → g ≡ generation_of carousel (t ∷ [])
     → concat (cycles_sent (map (section_of g) (cycle_of (lines_of g))) cycles (senders_start carousel)) ≡ published_psi carousel cycles t
 psi_is carousel cycles t g law e = ap (λ cycle. concat (cycles_sent cycle cycles (senders_start carousel))) (one_cycle_is carousel t g law e)
 
-pub psi_none : (folder : Bytes) (carousel cycles : ℕ) (sink : Over Bytes) (folders : Over FolderTree) (s : Status) → Refused folder carousel folders s → IsUntouched sink
+pub psi_none : (folder : Bytes) (carousel cycles : ℕ) (sink : Over Bytes) (folders : Over FolderTree) (s : Status) → Receptions → Refused folder carousel folders s → IsUntouched sink
     → PublishesPsi folder carousel cycles s sink folders
-psi_none folder carousel cycles sink folders s r none = psi_by folder carousel cycles s sink folders (ended_none folder carousel (published_psi carousel cycles) sink folders s r none)
+psi_none folder carousel cycles sink folders s law r none = psi_by folder carousel cycles s sink folders law (ended_none folder carousel (published_psi carousel cycles) sink folders s r none)
 
-pub psi_all : (folder : Bytes) (carousel cycles : ℕ) (old new : OutputState) (folders : Over FolderTree) (g : GenerationState) → GenerationsAreOfTheLists
+pub psi_all : (folder : Bytes) (carousel cycles : ℕ) (old new : OutputState) (folders : Over FolderTree) (g : GenerationState) → Receptions → GenerationsAreOfTheLists
     → IsOfFolder folder carousel folders.before g → old.pending ≡ [] → new.pending ≡ []
     → HasPut old new (concat (cycles_sent (map (section_of g) (cycle_of (lines_of g))) cycles (senders_start carousel))) → PublishesPsi folder carousel cycles status.Done (sent old new) folders
-psi_all folder carousel cycles old new folders g lists of begin empty puts =
-    psi_by folder carousel cycles status.Done (sent old new) folders
+psi_all folder carousel cycles old new folders g law lists of begin empty puts =
+    psi_by folder carousel cycles status.Done (sent old new) folders law
     (ended_all folder carousel (published_psi carousel cycles) old new folders g of begin empty (puts_as (psi_is carousel cycles of.tree g lists of.is) puts))
 
-pub psi_part : (folder : Bytes) (carousel cycles : ℕ) (old new : OutputState) (folders : Over FolderTree) (g : GenerationState) (f : OutputFault) → GenerationsAreOfTheLists
+pub psi_part : (folder : Bytes) (carousel cycles : ℕ) (old new : OutputState) (folders : Over FolderTree) (g : GenerationState) (f : OutputFault) → Receptions → GenerationsAreOfTheLists
     → IsOfFolder folder carousel folders.before g → old.pending ≡ []
     → Puts {T = Unit {0}} (Err f) old new (concat (cycles_sent (map (section_of g) (cycle_of (lines_of g))) cycles (senders_start carousel)))
     → PublishesPsi folder carousel cycles (output_status f) (sent old new) folders
-psi_part folder carousel cycles old new folders g f lists of begin puts =
-    psi_by folder carousel cycles (output_status f) (sent old new) folders
+psi_part folder carousel cycles old new folders g f law lists of begin puts =
+    psi_by folder carousel cycles (output_status f) (sent old new) folders law
     (ended_part folder carousel (published_psi carousel cycles) old new folders g f of begin (puts_as (psi_is carousel cycles of.tree g lists of.is) puts))
 
 -- the packets that were put into the emptied room

@@ -1,5 +1,5 @@
 -- What `open` and `list` promise, by what was heard and what was put.
-use Rattle.std.proofs.Common.{◌≡◌, Bool, List, [], map, Result, Option, ap, ◌∙◌, subst}
+use Rattle.std.proofs.Common.{◌≡◌, Bool, [], map, Result, ap, ◌∙◌, subst}
 use Rattle.std.specs.Prelude.{IfOk, OnOk}
 use Rattle.std.proofs.lemmas.Result.{IfOk-weaker}
 use Rattle.oc_bytes.specs.Outcome.{Told}
@@ -14,7 +14,7 @@ use Rattle.shell_streams.specs.declared.carrier.Carrier.{Carrier}
 use Rattle.shell_streams.specs.declared.input.InputFault.{InputFault}
 use Rattle.shell_streams.specs.declared.input.InputFault.TheVariants as inputs
 use Rattle.shell_streams.specs.declared.output.OutputFault.{OutputFault}
-use Rattle.carousel_shell.specs.Over.{Over, sent, Failed, IsUntouched, TakesPrefix}
+use Rattle.carousel_shell.specs.Over.{Over, sent, Failed, IsUntouched}
 use Rattle.carousel_shell.specs.Replies.{Replies}
 use Rattle.carousel_shell.specs.Open.{Question, answered, Answers}
 use Rattle.carousel_shell.specs.Reception.{Receptions}

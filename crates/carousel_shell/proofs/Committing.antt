@@ -1,5 +1,5 @@
 -- One commit on a new carousel, and what is sent of the generation that it makes.
-use Rattle.std.proofs.Common.{◌≡◌, ℕ, zero, suc, ◌+◌, ◌≤◌, Bool, true, false, ◌==◌, List, [], ◌∷◌, map, Option, Some, None, Result, Ok, Err, cond, ◌⊎◌, inl, inr, refl, ◌∙◌, sym, ap, subst, lit≤, arith, append-nil}
+use Rattle.std.proofs.Common.{◌≡◌, ℕ, zero, suc, ◌+◌, ◌<◌, ◌≤◌, Bool, true, false, ◌==◌, List, [], ◌∷◌, map, Option, Some, None, Result, Ok, Err, cond, ◌⊎◌, inl, inr, refl, ◌∙◌, sym, ap, subst, lit≤, arith, append-nil}
 use Rattle.std.specs.Prelude.{nat_lt, MatchOption, ⊤}
 use Rattle.std.specs.List.{All, Contains}
 use Rattle.std.proofs.lemmas.Bool.{cond-true, ltb-false}
@@ -27,7 +27,8 @@ use Rattle.folder_store.specs.Walk.{Walked, IsTooDeep, IsBadName, edits_of, Edit
 use Rattle.folder_store.specs.declared.reading.TreeFault.{TreeFault}
 use Rattle.folder_store.specs.declared.reading.ReadTree.{ReadTree}
 use Rattle.folder_store.specs.declared.reading.ReadTree.TheVariants as reads
-use Rattle.carousel_world.specs.Publishing.{repeated, published, publication, layouts_for}
+use Rattle.section_stream.specs.Packing.{IsSectionLike}
+use Rattle.carousel_world.specs.Publishing.{repeated, published, publication, layouts_for, PublicationsCanBePacked}
 use Rattle.carousel_world.specs.Broadcasts.{sections}
 use Rattle.carousel_world.proofs.CallerLemmas.{published_sections}
 use Rattle.shell_streams.specs.Cuts.{Bytes}
@@ -38,7 +39,7 @@ use Rattle.shell_streams.proofs.CallerLemmas.{puts_as}
 use Rattle.carousel_shell.specs.Over.{Over, sent, Failed, IsUntouched}
 use Rattle.carousel_shell.specs.Publishing.{new_carousel, unless_refused, end_by, publish_end, accepted_tree, tree_by}
 use Rattle.carousel_shell.specs.Publish.{IsTreeOf, EndsPublish, NeedsFolder, Publishes}
-use Rattle.carousel_shell.specs.PublishPsi.{one_cycle}
+use Rattle.carousel_shell.specs.Announced.{one_cycle}
 use Rattle.carousel_shell.specs.Cycles.{packed, IsOfFolder, Refused}
 use Rattle.carousel_shell.specs.Reception.{Receptions}
 use Rattle.carousel_shell.specs.Statuses.{output_status, walk_status, commit_status}
@@ -85,6 +86,11 @@ pub one_cycle_is : (carousel : ℕ) (t : Tree) (g : GenerationState) → Generat
 one_cycle_is carousel t g law e =
     let P : GenerationState → Type 0 = λ s. IsGenerationOf carousel (t ∷ []) 1 s in
     ap (map (section_of g)) (sym (append-nil (cycle_of (lines_of g)))) ∙ sent_sections carousel 1 t g (subst P (sym e) (law carousel (t ∷ []) 1 (lit≤ tt)))
+
+-- whose sections meet the condition of a packer
+pub cycle_like : (folder : Bytes) (carousel : ℕ) (told : Option FolderTree) (g : GenerationState) → PublicationsCanBePacked → GenerationsAreOfTheLists → carousel < 4294967296
+    → IsOfFolder folder carousel told g → All IsSectionLike (map (section_of g) (cycle_of (lines_of g)))
+cycle_like folder carousel told g law lists lt of = subst (All IsSectionLike) (sym (one_cycle_is carousel of.tree g lists of.is)) (law carousel 1 of.tree lt of.of.publishable)
 
 -- ---- one commit on a new carousel
 

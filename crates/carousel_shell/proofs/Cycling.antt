@@ -1,13 +1,15 @@
 -- Sections whose packets are put one after another.
-use Rattle.std.proofs.Common.{◌≡◌, ℕ, zero, suc, ◌+◌, ◌-◌, ◌<◌, List, [], ◌∷◌, ◌++◌, map, take, drop, Some, refl, ◌∙◌, sym, ap, append_assoc, append-nil, arith}
-use Rattle.std.specs.List.{concat, fold}
+use Rattle.std.proofs.Common.{◌≡◌, ℕ, zero, suc, ◌+◌, ◌-◌, ◌<◌, List, [], ◌∷◌, ◌++◌, map, take, drop, Some, refl, ◌∙◌, sym, ap, subst, append_assoc, append-nil, arith}
+use Rattle.std.specs.List.{All, concat, fold}
 use Rattle.std.specs.Prelude.{slice_get}
 use Rattle.std.proofs.lemmas.List.{map-append, take_more, take-append-drop}
+use Rattle.std.proofs.lemmas.List.Elements.{All-append, All-nil}
 use Rattle.std.proofs.lemmas.List.Folds.{concat-append}
 use Rattle.std.proofs.lemmas.List.Sums.{fold-append}
 use Rattle.std.proofs.lemmas.Option.{slice_get_within, get_or_from_slice_get}
-use Rattle.section_stream.specs.Packing.{MuxState, packets_of, packets_of_all, past}
-use Rattle.section_stream.specs.Laws.{packets_of_all-append}
+use Rattle.section_stream.specs.Groups.{IsBetween, packets_of_group, past_group}
+use Rattle.section_stream.specs.Packing.{MuxState, IsSectionLike, finished, last_of, packets_of, packets_of_all, past}
+use Rattle.section_stream.proofs.CallerLemmas.{calls_give, packets_of_all-append}
 use Rattle.carousel_world.specs.Publishing.{repeated}
 use Rattle.shell_streams.specs.Cuts.{Bytes}
 
@@ -89,8 +91,34 @@ packs_cycles f start xs i n h =
     packs_then start (fold past start (map f (repeated (i + 1) xs))) (map f (repeated (i + 1) xs)) (map f (repeated (n - (i + 1)) xs)) refl
     ∙ ap (λ ss. concat (packets_of_all start ss)) (sym (map-append f (repeated (i + 1) xs) (repeated (n - (i + 1)) xs)) ∙ ap (map f) (repeated_sum (i + 1) (n - (i + 1)) xs ∙ ap (λ k. repeated k xs) e))
 
+-- ---- the end of a group
+
+-- the packets of sections and of their group's end
+pub packs_group : (start mux : MuxState) (group : List Bytes) → IsBetween start → All IsSectionLike group → mux ≡ fold past start group
+    → concat (packets_of_all start group) ++ concat (last_of mux) ≡ concat (packets_of_group start group)
+packs_group start mux group between like e =
+    ap (λ m. concat (packets_of_all start group) ++ concat (last_of m)) e ∙ sym (concat-append (packets_of_all start group) (last_of (fold past start group))) ∙ ap concat (calls_give start group between like).0
+
+pub counts_group : (start mux : MuxState) (group : List Bytes) → IsBetween start → All IsSectionLike group → mux ≡ fold past start group → finished mux ≡ past_group start group
+counts_group start mux group between like e = ap finished e ∙ (calls_give start group between like).1
+
+-- in cycles there are no other sections than in one
+pub like_cycles : {X : Type 0} (f : X → Bytes) (n : ℕ) (xs : List X) → All IsSectionLike (map f xs) → All IsSectionLike (map f (repeated n xs))
+like_cycles f zero xs like = All-nil IsSectionLike
+like_cycles f (suc n) xs like = subst (All IsSectionLike) (sym (map-append f xs (repeated n xs))) (All-append IsSectionLike (map f xs) (map f (repeated n xs)) like (like_cycles f n xs like))
+
+-- all cycles, and the end of their group
+pub packs_end : {X : Type 0} (f : X → Bytes) (start mux : MuxState) (xs : List X) (i n : ℕ) → IsBetween start → All IsSectionLike (map f xs) → i ≡ n → mux ≡ fold past start (map f (repeated i xs))
+    → concat (packets_of_all start (map f (repeated i xs))) ++ concat (last_of mux) ≡ concat (packets_of_group start (map f (repeated n xs)))
+packs_end f start mux xs i n between like all e =
+    packs_group start mux (map f (repeated i xs)) between (like_cycles f i xs like) e ∙ ap (λ k. concat (packets_of_group start (map f (repeated k xs)))) all
+
 -- ---- as the steps of the code have it
 
 -- the packets that were put into the emptied room are those of the section
 pub packets_are : (mux : MuxState) (cleared made lent : List Bytes) (given s : Bytes) → lent ≡ made → made ≡ cleared ++ packets_of mux given → cleared ≡ [] → given ≡ s → lent ≡ packets_of mux s
 packets_are mux cleared made lent given s a b c d = a ∙ b ∙ ap (λ ps. ps ++ packets_of mux given) c ∙ ap (packets_of mux) d
+
+-- the packet that was put into it is the one of the group's end
+pub last_is : (mux : MuxState) (cleared made lent : List Bytes) → lent ≡ made → made ≡ cleared ++ last_of mux → cleared ≡ [] → lent ≡ last_of mux
+last_is mux cleared made lent a b c = a ∙ b ∙ ap (λ ps. ps ++ last_of mux) c

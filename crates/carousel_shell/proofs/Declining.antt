@@ -61,7 +61,7 @@ memory_promises (commands.Find carousel) source sink folders law e f =
 memory_promises (commands.OpenId carousel paths) source sink folders law e f =
     opens_by carousel paths status.NoMemory source sink law (replies_nothing (sections_by_id carousel) (answered (asks_paths paths)) source sink (takes_nothing source e) f)
 memory_promises (commands.PublishPsi folder carousel cycles) source sink folders law e f =
-    record { unread = e; keeps = record { ends = inl f; needs = λ t h n. inr refl } }
+    record { unread = e; keeps = record { ends = inl f; needs = λ t h n. inr refl; heard = law.cycles carousel cycles } }
 
 pub memory_keeps : (r : Result commands.Named commands.Misfit) (source sink : Over Bytes) (folders : Over FolderTree) → Receptions → IsUntouched source → IsUntouched sink
     → Keeps r status.NoMemory source sink folders

@@ -3,6 +3,8 @@ mod Offering
 mod Parts
 mod Walking
 mod Receiving
+mod Interleaving
+mod Overhearing
 mod Writing
 mod Replying
 mod Answering

@@ -1,7 +1,8 @@
 -- The law of receptions, for every input and every publication.
-use Rattle.std.proofs.Common.{◌≡◌, ℕ, zero, suc, ◌+◌, ◌≤◌, ◌%◌, Bool, true, false, List, [], ◌∷◌, ◌++◌, length, take, drop, refl, sym, ap, ◌∙◌, arith, append-nil, length-append}
-use Rattle.std.proofs.lemmas.List.{length-take, length-replicate}
-use Rattle.std.specs.List.{concat}
+use Rattle.std.proofs.Common.{◌≡◌, ℕ, zero, suc, ◌+◌, ◌≤◌, ◌%◌, List, [], ◌∷◌, length, refl, sym, ap, ◌∙◌, arith, append-nil, length-append}
+use Rattle.std.proofs.lemmas.List.{length-replicate}
+use Rattle.std.proofs.lemmas.List.Elements.{All-head, All-tail}
+use Rattle.std.specs.List.{All, concat}
 use Rattle.path_tree.specs.Paths.{PathNames}
 use Rattle.path_tree.specs.Trees.{Tree, Node, File, Folder, NoSuch, node_at}
 use Rattle.generation.specs.Lawful.{tree_at}
@@ -9,6 +10,8 @@ use Rattle.path_resolver.specs.declared.answer.Answer.{Answer}
 use Rattle.path_resolver.specs.declared.answer.Answer.TheVariants as answers
 use Rattle.section_stream.specs.Cuts.{candidates}
 use Rattle.section_stream.specs.Packing as packing
+use Rattle.section_stream.specs.Groups.{Laid, layout_of, packets_from, packets_of_group}
+use Rattle.section_stream.proofs.CallerLemmas.{Fits, layout_fits}
 use Rattle.tuner_core.specs.LookBack.{answer_after}
 use Rattle.carousel_world.specs.Broadcasts.{sections}
 use Rattle.carousel_world.specs.Headline.{IsNodeAnswer}
@@ -21,7 +24,7 @@ use Rattle.shell_streams.specs.declared.carrier.Carrier.TheVariants as carriers
 use Rattle.shell_streams.proofs.Packeting.{packets_before}
 use Rattle.psi_tables.specs.Laws.{IsNowhereElse, IsFoundOnceItCame, EachIsFollowed}
 use Rattle.carousel_shell.specs.Find.{UsuallyFound}
-use Rattle.carousel_shell.specs.Reception.{Reception, SentOpens, Receptions, node_answer, answer_in}
+use Rattle.carousel_shell.specs.Reception.{Reception, SentOpens, CyclesOpen, Receptions, node_answer, answer_in}
 
 same_answer : (a : Answer) (n : Node) → IsNodeAnswer a n → a ≡ node_answer n
 same_answer (answers.File b) (File c) h = ap answers.File h
@@ -57,23 +60,15 @@ received law one (carriers.Packets pid) input = record {
 filled_sized : (piece : Bytes) → length piece ≤ 184 → length (packing.filled piece) ≡ 184
 filled_sized piece h = simp (length-append, length-replicate) (omega arith)
 
-pieces_sized : (n pid : ℕ) (start : Bool) (counter : ℕ) (bytes : Bytes) → AreSized (packing.pieces n pid start counter bytes)
-pieces_sized zero pid start counter bytes = tt
-pieces_sized (suc n) pid start counter bytes = (omega (arith, filled_sized (take 184 bytes) (take_short bytes)), pieces_sized n pid false ((counter + 1) % 16) (drop 184 bytes))
-  where
-    take_short : (bytes : Bytes) → length (take 184 bytes) ≤ 184
-    take_short bytes = omega (arith, length-take 184 bytes)
+laid_sized : (pid counter : ℕ) (ls : List Laid) → All Fits ls → AreSized (packets_from pid counter ls)
+laid_sized pid counter [] fit = tt
+laid_sized pid counter (l ∷ ls) fit =
+    (omega (arith, filled_sized l.bytes (All-head Fits l ls fit)), laid_sized pid ((counter + 1) % 16) ls (All-tail Fits l ls fit))
 
-sized-append : (xs ys : List Bytes) → AreSized xs → AreSized ys → AreSized (xs ++ ys)
-sized-append [] ys a b = b
-sized-append (x ∷ xs) ys a b = (a.0, sized-append xs ys a.1 b)
+pub all_sized : (m : packing.MuxState) (group : List Bytes) → AreSized (packets_of_group m group)
+all_sized m group = laid_sized m.pid m.counter (layout_of group) (layout_fits group)
 
-all_sized : (m : packing.MuxState) (sections : List Bytes) → AreSized (packing.packets_of_all m sections)
-all_sized m [] = tt
-all_sized m (s ∷ ss) = sized-append (packing.packets_of m s) (packing.packets_of_all (packing.past m s) ss)
-    (pieces_sized (packing.packet_count s) m.pid true m.counter (0 ∷ s)) (all_sized (packing.past m s) ss)
-
-packets_back : (packets : List Bytes) → AreSized packets → packets_of (concat packets) ≡ packets
+pub packets_back : (packets : List Bytes) → AreSized packets → packets_of (concat packets) ≡ packets
 packets_back packets h = ap packets_of (sym (append-nil (concat packets))) ∙ packets_before packets [] h ∙ append-nil packets
 
 -- whoever hears all packets of a publication has each path of its tree
@@ -81,7 +76,7 @@ sent_opens : EachCycleOpens → (carousel cycles : ℕ) → SentOpens carousel c
 sent_opens law carousel zero t p some small publishable = absurd (omega arith)
 sent_opens law carousel (suc cycles) t p some small publishable =
     let back : candidates_of 256 (published carousel (suc cycles) t) ≡ candidates 256 (packets_sent carousel (suc cycles) t) =
-    ap (candidates 256) (packets_back (packets_sent carousel (suc cycles) t) (all_sized (record { pid = 256; counter = 0 }) (sections (publication carousel (suc cycles) t)))) in
+    ap (candidates 256) (packets_back (packets_sent carousel (suc cycles) t) (all_sized (packing.idle 256 0) (sections (publication carousel (suc cycles) t)))) in
     rw back (law carousel cycles t p small publishable)
 
 usually : IsNowhereElse → IsFoundOnceItCame → EachIsFollowed → (carousel : ℕ) (packets : List Bytes) → UsuallyFound carousel packets
@@ -91,5 +86,5 @@ usually nowhere once each carousel packets = record {
   followed = λ p l all line program few. each packets p l all line program few;
 }
 
-pub all_laws : EveryReceptionMeets → EveryPublicationMeets → EachCycleOpens → IsNowhereElse → IsFoundOnceItCame → EachIsFollowed → Receptions
-all_laws law one cycle nowhere once each = record { each = received law one; sent = sent_opens cycle; tables = usually nowhere once each }
+pub all_laws : EveryReceptionMeets → EveryPublicationMeets → EachCycleOpens → ((carousel cycles : ℕ) → CyclesOpen carousel cycles) → IsNowhereElse → IsFoundOnceItCame → EachIsFollowed → Receptions
+all_laws law one cycle cycles nowhere once each = record { each = received law one; sent = sent_opens cycle; cycles = cycles; tables = usually nowhere once each }

@@ -4,7 +4,8 @@ use Rattle.std.specs.List.{concat}
 use Rattle.path_tree.specs.Trees.{Tree}
 use Rattle.generation.specs.Layouts.{GenerationState, generation_of}
 use Rattle.folder_store.specs.Folders.{FolderTree, is_folder_at, MayFail}
-use Rattle.section_stream.specs.Packing.{MuxState, packets_of_all}
+use Rattle.section_stream.specs.Groups.{packets_of_group}
+use Rattle.section_stream.specs.Packing.{MuxState, idle}
 use Rattle.shell_streams.specs.Cuts.{Bytes}
 use Rattle.carousel_shell.specs.Over.{Over, Failed}
 use Rattle.carousel_shell.specs.Publish.{IsTreeOf, Refuses}
@@ -26,8 +27,8 @@ pub record IsOfFolder (folder : Bytes) (carousel : ℕ) (told : Option FolderTre
 
 -- the PID, and the counter of the first packet
 abbrev pub mux_start : MuxState
-mux_start = record { pid = 256; counter = 0 }
+mux_start = idle 256 0
 
--- the bytes of all packets of these sections
+-- the bytes of all packets of these sections, which are one group
 abbrev pub packed : List Bytes → Bytes
-packed sections = concat (packets_of_all mux_start sections)
+packed sections = concat (packets_of_group mux_start sections)

@@ -4,6 +4,7 @@ pub mod Accepted
 pub mod Listing
 pub mod Statuses
 pub mod Publishing
+pub mod Announced
 pub mod Reception
 pub mod Replies
 pub mod Open

@@ -17,7 +17,7 @@ use Rattle.carousel_shell.specs.Rehearse.{Rehearses}
 use Rattle.carousel_shell.specs.declared.status.Status.{Status}
 use Rattle.carousel_shell.specs.declared.status.Status.TheVariants as status
 
--- the words don't fit, or name a command that isn't built: nothing is read or written
+-- the words don't fit, or name a command that needs threads: nothing is read or written
 pub record Declines (s : Status) (source sink : Over Bytes) : Type 0 where
   pub ends : (s ≡ status.Words) ⊎ (s ≡ status.NoMemory)
   pub unread : IsUntouched source

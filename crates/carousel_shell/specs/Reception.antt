@@ -1,5 +1,5 @@
 -- What holds of all that is heard of an input: the law of receptions. No other file names its words.
-use Rattle.std.specs.Prelude.{◌≡◌, ℕ, ◌<◌, List, Some}
+use Rattle.std.specs.Prelude.{◌≡◌, ℕ, ◌+◌, ◌<◌, ◌≤◌, List, Some}
 use Rattle.path_tree.specs.Paths.{PathNames}
 use Rattle.path_tree.specs.Trees.{Tree, Node, File, Folder, NoSuch, node_at}
 use Rattle.path_resolver.specs.declared.answer.Answer.{Answer}
@@ -12,6 +12,7 @@ use Rattle.carousel_world.specs.Headline.{IsNodeAnswer}
 use Rattle.carousel_world.specs.Publishing.{published, publication, layouts_for, MeetsPublished, MeetsPublishedSections}
 use Rattle.carousel_world.specs.Receptions.{MeetsOnPackets, MeetsOnSections}
 use Rattle.shell_streams.specs.Cuts.{Bytes}
+use Rattle.carousel_shell.specs.Announced.{published_after}
 use Rattle.carousel_shell.specs.Find.{UsuallyFound}
 use Rattle.shell_streams.specs.Packets.{packets_of, candidates_of}
 use Rattle.shell_streams.specs.Carriers.{candidates_in}
@@ -71,8 +72,14 @@ abbrev pub SentOpens : (carousel cycles : ℕ) → Type 0
 SentOpens carousel cycles = (t : Tree) (p : PathNames) → 0 < cycles → carousel < 4294967296 → IsPublishable t
     → IsNodeAnswer (answer_after (candidates_of 256 (published carousel cycles t)) p) (node_at t p)
 
+-- whoever hears one or more whole cycles that are sent after tables, from any of them on, has each path of the tree
+abbrev pub CyclesOpen : (carousel cycles : ℕ) → Type 0
+CyclesOpen carousel cycles = (t : Tree) (missed heard : ℕ) (p : PathNames) → 0 < heard → missed + heard ≤ cycles → carousel < 4294967296 → IsPublishable t
+    → IsNodeAnswer (answer_after (candidates_of 256 (published_after carousel missed heard t)) p) (node_at t p)
+
 -- the laws of every input, of every publication, and of the tables in any packets
 pub record Receptions : Type 0 where
   pub each : (carrier : Carrier) (input : Bytes) → Reception carrier input
   pub sent : (carousel cycles : ℕ) → SentOpens carousel cycles
+  pub cycles : (carousel cycles : ℕ) → CyclesOpen carousel cycles
   pub tables : (carousel : ℕ) (packets : List Bytes) → UsuallyFound carousel packets

@@ -12,10 +12,10 @@ const HELLO: [u8; 35] = [
     0xE9, 0xC3, 0x3D,
 ];
 
-/// A new file, a new content of it, and a draw that loses the message that tells of it.
+/// A new file, a new content of it, and a draw that damages the message that tells of it.
 const NEWS: &[u8] =
     b"put 1 /a 6f6e65\ncommit 1\ndraw 1048576\nopen 1 /a\nput 1 /a 74776f\ncommit 1\n\
-    draw 1048576 k1 d1 k2\nopen 1 /a\ndraw 1048576\nopen 1 /a\n";
+    draw 1048576 f1040 k2\nopen 1 /a\ndraw 1048576\nopen 1 /a\n";
 
 /// One of the three ends of a command.
 #[derive(Clone, Copy)]
@@ -101,10 +101,10 @@ fn each_call_fails_in_turn(rt: HostRuntime) -> Result<(), Fail> {
     let packets = published.sink.written();
     let rows: [(&str, &[u8], u64, u64, u64); 6] = [
         ("assemble 1 0 5 42", &HELLO, 3, 3, 0),
-        ("publish F 1 1", b"", 0, 376, 2),
-        ("record 256", packets, 39, 193, 0),
-        ("list 256", packets, 39, 11, 0),
-        ("open 256 /a /a/b", packets, 39, 15, 0),
+        ("publish F 1 1", b"", 0, 282, 2),
+        ("record 256", packets, 30, 193, 0),
+        ("list 256", packets, 30, 11, 0),
+        ("open 256 /a /a/b", packets, 30, 15, 0),
         ("rehearse", NEWS, 8, 78, 0),
     ];
     for (line, input, reads, writes, calls) in rows {

@@ -1,9 +1,12 @@
 ghost use Rattle.carousel_shell.specs.Reception.{Receptions};
 
-use carousel_world::{each_cycle_opens, every_publication_meets, every_reception_meets};
+use carousel_world::{
+    each_cycle_opens, every_publication_meets, every_reception_meets, publications_can_be_packed,
+};
 use psi_tables::{
     each_listed_pid_is_followed, it_is_found_once_its_tables_came, it_is_nowhere_else,
 };
+use section_stream::packets_give_the_groups;
 
 /// What holds of all that is heard and found of any input: laws, and nothing is done.
 pub fn receptions()
@@ -12,6 +15,8 @@ pub fn receptions()
     every_reception_meets();
     every_publication_meets();
     each_cycle_opens();
+    publications_can_be_packed();
+    packets_give_the_groups();
     it_is_nowhere_else();
     it_is_found_once_its_tables_came();
     each_listed_pid_is_followed();

@@ -19,7 +19,7 @@ use oc_bytes::{NoMemory, Source};
 use path_resolver::Shot;
 use path_tree::Path;
 use psi_tables::{Find, Finder};
-use section_stream::Demux;
+use section_stream::PacketDemux;
 use shell_streams::{InputFault, Output, PacketListener, hear_all_packets, hear_each};
 use std::alloc::Global;
 use std::sync::Arc;
@@ -31,7 +31,7 @@ struct Seeker {
     alloc: Global,
     finder: Finder,
     /// The carousel's PID, once it is found.
-    stream: Option<Demux>,
+    stream: Option<PacketDemux>,
     receiver: Receiver,
 }
 
@@ -59,7 +59,7 @@ impl Seeker {
     {
         self.finder.feed(packet)?;
         if let Find::At(pid) = self.finder.find() {
-            let stream = Demux::new(self.alloc, pid)?;
+            let stream = PacketDemux::new(self.alloc, pid)?;
             self.stream = Some(stream);
         }
         Ok(())

@@ -27,7 +27,7 @@ const MOST_SECTIONS: u32 = 16_777_216;
 /// Runs the command that the words name: they are the command line without the program's name. The input comes from the
 /// source, the output goes to the sink, and the folders are those that `publish` and `publish-psi` read.
 ///
-/// - `Words` comes before all else: where the words name no command with its values, or one that isn't built, which are
+/// - `Words` comes before all else: where the words name no command with its values, or one that needs threads, which are
 ///   `session` and `big`. Nothing was read or written.
 /// - `assemble`, `open`, `list`, `find` and `open-id` read their whole input before they write. While they read come `ReadFault`,
 ///   and `InputTooLong` where a byte is left after 65,536 sections (`assemble`), 16,777,216 sections (`open sections`) or
@@ -71,7 +71,7 @@ pub fn run_plain<S: Source, K: Sink, F: Folders>(
     run_command(alloc, command, source, &mut out, folders)
 }
 
-/// Runs a command; one that isn't built yet is none.
+/// Runs a command; one that needs threads is none here.
 fn run_command<S: Source, O: Output, F: Folders>(
     alloc: Global,
     command: Command,

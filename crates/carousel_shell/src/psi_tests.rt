@@ -33,6 +33,7 @@ fn tables_go_before_each_cycle(rt: HostRuntime) -> Result<(), Fail> {
     let mut folders = empty_folder(alloc, Vec::new(alloc))?;
     let (status, once) = outcome(alloc, "publish-psi F 1 1", Vec::new(alloc), &mut folders)?;
     assert_eq!(rt; status.code(), 0);
+    assert_eq!(rt; once.written().len(), 752);
     assert!(rt; once.written().starts_with(&PAT));
     let behind_pat = once.written().get(188..).ok_or("no second packet")?;
     assert!(rt; behind_pat.starts_with(&MAP));

@@ -1,9 +1,10 @@
 ghost use Rattle.std.specs.Prelude.{◌≡◌, [], map, IfOk, IfErr, OnOk};
-ghost use Rattle.std.specs.List.{Contains, concat, fold};
+ghost use Rattle.std.specs.List.{All, Contains, concat, fold};
 ghost use Rattle.std.specs.Arc.{arc_value};
 ghost use Rattle.cycle_planner.specs.Cycle.{cycle_of};
 ghost use Rattle.generation.specs.Layouts.{items_of, lines_of, section_of};
-ghost use Rattle.section_stream.specs.Packing.{packets_of, packets_of_all, past};
+ghost use Rattle.section_stream.specs.Groups.{IsBetween, packets_of_group, past_group};
+ghost use Rattle.section_stream.specs.Packing.{IsSectionLike, finished, last_of, packets_of, packets_of_all, past};
 ghost use Rattle.carousel_world.specs.Publishing.{repeated};
 ghost use Rattle.shell_streams.specs.Sending.{Puts, IsInTime};
 ghost use Rattle.carousel_shell.specs.Over.{over, sent};
@@ -12,6 +13,7 @@ ghost use Rattle.carousel_shell.specs.Cycles.{IsOfFolder, Refused, packed, mux_s
 
 use crate::law::receptions;
 use crate::status::Status;
+use carousel_world::publications_can_be_packed;
 use cycle_planner::{Item, cycle_len, item_at};
 use folder_store::{Folders, edits_make_the_files, read_tree};
 use generation::{Generation, generations_are_of_the_lists};
@@ -28,7 +30,8 @@ const PID: u16 = 256;
 const EDITOR: u32 = 1;
 
 /// Publishes a folder: its files become one commit on generation 0 of the carousel, and generation 1 is written as so many whole
-/// cycles of packets (ISO/IEC 13818-1, 2.4.3) on the PID 256, with continuity counters from 0.
+/// cycles of packets (ISO/IEC 13818-1, 2.4.3) on the PID 256, with continuity counters from 0. All cycles are one group of sections,
+/// which stand back to back.
 ///
 /// `folder` is a path text of the folders, `carousel` the carousel's id, any 32-bit number, and `cycles` is 1 to 1,000. The answer is
 /// `FolderFault` where the folders fail or the folder isn't there, and `TreeRefused` exactly where the walk or the commit refuses the
@@ -47,6 +50,7 @@ pub fn publish<O: Output, F: Folders>(
     ensures in_time { IsInTime (O.state out.old) (O.state out.new) }
 {
     generations_are_of_the_lists();
+    publications_can_be_packed();
     receptions();
     match first_generation(alloc, folder, carousel, folders) {
         Ok(generation) => match send(alloc, &generation, cycles, out) {
@@ -77,13 +81,14 @@ pub fn first_generation<F: Folders>(
     Ok(generation)
 }
 
-/// Writes so many cycles of a generation.
+/// Writes so many cycles of a generation, which are one group.
 fn send<O: Output>(
     alloc: Global,
     generation: &Generation,
     cycles: u32,
     out: &mut O,
 ) -> Result<(), OutputFault>
+    requires { All IsSectionLike (map (section_of generation.now) (cycle_of (lines_of generation.now))) }
     ensures puts { Puts result (O.state out.old) (O.state out.new) (packed (map (section_of generation.now) (repeated cycles (cycle_of (lines_of generation.now))))) }
     ensures empty { OnOk result ((O.state out.new).pending ≡ []) }
 {
@@ -91,6 +96,7 @@ fn send<O: Output>(
     for _ in 0..cycles {
         sender.send_cycle(generation, out)?;
     }
+    sender.finish(out)?;
     out.flush()
 }
 
@@ -112,8 +118,23 @@ impl Sender {
         }
     }
 
+    /// Sends a cycle as a group of its own.
+    pub fn send_group<O: Output>(
+        &mut self,
+        generation: &Generation,
+        out: &mut O,
+    ) -> Result<(), OutputFault>
+        requires between { IsBetween self.old.mux }
+        requires like { All IsSectionLike (map (section_of generation.now) (cycle_of (lines_of generation.now))) }
+        ensures puts { Puts result (O.state out.old) (O.state out.new) (concat (packets_of_group self.old.mux (map (section_of generation.now) (cycle_of (lines_of generation.now))))) }
+        ensures mux { OnOk result (self.new.mux ≡ past_group self.old.mux (map (section_of generation.now) (cycle_of (lines_of generation.now)))) }
+    {
+        self.send_cycle(generation, out)?;
+        self.finish(out)
+    }
+
     /// Sends each item of a cycle, in order.
-    pub fn send_cycle<O: Output>(
+    fn send_cycle<O: Output>(
         &mut self,
         generation: &Generation,
         out: &mut O,
@@ -143,6 +164,16 @@ impl Sender {
         let section = generation.section(item)?;
         self.packets.clear();
         self.mux.packets(&section, &mut self.packets)?;
+        put_packets(&self.packets, out)
+    }
+
+    /// Ends the group: sends what is held back of it.
+    fn finish<O: Output>(&mut self, out: &mut O) -> Result<(), OutputFault>
+        ensures puts { Puts result (O.state out.old) (O.state out.new) (concat (last_of self.old.mux)) }
+        ensures mux { OnOk result (self.new.mux ≡ finished self.old.mux) }
+    {
+        self.packets.clear();
+        self.mux.finish(&mut self.packets)?;
         put_packets(&self.packets, out)
     }
 }

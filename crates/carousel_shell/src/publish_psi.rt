@@ -1,14 +1,18 @@
 ghost use Rattle.std.specs.Prelude.{◌≡◌, [], map, OnOk};
-ghost use Rattle.std.specs.List.{concat};
+ghost use Rattle.std.specs.List.{All, concat};
 ghost use Rattle.cycle_planner.specs.Cycle.{cycle_of};
 ghost use Rattle.generation.specs.Layouts.{lines_of, section_of};
+ghost use Rattle.section_stream.specs.Packing.{IsSectionLike};
 ghost use Rattle.psi_tables.specs.Written.{announced, after_announcing};
 ghost use Rattle.shell_streams.specs.Sending.{Puts, IsInTime};
 ghost use Rattle.carousel_shell.specs.Over.{over, sent};
-ghost use Rattle.carousel_shell.specs.PublishPsi.{PublishesPsi, cycles_sent, senders_start};
+ghost use Rattle.carousel_shell.specs.Announced.{cycles_sent, senders_start};
+ghost use Rattle.carousel_shell.specs.PublishPsi.{PublishesPsi};
 
+use crate::law::receptions;
 use crate::publish::{Sender, first_generation, put_packets};
 use crate::status::Status;
+use carousel_world::publications_can_be_packed;
 use folder_store::Folders;
 use generation::{Generation, generations_are_of_the_lists};
 use psi_tables::Announcer;
@@ -17,7 +21,7 @@ use std::alloc::Global;
 
 /// Publishes a folder as `publish` does, with the tables that name the carousel before each cycle (ISO/IEC 13818-1, 2.4.4): the program
 /// association table on the PID 0 and the map table of program 1 on the PID 32. Each of the three PIDs has continuity counters of its
-/// own, from 0.
+/// own, from 0, and each cycle is a group of sections of its own.
 ///
 /// The values and the statuses are those of `publish`.
 pub fn publish_psi<O: Output, F: Folders>(
@@ -34,6 +38,8 @@ pub fn publish_psi<O: Output, F: Folders>(
     ensures in_time { IsInTime (O.state out.old) (O.state out.new) }
 {
     generations_are_of_the_lists();
+    publications_can_be_packed();
+    receptions();
     match first_generation(alloc, folder, carousel, folders) {
         Ok(generation) => match send_announced(alloc, &generation, carousel, cycles, out) {
             Ok(()) => Status::Done,
@@ -51,6 +57,7 @@ fn send_announced<O: Output>(
     cycles: u32,
     out: &mut O,
 ) -> Result<(), OutputFault>
+    requires { All IsSectionLike (map (section_of generation.now) (cycle_of (lines_of generation.now))) }
     ensures puts { Puts result (O.state out.old) (O.state out.new) (concat (cycles_sent (map (section_of generation.now) (cycle_of (lines_of generation.now))) cycles (senders_start carousel))) }
     ensures empty { OnOk result ((O.state out.new).pending ≡ []) }
 {
@@ -58,7 +65,7 @@ fn send_announced<O: Output>(
     let mut sender = Sender::new(alloc);
     for _ in 0..cycles {
         announce(&mut announcer, &mut sender.packets, out)?;
-        sender.send_cycle(generation, out)?;
+        sender.send_group(generation, out)?;
     }
     out.flush()
 }

@@ -109,7 +109,7 @@ fn published_folders_are_received(rt: HostRuntime) -> Result<(), Fail> {
     let mut folders = empty_folder(alloc, Vec::new(alloc))?;
     let (status, sink) = outcome(alloc, "publish F 1 1", Vec::new(alloc), &mut folders)?;
     assert_eq!(rt; status.code(), 0);
-    assert_eq!(rt; sink.written().len(), 564);
+    assert_eq!(rt; sink.written().len(), 376);
     assert!(rt;
         sink.written()
             .starts_with(&[0x47, 0x41, 0x00, 0x10, 0x00, 0x3B, 0xB0, 0x70])

@@ -37,13 +37,27 @@ fn sections_are_recorded(rt: HostRuntime) -> Result<(), Fail> {
     ];
     let mut stray = packets(alloc, &all)?;
     stray.push(0x47)?;
-    let rows: [(u16, Vec<u8>, Vec<u8>); 5] = [
+    // The same sections back to back, the second in both packets.
+    let packed = joined(
+        alloc,
+        &[
+            &[0x47, 0x41, 0x00, 0x10, 0x00],
+            &DSI,
+            &NEXT_DII[..68],
+            &[0x47, 0x41, 0x00, 0x11, 0x07],
+            &NEXT_DII[68..],
+            &NEXT_BLOCK,
+            &[0xFF; 112],
+        ],
+    )?;
+    let rows: [(u16, Vec<u8>, Vec<u8>); 6] = [
         (
             256,
             packets(alloc, &all)?,
             joined(alloc, &[&DSI, &NEXT_DII, &NEXT_BLOCK])?,
         ),
         (256, stray, joined(alloc, &[&DSI, &NEXT_DII, &NEXT_BLOCK])?),
+        (256, packed, joined(alloc, &[&DSI, &NEXT_DII, &NEXT_BLOCK])?),
         (
             256,
             packets(alloc, &damaged)?,

@@ -1,11 +1,11 @@
 -- What arrives keeps its order, and stays when more comes.
 use Rattle.std.proofs.Common.{◌≡◌, ℕ, ◌+◌, ◌≤◌, List, [], ◌∷◌, ◌++◌, length, map, Option, Some, None, refl, ap, sym, ◌∙◌, append_assoc, arith}
-use Rattle.std.specs.List.{fold}
 use Rattle.std.proofs.lemmas.Option.{slice_get-map}
 use Rattle.path_tree.specs.Paths.{Bytes}
 use Rattle.ts_packet.specs.declared.Fate.{Fate}
 use Rattle.ts_packet.specs.Fates.{arrived}
-use Rattle.section_stream.specs.Packing.{MuxState, packets_of_all, past}
+use Rattle.section_stream.specs.Packing.{MuxState}
+use Rattle.section_stream.specs.Groups.{packets_of_group, past_group}
 use Rattle.carousel_world.specs.Broadcasts.{NeverBack}
 use Rattle.carousel_world.specs.Fates.{Arrival, fate_of, onto_arrivals, under}
 use Rattle.carousel_world.specs.World.{Drawing, sections_of, arrivals_from, arrivals, first_packet}
@@ -28,8 +28,8 @@ under_climbs fates i n (p ∷ ps) rest c =
 arrivals_climb : (m : MuxState) (n : ℕ) (ds : List Drawing) → Climbs n (map (λ a. a.0) (arrivals_from m n ds))
 arrivals_climb m n [] = tt
 arrivals_climb m n (d ∷ ds) =
-    under_climbs d.fates 0 n (packets_of_all m (sections_of d)) (arrivals_from (fold past m (sections_of d)) (n + length (packets_of_all m (sections_of d))) ds)
-    (arrivals_climb (fold past m (sections_of d)) (n + length (packets_of_all m (sections_of d))) ds)
+    under_climbs d.fates 0 n (packets_of_group m (sections_of d)) (arrivals_from (past_group m (sections_of d)) (n + length (packets_of_group m (sections_of d))) ds)
+    (arrivals_climb (past_group m (sections_of d)) (n + length (packets_of_group m (sections_of d))) ds)
 
 pub never_back : (ds : List Drawing) → NeverBack (from_in (arrivals ds))
 never_back ds i j a b lt e f =
@@ -40,8 +40,8 @@ never_back ds i j a b lt e f =
 pub arrivals_grow : (m : MuxState) (n : ℕ) (ds es : List Drawing) → (rest : List Arrival) × (arrivals_from m n (ds ++ es) ≡ arrivals_from m n ds ++ rest)
 arrivals_grow m n [] es = (arrivals_from m n es, refl)
 arrivals_grow m n (d ∷ ds) es =
-    let here = under d.fates 0 n (packets_of_all m (sections_of d)) in
-    let next = fold past m (sections_of d) in
-    let k = n + length (packets_of_all m (sections_of d)) in
+    let here = under d.fates 0 n (packets_of_group m (sections_of d)) in
+    let next = past_group m (sections_of d) in
+    let k = n + length (packets_of_group m (sections_of d)) in
     let more = arrivals_grow next k ds es in
     (more.0, ap (λ xs. here ++ xs) more.1 ∙ sym (append_assoc here (arrivals_from next k ds) more.0))

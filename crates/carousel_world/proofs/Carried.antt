@@ -1,5 +1,6 @@
 -- A reception in which a block is carried over a turn meets the premises.
-use Rattle.std.proofs.Common.{◌≡◌, ℕ, zero, suc, ◌<◌, List, [], ◌∷◌, take, Some, refl, ap, sym, subst, slice_get, arith, lit<, lit≤}
+use Rattle.std.proofs.Common.{◌≡◌, ℕ, zero, suc, ◌<◌, true, false, List, [], ◌∷◌, take, Some, refl, ap, sym, subst, slice_get, slice_index_or, IsTrue, arith, lit<, lit≤}
+use Rattle.std.proofs.lemmas.Option.{same_Some}
 use Rattle.std.specs.List.{Contains}
 use Rattle.std.specs.Option.{unwrap_or}
 use Rattle.std.proofs.lemmas.List.Elements.{All-nil, All-cons}
@@ -17,6 +18,7 @@ use Rattle.generation.specs.Kept.{LayoutsAreLawful}
 use Rattle.generation.specs.Lawful.{ArePublishable, IsPublishable, layout_at, section_in}
 use Rattle.path_resolver.specs.declared.answer.Answer.TheVariants as answers
 use Rattle.section_stream.specs.Cuts.{candidates}
+use Rattle.tuner_core.specs.Heard.{is_accepted}
 use Rattle.carousel_world.specs.Broadcasts.{Broadcast, IsAscribed}
 use Rattle.carousel_world.specs.Premises.{AcceptedAreSent, IsWhole}
 use Rattle.carousel_world.specs.Instances.{tree_of, seven, cycles_with, Reception, carried_of, same_file, IsPremised, Tells, CarryingIsPremised}
@@ -55,28 +57,42 @@ of_dsi : From 0 0
 of_dsi = record { cut = record { packet = 0; offset = 5; bytes = section 1 Dsi }; is = refl; packet = 0; came = refl; begins = refl }
 
 of_dii : From 1 1
-of_dii = record { cut = record { packet = 1; offset = 5; bytes = section 1 Dii }; is = refl; packet = 1; came = refl; begins = refl }
+of_dii = record { cut = record { packet = 0; offset = 120; bytes = section 1 Dii }; is = refl; packet = 0; came = refl; begins = refl }
 
 of_first_block : From 2 6
-of_first_block = record { cut = record { packet = 2; offset = 5; bytes = section 2 (Block 1 0) }; is = refl; packet = 28; came = refl; begins = refl }
+of_first_block = record { cut = record { packet = 2; offset = 12; bytes = section 2 (Block 1 0) }; is = refl; packet = 25; came = refl; begins = refl }
 
-of_second_dii : From 3 9
-of_second_dii = record { cut = record { packet = 25; offset = 5; bytes = section 2 Dii }; is = refl; packet = 53; came = refl; begins = refl }
+fails : is_accepted (slice_index_or all 3 []) ≡ false
+fails = refl
 
-of_second_block : From 4 11
-of_second_block = record { cut = record { packet = 26; offset = 5; bytes = section 2 (Block 1 1) }; is = refl; packet = 77; came = refl; begins = refl }
+of_second_dsi : From 4 8
+of_second_dsi = record { cut = record { packet = 25; offset = 5; bytes = section 2 Dsi }; is = refl; packet = 48; came = refl; begins = refl }
 
-of_last_block : From 5 14
-of_last_block = record { cut = record { packet = 27; offset = 5; bytes = section 2 (Block 1 0) }; is = refl; packet = 80; came = refl; begins = refl }
+of_second_dii : From 5 9
+of_second_dii = record { cut = record { packet = 25; offset = 120; bytes = section 2 Dii }; is = refl; packet = 48; came = refl; begins = refl }
+
+of_second_block : From 6 11
+of_second_block = record { cut = record { packet = 27; offset = 61; bytes = section 2 (Block 1 1) }; is = refl; packet = 71; came = refl; begins = refl }
+
+of_last_block : From 7 14
+of_last_block = record { cut = record { packet = 28; offset = 12; bytes = section 2 (Block 1 0) }; is = refl; packet = 73; came = refl; begins = refl }
+
+of_end : From 8 15
+of_end = record { cut = record { packet = 50; offset = 61; bytes = section 2 (Block 1 1) }; is = refl; packet = 95; came = refl; begins = refl }
 
 accepted_are_sent : AcceptedAreSent given all From
 accepted_are_sent zero bytes e accepted = (0, of_dsi, e)
 accepted_are_sent (suc zero) bytes e accepted = (1, of_dii, e)
 accepted_are_sent (suc (suc zero)) bytes e accepted = (6, of_first_block, e)
-accepted_are_sent (suc (suc (suc zero))) bytes e accepted = (9, of_second_dii, e)
-accepted_are_sent (suc (suc (suc (suc zero)))) bytes e accepted = (11, of_second_block, e)
-accepted_are_sent (suc (suc (suc (suc (suc zero))))) bytes e accepted = (14, of_last_block, e)
-accepted_are_sent (suc (suc (suc (suc (suc (suc i)))))) bytes e accepted = cc
+accepted_are_sent (suc (suc (suc zero))) bytes e accepted =
+    let is : slice_index_or all 3 [] ≡ bytes = same_Some (slice_index_or all 3 []) bytes e in
+    let bad : false ≡ true = subst IsTrue fails (subst (λ y. IsTrue (is_accepted y)) (sym is) accepted) in cc
+accepted_are_sent (suc (suc (suc (suc zero)))) bytes e accepted = (8, of_second_dsi, e)
+accepted_are_sent (suc (suc (suc (suc (suc zero))))) bytes e accepted = (9, of_second_dii, e)
+accepted_are_sent (suc (suc (suc (suc (suc (suc zero)))))) bytes e accepted = (11, of_second_block, e)
+accepted_are_sent (suc (suc (suc (suc (suc (suc (suc zero))))))) bytes e accepted = (14, of_last_block, e)
+accepted_are_sent (suc (suc (suc (suc (suc (suc (suc (suc zero)))))))) bytes e accepted = (15, of_end, e)
+accepted_are_sent (suc (suc (suc (suc (suc (suc (suc (suc (suc i))))))))) bytes e accepted = cc
 
 -- ---- a whole cycle
 
@@ -84,7 +100,7 @@ abbrev module_bytes : Bytes
 module_bytes = unwrap_or (module_in (layout_at given.layouts 2) 1) []
 
 abbrev pub later : List Bytes
-later = section 2 (Block 1 1) ∷ section 2 (Block 1 0) ∷ []
+later = section 2 (Block 1 1) ∷ section 2 (Block 1 0) ∷ section 2 (Block 1 1) ∷ []
 
 each_block : (b : ℕ) → b < 2 → Contains later (section 2 (Block 1 b))
 each_block zero lt = (1, lit< tt, refl)
@@ -96,7 +112,7 @@ whole = record {
   generation = lit< tt;
   gateway = (0, lit< tt, refl);
   round = record {
-    before = take 3 all;
+    before = take 5 all;
     after = later;
     place = refl;
     blocks = λ m b every item. its_blocks given.layouts 2 module_bytes later 1 2 refl refl each_block m b item;
@@ -125,11 +141,11 @@ before : Tells received 25 (Some 1) (answers.NotYet 1)
 unfolding message_at block_at each_at tap_at component_at location_at taps_at components_at profile_at ior_at info_at line_at dii_at dsi_at binding_at context_at file_at folder_at object_at head_at sized_at frame_at private_at inside_at
 before = record { label_is = refl; answer_is = refl }
 
-turned : Tells received 26 (Some 2) (answers.NotYet 1)
+turned : Tells received 27 (Some 2) (answers.NotYet 1)
 unfolding message_at block_at each_at tap_at component_at location_at taps_at components_at profile_at ior_at info_at line_at dii_at dsi_at binding_at context_at file_at folder_at object_at head_at sized_at frame_at private_at inside_at
 turned = record { label_is = refl; answer_is = refl }
 
-carried : Tells received 27 (Some 2) (answers.File seven)
+carried : Tells received 28 (Some 2) (answers.File seven)
 unfolding message_at block_at each_at tap_at component_at location_at taps_at components_at profile_at ior_at info_at line_at dii_at dsi_at binding_at context_at file_at folder_at object_at head_at sized_at frame_at private_at inside_at
 carried = record { label_is = refl; answer_is = refl }
 
@@ -137,6 +153,6 @@ pub carrying : LayoutsAreLawful → CarryingIsPremised
 carrying lawful = record {
   premised = subst (λ b. IsPremised (carried_of b) 2) same (premised lawful);
   before = subst (λ b. Tells (carried_of b) 25 (Some 1) (answers.NotYet 1)) same before;
-  turned = subst (λ b. Tells (carried_of b) 26 (Some 2) (answers.NotYet 1)) same turned;
-  carried = subst (λ b. Tells (carried_of b) 27 (Some 2) (answers.File seven)) same carried;
+  turned = subst (λ b. Tells (carried_of b) 27 (Some 2) (answers.NotYet 1)) same turned;
+  carried = subst (λ b. Tells (carried_of b) 28 (Some 2) (answers.File seven)) same carried;
 }

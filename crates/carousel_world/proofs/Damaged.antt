@@ -53,38 +53,39 @@ all = candidates 256 received.packets
 abbrev pub From : ℕ → ℕ → Type 0
 From i k = IsAscribed given 256 received.packets (slice_get received.numbers) i k
 
-of_first_dii : From 0 1
-of_first_dii = record { cut = record { packet = 0; offset = 5; bytes = section 1 Dii }; is = refl; packet = 1; came = refl; begins = refl }
+first_fails : is_accepted (slice_index_or all 0 []) ≡ false
+first_fails = refl
 
-of_first_block : From 1 2
-of_first_block = record { cut = record { packet = 2; offset = 5; bytes = section 1 (Block 1 0) }; is = refl; packet = 2; came = refl; begins = refl }
+of_first_dii : From 1 1
+of_first_dii = record { cut = record { packet = 0; offset = 120; bytes = section 1 Dii }; is = refl; packet = 0; came = refl; begins = refl }
 
 of_dsi : From 2 3
-of_dsi = record { cut = record { packet = 4; offset = 5; bytes = section 2 Dsi }; is = refl; packet = 4; came = refl; begins = refl }
+of_dsi = record { cut = record { packet = 3; offset = 5; bytes = section 2 Dsi }; is = refl; packet = 3; came = refl; begins = refl }
 
 of_dii : From 3 4
-of_dii = record { cut = record { packet = 5; offset = 5; bytes = section 2 Dii }; is = refl; packet = 5; came = refl; begins = refl }
+of_dii = record { cut = record { packet = 3; offset = 120; bytes = section 2 Dii }; is = refl; packet = 3; came = refl; begins = refl }
 
 of_last_dsi : From 5 6
-of_last_dsi = record { cut = record { packet = 8; offset = 5; bytes = section 2 Dsi }; is = refl; packet = 8; came = refl; begins = refl }
+of_last_dsi = record { cut = record { packet = 6; offset = 5; bytes = section 2 Dsi }; is = refl; packet = 6; came = refl; begins = refl }
 
 of_last_dii : From 6 7
-of_last_dii = record { cut = record { packet = 9; offset = 5; bytes = section 2 Dii }; is = refl; packet = 9; came = refl; begins = refl }
+of_last_dii = record { cut = record { packet = 6; offset = 120; bytes = section 2 Dii }; is = refl; packet = 6; came = refl; begins = refl }
 
 of_block : From 7 8
-of_block = record { cut = record { packet = 10; offset = 5; bytes = section 2 (Block 1 0) }; is = refl; packet = 10; came = refl; begins = refl }
+of_block = record { cut = record { packet = 7; offset = 12; bytes = section 2 (Block 1 0) }; is = refl; packet = 7; came = refl; begins = refl }
 
 fails : is_accepted (slice_index_or all 4 []) ≡ false
 fails = refl
 
+refused : (i : ℕ) (bytes : Bytes) → is_accepted (slice_index_or all i []) ≡ false → slice_index_or all i [] ≡ bytes → IsTrue (is_accepted bytes) → ⊥
+refused i bytes none is accepted = let bad : false ≡ true = subst IsTrue none (subst (λ y. IsTrue (is_accepted y)) (sym is) accepted) in cc
+
 accepted_are_sent : AcceptedAreSent given all From
-accepted_are_sent zero bytes e accepted = (1, of_first_dii, e)
-accepted_are_sent (suc zero) bytes e accepted = (2, of_first_block, e)
+accepted_are_sent zero bytes e accepted = absurd (refused 0 bytes first_fails (same_Some (slice_index_or all 0 []) bytes e) accepted)
+accepted_are_sent (suc zero) bytes e accepted = (1, of_first_dii, e)
 accepted_are_sent (suc (suc zero)) bytes e accepted = (3, of_dsi, e)
 accepted_are_sent (suc (suc (suc zero))) bytes e accepted = (4, of_dii, e)
-accepted_are_sent (suc (suc (suc (suc zero)))) bytes e accepted =
-    let is : slice_index_or all 4 [] ≡ bytes = same_Some (slice_index_or all 4 []) bytes e in
-    let bad : false ≡ true = subst IsTrue fails (subst (λ y. IsTrue (is_accepted y)) (sym is) accepted) in cc
+accepted_are_sent (suc (suc (suc (suc zero)))) bytes e accepted = absurd (refused 4 bytes fails (same_Some (slice_index_or all 4 []) bytes e) accepted)
 accepted_are_sent (suc (suc (suc (suc (suc zero))))) bytes e accepted = (6, of_last_dsi, e)
 accepted_are_sent (suc (suc (suc (suc (suc (suc zero)))))) bytes e accepted = (7, of_last_dii, e)
 accepted_are_sent (suc (suc (suc (suc (suc (suc (suc zero))))))) bytes e accepted = (8, of_block, e)
@@ -129,22 +130,22 @@ premised lawful = record {
 
 -- ---- what is answered
 
-before : Tells received 4 (Some 1) answers.NoCarousel
+before : Tells received 3 (Some 1) answers.NoCarousel
 unfolding message_at block_at each_at tap_at component_at location_at taps_at components_at profile_at ior_at info_at line_at dii_at dsi_at binding_at context_at file_at folder_at object_at head_at sized_at frame_at private_at inside_at
 before = record { label_is = refl; answer_is = refl }
 
-between : Tells received 8 (Some 2) (answers.NotYet 1)
+between : Tells received 6 (Some 2) (answers.NotYet 1)
 unfolding message_at block_at each_at tap_at component_at location_at taps_at components_at profile_at ior_at info_at line_at dii_at dsi_at binding_at context_at file_at folder_at object_at head_at sized_at frame_at private_at inside_at
 between = record { label_is = refl; answer_is = refl }
 
-after : Tells received 12 (Some 2) (answers.File second_content)
+after : Tells received 9 (Some 2) (answers.File second_content)
 unfolding message_at block_at each_at tap_at component_at location_at taps_at components_at profile_at ior_at info_at line_at dii_at dsi_at binding_at context_at file_at folder_at object_at head_at sized_at frame_at private_at inside_at
 after = record { label_is = refl; answer_is = refl }
 
 pub damage : LayoutsAreLawful → DamageIsPremised
 damage lawful = record {
   premised = subst (λ b. IsPremised (damaged_of b) 2) same (premised lawful);
-  before = subst (λ b. Tells (damaged_of b) 4 (Some 1) answers.NoCarousel) same before;
-  damaged_block = subst (λ b. Tells (damaged_of b) 8 (Some 2) (answers.NotYet 1)) same between;
-  after = subst (λ b. Tells (damaged_of b) 12 (Some 2) (answers.File second_content)) same after;
+  before = subst (λ b. Tells (damaged_of b) 3 (Some 1) answers.NoCarousel) same before;
+  damaged_block = subst (λ b. Tells (damaged_of b) 6 (Some 2) (answers.NotYet 1)) same between;
+  after = subst (λ b. Tells (damaged_of b) 9 (Some 2) (answers.File second_content)) same after;
 }

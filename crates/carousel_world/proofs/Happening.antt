@@ -20,13 +20,14 @@ use Rattle.generation_catalogue.specs.declared.entry.Refusal.{Refusal}
 use Rattle.generation_catalogue.specs.declared.entry.CommitFault.TheVariants as commits
 use Rattle.generation_catalogue.specs.declared.entry.Batch.{Batch}
 use Rattle.section_stream.specs.Kept.{view_bytes}
-use Rattle.section_stream.specs.Packing.{IsSectionLike, packets_of_all}
+use Rattle.section_stream.specs.Packing.{IsSectionLike}
+use Rattle.section_stream.specs.Groups.{packets_of_group}
 use Rattle.carousel_world.specs.DownView.{DownlinkState, DownlinkStands}
 use Rattle.carousel_world.specs.Events.{Step, Commit, Draw, Open, view}
 use Rattle.carousel_world.specs.Fates.{received_under}
 use Rattle.carousel_world.specs.Promises.{MeetsHeadline, world_after}
 use Rattle.carousel_world.specs.View.{Kept, StandsFor}
-use Rattle.carousel_world.specs.World.{WorldState, InRange, commit_reply, drawing_of, sections_sent, received_in, reply_to, happens, replies_to, after_all, opening}
+use Rattle.carousel_world.specs.World.{WorldState, InRange, commit_reply, drawing_of, groups_sent, received_in, reply_to, happens, replies_to, after_all, opening}
 use Rattle.carousel_world.specs.declared.event.Event.{Event}
 use Rattle.carousel_world.specs.declared.event.Reply.{Reply}
 use Rattle.carousel_world.specs.declared.event.Reply.TheVariants as replies
@@ -63,8 +64,8 @@ given false n x y e = (refl, cc)
 
 pub drawn_stands : (s d : CatalogueState) (w : WorldState) (b : Batch) (asked : ℕ) (fates : List Fate) (old new : DownlinkState) (g : GenerationState) (items : List Item)
     → IsDrawn s asked (Ok b) d → g ≡ arc_value b.generation → items ≡ b.items.items → StandsFor (record { catalogue = s; down = old }) w
-    → ((pid : ℕ) (sent packets : List Bytes) → DownlinkStands old pid sent packets
-    → DownlinkStands new pid (sent ++ map (section_of g) items) (packets ++ received_under fates 0 (packets_of_all old.mux (map (section_of g) items))))
+    → ((pid : ℕ) (groups : List (List Bytes)) (packets : List Bytes) → DownlinkStands old pid groups [] packets
+    → DownlinkStands new pid (groups ++ map (section_of g) items ∷ []) [] (packets ++ received_under fates 0 (packets_of_group old.mux (map (section_of g) items))))
     → StandsFor (record { catalogue = d; down = new }) (happens w (Draw asked fates))
 drawn_stands s d w b asked fates old new g items is generation listed st on =
     let same = st.catalogue in
@@ -74,8 +75,8 @@ drawn_stands s d w b asked fates old new g items is generation listed st on =
     let room : nat_le 16777216 (draws_of w.catalogue) ≡ false = ap (λ (c : CatalogueState). nat_le 16777216 (draws_of c)) (sym same) ∙ parts.0 in
     let its : g ≡ drawing.generation = generation ∙ ap (λ (x : BatchFields). x.generation) (sym parts.1) ∙ ap (λ (c : CatalogueState). current_of c) same in
     let all : items ≡ drawing.items = listed ∙ ap (λ (x : BatchFields). x.items) (sym parts.1) ∙ ap (λ (c : CatalogueState). items_drawn c asked) same in
-    let P : GenerationState → List Item → Type 0 = λ x xs. DownlinkStands new 256 (sections_sent w.drawings ++ map (section_of x) xs) (received_in w ++ received_under fates 0 (packets_of_all old.mux (map (section_of x) xs))) in
-    let sent : P drawing.generation drawing.items = subst (P drawing.generation) all (subst (λ (x : GenerationState). P x items) its (on 256 (sections_sent w.drawings) (received_in w) st.down)) in
+    let P : GenerationState → List Item → Type 0 = λ x xs. DownlinkStands new 256 (groups_sent w.drawings ++ map (section_of x) xs ∷ []) [] (received_in w ++ received_under fates 0 (packets_of_group old.mux (map (section_of x) xs))) in
+    let sent : P drawing.generation drawing.items = subst (P drawing.generation) all (subst (λ (x : GenerationState). P x items) its (on 256 (groups_sent w.drawings) (received_in w) st.down)) in
     let after : StandsFor (record { catalogue = d; down = new }) (record { catalogue = drawn w.catalogue asked; drawings = w.drawings ++ drawing ∷ [] }) =
     record { catalogue = is.entry ∙ ap (λ (c : CatalogueState). drawn c asked) same; down = stands_after_draw w drawing old new st.down sent } in
     subst (λ (full : Bool). StandsFor (record { catalogue = d; down = new }) (cond full w (record { catalogue = drawn w.catalogue asked; drawings = w.drawings ++ drawing ∷ [] }))) (sym room) after

@@ -54,10 +54,10 @@ abbrev pub cycle_drawn : GenerationState → List Fate → Drawing
 cycle_drawn g fates = record { generation = g; items = Dsi ∷ Dii ∷ Block 1 0 ∷ []; fates = fates }
 
 abbrev pub first_drawing : Drawing
-first_drawing = cycle_drawn (generation_with 1 first_content 1) (Lose ∷ Keep ∷ Keep ∷ Keep ∷ [])
+first_drawing = cycle_drawn (generation_with 1 first_content 1) (Flip 800 ∷ Keep ∷ Lose ∷ [])
 
 abbrev pub second_drawing : Drawing
-second_drawing = cycle_drawn (generation_with 2 second_content 2) (Keep ∷ Keep ∷ Flip 800 ∷ Keep ∷ [])
+second_drawing = cycle_drawn (generation_with 2 second_content 2) (Keep ∷ Flip 800 ∷ Keep ∷ [])
 
 abbrev pub last_drawing : Drawing
 last_drawing = cycle_drawn (generation_with 2 second_content 2) []
@@ -118,38 +118,39 @@ FromIn b = IsAscribed b 256 (received_in after_run) (from_of after_run)
 abbrev pub From : ℕ → ℕ → Type 0
 From = FromIn sent
 
-of_first_dii : From 0 1
-of_first_dii = record { cut = record { packet = 0; offset = 5; bytes = section 1 Dii }; is = refl; packet = 1; came = refl; begins = refl }
+first_fails : is_accepted (slice_index_or all 0 []) ≡ false
+first_fails = refl
 
-of_first_block : From 1 2
-of_first_block = record { cut = record { packet = 1; offset = 5; bytes = section 1 (Block 1 0) }; is = refl; packet = 2; came = refl; begins = refl }
+of_first_dii : From 1 1
+of_first_dii = record { cut = record { packet = 0; offset = 120; bytes = section 1 Dii }; is = refl; packet = 0; came = refl; begins = refl }
 
 of_dsi : From 2 3
-of_dsi = record { cut = record { packet = 3; offset = 5; bytes = section 2 Dsi }; is = refl; packet = 4; came = refl; begins = refl }
+of_dsi = record { cut = record { packet = 2; offset = 5; bytes = section 2 Dsi }; is = refl; packet = 3; came = refl; begins = refl }
 
 of_dii : From 3 4
-of_dii = record { cut = record { packet = 4; offset = 5; bytes = section 2 Dii }; is = refl; packet = 5; came = refl; begins = refl }
+of_dii = record { cut = record { packet = 2; offset = 120; bytes = section 2 Dii }; is = refl; packet = 3; came = refl; begins = refl }
 
 of_last_dsi : From 5 6
-of_last_dsi = record { cut = record { packet = 7; offset = 5; bytes = section 2 Dsi }; is = refl; packet = 8; came = refl; begins = refl }
+of_last_dsi = record { cut = record { packet = 5; offset = 5; bytes = section 2 Dsi }; is = refl; packet = 6; came = refl; begins = refl }
 
 of_last_dii : From 6 7
-of_last_dii = record { cut = record { packet = 8; offset = 5; bytes = section 2 Dii }; is = refl; packet = 9; came = refl; begins = refl }
+of_last_dii = record { cut = record { packet = 5; offset = 120; bytes = section 2 Dii }; is = refl; packet = 6; came = refl; begins = refl }
 
 of_block : From 7 8
-of_block = record { cut = record { packet = 9; offset = 5; bytes = section 2 (Block 1 0) }; is = refl; packet = 10; came = refl; begins = refl }
+of_block = record { cut = record { packet = 6; offset = 12; bytes = section 2 (Block 1 0) }; is = refl; packet = 7; came = refl; begins = refl }
 
 fails : is_accepted (slice_index_or all 4 []) ≡ false
 fails = refl
 
+refused : (i : ℕ) (bytes : Bytes) → is_accepted (slice_index_or all i []) ≡ false → slice_index_or all i [] ≡ bytes → IsTrue (is_accepted bytes) → ⊥
+refused i bytes none is accepted = let bad : false ≡ true = subst IsTrue none (subst (λ y. IsTrue (is_accepted y)) (sym is) accepted) in cc
+
 accepted_are_sent : AcceptedAreSent sent all From
-accepted_are_sent zero bytes e accepted = (1, of_first_dii, e)
-accepted_are_sent (suc zero) bytes e accepted = (2, of_first_block, e)
+accepted_are_sent zero bytes e accepted = absurd (refused 0 bytes first_fails (same_Some (slice_index_or all 0 []) bytes e) accepted)
+accepted_are_sent (suc zero) bytes e accepted = (1, of_first_dii, e)
 accepted_are_sent (suc (suc zero)) bytes e accepted = (3, of_dsi, e)
 accepted_are_sent (suc (suc (suc zero))) bytes e accepted = (4, of_dii, e)
-accepted_are_sent (suc (suc (suc (suc zero)))) bytes e accepted =
-    let is : slice_index_or all 4 [] ≡ bytes = same_Some (slice_index_or all 4 []) bytes e in
-    let bad : false ≡ true = subst IsTrue fails (subst (λ y. IsTrue (is_accepted y)) (sym is) accepted) in cc
+accepted_are_sent (suc (suc (suc (suc zero)))) bytes e accepted = absurd (refused 4 bytes fails (same_Some (slice_index_or all 4 []) bytes e) accepted)
 accepted_are_sent (suc (suc (suc (suc (suc zero))))) bytes e accepted = (6, of_last_dsi, e)
 accepted_are_sent (suc (suc (suc (suc (suc (suc zero)))))) bytes e accepted = (7, of_last_dii, e)
 accepted_are_sent (suc (suc (suc (suc (suc (suc (suc zero))))))) bytes e accepted = (8, of_block, e)
@@ -218,10 +219,10 @@ abbrev commits_second : Step
 commits_second = Commit 2 (puts second_content)
 
 abbrev draws_first : Step
-draws_first = Draw 1048576 (Lose ∷ Keep ∷ Keep ∷ Keep ∷ [])
+draws_first = Draw 1048576 (Flip 800 ∷ Keep ∷ Lose ∷ [])
 
 abbrev draws_second : Step
-draws_second = Draw 1048576 (Keep ∷ Keep ∷ Flip 800 ∷ Keep ∷ [])
+draws_second = Draw 1048576 (Keep ∷ Flip 800 ∷ Keep ∷ [])
 
 abbrev draws_last : Step
 draws_last = Draw 1048576 []

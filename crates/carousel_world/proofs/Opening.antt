@@ -13,15 +13,17 @@ use Rattle.generation.specs.Layouts.{lines_in}
 use Rattle.generation.specs.Kept.{LayoutsAreLawful}
 use Rattle.generation.specs.Lawful.{layout_at, section_in}
 use Rattle.section_stream.specs.Cuts.{candidates}
-use Rattle.section_stream.specs.Laws.{PacketsGiveTheSections}
-use Rattle.section_stream.specs.Packing.{IsSectionLike}
+use Rattle.section_stream.specs.Groups.{PacketsGiveTheGroups}
+use Rattle.section_stream.specs.Packing.{IsSectionLike, idle}
+use Rattle.section_stream.proofs.CallerLemmas.{group_cut}
 use Rattle.tuner_core.specs.Spans.{answer_after}
 use Rattle.carousel_world.specs.Broadcasts as broadcasts
 use Rattle.carousel_world.specs.Headline.{IsNodeAnswer}
 use Rattle.carousel_world.specs.Premises.{IsWhole}
-use Rattle.carousel_world.specs.Publishing.{repeated, layouts_for, publication, packets_sent, EveryPublicationMeets, EachCycleOpens}
+use Rattle.carousel_world.specs.Publishing.{repeated, layouts_for, publication, packets_sent, EveryPublicationMeets, EachCycleOpens, PublicationsCanBePacked}
 use Rattle.carousel_world.proofs.Modules.{IsSent}
 use Rattle.carousel_world.proofs.Saying.{Spelled, item_framed}
+use Rattle.carousel_world.proofs.Premising.{like_section}
 use Rattle.carousel_world.proofs.Cycles.{sent_items, cycle_has}
 use Rattle.carousel_world.proofs.Rounds.{contains_map}
 use Rattle.carousel_world.proofs.CallerLemmas.{published_sections}
@@ -47,9 +49,6 @@ whole_cycles carousel ls g cycles last =
       no_later = λ h above below has. absurd (omega arith);
     }
 
-like_section : (bytes : Bytes) → sections.IsFramed bytes → IsSectionLike bytes
-like_section bytes f = record { size = (f.least, f.most); length_field = sym f.counted; first = f.begins }
-
 all_like : (carousel : ℕ) (ls : List Layout) (g cycles : ℕ) → ((s : sections.Fields) → sections.Fits s → sections.IsFramed (sections.spelling s)) → Spelled → IsSent carousel ls g → g < length ls
     → All IsSectionLike (sections_of carousel ls g cycles)
 all_like carousel ls g cycles framed spelled sent lt =
@@ -58,21 +57,26 @@ all_like carousel ls g cycles framed spelled sent lt =
     (λ k d below. like_section (section_in carousel ls g (get_or items k d))
     (item_framed carousel ls g framed spelled sent (get_or items k d) (sent_items carousel ls g cycles sent lt k d below)))
 
+pub published_like : LayoutsAreLawful → Spelled → ((s : sections.Fields) → sections.Fits s → sections.IsFramed (sections.spelling s)) → PublicationsCanBePacked
+published_like lawful spelled framed carousel cycles t lt is =
+    let ls = layouts_for carousel t in
+    let of : IsSecond carousel ls t = second_of lawful carousel t lt is in
+    subst (All IsSectionLike) (sym (published_sections carousel cycles t)) (all_like carousel ls 1 cycles framed spelled of.sent (omega (arith, of.two)))
+
 pub never_back : broadcasts.NeverBack (λ i. Some i)
 never_back i j a b lt e h =
     let same : i ≡ a = same_Some i a e in
     let other : j ≡ b = same_Some j b h in
     omega arith
 
-pub each_cycle : EveryPublicationMeets → PacketsGiveTheSections → LayoutsAreLawful → Spelled → ((s : sections.Fields) → sections.Fits s → sections.IsFramed (sections.spelling s)) → EachCycleOpens
+pub each_cycle : EveryPublicationMeets → PacketsGiveTheGroups → LayoutsAreLawful → Spelled → ((s : sections.Fields) → sections.Fits s → sections.IsFramed (sections.spelling s)) → EachCycleOpens
 each_cycle meets give lawful spelled framed carousel cycles t p lt is =
     let ls = layouts_for carousel t in
     let of : IsSecond carousel ls t = second_of lawful carousel t lt is in
     let sent = broadcasts.sections (publication carousel (suc cycles) t) in
     let same : sent ≡ sections_of carousel ls 1 (suc cycles) = published_sections carousel (suc cycles) t in
-    let listed : 1 < length ls = omega (arith, of.two) in
-    let like : All IsSectionLike sent = subst (All IsSectionLike) (sym same) (all_like carousel ls 1 (suc cycles) framed spelled of.sent listed) in
-    let heard : candidates 256 (packets_sent carousel (suc cycles) t) ≡ sent = give (record { pid = 256; counter = 0 }) sent (lit< tt) (lit< tt) like in
+    let like : All IsSectionLike sent = published_like lawful spelled framed carousel (suc cycles) t lt is in
+    let heard : candidates 256 (packets_sent carousel (suc cycles) t) ≡ sent = group_cut give (idle 256 0) sent (lit< tt) (lit< tt) like in
     let whole : IsWhole carousel ls 1 sent = subst (IsWhole carousel ls 1) (sym same) (whole_cycles carousel ls 1 cycles of.two) in
     subst (λ cs. IsNodeAnswer (answer_after cs p) (node_at t p)) (sym heard)
     ((meets.sections sent carousel (suc cycles) t (λ i. Some i) never_back lt is (λ i bytes e accepted. (i, refl, e))).opens p whole)

@@ -1,8 +1,10 @@
 -- The premises, place by place, and that every reception meets what a receiver owes.
 use Rattle.std.proofs.lemmas.Bool.{ltb-true, ltb-false}
-use Rattle.std.proofs.Common.{◌≡◌, ℕ, zero, suc, ◌<◌, ◌≤◌, Bool, true, false, ltb, List, [], ◌∷◌, map, length, get_or, Some, refl, ap, sym, ◌∙◌, subst, arith}
+use Rattle.std.proofs.Common.{◌≡◌, ℕ, zero, suc, ◌+◌, ◌-◌, ◌<◌, ◌≤◌, ◌⊎◌, inl, inr, Bool, true, false, ltb, List, [], ◌∷◌, ◌++◌, map, length, get_or, Some, refl, ap, sym, ◌∙◌, subst, arith}
 use Rattle.std.specs.Prelude.{slice_get}
-use Rattle.std.specs.List.{AllPairs}
+use Rattle.std.specs.List.{All, AllPairs, flat_map}
+use Rattle.std.proofs.lemmas.List.{get_or_append_left, get_or-append-add, get_or-map, length-append, length-map}
+use Rattle.std.proofs.lemmas.List.Elements.{All-cons, All-head, All-map, All-nil, All-tail}
 use Rattle.std.specs.Option.{unwrap_or}
 use Rattle.std.proofs.lemmas.Option.{same_Some}
 use Rattle.path_tree.specs.Paths.{Bytes}
@@ -10,15 +12,18 @@ use Rattle.biop_object.specs.Names.{Layout}
 use Rattle.ddb_block.specs.Blocks as ddb
 use Rattle.cycle_planner.specs.declared.Item.{Item}
 use Rattle.cycle_planner.specs.declared.Item.TheVariants.{Dsi, Dii, Block}
-use Rattle.generation.specs.Lawful.{IsItem, section_in, EqualVersionsMeanEqualBytes}
+use Rattle.generation.specs.Lawful.{IsItem, Lawful, section_in, EqualVersionsMeanEqualBytes}
+use Rattle.dsmcc_section.specs.Sections as sections
 use Rattle.section_stream.specs.Cuts.{Cut, cuts, candidates}
-use Rattle.section_stream.specs.Packing.{starts}
-use Rattle.section_stream.specs.Laws.{CutsComeInOrder, SectionsStartThere}
+use Rattle.section_stream.specs.Packing.{IsSectionLike}
+use Rattle.section_stream.specs.Groups.{layout_of, places_in, starts_from}
+use Rattle.section_stream.specs.Laws.{CutsComeInOrder}
+use Rattle.section_stream.proofs.CallerLemmas.{places_count, places_within, starts_behind}
 use Rattle.tuner_core.specs.Heard.{heard}
-use Rattle.carousel_world.specs.Broadcasts.{Broadcast, Sending, Ascription, NeverBack, IsAscribed, sections, sendings}
+use Rattle.carousel_world.specs.Broadcasts.{Broadcast, Group, Sending, SendsInOrder, Ascription, NeverBack, IsAscribed, sendings, sendings_of}
 use Rattle.carousel_world.specs.Premises.{Ascribed, IsFromGeneration, IsHeardOf}
 use Rattle.carousel_world.specs.Receptions.{IsSentIn, EveryReceptionMeets}
-use Rattle.carousel_world.proofs.Saying.{Spelled, says, hears_item}
+use Rattle.carousel_world.proofs.Saying.{Spelled, says, hears_item, item_framed}
 use Rattle.carousel_world.proofs.Modules.{is_sent}
 use Rattle.carousel_world.proofs.Generations.{IsSaidIn}
 use Rattle.carousel_world.proofs.Ascribing.{AreAscribed}
@@ -53,9 +58,9 @@ said carousel ls g (Block m b) item = record {
   versioned = refl;
 }
 
--- what is ascribed never goes back
-abbrev pub InOrder : Ascribed → Type 0
-InOrder is_from = (i j k l : ℕ) → i < j → is_from i k → is_from j l → k ≤ l
+-- what is ascribed never goes back to an earlier generation
+abbrev pub InOrder : Broadcast → Ascribed → Type 0
+InOrder b is_from = (i j k l : ℕ) (s t : Sending) → i < j → is_from i k → is_from j l → slice_get (sendings b) k ≡ Some s → slice_get (sendings b) l ≡ Some t → s.0 ≤ t.0
 
 in_order : (xs : List Sending) → AllPairs (λ s t. s.0 ≤ t.0) xs → (k l : ℕ) (s t : Sending) → k ≤ l → slice_get xs k ≡ Some s → slice_get xs l ≡ Some t → s.0 ≤ t.0
 in_order xs pairs k l s t le e f = by (ltb k l) refl where
@@ -70,7 +75,7 @@ in_order xs pairs k l s t le e f = by (ltb k l) refl where
       let one : s ≡ t = same_Some s t (sym e ∙ ap (slice_get xs) same ∙ f) in
       subst (λ x. s.0 ≤ x.0) one (omega arith)
 
-pub ascribed : (b : Broadcast) (cs : List Bytes) (is_from : Ascribed) → Spelled → IsHeardOf b cs is_from → InOrder is_from → AreAscribed b.carousel b.layouts cs (IsFromGeneration b is_from)
+pub ascribed : (b : Broadcast) (cs : List Bytes) (is_from : Ascribed) → Spelled → IsHeardOf b cs is_from → InOrder b is_from → AreAscribed b.carousel b.layouts cs (IsFromGeneration b is_from)
 ascribed b cs is_from spelled h ordered = record {
   each = λ i bytes e accepted.
       let x = h.accepted i bytes e accepted in
@@ -91,7 +96,7 @@ ascribed b cs is_from spelled h ordered = record {
         ),
       );
   order = λ i j g k lt p q.
-      subst (λ x. x ≤ k) p.4 (subst (λ x. p.1.0 ≤ x) q.4 (in_order (sendings b) h.in_order.order p.0 q.0 p.1 q.1 (ordered i j p.0 q.0 lt p.2 q.2) p.3 q.3));
+      subst (λ x. x ≤ k) p.4 (subst (λ x. p.1.0 ≤ x) q.4 (ordered i j p.0 q.0 p.1 q.1 lt p.2 q.2 p.3 q.3));
   near = λ i j g k lt dii block none p q. h.near i j g k block (record { before = lt; there = dii; last = none }) p q;
 }
 
@@ -100,16 +105,105 @@ sent_from b is_from i g p = (p.0, p.1, p.3, p.4)
 
 -- ---- over packets
 
--- a section that begins in a packet of a lower number, or in the same, isn't later
-no_earlier : SectionsStartThere → (ss : List Bytes) (k l : ℕ) (p q : ℕ × ℕ) → slice_get (starts ss) k ≡ Some p → slice_get (starts ss) l ≡ Some q → p.0 ≤ q.0 → k ≤ l
-no_earlier law ss k l p q e f le = by (ltb l k) refl where
-  by : (t : Bool) → ltb l k ≡ t → k ≤ l
-  by false t = ltb-false l k t
-  by true t =
-      let x = at (starts ss) k p p e in
-      let y = at (starts ss) l q p f in
-      let falls : q.0 < p.0 = subst (λ z. q.0 < z.0) x.is (subst (λ z. z.0 < (get_or (starts ss) k p).0) y.is (law.rise ss l k p (ltb-true l k t) x.inside)) in
-      absurd (omega (arith, falls, le))
+-- the sections of a group
+abbrev pub sections_in : ℕ → List Layout → Group → List Bytes
+sections_in carousel ls g = map (section_in carousel ls g.generation) g.items
+
+-- an element of two lists is one of the first or one of the second
+abbrev pub InTwo : {X : Type 0} → List X → List X → ℕ → X → Type 0
+InTwo xs ys k z = ((slice_get xs k ≡ Some z) × (k < length xs)) ⊎ ((length xs ≤ k) × (slice_get ys (k - length xs) ≡ Some z))
+
+in_two : {X : Type 0} (xs ys : List X) (k : ℕ) (z : X) → slice_get (xs ++ ys) k ≡ Some z → InTwo xs ys k z
+in_two [] ys k z e = inr (omega arith, subst (λ j. slice_get ys j ≡ Some z) (omega arith) e)
+in_two (x ∷ xs) ys zero z e = inl (e, omega arith)
+in_two (x ∷ xs) ys (suc k) z e = further (in_two xs ys k z e) where
+  further : InTwo xs ys k z → InTwo (x ∷ xs) ys (suc k) z
+  further (inl h) = let lt = h.1 in inl (h.0, omega (arith, lt))
+  further (inr h) = let le = h.0 in inr (omega (arith, le), subst (λ j. slice_get ys j ≡ Some z) (omega (arith, le)) h.1)
+
+its_generation : (g : Group) (k : ℕ) (s : Sending) → slice_get (sendings_of g) k ≡ Some s → s.0 ≡ g.generation
+its_generation g k s e = let x = get_map (λ (item : Item). (g.generation, item)) g.items k s e in ap (λ (y : Sending). y.0) x.1.1
+
+-- A section that begins in a packet of a lower number, or in the same, isn't later, or it is of the same group.
+no_earlier : (carousel : ℕ) (ls : List Layout) (n : ℕ) (gs : List Group) → All (λ g. All IsSectionLike (sections_in carousel ls g)) gs → (k l : ℕ) (p q : ℕ × ℕ) (s t : Sending)
+    → slice_get (starts_from n (map (sections_in carousel ls) gs)) k ≡ Some p → slice_get (starts_from n (map (sections_in carousel ls) gs)) l ≡ Some q
+    → slice_get (flat_map sendings_of gs) k ≡ Some s → slice_get (flat_map sendings_of gs) l ≡ Some t → p.0 ≤ q.0 → (k ≤ l) ⊎ (s.0 ≡ t.0)
+no_earlier carousel ls n [] like k l p q s t e f x y le = cc
+no_earlier carousel ls n (g ∷ gs) like k l p q s t e f x y le =
+    go (λ i j a b c d. no_earlier carousel ls (n + packets) gs (All-tail Like g gs like) i j p q s t a b c d le)
+    (in_two here later k p e) (in_two here later l q f) (in_two (sendings_of g) rest k s x) (in_two (sendings_of g) rest l t y) where
+      Like : Group → Type 0
+      Like h = All IsSectionLike (sections_in carousel ls h)
+
+      packets : ℕ
+      packets = length (layout_of (sections_in carousel ls g))
+
+      here : List (ℕ × ℕ)
+      here = places_in n (layout_of (sections_in carousel ls g))
+
+      later : List (ℕ × ℕ)
+      later = starts_from (n + packets) (map (sections_in carousel ls) gs)
+
+      rest : List Sending
+      rest = flat_map sendings_of gs
+
+      size : length here ≡ length (sendings_of g)
+      size = places_count n (sections_in carousel ls g) (All-head Like g gs like) ∙ length-map g.items (section_in carousel ls g.generation) ∙ sym (length-map g.items (λ item. (g.generation, item)))
+
+      Next : Type 0
+      Next = (i j : ℕ) → slice_get later i ≡ Some p → slice_get later j ≡ Some q → slice_get rest i ≡ Some s → slice_get rest j ≡ Some t → (i ≤ j) ⊎ (s.0 ≡ t.0)
+
+      both : length here ≤ k → length here ≤ l → (k - length here ≤ l - length here) ⊎ (s.0 ≡ t.0) → (k ≤ l) ⊎ (s.0 ≡ t.0)
+      both h i (inl j) = inl (omega (arith, h, i, j))
+      both h i (inr j) = inr j
+
+      above : (i : ℕ) (r : ℕ × ℕ) → slice_get later i ≡ Some r → n + packets ≤ r.0
+      above i r h = let z = at later i r r h in subst (λ w. n + packets ≤ w.0) z.is (starts_behind (n + packets) (map (sections_in carousel ls) gs) i r z.inside)
+
+      below_end : (i : ℕ) (r : ℕ × ℕ) → slice_get here i ≡ Some r → r.0 < n + packets
+      below_end i r h = let z = at here i r r h in subst (λ w. w.0 < n + packets) z.is (places_within n (layout_of (sections_in carousel ls g)) i r z.inside).1
+
+      go : Next → InTwo here later k p → InTwo here later l q → InTwo (sendings_of g) rest k s → InTwo (sendings_of g) rest l t → (k ≤ l) ⊎ (s.0 ≡ t.0)
+      go next (inl a) (inl b) (inl c) (inl d) = inr (its_generation g k s c.0 ∙ sym (its_generation g l t d.0))
+      go next (inl a) (inr b) c d = let lt = a.1 in let ge = b.0 in inl (omega (arith, lt, ge))
+      go next (inr a) (inl b) c d = let x = above (k - length here) p a.1 in let y = below_end l q b.0 in absurd (omega (arith, x, y, le))
+      go next (inr a) (inr b) (inr c) (inr d) =
+          both a.0 b.0 (next (k - length here) (l - length here) a.1 b.1 (subst (λ w. slice_get rest (k - w) ≡ Some s) (sym size) c.1) (subst (λ w. slice_get rest (l - w) ≡ Some t) (sym size) d.1))
+      go next (inl a) (inl b) (inr c) d = let lt = a.1 in let ge = c.0 in absurd (omega (arith, lt, ge, size))
+      go next (inl a) (inl b) (inl c) (inr d) = let lt = b.1 in let ge = d.0 in absurd (omega (arith, lt, ge, size))
+      go next (inr a) (inr b) (inl c) d = let lt = c.1 in let ge = a.0 in absurd (omega (arith, lt, ge, size))
+      go next (inr a) (inr b) (inr c) (inl d) = let lt = d.1 in let ge = b.0 in absurd (omega (arith, lt, ge, size))
+
+-- the sections of all groups meet the packer's condition
+abbrev pub Framed : Type 0
+Framed = (s : sections.Fields) → sections.Fits s → sections.IsFramed (sections.spelling s)
+
+pub like_section : (bytes : Bytes) → sections.IsFramed bytes → IsSectionLike bytes
+like_section bytes f = record { size = (f.least, f.most); length_field = sym f.counted; first = f.begins }
+
+groups_like : (carousel : ℕ) (ls : List Layout) (gs : List Group) → ((g : ℕ) (item : Item) → IsItem ls g item → IsSectionLike (section_in carousel ls g item)) → All (λ s. IsItem ls s.0 s.1) (flat_map sendings_of gs)
+    → All (λ g. All IsSectionLike (sections_in carousel ls g)) gs
+groups_like carousel ls [] each items = All-nil (λ g. All IsSectionLike (sections_in carousel ls g))
+groups_like carousel ls (g ∷ gs) each items =
+    All-cons (λ h. All IsSectionLike (sections_in carousel ls h)) g gs
+    (All-map IsSectionLike (section_in carousel ls g.generation) g.items
+    (λ i d lt.
+    let size : length (sendings_of g) ≡ length g.items = length-map g.items (λ item. (g.generation, item)) in
+    let is : get_or (flat_map sendings_of (g ∷ gs)) i (g.generation, d) ≡ (g.generation, get_or g.items i d) =
+    get_or_append_left (sendings_of g) (flat_map sendings_of gs) (g.generation, d) i (omega (arith, size, lt)) ∙ get_or-map (λ (item : Item). (g.generation, item)) g.items i d (g.generation, d) lt in
+    let one : IsItem ls (get_or (flat_map sendings_of (g ∷ gs)) i (g.generation, d)).0 (get_or (flat_map sendings_of (g ∷ gs)) i (g.generation, d)).1 =
+    items i (g.generation, d) (omega (arith, size, lt, length-append (sendings_of g) (flat_map sendings_of gs))) in
+    each g.generation (get_or g.items i d) (subst (λ (s : Sending). IsItem ls s.0 s.1) is one)))
+    (groups_like carousel ls gs each
+    (λ i d lt. subst (λ (s : Sending). IsItem ls s.0 s.1) (get_or-append-add (sendings_of g) (flat_map sendings_of gs) i d)
+    (items (length (sendings_of g) + i) d (omega (arith, lt, length-append (sendings_of g) (flat_map sendings_of gs))))))
+
+pub broadcast_like : Framed → Spelled → (b : Broadcast) → Lawful b.carousel b.layouts b.trees → SendsInOrder b → All (λ g. All IsSectionLike (sections_in b.carousel b.layouts g)) b.groups
+broadcast_like framed spelled b lawful sends =
+    groups_like b.carousel b.layouts b.groups
+    (λ g item is. like_section (section_in b.carousel b.layouts g item)
+    (item_framed b.carousel b.layouts g framed spelled (is_sent b.carousel b.layouts b.trees g lawful (below b.layouts g item is)) item is))
+    sends.items
 
 -- a candidate doesn't open in an earlier packet than one before it
 no_fall : CutsComeInOrder → (pid : ℕ) (packets : List Bytes) (i j : ℕ) (c d : Cut) → i < j → slice_get (cuts pid packets) i ≡ Some c → slice_get (cuts pid packets) j ≡ Some d → c.packet ≤ d.packet
@@ -118,11 +212,12 @@ no_fall law pid packets i j c d lt e f =
     let y = at (cuts pid packets) j d c f in
     subst (λ z. z.packet ≤ d.packet) x.is (subst (λ z. (get_or (cuts pid packets) i c).packet ≤ z.packet) y.is (law.packets_rise pid packets i j c lt y.inside))
 
-packets_in_order : CutsComeInOrder → SectionsStartThere → (b : Broadcast) (pid : ℕ) (packets : List Bytes) (from : Ascription) → NeverBack from → InOrder (IsAscribed b pid packets from)
-packets_in_order cut start b pid packets from never i j k l lt p q =
+packets_in_order : Framed → Spelled → CutsComeInOrder → (b : Broadcast) (pid : ℕ) (packets : List Bytes) (from : Ascription) → Lawful b.carousel b.layouts b.trees → SendsInOrder b → NeverBack from
+    → InOrder b (IsAscribed b pid packets from)
+packets_in_order framed spelled cut b pid packets from lawful sends never i j k l s t lt p q e f =
     let rises : p.cut.packet ≤ q.cut.packet = no_fall cut pid packets i j p.cut q.cut lt p.is q.is in
     let sent : p.packet ≤ q.packet = by rises (ltb p.cut.packet q.cut.packet) refl in
-    no_earlier start (sections b) k l (p.packet, p.cut.offset) (q.packet, q.cut.offset) p.begins q.begins sent where
+    ordered (no_earlier b.carousel b.layouts 0 b.groups (broadcast_like framed spelled b lawful sends) k l (p.packet, p.cut.offset) (q.packet, q.cut.offset) s t p.begins q.begins e f sent) where
       by : p.cut.packet ≤ q.cut.packet → (t : Bool) → ltb p.cut.packet q.cut.packet ≡ t → p.packet ≤ q.packet
       by le true t = never p.cut.packet q.cut.packet p.packet q.packet (ltb-true _ _ t) p.came q.came
       by le false t =
@@ -130,14 +225,18 @@ packets_in_order cut start b pid packets from never i j k l lt p q =
           let one : p.packet ≡ q.packet = same_Some p.packet q.packet (sym p.came ∙ ap from same ∙ q.came) in
           omega (arith, one)
 
-pub every_reception : Spelled → ((ls : List Layout) → EqualVersionsMeanEqualBytes ls) → CutsComeInOrder → SectionsStartThere → EveryReceptionMeets
-every_reception spelled law cut start = record {
+      ordered : (k ≤ l) ⊎ (s.0 ≡ t.0) → s.0 ≤ t.0
+      ordered (inl le) = in_order (sendings b) sends.order k l s t le e f
+      ordered (inr same) = omega (arith, same)
+
+pub every_reception : Framed → Spelled → ((ls : List Layout) → EqualVersionsMeanEqualBytes ls) → CutsComeInOrder → EveryReceptionMeets
+every_reception framed spelled law cut = record {
   packets = λ pid packets b from never h.
       meets_ascribed b (candidates pid packets) (IsFromGeneration b (IsAscribed b pid packets from)) h.first spelled h.lawful (law b.layouts)
-      (ascribed b (candidates pid packets) (IsAscribed b pid packets from) spelled h (packets_in_order cut start b pid packets from never))
+      (ascribed b (candidates pid packets) (IsAscribed b pid packets from) spelled h (packets_in_order framed spelled cut b pid packets from h.lawful h.in_order never))
       (sent_from b (IsAscribed b pid packets from));
   sections = λ cs b from never h.
       meets_ascribed b cs (IsFromGeneration b (λ i k. from i ≡ Some k)) h.first spelled h.lawful (law b.layouts)
-      (ascribed b cs (λ i k. from i ≡ Some k) spelled h (λ i j k l lt p q. never i j k l lt p q))
+      (ascribed b cs (λ i k. from i ≡ Some k) spelled h (λ i j k l s t lt p q e f. in_order (sendings b) h.in_order.order k l s t (never i j k l lt p q) e f))
       (sent_from b (λ i k. from i ≡ Some k));
 }

@@ -1,9 +1,9 @@
 -- After two whole draws a whole cycle of the last generation was heard.
-use Rattle.std.proofs.Common.{◌≡◌, ℕ, ◌+◌, ◌<◌, ◌≤◌, cond, List, [], ◌∷◌, ◌++◌, length, map, refl, ap, sym, ◌∙◌, subst, append_assoc, arith, lit<}
+use Rattle.std.proofs.Common.{◌≡◌, ℕ, ◌+◌, ◌<◌, ◌≤◌, cond, List, [], ◌∷◌, ◌++◌, length, map, drop, refl, ap, sym, ◌∙◌, subst, append_assoc, arith, lit<}
 use Rattle.std.specs.List.{All, fold}
 use Rattle.std.proofs.lemmas.Bool.{lt-leb}
 use Rattle.std.proofs.lemmas.List.{append-nil, length-map, map-append}
-use Rattle.std.proofs.lemmas.List.Elements.{All-map, Contains-append_right}
+use Rattle.std.proofs.lemmas.List.Elements.{All-cons, All-drop, All-head, All-map, All-nil, All-take, Contains-append_right}
 use Rattle.std.proofs.lemmas.List.Sums.{fold-append}
 use Rattle.path_tree.specs.Paths.{Bytes}
 use Rattle.biop_object.specs.Names.{Layout}
@@ -14,31 +14,32 @@ use Rattle.dsmcc_section.specs.Sections as sections
 use Rattle.generation.specs.Layouts.{GenerationState, lines_in, section_of}
 use Rattle.generation.specs.Kept.{layouts_of, LayoutsAreLawful, GenerationsAreOfTheLists}
 use Rattle.generation.specs.Lawful.{ArePublishable, layout_at, section_in}
-use Rattle.generation_catalogue.specs.History.{CatalogueState, trees_of, current_of, cycle_in, items_drawn, draws_of}
+use Rattle.generation_catalogue.specs.History.{CatalogueState, trees_of, current_of, cycle_in, cursor_of, count_drawn, items_drawn, draws_of}
 use Rattle.generation_catalogue.specs.Laws.{HistoriesGrow}
 use Rattle.section_stream.specs.Cuts.{candidates}
-use Rattle.section_stream.specs.Laws.{LaterSectionsAreGiven}
-use Rattle.section_stream.specs.Packing.{MuxState, IsSectionLike, packets_of_all, past}
+use Rattle.section_stream.specs.Groups.{packets_of_group, packets_of_groups, past_group, LaterGroupsAreGiven}
+use Rattle.section_stream.specs.Packing.{MuxState, IsSectionLike}
+use Rattle.section_stream.proofs.CallerLemmas.{counter_in_range, pid_stays, some_packets}
 use Rattle.carousel_world.specs.Fates.{Arrival, under}
 use Rattle.carousel_world.specs.Events.{Step}
 use Rattle.carousel_world.specs.Premises.{IsWhole}
 use Rattle.carousel_world.specs.Promises.{broadcast_of, world_after, HoldsAfter, EveryRunMeetsTheHeadline}
 use Rattle.carousel_world.specs.Settling.{whole_draw, settled, EverySettledRunIsWhole, EverySettledRunOpens}
-use Rattle.carousel_world.specs.World.{WorldState, Drawing, drawing_of, sections_sent, arrivals, first_packet, candidates_in, opening, happens}
+use Rattle.carousel_world.specs.World.{WorldState, Drawing, drawing_of, sections_of, groups_sent, arrivals, first_packet, candidates_in, opening, happens}
 use Rattle.carousel_world.proofs.Cycles.{cycle_items}
 use Rattle.carousel_world.proofs.Happening.{framed_is_like}
 use Rattle.carousel_world.proofs.Modules.{IsSent, is_sent}
 use Rattle.carousel_world.proofs.Promised.{after-append, grows_all}
 use Rattle.carousel_world.proofs.Rounds.{contains_map}
 use Rattle.carousel_world.proofs.Saying.{Spelled, item_framed}
-use Rattle.carousel_world.proofs.Sending.{received_push, sections_push}
+use Rattle.carousel_world.proofs.Sending.{received_push}
 use Rattle.carousel_world.proofs.WholeDraws.{IsShort, IsRound, cycle_is_round, turned, short_cycle, some_drawn, cycle_drawn, draws_more, is_of_lists, last_section, sent_by}
 
 pub record Laws : Type 0 where
   pub grow : HistoriesGrow
   pub lists : GenerationsAreOfTheLists
   pub lawful : LayoutsAreLawful
-  pub later : LaterSectionsAreGiven
+  pub later : LaterGroupsAreGiven
   pub spelled : Spelled
   pub framed : (s : sections.Fields) → sections.Fits s → sections.IsFramed (sections.spelling s)
 
@@ -53,49 +54,56 @@ abbrev pub undamaged : GenerationState → List Item → Drawing
 undamaged g items = record { generation = g; items = items; fates = [] }
 
 abbrev pub mux_after : List Drawing → MuxState
-mux_after ds = fold past first_packet (sections_sent ds)
+mux_after ds = fold past_group first_packet (groups_sent ds)
 
 one_arrives : (ds : List Drawing) (g : GenerationState) (items : List Item)
-    → map (λ a. a.1) (arrivals (ds ++ undamaged g items ∷ [])) ≡ map (λ a. a.1) (arrivals ds) ++ packets_of_all (mux_after ds) (map (section_of g) items)
+    → map (λ a. a.1) (arrivals (ds ++ undamaged g items ∷ [])) ≡ map (λ a. a.1) (arrivals ds) ++ packets_of_group (mux_after ds) (map (section_of g) items)
 one_arrives ds g items =
     received_push ds (undamaged g items)
-    ∙ ap (λ ps. map (λ a. a.1) (arrivals ds) ++ ps) (all_arrive 0 0 (packets_of_all (mux_after ds) (map (section_of g) items)))
+    ∙ ap (λ ps. map (λ a. a.1) (arrivals ds) ++ ps) (all_arrive 0 0 (packets_of_group (mux_after ds) (map (section_of g) items)))
 
 two_arrive : (ds : List Drawing) (g h : GenerationState) (first second : List Item)
     → map (λ a. a.1) (arrivals ((ds ++ undamaged g first ∷ []) ++ undamaged h second ∷ []))
-    ≡ (map (λ a. a.1) (arrivals ds) ++ packets_of_all (mux_after ds) (map (section_of g) first))
-    ++ packets_of_all (fold past (mux_after ds) (map (section_of g) first)) (map (section_of h) second)
+    ≡ (map (λ a. a.1) (arrivals ds) ++ packets_of_group (mux_after ds) (map (section_of g) first))
+    ++ packets_of_group (past_group (mux_after ds) (map (section_of g) first)) (map (section_of h) second)
 two_arrive ds g h first second =
-    let before = map (λ (a : Arrival). a.1) (arrivals ds) ++ packets_of_all (mux_after ds) (map (section_of g) first) in
+    let before = map (λ (a : Arrival). a.1) (arrivals ds) ++ packets_of_group (mux_after ds) (map (section_of g) first) in
     let last = map (section_of h) second in
-    let mux : mux_after (ds ++ undamaged g first ∷ []) ≡ fold past (mux_after ds) (map (section_of g) first) =
-    ap (fold past first_packet) (sections_push ds (undamaged g first)) ∙ fold-append past first_packet (sections_sent ds) (map (section_of g) first) in
+    let mux : mux_after (ds ++ undamaged g first ∷ []) ≡ past_group (mux_after ds) (map (section_of g) first) =
+    ap (fold past_group first_packet) (map-append sections_of ds (undamaged g first ∷ [])) ∙ fold-append past_group first_packet (groups_sent ds) (map (section_of g) first ∷ []) in
     one_arrives (ds ++ undamaged g first ∷ []) h second
-    ∙ ap (λ ps. ps ++ packets_of_all (mux_after (ds ++ undamaged g first ∷ [])) last) (one_arrives ds g first)
-    ∙ ap (λ m. before ++ packets_of_all m last) mux
+    ∙ ap (λ ps. ps ++ packets_of_group (mux_after (ds ++ undamaged g first ∷ [])) last) (one_arrives ds g first)
+    ∙ ap (λ m. before ++ packets_of_group m last) mux
 
 -- ---- what is heard
 
-one_pid : (m : MuxState) (ss : List Bytes) → (fold past m ss).pid ≡ m.pid
-one_pid m [] = refl
-one_pid m (s ∷ ss) = one_pid (past m s) ss
-
-in_range : (m : MuxState) (ss : List Bytes) → m.counter < 16 → (fold past m ss).counter < 16
-in_range m [] lt = lt
-in_range m (s ∷ ss) lt = in_range (past m s) ss (omega arith)
+-- a group with a section has a packet
+some_sent : (m : MuxState) (group : List Bytes) → 0 < length group → All IsSectionLike group → 0 < length (packets_of_groups m (group ∷ []))
+some_sent m [] some like = absurd (omega (arith, some))
+some_sent m (s ∷ ss) some like =
+    let size : 12 ≤ length s = (All-head IsSectionLike s ss like).size.0 in
+    subst (λ (ps : List Bytes). 0 < length ps) (sym (append-nil (packets_of_group m (s ∷ ss)))) (some_packets m s ss (omega (arith, size)))
 
 -- all that is heard of two draws ends with the sections of the second
-ends_with : LaterSectionsAreGiven → (ds : List Drawing) (g h : GenerationState) (first second : List Item) → 0 < length first → All IsSectionLike (map (section_of h) second)
+ends_with : LaterGroupsAreGiven → (ds : List Drawing) (g h : GenerationState) (first second : List Item) → 0 < length first → All IsSectionLike (map (section_of g) first)
+    → All IsSectionLike (map (section_of h) second)
     → (earlier : List Bytes) × (candidates 256 (map (λ a. a.1) (arrivals ((ds ++ undamaged g first ∷ []) ++ undamaged h second ∷ []))) ≡ earlier ++ map (section_of h) second)
-ends_with later ds g h first second some like =
+ends_with later ds g h first second some framed like =
     let m = mux_after ds in
-    let pid : m.pid ≡ 256 = one_pid first_packet (sections_sent ds) in
-    let size = length-map first (section_of g) in
+    let one : List Bytes = map (section_of g) first in
+    let two : List Bytes = map (section_of h) second in
+    let pid : m.pid ≡ 256 = pid_stays first_packet (groups_sent ds) in
+    let size : length one ≡ length first = length-map first (section_of g) in
     let before = map (λ (a : Arrival). a.1) (arrivals ds) in
-    let packets = (before ++ packets_of_all m (map (section_of g) first)) ++ packets_of_all (fold past m (map (section_of g) first)) (map (section_of h) second) in
-    let heard = later m before (map (section_of g) first) (map (section_of h) second)
-    (subst (λ n. n < 8192) (sym pid) (lit< tt)) (in_range first_packet (sections_sent ds) (lit< tt)) (omega (arith, some, size)) like in
-    (heard.0, ap (candidates 256) (two_arrive ds g h first second) ∙ ap (λ n. candidates n packets) (sym pid) ∙ heard.1)
+    let packets = (before ++ packets_of_groups m (one ∷ [])) ++ packets_of_groups (past_group m one) (two ∷ []) in
+    let grouped : (before ++ packets_of_group m one) ++ packets_of_group (past_group m one) two ≡ packets =
+    ap (λ ps. (before ++ ps) ++ packets_of_group (past_group m one) two) (sym (append-nil (packets_of_group m one)))
+    ∙ ap (λ ps. (before ++ packets_of_groups m (one ∷ [])) ++ ps) (sym (append-nil (packets_of_group (past_group m one) two))) in
+    let heard = later m before (one ∷ []) (two ∷ []) (subst (λ n. n < 8192) (sym pid) (lit< tt)) (counter_in_range first_packet (groups_sent ds) (lit< tt))
+    (some_sent m one (omega (arith, some, size)) framed) (All-cons (All IsSectionLike) two [] like (All-nil (All IsSectionLike))) in (
+      heard.0,
+      ap (candidates 256) (two_arrive ds g h first second ∙ grouped) ∙ ap (λ n. candidates n packets) (sym pid) ∙ heard.1 ∙ ap (λ ss. heard.0 ++ ss) (append-nil two),
+    )
 
 -- ---- what is whole
 
@@ -123,10 +131,12 @@ ends_whole carousel ls g earlier items last is =
 by_end : (P : List Bytes → Type 0) (all xs ys : List Bytes) → (earlier : List Bytes) × (all ≡ earlier ++ xs) → xs ≡ ys → ((earlier : List Bytes) → P (earlier ++ ys)) → P all
 by_end P all xs ys ends same whole = subst P (sym (ends.1 ∙ ap (λ ss. ends.0 ++ ss) same)) (whole ends.0)
 
+like_each : Laws → (carousel : ℕ) (ls : List Layout) (g : ℕ) → IsSent carousel ls g → g < length ls → All (λ item. IsSectionLike (section_in carousel ls g item)) (cycle_of (lines_in (layout_at ls g)))
+like_each laws carousel ls g sent lt k d inside = framed_is_like _ (item_framed carousel ls g laws.framed laws.spelled sent _ (cycle_items carousel ls g sent lt k d inside))
+
 like_all : Laws → (carousel : ℕ) (ls : List Layout) (g : ℕ) → IsSent carousel ls g → g < length ls → All IsSectionLike (map (section_in carousel ls g) (cycle_of (lines_in (layout_at ls g))))
 like_all laws carousel ls g sent lt =
-    All-map IsSectionLike (section_in carousel ls g) (cycle_of (lines_in (layout_at ls g)))
-    (λ k d inside. framed_is_like _ (item_framed carousel ls g laws.framed laws.spelled sent _ (cycle_items carousel ls g sent lt k d inside)))
+    All-map IsSectionLike (section_in carousel ls g) (cycle_of (lines_in (layout_at ls g))) (like_each laws carousel ls g sent lt)
 
 -- ---- a world after two whole draws
 
@@ -149,6 +159,14 @@ second_draw laws c short =
     ∙ ap (λ ts. map (last_section c.carousel ts) (items_drawn (turned c) 1048576)) (laws.grow.by_draw c 1048576)
     ∙ ap (map (last_section c.carousel (trees_of c))) (cycle_drawn laws.grow c short ∙ ap (λ l. cycle_of (lines_in l)) (is_of_lists laws.lists c).layout)
 
+-- the sections of the first one are as a packer asks
+first_like : Laws → (c : CatalogueState) → All (λ item. IsSectionLike (last_section c.carousel (trees_of c) item)) (cycle_in c) → All IsSectionLike (map (section_of (current_of c)) (items_drawn c 1048576))
+first_like laws c each =
+    let its = λ (item : Item). IsSectionLike (last_section c.carousel (trees_of c) item) in
+    let left = drop (cursor_of c) (cycle_in c) in
+    subst (All IsSectionLike) (sym (sent_by laws.grow laws.lists c 1048576))
+    (All-map IsSectionLike (last_section c.carousel (trees_of c)) (items_drawn c 1048576) (All-take its (count_drawn c 1048576) left (All-drop its (cursor_of c) (cycle_in c) each)))
+
 twice_whole : Laws → (w : WorldState) → ArePublishable w.catalogue.carousel (trees_of w.catalogue)
     → IsWhole w.catalogue.carousel (layouts_of w.catalogue.carousel (trees_of w.catalogue)) (length (trees_of w.catalogue)) (candidates_in (after_one (after_one w)))
 twice_whole laws w published =
@@ -165,7 +183,9 @@ twice_whole laws w published =
     let second = second_draw laws c short in
     let like : All IsSectionLike (map (section_of (current_of (turned c))) (items_drawn (turned c) 1048576)) =
     subst (All IsSectionLike) (sym second) (like_all laws c.carousel ls g sent (omega (arith, last))) in
-    let heard = ends_with laws.later w.drawings (current_of c) (current_of (turned c)) (items_drawn c 1048576) (items_drawn (turned c) 1048576) (some_drawn c short) like in
+    let each : All (λ item. IsSectionLike (last_section c.carousel (trees_of c) item)) (cycle_in c) =
+    subst (All (λ item. IsSectionLike (last_section c.carousel (trees_of c) item))) (sym same) (like_each laws c.carousel ls g sent (omega (arith, last))) in
+    let heard = ends_with laws.later w.drawings (current_of c) (current_of (turned c)) (items_drawn c 1048576) (items_drawn (turned c) 1048576) (some_drawn c short) (first_like laws c each) like in
     by_end (IsWhole c.carousel ls g) _ _ _ heard second (λ earlier. ends_whole c.carousel ls g earlier cycle last (cycle_is_round ls g))
 
 -- ---- a run

@@ -7,7 +7,7 @@ use Rattle.biop_object.specs.Names.{Layout}
 use Rattle.cycle_planner.specs.declared.Item.{Item}
 use Rattle.generation.specs.Lawful.{section_in, IsItem}
 use Rattle.section_stream.specs.Cuts.{Cut, cuts}
-use Rattle.section_stream.specs.Packing.{starts}
+use Rattle.section_stream.specs.Groups.{starts}
 
 -- items of one generation that are sent together
 pub record Group : Type 0 where
@@ -35,6 +35,10 @@ sendings b = flat_map sendings_of b.groups
 abbrev pub sections : Broadcast → List Bytes
 sections b = map (λ s. section_in b.carousel b.layouts s.0 s.1) (sendings b)
 
+-- the same, group by group
+abbrev pub section_groups : Broadcast → List (List Bytes)
+section_groups b = map (λ g. map (section_in b.carousel b.layouts g.generation) g.items) b.groups
+
 -- each item is one of its generation, and nothing of a generation is sent after something of a later one
 pub record SendsInOrder (b : Broadcast) : Type 0 where
   pub items : All (λ s. IsItem b.layouts s.0 s.1) (sendings b)
@@ -54,4 +58,4 @@ pub record IsAscribed (b : Broadcast) (pid : ℕ) (packets : List Bytes) (from :
   pub is : slice_get (cuts pid packets) i ≡ Some cut
   pub packet : ℕ
   pub came : from cut.packet ≡ Some packet
-  pub begins : slice_get (starts (sections b)) k ≡ Some (packet, cut.offset)
+  pub begins : slice_get (starts (section_groups b)) k ≡ Some (packet, cut.offset)

@@ -12,9 +12,10 @@ use Rattle.generation.specs.Lawful.{IsPublishable, layout_at, section_in}
 use Rattle.path_resolver.specs.declared.answer.Answer.{Answer}
 use Rattle.path_resolver.specs.declared.answer.Answer.TheVariants as answers
 use Rattle.section_stream.specs.Cuts.{candidates}
-use Rattle.section_stream.specs.Packing.{packets_of_all}
+use Rattle.section_stream.specs.Packing.{idle}
+use Rattle.section_stream.specs.Groups.{packets_of_groups}
 use Rattle.tuner_core.specs.Spans.{answer_after}
-use Rattle.carousel_world.specs.Broadcasts.{Broadcast, SendsInOrder, sections, NeverBack, IsAscribed}
+use Rattle.carousel_world.specs.Broadcasts.{Broadcast, SendsInOrder, section_groups, sections, NeverBack, IsAscribed}
 use Rattle.carousel_world.specs.Premises.{AcceptedAreSent, IsHeardOf, IsWhole}
 use Rattle.carousel_world.specs.Receptions.{label_after}
 use Rattle.carousel_world.specs.Publishing.{layouts_for, publication}
@@ -58,7 +59,7 @@ pub record Reception : Type 0 where
 
 -- packet n of what is sent
 abbrev pub packet_of : Broadcast → ℕ → Bytes
-packet_of b n = slice_index_or (packets_of_all (record { pid = 256; counter = 0 }) (sections b)) n []
+packet_of b n = slice_index_or (packets_of_groups (idle 256 0) (section_groups b)) n []
 
 -- all premises hold together, and a whole cycle of this generation was heard
 pub record IsPremised (r : Reception) (g : ℕ) : Type 0 where
@@ -71,17 +72,18 @@ pub record Tells (r : Reception) (n : ℕ) (label : Option ℕ) (answer : Answer
   pub label_is : label_after (candidates 256 (take n r.packets)) ≡ label
   pub answer_is : answer_after (candidates 256 (take n r.packets)) ((97 ∷ []) ∷ []) ≡ answer
 
--- Generation 1 is sent once and generation 2, whose file has other bytes, twice: in each cycle a packet of the DSI, one of the DII and
--- two of the one block. The first packet is lost, the second comes twice, and in generation 2's first block a byte is changed.
+-- Generation 1 is sent once and generation 2, whose file has other bytes, twice. A cycle is three packets: the DSI and the DII begin in the
+-- first, the one block begins in the second and ends in the third. In generation 1's DSI a byte is changed, its second packet comes twice
+-- and its third is lost; in generation 2's first block a byte is changed.
 abbrev pub changed_file : Broadcast
 changed_file = cycles_of (tree_of (1 ∷ 2 ∷ 3 ∷ []) ∷ tree_of (4 ∷ 5 ∷ 6 ∷ []) ∷ []) (1 ∷ 2 ∷ 2 ∷ [])
 
 abbrev pub damaged_of : Broadcast → Reception
 damaged_of b = record {
   broadcast = b;
-  packets = packet_of b 1 ∷ packet_of b 1 ∷ packet_of b 2 ∷ packet_of b 3 ∷ packet_of b 4 ∷ packet_of b 5 ∷ slice_set (packet_of b 6) 100 7
-      ∷ packet_of b 7 ∷ packet_of b 8 ∷ packet_of b 9 ∷ packet_of b 10 ∷ packet_of b 11 ∷ [];
-  numbers = 1 ∷ 1 ∷ 2 ∷ 3 ∷ 4 ∷ 5 ∷ 6 ∷ 7 ∷ 8 ∷ 9 ∷ 10 ∷ 11 ∷ [];
+  packets = slice_set (packet_of b 0) 100 7 ∷ packet_of b 1 ∷ packet_of b 1 ∷ packet_of b 3 ∷ slice_set (packet_of b 4) 100 7
+      ∷ packet_of b 5 ∷ packet_of b 6 ∷ packet_of b 7 ∷ packet_of b 8 ∷ [];
+  numbers = 0 ∷ 1 ∷ 1 ∷ 3 ∷ 4 ∷ 5 ∷ 6 ∷ 7 ∷ 8 ∷ [];
 }
 
 abbrev pub damaged : Reception
@@ -89,15 +91,16 @@ damaged = damaged_of changed_file
 
 pub record DamageIsPremised : Type 0 where
   pub premised : IsPremised damaged 2
-  -- the DII and the block of generation 1 were heard, and no DSI
-  pub before : Tells damaged 4 (Some 1) answers.NoCarousel
+  -- the DII of generation 1 was heard, and no DSI
+  pub before : Tells damaged 3 (Some 1) answers.NoCarousel
   -- generation 2's DII turned, and its block is damaged
-  pub damaged_block : Tells damaged 8 (Some 2) (answers.NotYet 1)
-  pub after : Tells damaged 12 (Some 2) (answers.File (4 ∷ 5 ∷ 6 ∷ []))
+  pub damaged_block : Tells damaged 6 (Some 2) (answers.NotYet 1)
+  pub after : Tells damaged 9 (Some 2) (answers.File (4 ∷ 5 ∷ 6 ∷ []))
 
--- The same file is published twice, in a module of two blocks. Generation 1 is sent once and generation 2 three times: in each cycle a
--- packet of the DSI, one of the DII, 23 of the first block and one of the second. Of generation 1 the DSI and the DII come; of generation
--- 2 the first block, then the DII, the second block, and the first block once more.
+-- The same file is published twice, in a module of two blocks. Generation 1 is sent once and generation 2 three times, each cycle in 24
+-- packets: the first block begins in the second packet, and ends in the last, where the second block begins. Of generation 1 the DSI and the
+-- DII come; of generation 2 the first block, with a byte of the second changed, then the DSI and the DII, the second block, and both blocks
+-- once more.
 abbrev pub seven : Bytes
 seven = replicate 4000 7
 
@@ -105,10 +108,14 @@ abbrev pub same_file : Broadcast
 same_file = cycles_of (tree_of seven ∷ tree_of seven ∷ []) (1 ∷ 2 ∷ 2 ∷ 2 ∷ [])
 
 abbrev pub numbers_taken : List ℕ
-numbers_taken = 0 ∷ 1 ∷ range_with_len 28 23 ++ 53 ∷ 77 ∷ range_with_len 80 23
+numbers_taken = 0 ∷ 1 ∷ range_with_len 25 23 ++ 48 ∷ 49 ∷ 71 ∷ range_with_len 73 23
 
 abbrev pub carried_of : Broadcast → Reception
-carried_of b = record { broadcast = b; packets = map (packet_of b) numbers_taken; numbers = numbers_taken }
+carried_of b = record {
+  broadcast = b;
+  packets = map (packet_of b) (0 ∷ 1 ∷ range_with_len 25 22) ++ slice_set (packet_of b 47) 100 0 ∷ map (packet_of b) (48 ∷ 49 ∷ 71 ∷ range_with_len 73 23);
+  numbers = numbers_taken;
+}
 
 abbrev pub carried_over : Reception
 carried_over = carried_of same_file
@@ -118,9 +125,9 @@ pub record CarryingIsPremised : Type 0 where
   -- the block of generation 2 is one commit away from the DII before it, which describes the module alike
   pub before : Tells carried_over 25 (Some 1) (answers.NotYet 1)
   -- generation 2's DII turned
-  pub turned : Tells carried_over 26 (Some 2) (answers.NotYet 1)
+  pub turned : Tells carried_over 27 (Some 2) (answers.NotYet 1)
   -- of the two blocks only the second was heard since
-  pub carried : Tells carried_over 27 (Some 2) (answers.File seven)
+  pub carried : Tells carried_over 28 (Some 2) (answers.File seven)
 
 pub record PremisesCanBeMet : Type 0 where
   -- some tree can be published

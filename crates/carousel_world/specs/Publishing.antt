@@ -1,6 +1,6 @@
 -- One tree that is sent in a number of whole cycles, as a broadcast of one group, and what a receiver makes of it.
 use Rattle.std.specs.Prelude.{◌≡◌, ℕ, zero, suc, ◌<◌, true, false, List, [], ◌∷◌, ◌++◌, Some}
-use Rattle.std.specs.List.{concat}
+use Rattle.std.specs.List.{All, concat}
 use Rattle.path_tree.specs.Paths.{Bytes, PathNames}
 use Rattle.path_tree.specs.Trees.{Tree, node_at}
 use Rattle.biop_object.specs.Names.{Layout}
@@ -10,7 +10,8 @@ use Rattle.generation.specs.Layouts.{lines_in}
 use Rattle.generation.specs.Kept.{layouts_of}
 use Rattle.generation.specs.Lawful.{layout_at, IsPublishable}
 use Rattle.section_stream.specs.Cuts.{candidates}
-use Rattle.section_stream.specs.Packing.{packets_of_all}
+use Rattle.section_stream.specs.Packing.{IsSectionLike, idle}
+use Rattle.section_stream.specs.Groups.{packets_of_group}
 use Rattle.path_resolver.specs.declared.answer.Answer.TheVariants as answers
 use Rattle.tuner_core.specs.Spans.{answer_after}
 use Rattle.carousel_world.specs.Broadcasts.{Broadcast, sections, Ascription, NeverBack, IsAscribed}
@@ -42,12 +43,16 @@ publication carousel cycles t = record {
   groups = record { generation = 1; items = items_sent carousel cycles t } ∷ [];
 }
 
--- its packets, on PID 256 with continuity counters from 0
+-- its packets, one group on PID 256 with continuity counters from 0
 abbrev pub packets_sent : (carousel cycles : ℕ) → Tree → List Bytes
-packets_sent carousel cycles t = packets_of_all (record { pid = 256; counter = 0 }) (sections (publication carousel cycles t))
+packets_sent carousel cycles t = packets_of_group (idle 256 0) (sections (publication carousel cycles t))
 
 abbrev pub published : (carousel cycles : ℕ) → Tree → Bytes
 published carousel cycles t = concat (packets_sent carousel cycles t)
+
+-- each of its sections meets the condition of a packer
+abbrev pub PublicationsCanBePacked : Type 0
+PublicationsCanBePacked = (carousel cycles : ℕ) (t : Tree) → carousel < 4294967296 → IsPublishable t → All IsSectionLike (sections (publication carousel cycles t))
 
 -- ---- what a receiver owes
 

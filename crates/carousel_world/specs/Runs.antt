@@ -20,12 +20,13 @@ the_path = (97 ∷ []) ∷ []
 abbrev pub puts : Bytes → List Edit
 puts content = edits.Put the_path content ∷ []
 
--- Two editors put the file `/a`, one after the other. A cycle is four packets: one of the DSI, one of the DII and two of the one block. Of
--- generation 1's cycle the first is lost. Of generation 2's two cycles one bit of the first's third packet is inverted; then all arrive.
+-- Two editors put the file `/a`, one after the other. A cycle is three packets: the DSI and the DII begin in the first, the one block begins
+-- in the second and ends in the third. Of generation 1's cycle a bit of the DSI is inverted and the third packet is lost. Of generation 2's
+-- two cycles one bit of the first's block is inverted; then all arrive.
 abbrev pub lossy_run : List Step
 lossy_run =
-    Commit 1 (puts (1 ∷ 2 ∷ 3 ∷ [])) ∷ Draw 1048576 (Lose ∷ Keep ∷ Keep ∷ Keep ∷ []) ∷ Open 1 the_path ∷ Commit 2 (puts (4 ∷ 5 ∷ 6 ∷ []))
-    ∷ Draw 1048576 (Keep ∷ Keep ∷ Flip 800 ∷ Keep ∷ []) ∷ Open 1 the_path ∷ Draw 1048576 [] ∷ Open 2 the_path ∷ []
+    Commit 1 (puts (1 ∷ 2 ∷ 3 ∷ [])) ∷ Draw 1048576 (Flip 800 ∷ Keep ∷ Lose ∷ []) ∷ Open 1 the_path ∷ Commit 2 (puts (4 ∷ 5 ∷ 6 ∷ []))
+    ∷ Draw 1048576 (Keep ∷ Flip 800 ∷ Keep ∷ []) ∷ Open 1 the_path ∷ Draw 1048576 [] ∷ Open 2 the_path ∷ []
 
 pub record RunIsPremised : Type 0 where
   pub published : ArePublishable 1 (trees_of (world_after 1 lossy_run).catalogue)

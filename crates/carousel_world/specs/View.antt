@@ -1,10 +1,10 @@
 -- What the code keeps of a world.
-use Rattle.std.specs.Prelude.{◌≡◌, true}
+use Rattle.std.specs.Prelude.{◌≡◌, true, []}
 use Rattle.generation_catalogue.specs.History.{CatalogueState}
 use Rattle.generation_catalogue.specs.View.{state}
 use Rattle.carousel_world.specs.Events.{Step, Draw}
 use Rattle.carousel_world.specs.DownView.{DownlinkState, DownlinkStands}
-use Rattle.carousel_world.specs.World.{WorldState, received_in, sections_sent}
+use Rattle.carousel_world.specs.World.{WorldState, received_in, groups_sent}
 use Rattle.carousel_world.specs.declared.world.World.{World}
 
 pub record Kept : Type 0 where
@@ -17,7 +17,7 @@ kept w = record { catalogue = state w.catalogue; down = w.downlink }
 -- the world's parts stand for the state that the events left
 pub record StandsFor (k : Kept) (w : WorldState) : Type 0 where
   pub catalogue : k.catalogue ≡ w.catalogue
-  pub down : DownlinkStands k.down 256 (sections_sent w.drawings) (received_in w)
+  pub down : DownlinkStands k.down 256 (groups_sent w.drawings) [] (received_in w)
 
 -- a refused draw leaves a spent world, and each other refused event leaves it as it was
 abbrev pub IsLeft : Step → Kept → Kept → Type 0

@@ -1,6 +1,6 @@
 -- A world is a list of events: what each replies, and what it leaves, follows from those before it.
 use Rattle.std.specs.Prelude.{◌≡◌, ℕ, ◌+◌, ◌<◌, ◌≤◌, true, List, [], ◌∷◌, ◌++◌, length, map, Result, Ok, Err, nat_le, if◌then◌else◌}
-use Rattle.std.specs.List.{flat_map, fold}
+use Rattle.std.specs.List.{flat_map}
 use Rattle.path_tree.specs.Paths.{Bytes}
 use Rattle.ts_packet.specs.declared.Fate.{Fate}
 use Rattle.cycle_planner.specs.declared.Item.{Item}
@@ -8,7 +8,8 @@ use Rattle.generation.specs.Layouts.{GenerationState, section_of}
 use Rattle.generation_catalogue.specs.History.{CatalogueState, outcome_of, committed, drawn, draws_of, current_of, cursor_of, count_drawn, items_drawn, is_entered}
 use Rattle.generation_catalogue.specs.declared.entry.Refusal.{Refusal}
 use Rattle.section_stream.specs.Cuts.{candidates}
-use Rattle.section_stream.specs.Packing.{MuxState, packets_of_all, past}
+use Rattle.section_stream.specs.Packing.{MuxState, idle}
+use Rattle.section_stream.specs.Groups.{packets_of_group, past_group}
 use Rattle.tuner_core.specs.LookBack.{answer_after}
 use Rattle.carousel_world.specs.Receptions.{label_after}
 use Rattle.carousel_world.specs.Fates.{Arrival, under}
@@ -37,15 +38,19 @@ sections_of d = map (section_of d.generation) d.items
 abbrev pub sections_sent : List Drawing → List Bytes
 sections_sent ds = flat_map sections_of ds
 
+-- the same: each draw is a group of sections
+abbrev pub groups_sent : List Drawing → List (List Bytes)
+groups_sent ds = map sections_of ds
+
 -- what arrives of draws, of which the first packet is number n of all
 abbrev pub arrivals_from : MuxState → ℕ → List Drawing → List Arrival
 arrivals_from m n [] = []
 arrivals_from m n (d ∷ ds) =
-    let packets = packets_of_all m (sections_of d) in
-    under d.fates 0 n packets ++ arrivals_from (fold past m (sections_of d)) (n + length packets) ds
+    let packets = packets_of_group m (sections_of d) in
+    under d.fates 0 n packets ++ arrivals_from (past_group m (sections_of d)) (n + length packets) ds
 
 abbrev pub first_packet : MuxState
-first_packet = record { pid = 256; counter = 0 }
+first_packet = idle 256 0
 
 abbrev pub arrivals : List Drawing → List Arrival
 arrivals ds = arrivals_from first_packet 0 ds

@@ -4,16 +4,16 @@ ghost use Rattle.std.specs.List.{All, fold};
 ghost use Rattle.path_tree.specs.Paths.{Bytes};
 ghost use Rattle.path_resolver.specs.Shots as shots;
 ghost use Rattle.section_stream.specs.Kept.{view_bytes};
-ghost use Rattle.section_stream.specs.Packing.{IsSectionLike, packets_of_all, past};
+ghost use Rattle.section_stream.specs.Packing.{IsSectionLike, finished, last_of};
 ghost use Rattle.section_stream.specs.Cuts.{candidates};
 ghost use Rattle.tuner_core.specs.Stands as tuning;
 ghost use Rattle.tuner_core.specs.LookBack.{snapshot_after};
 ghost use Rattle.carousel_world.specs.Fates.{fate_of, received_under};
-ghost use Rattle.carousel_world.specs.DownView.{DownlinkStands, Hears};
+ghost use Rattle.carousel_world.specs.DownView.{DownlinkStands, Hears, begun_with, ended_with, packets_given, past_given};
 
 use oc_bytes::NoMemory;
 use path_resolver::Shot;
-use section_stream::{Demux, Mux};
+use section_stream::{Mux, PacketDemux};
 use std::alloc::{AllocError, Global};
 use std::marker::Model;
 use std::sync::Arc;
@@ -24,12 +24,12 @@ use tuner_core::Tuner;
 /// is cut into candidates and held. In memory, and this project's own.
 ///
 /// Contracts see its packer, its demultiplexer, its receiver and whether it is spent. The relation `DownlinkStands` says of which
-/// sections and received packets that is.
+/// groups of sections and received packets that is.
 #[derive(Drop)]
 pub struct Downlink {
     alloc: Global,
     mux: Mux,
-    demux: Demux,
+    demux: PacketDemux,
     tuner: Tuner,
     spent: bool,
 }
@@ -56,12 +56,12 @@ impl Downlink {
     /// A downlink on the PID `pid`, 0 to 8,191, over which nothing was carried. Out of memory is the only refusal.
     pub fn new(alloc: Global, pid: u16) -> Result<Downlink, NoMemory>
         requires { pid < 8192 }
-        ensures { IfOk result (λ d. DownlinkStands d pid [] []) }
+        ensures { IfOk result (λ d. DownlinkStands d pid [] [] []) }
     {
         Ok(Downlink {
             alloc,
             mux: Mux::new(alloc, pid),
-            demux: Demux::new(alloc, pid)?,
+            demux: PacketDemux::new(alloc, pid)?,
             tuner: Tuner::new(alloc),
             spent: false,
         })
@@ -82,7 +82,8 @@ impl Downlink {
 
     /// Sends sections of a draw: makes their packets, the first of which is packet number `from` of the draw, gives each its fate,
     /// and receives what arrives. Packet number i has the fate at place i modulo the number of fates, and is kept where there are
-    /// none. Answers the number of the packet after them. `last` says that no further section of the draw follows.
+    /// none. Answers the number of the packet after them. `last` says that no further section of the draw follows: a draw is a group,
+    /// and what is held back of it is sent then.
     ///
     /// There are at most 1,048,576 sections, each as `Mux::packets` asks, and `from` is at most 2^40. Nothing is asked for a packet
     /// but what it completes. Out of memory is the only refusal; the downlink is spent then, and each later call answers it.
@@ -96,10 +97,11 @@ impl Downlink {
         requires few { length sections.now ≤ 1048576 }
         requires sections { All (λ s. IsSectionLike s.items) sections.now }
         requires from { from ≤ 2 ^ 40 }
-        ensures number { IfOk result (λ n. n ≡ from + length (packets_of_all self.old.mux (map view_bytes sections.now))) }
-        ensures stands { OnOk result ((pid : ℕ) (sent packets : List Bytes) → DownlinkStands self.old pid sent packets
-            → DownlinkStands self.new pid (sent ++ map view_bytes sections.now) (packets ++ received_under fates.now from (packets_of_all self.old.mux (map view_bytes sections.now)))) }
-        ensures mux { OnOk result (self.new.mux ≡ fold past self.old.mux (map view_bytes sections.now)) }
+        ensures number { IfOk result (λ n. n ≡ from + length (packets_given self.old.mux (map view_bytes sections.now) last)) }
+        ensures stands { OnOk result ((pid : ℕ) (groups : List (List Bytes)) (begun packets : List Bytes) → DownlinkStands self.old pid groups begun packets
+            → (let more = begun ++ map view_bytes sections.now in
+            DownlinkStands self.new pid (ended_with groups more last) (begun_with more last) (packets ++ received_under fates.now from (packets_given self.old.mux (map view_bytes sections.now) last)))) }
+        ensures mux { OnOk result (self.new.mux ≡ past_given self.old.mux (map view_bytes sections.now) last) }
         ensures spent { OnErr result (self.new.spent ≡ true) }
         ensures stays { self.old.spent ≡ true → IsErr result }
     {
@@ -124,9 +126,9 @@ impl Downlink {
         requires few { length sections.now ≤ 1048576 }
         requires sections { All (λ s. IsSectionLike s.items) sections.now }
         requires from { from ≤ 2 ^ 40 }
-        ensures number { IfOk result (λ n. n ≡ from + length (packets_of_all self.old.mux (map view_bytes sections.now))) }
-        ensures mux { OnOk result (self.new.mux ≡ fold past self.old.mux (map view_bytes sections.now)) }
-        ensures hears { OnOk result (Hears self.old self.new (received_under fates.now from (packets_of_all self.old.mux (map view_bytes sections.now)))) }
+        ensures number { IfOk result (λ n. n ≡ from + length (packets_given self.old.mux (map view_bytes sections.now) last)) }
+        ensures mux { OnOk result (self.new.mux ≡ past_given self.old.mux (map view_bytes sections.now) last) }
+        ensures hears { OnOk result (Hears self.old self.new (received_under fates.now from (packets_given self.old.mux (map view_bytes sections.now) last))) }
     {
         let mut packets = Vec::new(self.alloc);
         let mut number = from;
@@ -136,23 +138,22 @@ impl Downlink {
             number = self.receive(&packets, fates, number)?;
         }
         if last {
-            self.send_rest(&mut packets, fates, number)
-        } else {
-            Ok(number)
+            return self.send_rest(&mut packets, fates, number);
         }
+        Ok(number)
     }
 
-    /// Sends what the packer held back of a draw, in these packets, and answers the number of the packet after it. Nothing is held
-    /// back, since each section begins a packet.
+    /// Sends what the packer held back of a draw, in these packets, and answers the number of the packet after it.
     fn send_rest(
         &mut self,
         packets: &mut Vec<[u8; 188]>,
         fates: &[Fate],
         from: u64,
     ) -> Result<u64, NoMemory>
-        ensures number { IfOk result (λ n. n ≡ from) }
-        ensures mux { OnOk result (self.new.mux ≡ self.old.mux) }
-        ensures hears { OnOk result (Hears self.old self.new []) }
+        requires { from < 2 ^ 63 }
+        ensures number { IfOk result (λ n. n ≡ from + length (last_of self.old.mux)) }
+        ensures mux { OnOk result (self.new.mux ≡ finished self.old.mux) }
+        ensures hears { OnOk result (Hears self.old self.new (received_under fates.now from (last_of self.old.mux))) }
     {
         packets.clear();
         self.mux.finish(packets)?;
@@ -189,7 +190,7 @@ impl Downlink {
     /// memory is the only refusal, and changes nothing.
     pub fn shot(&self, number: u64, draws: u64) -> Result<Arc<Shot>, NoMemory>
         ensures numbers { IfOk result (λ s. ((arc_value s).number ≡ number) × ((arc_value s).draws ≡ draws)) }
-        ensures held { IfOk result (λ s. (pid : ℕ) (sent packets : List Bytes) → DownlinkStands self.now pid sent packets
+        ensures held { IfOk result (λ s. (pid : ℕ) (groups : List (List Bytes)) (begun packets : List Bytes) → DownlinkStands self.now pid groups begun packets
             → shots.view (arc_value s) ≡ snapshot_after number draws (candidates pid packets)) }
     {
         self.tuner.shot(number, draws)

@@ -1,6 +1,6 @@
 //! The laws, as functions that do nothing.
 ghost use Rattle.carousel_world.specs.Instances.{PremisesCanBeMet};
-ghost use Rattle.carousel_world.specs.Publishing.{EachCycleOpens, EveryPublicationMeets};
+ghost use Rattle.carousel_world.specs.Publishing.{EachCycleOpens, EveryPublicationMeets, PublicationsCanBePacked};
 ghost use Rattle.carousel_world.specs.Promises.{EveryRunMeetsTheHeadline};
 ghost use Rattle.carousel_world.specs.Receptions.{EveryReceptionMeets, LabelsNeverFall};
 ghost use Rattle.carousel_world.specs.Settling.{EverySettledRunIsWhole, EverySettledRunOpens};
@@ -21,7 +21,6 @@ pub fn every_reception_meets()
     dsi_dii::spellings_read_back();
     generation::equal_versions_mean_equal_bytes();
     section_stream::cuts_come_in_order();
-    section_stream::sections_start_where_they_are_put();
 }
 
 /// With more that is heard, the number of the generation that a receiver holds never falls. Nothing is premised of what is heard.
@@ -48,7 +47,18 @@ pub fn each_cycle_opens()
     ddb_block::spellings_read();
     dsi_dii::spellings_read_back();
     generation::layouts_are_lawful();
-    section_stream::packets_give_the_sections();
+    section_stream::packets_give_the_groups();
+}
+
+/// The sections of every publication are such as a packer takes: of 12 to 4,096 bytes, each with its length in its length field, and
+/// none of them beginning as stuffing does.
+pub fn publications_can_be_packed()
+    ensures { PublicationsCanBePacked }
+{
+    dsmcc_section::spellings_read();
+    ddb_block::spellings_read();
+    dsi_dii::spellings_read_back();
+    generation::layouts_are_lawful();
 }
 
 /// Every list of events of a world keeps what is promised, after each of them: the layouts carry the trees, what is sent are
@@ -82,7 +92,7 @@ pub fn settling_is_whole()
     generation::generations_are_of_the_lists();
     generation::layouts_are_lawful();
     every_run_meets_the_headline();
-    section_stream::later_sections_are_given();
+    section_stream::later_groups_are_given();
     dsmcc_section::spellings_read();
     ddb_block::spellings_read();
     dsi_dii::spellings_read_back();
@@ -92,11 +102,11 @@ pub fn settling_is_whole()
 /// are items of its generation, in order; its sections, as they were sent, are ascribed to themselves, and from one cycle on they
 /// are a whole one. Who has heard the control sections alone waits for module 1, in which the gateway lies, whatever the path.
 ///
-/// All premises hold together of two receptions of packets, of a whole cycle of the later of two generations each. In one the
-/// first packet is lost, one comes twice and a byte of a block is changed; in the other a block is heard before the DII of its
-/// generation and carried over that DII. Both answer that a module isn't whole before they answer the file.
+/// All premises hold together of two receptions of packets, of a whole cycle of the later of two generations each. In one a byte of
+/// a DSI is changed, a packet comes twice and the next is lost, and a byte of a block is changed; in the other a block is heard
+/// before the DII of its generation and carried over that DII. Both answer that a module isn't whole before they answer the file.
 ///
-/// They hold too after a list of events of a world: two editors' commits, and draws of which a packet is lost and a bit is inverted.
+/// They hold too after a list of events of a world: two editors' commits, and draws of which a packet is lost and bits are inverted.
 /// Its opens are answered that there is no carousel, that a module isn't whole, and then the file.
 pub fn premises_can_be_met()
     ensures { PremisesCanBeMet }

@@ -4,7 +4,8 @@ ghost use Rattle.std.specs.List.{All, Contains, fold};
 ghost use Rattle.path_tree.specs.Paths.{Bytes};
 ghost use Rattle.generation.specs.Layouts.{items_of, section_of};
 ghost use Rattle.section_stream.specs.Kept.{view_bytes};
-ghost use Rattle.section_stream.specs.Packing.{IsSectionLike, packets_of_all, past};
+ghost use Rattle.section_stream.specs.Packing.{IsSectionLike};
+ghost use Rattle.section_stream.specs.Groups.{packets_of_group};
 ghost use Rattle.carousel_world.specs.DownView.{DownlinkStands};
 ghost use Rattle.carousel_world.specs.Events.{view, Step, Commit, Draw, Open};
 ghost use Rattle.carousel_world.specs.Promises.{MeetsHeadline, world_after};
@@ -222,17 +223,20 @@ fn send(
 ) -> Result<(), NoMemory>
     requires items { All (λ item. Contains (items_of generation.now) item) items.now }
     requires few { length items.now ≤ 1048576 }
-    ensures { OnOk result ((pid : ℕ) (sent packets : List Bytes) → DownlinkStands downlink.old pid sent packets
+    ensures { OnOk result ((pid : ℕ) (groups : List (List Bytes)) (packets : List Bytes) → DownlinkStands downlink.old pid groups [] packets
         → (let sections = map (section_of generation.now) items.now in
-        DownlinkStands downlink.new pid (sent ++ sections) (packets ++ received_under fates.now 0 (packets_of_all downlink.old.mux sections)))) }
+        DownlinkStands downlink.new pid (groups ++ sections ∷ []) [] (packets ++ received_under fates.now 0 (packets_of_group downlink.old.mux sections)))) }
 {
     let mut number = 0;
     let mut sent = 0;
-    while sent < items.len() {
+    loop {
         let end = items.len().min(sent + PIECE);
+        let last = end == items.len();
         let sections = encode(alloc, generation, &items[sent..end])?;
-        number = downlink.carry(&sections, fates, number, end == items.len())?;
+        number = downlink.carry(&sections, fates, number, last)?;
+        if last {
+            return Ok(());
+        }
         sent = end;
     }
-    Ok(())
 }

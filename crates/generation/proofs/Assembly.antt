@@ -126,6 +126,7 @@ before_first = record {
   rest = [];
   first = refl;
   within = record {
+    rising = ((λ i d lt. absurd (omega (arith, lt))), tt);
     ids = λ i d lt. in_one i d lt;
     gateway = λ m e. sym (same_Some 1 m e);
   };

@@ -6,11 +6,11 @@ use Rattle.std.proofs.lemmas.Bool.Decides.{nat_tests}
 use Rattle.std.proofs.lemmas.Option.{same_Some}
 use Rattle.std.proofs.lemmas.List.Elements.{All-cons}
 use Rattle.path_tree.specs.Paths.{path_cmp, same_name}
-use Rattle.generation.specs.Publication.{Spot}
+use Rattle.generation.specs.Publication.{Spot, AreRising}
 use Rattle.generation.specs.Layouts.{Placed, placed_at, key_in, old_keys, taken_in, free_keys, filled, keys_of, is_same_spot, key_bytes}
 use Rattle.generation.proofs.Law.{same_name_is}
 use Rattle.generation.proofs.Treeing.{same_self, paths_self}
-use Rattle.generation.proofs.Rising.{Rising, same_paths}
+use Rattle.generation.proofs.Rising.{same_paths}
 
 -- each number once
 abbrev pub Distinct : List ℕ → Type 0
@@ -139,7 +139,7 @@ kept_apart old d s o e (r ∷ ss) less = go (placed_at old r) refl (kept_apart o
         let self : path_cmp r.path r.path ≡ Less = subst (λ z. path_cmp z r.path ≡ Less) (sym left ∙ right) here in
         let bad : Equal ≡ Less = sym (paths_self r.path) ∙ self in cc
 
-kept_distinct : (old : List Placed) → Distinct (map (λ x. x.key) old) → (spots : List Spot) → Rising spots → Distinct (taken_in (old_keys old spots))
+kept_distinct : (old : List Placed) → Distinct (map (λ x. x.key) old) → (spots : List Spot) → AreRising spots → Distinct (taken_in (old_keys old spots))
 kept_distinct old d [] rising = tt
 kept_distinct old d (s ∷ ss) rising = go (placed_at old s) refl (kept_distinct old d ss rising.1) where
   go : (f : Option Placed) → placed_at old s ≡ f → Distinct (taken_in (old_keys old ss)) → Distinct (taken_in (key_in f ∷ old_keys old ss))
@@ -162,7 +162,7 @@ kept_all P old all (s ∷ ss) = go (placed_at old s) refl (kept_all P old all ss
 
 -- ---- the keys
 
-pub keys_distinct : (old : List Placed) (spots : List Spot) → Distinct (map (λ x. x.key) old) → Rising spots → Distinct (keys_of old spots)
+pub keys_distinct : (old : List Placed) (spots : List Spot) → Distinct (map (λ x. x.key) old) → AreRising spots → Distinct (keys_of old spots)
 keys_distinct old spots d rising =
     let taken = taken_in (old_keys old spots) in
     filled_distinct (old_keys old spots) (free_keys taken (length spots)) (kept_distinct old d spots rising)

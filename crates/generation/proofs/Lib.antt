@@ -10,6 +10,7 @@ pub mod Lists
 pub mod Treeing
 pub mod Children
 pub mod Rising
+pub mod Merging
 pub mod Keyed
 pub mod Carrying
 pub mod Walking

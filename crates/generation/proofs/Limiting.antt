@@ -20,7 +20,7 @@ size_at t all spots sizes i d e lt =
     rw e (get_or-map (size_of all) (map (view_spot t) spots) i (view_spot t d) 0 (omega (arith, n, m, lt))
     ∙ ap (size_of all) (get_or-map (view_spot t) spots i d (view_spot t d) (omega (arith, n, lt))))
 
-drop_or : {A : Type 0} (xs : List A) (i : ℕ) (d : A) → i < length xs → drop i xs ≡ get_or xs i d ∷ drop (suc i) xs
+pub drop_or : {A : Type 0} (xs : List A) (i : ℕ) (d : A) → i < length xs → drop i xs ≡ get_or xs i d ∷ drop (suc i) xs
 drop_or [] i d lt = absurd (omega (arith, lt))
 drop_or (x ∷ xs) zero d lt = refl
 drop_or (x ∷ xs) (suc i) d lt = drop_or xs i d (omega (arith, lt))

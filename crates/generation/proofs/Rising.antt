@@ -8,7 +8,7 @@ use Rattle.std.proofs.Common.{length-take}
 use Rattle.std.proofs.lemmas.List.Elements.{All-cons, All-append}
 use Rattle.path_tree.specs.Paths.{Bytes, PathNames, name_cmp, path_cmp, same_name, same_path, is_below}
 use Rattle.path_tree.specs.Trees.{Tree, IsTree, content_at}
-use Rattle.generation.specs.Publication.{Spot, shared_folders, folder_of, folders_after, spots_after, spots_of}
+use Rattle.generation.specs.Publication.{Spot, shared_folders, folder_of, folders_after, spots_after, spots_of, AreRising}
 use Rattle.generation.proofs.Law.{same_name_is}
 use Rattle.generation.proofs.Treeing.{same_self, then_less, names_equal, names_self, paths_self, not_both, below_later, shared_less, cmp_equal}
 use Rattle.generation.proofs.Children.{Later, Ordered, ordered_from}
@@ -93,10 +93,6 @@ rises (m ∷ ms) (n ∷ ns) (suc k) (suc j) less apart lk lt lj = elim (then_les
 
 -- ---- each object stands before those after it
 
-abbrev pub Rising : List Spot → Type 0
-Rising [] = Unit {0}
-Rising (s ∷ ss) = All (λ r. path_cmp s.path r.path ≡ Less) ss × Rising ss
-
 folders_rise : (q p : PathNames) (a n : ℕ) → a + n ≤ length q → ((k : ℕ) → a ≤ k → k ≤ length q → path_cmp p (take k q) ≡ Less) → All (λ r. path_cmp p r.path ≡ Less) (map (folder_of q) (range_with_len a n))
 folders_rise q p a zero le less = λ k d lt. absurd (omega (arith, lt))
 folders_rise q p a (suc n) le less = All-cons (λ r. path_cmp p r.path ≡ Less) (folder_of q a) (map (folder_of q) (range_with_len (a + 1) n)) (less a (omega arith) (omega (arith, le)))
@@ -115,11 +111,11 @@ behind before (e ∷ es) later ordered k le =
     (All-cons (λ r. path_cmp (take k before) r.path ≡ Less) (record { path = e.0; content = Some e.1 }) (spots_after e.0 es) file
     (λ i d lt. paths_trans (take k before) e.0 (get_or (spots_after e.0 es) i d).path file (subst (λ q. path_cmp q (get_or (spots_after e.0 es) i d).path ≡ Less) (take_all e.0) (rest i d lt))))
 
-rising-append : (xs ys : List Spot) → Rising xs → Rising ys → ((i : ℕ) (d : Spot) → i < length xs → All (λ r. path_cmp (get_or xs i d).path r.path ≡ Less) ys) → Rising (xs ++ ys)
+rising-append : (xs ys : List Spot) → AreRising xs → AreRising ys → ((i : ℕ) (d : Spot) → i < length xs → All (λ r. path_cmp (get_or xs i d).path r.path ≡ Less) ys) → AreRising (xs ++ ys)
 rising-append [] ys rx ry cross = ry
 rising-append (x ∷ xs) ys rx ry cross = (All-append (λ r. path_cmp x.path r.path ≡ Less) xs ys rx.0 (cross 0 x (omega arith)), rising-append xs ys rx.1 ry (λ i d lt. cross (suc i) d (omega (arith, lt))))
 
-folders_rising : (q : PathNames) (a n : ℕ) → a + n ≤ length q → Rising (map (folder_of q) (range_with_len a n))
+folders_rising : (q : PathNames) (a n : ℕ) → a + n ≤ length q → AreRising (map (folder_of q) (range_with_len a n))
 folders_rising q a zero le = tt
 folders_rising q a (suc n) le = (folders_rise q (take a q) (a + 1) n (omega (arith, le)) (λ k l m. front_less q a k (omega (arith, l)) m), folders_rising q (a + 1) n (omega (arith, le)))
 
@@ -127,7 +123,7 @@ pub each_folder : (P : Spot → Type 0) (q : PathNames) (a n : ℕ) → ((k : �
 each_folder P q a zero h = λ k d lt. absurd (omega (arith, lt))
 each_folder P q a (suc n) h = All-cons P (folder_of q a) (map (folder_of q) (range_with_len (a + 1) n)) (h a (omega arith) (omega arith)) (each_folder P q (a + 1) n (λ k l m. h k (omega (arith, l)) (omega (arith, m))))
 
-pub after_rising : (before : PathNames) (es : Tree) → All (λ e. shared_folders before e.0 < length e.0) es → Ordered es → Rising (spots_after before es)
+pub after_rising : (before : PathNames) (es : Tree) → All (λ e. shared_folders before e.0 < length e.0) es → Ordered es → AreRising (spots_after before es)
 after_rising before [] less ordered = tt
 after_rising before (e ∷ es) less ordered =
     let here = less 0 e (omega arith) in
@@ -146,7 +142,7 @@ after_rising before (e ∷ es) less ordered =
       after b [] later = λ k d lt. absurd (omega (arith, lt))
       after b (x ∷ xs) later = All-cons (λ y. shared_folders b y.0 < length y.0) x xs (shared_less b x.0 later.0) (after b xs later.2)
 
-pub rising_all : (t : Tree) → IsTree t → Rising (spots_of t)
+pub rising_all : (t : Tree) → IsTree t → AreRising (spots_of t)
 rising_all t tree = (each t (λ k d lt. (tree.paths k d lt).1), after_rising [] t (λ k d lt. deep (get_or t k d).0 (tree.paths k d lt).1) (ordered_from t tree.in_order tree.apart)) where
   deep : (q : PathNames) → q ≢ [] → shared_folders [] q < length q
   deep [] ne = absurd (ne refl)
@@ -196,7 +192,7 @@ paths_differ a b ne = go (same_path a b) refl where
   go true e = absurd (ne (same_paths a b e))
   go false e = e
 
-less_differ : (a b : PathNames) → path_cmp a b ≡ Less → a ≢ b
+pub less_differ : (a b : PathNames) → path_cmp a b ≡ Less → a ≢ b
 less_differ a b e h = let s : path_cmp b b ≡ Less = subst (λ z. path_cmp z b ≡ Less) h e in let bad : Equal ≡ Less = sym (paths_self b) ∙ s in cc
 
 -- an object's content is what stands at its path, and a folder lies above a file

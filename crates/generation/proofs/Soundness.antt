@@ -167,7 +167,7 @@ made_of law c t old small tree limit b =
         has_gateway = subst (In g) (sym first) (inl refl);
         is_gateway = (refl, refl, refl);
       };
-      before = record { keys = dk; small = sk; gateway = g; rest = rest; first = first; within = old_after t keys ms placement; is = (refl, refl, refl) };
+      before = record { keys = dk; small = sk; gateway = g; rest = rest; first = first; within = old_after t keys ms tree es placement; is = (refl, refl, refl) };
       placement = subst (IsPlacement 139 (sizes_of t)) (sym em) placement;
       within = within;
     }

@@ -4,15 +4,16 @@ use Rattle.std.specs.Prelude.{slice_get, IfOk}
 use Rattle.std.specs.List.{All, zip}
 use Rattle.std.proofs.lemmas.Option.{same_Some}
 use Rattle.std.proofs.lemmas.List.Elements.{All-nil, All-cons, All-head, All-tail, All-map}
-use Rattle.path_tree.specs.Trees.{Tree}
+use Rattle.path_tree.specs.Trees.{Tree, IsTree}
 use Rattle.module_packer.specs.Placement.{needed, IsPlacement}
 use Rattle.module_packer.specs.Kept.{Placed as Sized, sizes_in, kept, AreObjects, KeptIsAPlacement}
 use Rattle.generation.specs.declared.objects.Placed.{Placed as CodePlaced}
-use Rattle.generation.specs.Publication.{Spot, gateway_spot, spots_of, spots_after, sizes_of, size_of, limit_of}
-use Rattle.generation.specs.Layouts.{Placed, placed_all, placed_at, key_in, module_of, old_keys, old_modules, modules_for, is_same_spot}
+use Rattle.generation.specs.Publication.{Spot, gateway_spot, spots_of, spots_after, sizes_of, size_of, limit_of, AreRising}
+use Rattle.generation.specs.Layouts.{Placed, placed_all, placed_at, key_in, module_of, old_keys, old_modules, keys_of, modules_for, is_same_spot}
 use Rattle.generation.specs.View.{AreOld, view_placed}
 use Rattle.generation.proofs.Limiting.{len_map}
-use Rattle.generation.proofs.Placing.{within_limits}
+use Rattle.generation.proofs.Placing.{within_limits, length-keys_of, placed_spots}
+use Rattle.generation.proofs.Rising.{rising_all}
 
 -- ---- sizes with old modules
 
@@ -69,16 +70,19 @@ first_placed spots [] ms first m e = cc
 first_placed spots (k ∷ ks) [] first m e = cc
 first_placed spots (k ∷ ks) (n ∷ ns) first m e = sym (same_Some n m e) ∙ same_Some n 1 first
 
-pub old_after : (t : Tree) (keys ms : List ℕ) → IsPlacement 139 (sizes_of t) ms → AreOld (placed_all (spots_of t) keys ms)
-old_after t keys ms placement = record {
+pub old_after : (t : Tree) (keys ms : List ℕ) → IsTree t → map (λ o. o.spot) (placed_all (spots_of t) keys ms) ≡ spots_of t → IsPlacement 139 (sizes_of t) ms → AreOld (placed_all (spots_of t) keys ms)
+old_after t keys ms tree are placement = record {
+  rising = subst AreRising (sym are) (rising_all t tree);
   ids = all_placed (λ m. (1 ≤ m) × (m ≤ 139)) (spots_of t) keys ms placement.numbers;
   gateway = first_placed (spots_after [] t) keys ms placement.first;
 }
 
-pub old_arm : {E : Type 0} (r : Result (Vec CodePlaced Global) E) (t : Tree) (keys ms : List ℕ) → IsPlacement 139 (sizes_of t) ms
-    → IfOk r (λ v. map (view_placed t) v.items ≡ placed_all (spots_of t) keys ms) → IfOk r (λ v. AreOld (map (view_placed t) v.items))
-old_arm (Ok v) t keys ms placement is = subst AreOld (sym is) (old_after t keys ms placement)
-old_arm (Err e) t keys ms placement is = is
+pub old_arm : {E : Type 0} (r : Result (Vec CodePlaced Global) E) (t : Tree) (old : List Placed) (ms : List ℕ) → IsTree t → IsPlacement 139 (sizes_of t) ms
+    → IfOk r (λ v. map (view_placed t) v.items ≡ placed_all (spots_of t) (keys_of old (spots_of t)) ms) → IfOk r (λ v. AreOld (map (view_placed t) v.items))
+old_arm (Ok v) t old ms tree placement is =
+    let many : length ms ≡ length (spots_of t) = placement.each ∙ len_map (size_of (spots_of t)) (spots_of t) in
+    subst AreOld (sym is) (old_after t (keys_of old (spots_of t)) ms tree (placed_spots (spots_of t) (keys_of old (spots_of t)) ms (length-keys_of old (spots_of t)) many) placement)
+old_arm (Err e) t old ms tree placement is = is
 
 -- ---- what is read of the objects before
 

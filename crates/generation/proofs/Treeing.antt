@@ -31,7 +31,7 @@ then_less Less b e = inl refl
 then_less Equal b e = inr (refl, e)
 then_less Greater b e = cc
 
-then_equal : (a b : Ordering) → ordering_then a b ≡ Equal → (a ≡ Equal) × (b ≡ Equal)
+pub then_equal : (a b : Ordering) → ordering_then a b ≡ Equal → (a ≡ Equal) × (b ≡ Equal)
 then_equal Less b e = cc
 then_equal Equal b e = (refl, e)
 then_equal Greater b e = cc

@@ -1,9 +1,10 @@
 -- The objects of a tree, their sizes, and the first limit that a tree passes. These are this project's own rules,
 -- but for the sizes, which follow from the form of the objects (ISO/IEC 13818-6, in the profile of ETSI TR 101 202).
-use Rattle.std.specs.Prelude.{ℕ, suc, ◌+◌, ◌-◌, Bool, true, false, List, [], ◌∷◌, ◌++◌, length, map, take, Option, Some, None, nat_lt, cond}
-use Rattle.std.specs.List.{sum, sum_by, find, range_with_len}
+use Rattle.std.specs.Prelude.{◌≡◌, ℕ, suc, ◌+◌, ◌-◌, Bool, true, false, List, [], ◌∷◌, ◌++◌, length, map, take, Option, Some, None, nat_lt, cond}
+use Rattle.std.specs.List.{All, sum, sum_by, find, range_with_len}
+use Rattle.std.specs.declared.cmp.Ordering.TheVariants.{Less}
 use Rattle.oc_bytes.specs.Outcome.{capped, capped32}
-use Rattle.path_tree.specs.Paths.{Bytes, PathNames, same_name}
+use Rattle.path_tree.specs.Paths.{Bytes, PathNames, path_cmp, same_name}
 use Rattle.path_tree.specs.Trees.{Tree}
 use Rattle.module_packer.specs.Placement.{needed}
 
@@ -36,6 +37,11 @@ gateway_spot = record { path = []; content = None }
 -- the gateway first
 abbrev pub spots_of : Tree → List Spot
 spots_of t = gateway_spot ∷ spots_after [] t
+
+-- each object stands before those after it, in the order of paths
+abbrev pub AreRising : List Spot → Type 0
+AreRising [] = Unit {0}
+AreRising (s ∷ ss) = All (λ r. path_cmp s.path r.path ≡ Less) ss × AreRising ss
 
 -- the name of a path in the folder that lies right above it
 abbrev pub child_name : PathNames → PathNames → Option Bytes

@@ -7,7 +7,7 @@ use Rattle.path_tree.specs.Trees.{Tree, IsTree}
 use Rattle.biop_object.specs.declared.written.FolderKind.{FolderKind}
 use Rattle.biop_object.specs.declared.written.FolderKind.TheVariants.{Directory, Gateway}
 use Rattle.cycle_planner.specs.Cycle.{AreLines}
-use Rattle.generation.specs.Publication.{Spot as SpotFields, spots_of, gateway_spot, most_modules}
+use Rattle.generation.specs.Publication.{Spot as SpotFields, spots_of, gateway_spot, most_modules, AreRising}
 use Rattle.generation.specs.Layouts.{GenerationState, Placed as PlacedState, lines_of, object_bytes, layout_of, greatest, placed_at, module_of}
 use Rattle.generation.specs.declared.spots.Spot.{Spot}
 use Rattle.generation.specs.declared.objects.Placed.{Placed}
@@ -60,8 +60,10 @@ view_generation g = record {
   counts = g.counts.items;
 }
 
--- objects after which others can be placed: each has a module within the limit, and the gateway has module 1
+-- objects after which others can be placed: they stand in the order of paths, each has a module within the limit, and
+-- the gateway has module 1
 pub record AreOld (old : List PlacedState) : Type 0 where
+  pub rising : AreRising (map (λ o. o.spot) old)
   pub ids : All (λ o. (1 ≤ o.module_id) × (o.module_id ≤ most_modules)) old
   pub gateway : (m : ℕ) → module_of (placed_at old gateway_spot) ≡ Some m → m ≡ 1
 

@@ -1,18 +1,22 @@
 //! What objects had in the generation before: their keys and their modules.
 
-ghost use Rattle.std.specs.Prelude.{◌≡◌, ◌≤◌, List, ℕ, map, IfOk};
+ghost use Rattle.std.specs.Prelude.{◌≡◌, ◌≢◌, ◌≤◌, List, ℕ, None, Some, map, IfOk};
 ghost use Rattle.std.specs.List.{All, zip};
-ghost use Rattle.generation.specs.Layouts.{placed_at, key_in, module_of, old_keys, old_modules};
+ghost use Rattle.std.specs.Option.{option_map};
+ghost use Rattle.generation.specs.Publication.{AreRising};
+ghost use Rattle.generation.specs.Layouts.{old_keys, old_modules};
+ghost use Rattle.generation.specs.Merging.{from_path, first_same};
 ghost use Rattle.generation.specs.View.{view_spot, view_placed, IsSpotIn};
 ghost use Rattle.module_packer.specs.Placement.{IsPlacement};
 ghost use Rattle.module_packer.specs.Kept.{AreObjects, kept, sizes_in};
 
 use crate::objects::Placed;
-use crate::spots::{Spot, is_same_object};
+use crate::spots::{Spot, compare};
 use module_packer::place;
 use oc_bytes::NoMemory;
 use path_tree::Tree;
 use std::alloc::Global;
+use std::cmp::Ordering;
 
 /// The keys and the modules that objects had before, where an object of the same path and kind was there.
 #[derive(Drop)]
@@ -21,7 +25,8 @@ pub(crate) struct Former {
     pub(crate) modules: Vec<Option<u16>>,
 }
 
-/// What each of a tree's objects had among the objects of another tree, in the tree's order.
+/// What each of a tree's objects had among the objects of another tree, in the tree's order. Both stand in the order of
+/// paths, so it is one pass over both.
 pub(crate) fn former_of(
     alloc: Global,
     old: &[Placed],
@@ -30,33 +35,72 @@ pub(crate) fn former_of(
     tree: &Tree,
 ) -> Result<Former, NoMemory>
     requires old { All (λ o. IsSpotIn old_tree.now o.spot) old.now }
+    requires old_rising { AreRising (map (λ o. o.spot) (map (view_placed old_tree.now) old.now)) }
     requires spots { All (IsSpotIn tree.now) spots.now }
+    requires rising { AreRising (map (view_spot tree.now) spots.now) }
     ensures keys { IfOk result (λ f. f.keys.items ≡ old_keys (map (view_placed old_tree.now) old.now) (map (view_spot tree.now) spots.now)) }
     ensures modules { IfOk result (λ f. f.modules.items ≡ old_modules (map (view_placed old_tree.now) old.now) (map (view_spot tree.now) spots.now)) }
 {
     let mut keys = Vec::new(alloc);
     let mut modules = Vec::new(alloc);
+    let mut left = old;
     for spot in spots {
-        let (key, module) = had(old, old_tree, *spot, tree);
-        keys.push(key)?;
-        modules.push(module)?;
+        let (object, from_here) = seek(left, old_tree, *spot, tree);
+        keys.push(key_in(object))?;
+        modules.push(module_in(object))?;
+        left = from_here;
     }
     Ok(Former { keys, modules })
 }
 
-/// The key and the module that an object had.
-fn had(old: &[Placed], old_tree: &Tree, spot: Spot, tree: &Tree) -> (Option<u32>, Option<u16>)
+/// The object of a spot's path and kind among objects in the order of paths, and those of them that don't come before
+/// that path.
+fn seek<'a>(
+    old: &'a [Placed],
+    old_tree: &Tree,
+    spot: Spot,
+    tree: &Tree,
+) -> (Option<Placed>, &'a [Placed])
     requires old { All (λ o. IsSpotIn old_tree.now o.spot) old.now }
     requires spot { IsSpotIn tree.now spot }
-    ensures key { result.0 ≡ key_in (placed_at (map (view_placed old_tree.now) old.now) (view_spot tree.now spot)) }
-    ensures module { result.1 ≡ module_of (placed_at (map (view_placed old_tree.now) old.now) (view_spot tree.now spot)) }
+    ensures object { option_map (view_placed old_tree.now) result.0 ≡ first_same (from_path (view_spot tree.now spot).path (map (view_placed old_tree.now) old.now)) (view_spot tree.now spot) }
+    ensures left { map (view_placed old_tree.now) result.1.now ≡ from_path (view_spot tree.now spot).path (map (view_placed old_tree.now) old.now) }
+    ensures valid { All (λ o. IsSpotIn old_tree.now o.spot) result.1.now }
 {
-    for object in old {
-        if is_same_object(old_tree, object.spot, tree, spot) {
-            return (Some(object.key), Some(object.module));
+    for (passed, object) in old.iter().enumerate() {
+        match compare(old_tree, object.spot, tree, spot) {
+            Ordering::Less => {}
+            Ordering::Equal => return (if_same_kind(*object, spot), &old[passed..]),
+            Ordering::Greater => return (None, &old[passed..]),
         }
     }
-    (None, None)
+    (None, &[])
+}
+
+/// The key of an object, if there is one.
+fn key_in(object: Option<Placed>) -> Option<u32>
+    ensures { result ≡ option_map (λ o. o.key) object }
+{
+    object.map(|object| object.key)
+}
+
+/// The module of an object, if there is one.
+fn module_in(object: Option<Placed>) -> Option<u16>
+    ensures { result ≡ option_map (λ o. o.«module») object }
+{
+    object.map(|object| object.module)
+}
+
+/// An object at a spot's path, where it is of the spot's kind.
+fn if_same_kind(object: Placed, spot: Spot) -> Option<Placed>
+    ensures same { object.spot.whole ≡ spot.whole → result ≡ Some object }
+    ensures other { object.spot.whole ≢ spot.whole → result ≡ None }
+{
+    if object.spot.whole == spot.whole {
+        Some(object)
+    } else {
+        None
+    }
 }
 
 /// The module of each object: the one where it was, as far as there is room.

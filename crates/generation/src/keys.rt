@@ -1,6 +1,7 @@
 //! Which key each object has: its own key of the generation before, or the least number that is free.
 
-ghost use Rattle.std.specs.Prelude.{◌≡◌, ◌≤◌, ◌<◌, ◌+◌, ◌^◌, List, ℕ, Option, length, map, IfOk, OnOk};
+ghost use Rattle.std.specs.Prelude.{◌≡◌, ◌==◌, ◌≤◌, ◌<◌, ◌+◌, ◌^◌, List, ℕ, Option, true, false, length, map, slice_set, get_or, IfOk, OnOk};
+ghost use Rattle.std.specs.List.{list_any};
 ghost use Rattle.generation.specs.Layouts.{taken_in, free_keys, filled};
 
 use oc_bytes::NoMemory;
@@ -28,13 +29,35 @@ fn free(alloc: Global, taken: &[u32], count: u32) -> Result<Vec<u32>, NoMemory>
     requires { count ≤ 8192 }
     ensures { IfOk result (λ v. v.items ≡ free_keys taken.now count) }
 {
+    let is_taken = marks(alloc, taken, count + 2)?;
     let mut free = Vec::new(alloc);
     for key in 2..count + 2 {
-        if !taken.contains(&key) {
+        if !is_taken[key as usize] {
             free.push(key)?;
         }
     }
     Ok(free)
+}
+
+/// Of each number below an end, whether it is among these.
+fn marks(alloc: Global, numbers: &[u32], end: u32) -> Result<Vec<bool>, NoMemory>
+    ensures end { IfOk result (λ v. length v.items ≡ end) }
+    ensures marks { IfOk result (λ v. (k : ℕ) → k < end → get_or v.items k false ≡ list_any (λ j. j == k) numbers.now) }
+{
+    let mut marks = vec![in alloc; false; end as usize]?;
+    for number in numbers {
+        mark(&mut marks, *number as usize);
+    }
+    Ok(marks)
+}
+
+/// Marks a number, if it has a place.
+fn mark(marks: &mut [bool], number: usize)
+    ensures { marks.new ≡ slice_set marks.old number true }
+{
+    if number < marks.len() {
+        marks[number] = true;
+    }
 }
 
 /// Each key, with the free ones in order where there is none.

@@ -2,15 +2,15 @@
 ghost use Rattle.std.specs.Prelude.{◌≡◌, ◌≤◌, ◌<◌, ◌+◌, ◌-◌, ◌∷◌, ◌++◌, List, ℕ, [], None, Some, Option, length, map, take, true, IfOk, OnOk, IfSome, IsTrue};
 ghost use Rattle.std.specs.List.{All, sum_by};
 ghost use Rattle.std.specs.Option.{option_map};
-ghost use Rattle.path_tree.specs.Paths.{same_name, same_path, Bytes};
+ghost use Rattle.path_tree.specs.Paths.{path_cmp, same_name, same_path, Bytes};
 ghost use Rattle.path_tree.specs.Trees.{IsTree};
 ghost use Rattle.generation.specs.Publication.{spots_of, shared_folders, folders_after, child_name as name_in, binding_size, size_of as size_in};
-ghost use Rattle.generation.specs.Layouts.{is_same_spot};
 ghost use Rattle.generation.specs.View.{view_spot, path_at, bytes_at, before_of, IsSpotIn};
 
 use oc_bytes::NoMemory;
 use path_tree::{Path, Tree};
 use std::alloc::Global;
+use std::cmp::Ordering;
 
 /// An object of a tree: the first names of the path of one of the tree's files, and whether it is that file itself.
 /// The gateway is no names of any path.
@@ -128,20 +128,16 @@ fn is_same_front(a: &Path, b: &Path, names: usize) -> bool
     true
 }
 
-/// Whether a file's path begins with an object's names, each of its own tree.
-fn begins_with(tree: &Tree, file: usize, above_tree: &Tree, above: Spot) -> bool
-    requires above { above.names ≤ length (path_at above_tree.now above.file) }
+/// Whether the path of a tree's file begins with an object's names.
+fn begins_with(tree: &Tree, file: usize, above: Spot) -> bool
+    requires above { above.names ≤ length (path_at tree.now above.file) }
     requires below { above.names ≤ length (path_at tree.now file) }
-    ensures { result ≡ same_path (take above.names (path_at above_tree.now above.file)) (take above.names (path_at tree.now file)) }
+    ensures { result ≡ same_path (take above.names (path_at tree.now above.file)) (take above.names (path_at tree.now file)) }
 {
     if above.names == 0 {
         return true;
     }
-    is_same_front(
-        path_of(above_tree, above.file),
-        path_of(tree, file),
-        above.names,
-    )
+    is_same_front(path_of(tree, above.file), path_of(tree, file), above.names)
 }
 
 /// The name of an object in a folder, where it lies right in it.
@@ -155,21 +151,41 @@ pub(crate) fn child_name<'a>(tree: &'a Tree, folder: Spot, spot: Spot) -> Option
     if spot.names == 0 || folder.names != spot.names - 1 {
         return None;
     }
-    if !begins_with(tree, spot.file, tree, folder) {
+    if !begins_with(tree, spot.file, folder) {
         return None;
     }
     let path = path_of(tree, spot.file);
     Some(path.name(folder.names))
 }
 
-/// Whether two objects, each of its own tree, have the same path and kind.
-pub(crate) fn is_same_object(a_tree: &Tree, a: Spot, b_tree: &Tree, b: Spot) -> bool
+/// How the path of an object stands to the path of another in the order of paths, each of its own tree.
+pub(crate) fn compare(a_tree: &Tree, a: Spot, b_tree: &Tree, b: Spot) -> Ordering
     requires left { IsSpotIn a_tree.now a }
     requires right { IsSpotIn b_tree.now b }
-    ensures { result ≡ is_same_spot (view_spot a_tree.now a) (view_spot b_tree.now b) }
+    ensures { result ≡ path_cmp (view_spot a_tree.now a).path (view_spot b_tree.now b).path }
 {
-    if a.whole != b.whole || a.names != b.names {
-        return false;
+    if a.names == 0 || b.names == 0 {
+        return a.names.cmp(&b.names);
     }
-    begins_with(b_tree, b.file, a_tree, a)
+    compare_fronts(
+        path_of(a_tree, a.file),
+        a.names,
+        path_of(b_tree, b.file),
+        b.names,
+    )
+}
+
+/// How the first names of a path stand to the first names of another in the order of paths.
+fn compare_fronts(a: &Path, a_names: usize, b: &Path, b_names: usize) -> Ordering
+    requires left { a_names ≤ length a.now }
+    requires right { b_names ≤ length b.now }
+    ensures { result ≡ path_cmp (take a_names a.now) (take b_names b.now) }
+{
+    for i in 0..a_names.min(b_names) {
+        match a.name(i).cmp(&b.name(i)) {
+            Ordering::Equal => {}
+            decided => return decided,
+        }
+    }
+    a_names.cmp(&b_names)
 }

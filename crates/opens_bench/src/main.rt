@@ -1,8 +1,9 @@
 //! Opens paths by readers at once, while a feeder shows one shot after another, again and again, for the comparison in
 //! bench/opens.
 //!
-//! `READERS ROUNDS`: in each round 1 to 64 readers make 120,000 opens in all, by turns of a file, of its folder and of a name
-//! that isn't there, and the feeder shows until all of them are through. What is printed is how many opens answered the file.
+//! `READERS ROUNDS STALLED`: in each round 1 to 32 readers make 120,000 opens in all, by turns of a file, of its folder and of a
+//! name that isn't there, and the feeder shows until all of them are through. Of further readers, 0 to 32, each has opened one path and
+//! stands still with the shot that it took. What is printed is how many opens of the others answered the file.
 #![tactic(auto)]
 
 mod feeder;
@@ -11,11 +12,12 @@ mod rounds;
 
 use std::{env, io};
 
-/// By how many readers, and in how many rounds.
+/// By how many readers, in how many rounds, and while how many readers stand still.
 #[derive(Clone, Copy)]
-struct Request {
+pub struct Request {
     readers: u32,
     rounds: u32,
+    stalled: u32,
 }
 
 /// The words of the process; a number that is missing is 0.
@@ -23,11 +25,13 @@ fn read_request(rt: &HostRuntime) -> io::Result<Request> {
     let mut request = Request {
         readers: 0,
         rounds: 0,
+        stalled: 0,
     };
     for (place, word) in env::args(rt)?.enumerate() {
         match place {
             1 => request.readers = word.parse().unwrap_or(0),
             2 => request.rounds = word.parse().unwrap_or(0),
+            3 => request.stalled = word.parse().unwrap_or(0),
             _ => {}
         }
     }
@@ -35,9 +39,10 @@ fn read_request(rt: &HostRuntime) -> io::Result<Request> {
 }
 
 fn main(rt: HostRuntime) -> io::Result<()> {
-    let request = read_request(&rt)?;
-    let readers = request.readers.clamp(1, 64);
-    match rounds::opened(&rt, rt.alloc(), readers, request.rounds) {
+    let mut request = read_request(&rt)?;
+    request.readers = request.readers.clamp(1, 32);
+    request.stalled = request.stalled.min(32);
+    match rounds::opened(&rt, rt.alloc(), request) {
         Ok(count) => println!(rt; "{count}"),
         Err(_) => println!(rt; "out of memory"),
     }

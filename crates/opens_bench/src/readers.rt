@@ -56,6 +56,24 @@ fn open_one(alloc: Global, pass: &mut ReaderPass, number: usize) -> Result<(), N
     }
 }
 
+/// A pass for each viewer of a reader that has opened the folder and stands still since then.
+pub fn standing_passes(
+    alloc: Global,
+    viewers: Vec<Viewer<Shot>>,
+) -> Result<Vec<ReaderPass>, NoMemory> {
+    let mut passes = Vec::new(alloc);
+    for viewer in viewers {
+        match ReaderPass::new(alloc, 1, viewer, OPENS) {
+            Ok(mut pass) => {
+                open_one(alloc, &mut pass, 1)?;
+                passes.push(pass)?;
+            }
+            Err((refused, _)) => return Err(refused),
+        }
+    }
+    Ok(passes)
+}
+
 /// So many opens of one reader, who then says that it is through.
 fn read(alloc: Global, pass: &mut ReaderPass, count: usize, through: &AtomicU64)
     requires { pass.old.room ≡ 120000 }

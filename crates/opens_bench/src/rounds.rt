@@ -1,10 +1,11 @@
 // Readers and a feeder at once, again and again.
-ghost use Rattle.std.specs.Prelude.{◌≡◌, ◌≤◌};
+ghost use Rattle.std.specs.Prelude.{◌≡◌, ◌≤◌, ◌+◌};
 ghost use Rattle.std.specs.List.{All};
 ghost use Rattle.shot_board.specs.Showers.{most_by};
 
+use crate::Request;
 use crate::feeder::{MOST, feed, module, shot};
-use crate::readers::{count_files, passes, read_all};
+use crate::readers::{count_files, passes, read_all, standing_passes};
 use biop_object::Module;
 use oc_bytes::NoMemory;
 use open_history::ReaderPass;
@@ -39,16 +40,19 @@ fn open_and_show<R: Threads + Wait + Sync>(
     );
 }
 
-/// How many opens of the readers with these viewers answered a file.
+/// How many opens of so many readers with these viewers answered a file, while the others stand still.
 fn opened_before<R: Threads + Wait + Sync>(
     rt: &R,
     alloc: Global,
     shower: &mut Shower<Shot>,
     module: &Arc<Module>,
-    viewers: Vec<Viewer<Shot>>,
+    mut viewers: Vec<Viewer<Shot>>,
+    readers: usize,
 ) -> Result<u64, NoMemory>
     requires { most_by shower.old ≡ 1000000000000 }
 {
+    let standing = viewers.split_off(readers.min(viewers.len()))?;
+    let _standing = standing_passes(alloc, standing)?;
     let mut passes = passes(alloc, viewers)?;
     open_and_show(rt, alloc, shower, module, passes.as_mut_slice());
     Ok(count_files(passes.as_slice()))
@@ -58,30 +62,31 @@ fn opened_before<R: Threads + Wait + Sync>(
 fn opened_once<R: Threads + Wait + Sync>(
     rt: &R,
     alloc: Global,
-    readers: u32,
+    request: Request,
 ) -> Result<u64, NoMemory>
-    requires { readers ≤ 64 }
+    requires { request.readers + request.stalled ≤ 64 }
 {
     let module = module(alloc)?;
     let first = shot(alloc, 0, &module)?;
-    let (mut shower, viewers) = board(rt, alloc, first, readers, MOST)?;
-    let files = opened_before(rt, alloc, &mut shower, &module, viewers);
+    let count = request.readers + request.stalled;
+    let (mut shower, viewers) = board(rt, alloc, first, count, MOST)?;
+    let readers = request.readers as usize;
+    let files = opened_before(rt, alloc, &mut shower, &module, viewers, readers);
     shower.close(rt);
     files
 }
 
-/// How many opens answered a file, by so many readers in so many rounds.
+/// How many opens answered a file, of the readers that don't stand still, in all rounds.
 pub fn opened<R: Threads + Wait + Sync>(
     rt: &R,
     alloc: Global,
-    readers: u32,
-    rounds: u32,
+    request: Request,
 ) -> Result<u64, NoMemory>
-    requires { readers ≤ 64 }
+    requires { request.readers + request.stalled ≤ 64 }
 {
     let mut files = 0u64;
-    for _ in 0..rounds {
-        files = files.wrapping_add(opened_once(rt, alloc, readers)?);
+    for _ in 0..request.rounds {
+        files = files.wrapping_add(opened_once(rt, alloc, request)?);
     }
     Ok(files)
 }

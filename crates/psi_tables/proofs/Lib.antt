@@ -14,4 +14,5 @@ pub mod Usual
 pub mod Early
 pub mod Example
 pub mod Spelled
+pub mod CallerLemmas
 pub mod Rows

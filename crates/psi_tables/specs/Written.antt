@@ -3,7 +3,7 @@
 use Rattle.std.specs.Prelude.{ℕ, List, [], ◌∷◌, ◌++◌}
 use Rattle.oc_bytes.specs.Numbers.{two_bytes, four_bytes}
 use Rattle.section_stream.specs.Cuts.{Bytes}
-use Rattle.section_stream.specs.Packing.{MuxState, packets_of, past}
+use Rattle.section_stream.specs.Packing.{MuxState, finished, idle, last_of, packets_of, past}
 use Rattle.psi_tables.specs.declared.tables.PatLine.{PatLine}
 use Rattle.psi_tables.specs.Frames.{Fields, spelling}
 use Rattle.psi_tables.specs.Pats.{PatFields, line_bytes}
@@ -50,11 +50,18 @@ pub record AnnouncerState : Type 0 where
   pub maps : MuxState
 
 abbrev pub announcer_start : ℕ → AnnouncerState
-announcer_start carousel = record { carousel = carousel; tables = record { pid = 0; counter = 0 }; maps = record { pid = 32; counter = 0 } }
+announcer_start carousel = record { carousel = carousel; tables = idle 0 0; maps = idle 32 0 }
+
+-- a table is a group of its own on its PID
+abbrev pub packets_of_table : MuxState → Bytes → List Bytes
+packets_of_table m table = packets_of m table ++ last_of (past m table)
+
+abbrev pub past_table : MuxState → Bytes → MuxState
+past_table m table = finished (past m table)
 
 -- the packets of the PAT, and then those of the map table
 abbrev pub announced : AnnouncerState → List Bytes
-announced a = packets_of a.tables pat_spelling ++ packets_of a.maps (pmt_spelling a.carousel)
+announced a = packets_of_table a.tables pat_spelling ++ packets_of_table a.maps (pmt_spelling a.carousel)
 
 abbrev pub after_announcing : AnnouncerState → AnnouncerState
-after_announcing a = record { carousel = a.carousel; tables = past a.tables pat_spelling; maps = past a.maps (pmt_spelling a.carousel) }
+after_announcing a = record { carousel = a.carousel; tables = past_table a.tables pat_spelling; maps = past_table a.maps (pmt_spelling a.carousel) }

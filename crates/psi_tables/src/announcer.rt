@@ -1,5 +1,6 @@
 ghost use Rattle.std.specs.Prelude.{◌≡◌, ◌++◌, IfOk, OnOk};
-ghost use Rattle.psi_tables.specs.Written.{announced, announcer_start, after_announcing};
+ghost use Rattle.section_stream.specs.Packing.{IsSectionLike};
+ghost use Rattle.psi_tables.specs.Written.{announced, announcer_start, after_announcing, packets_of_table, past_table};
 
 use crate::tables::PAT_PID;
 use crate::written::{written_pat, written_pmt};
@@ -48,16 +49,25 @@ impl Announcer {
         })
     }
 
-    /// Puts the packets of the PAT and then those of the map table after those in `out`.
+    /// Puts the packets of the PAT and then those of the map table after those in `out`: each table is a group of its own on its
+    /// PID.
     ///
     /// After `NoMemory` `out` may have the packets of the PAT, and nothing more is said of the counters.
     pub fn packets(&mut self, out: &mut Vec<[u8; 188]>) -> Result<(), NoMemory>
         ensures packets { OnOk result (out.new.items ≡ out.old.items ++ announced self.old) }
         ensures counters { OnOk result (self.new ≡ after_announcing self.old) }
     {
-        self.tables.packets(&self.pat, out)?;
-        self.tables.finish(out)?;
-        self.maps.packets(&self.pmt, out)?;
-        self.maps.finish(out)
+        send(&mut self.tables, &self.pat, out)?;
+        send(&mut self.maps, &self.pmt, out)
     }
+}
+
+/// Sends a table as a group of its own.
+fn send(mux: &mut Mux, table: &[u8], out: &mut Vec<[u8; 188]>) -> Result<(), NoMemory>
+    requires { IsSectionLike table.now }
+    ensures packets { OnOk result (out.new.items ≡ out.old.items ++ packets_of_table mux.old table.now) }
+    ensures counters { OnOk result (mux.new ≡ past_table mux.old table.now) }
+{
+    mux.packets(table, out)?;
+    mux.finish(out)
 }

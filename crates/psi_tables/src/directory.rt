@@ -15,7 +15,7 @@ use crate::followed::{Followed, named_for_program};
 use crate::pat::decode_pat;
 use crate::{Pat, PatLine, PsiFault};
 use oc_bytes::NoMemory;
-use section_stream::Demux;
+use section_stream::PacketDemux;
 use std::alloc::{AllocError, Global};
 
 /// The most PIDs that are followed (this project's own limit).
@@ -82,7 +82,7 @@ fn follow(alloc: Global, followed: &mut Vec<Followed>, line: PatLine) -> Result<
     if !is_wanted(followed, line) {
         return Ok(());
     }
-    let demux = Demux::new(alloc, line.pid)?;
+    let demux = PacketDemux::new(alloc, line.pid)?;
     followed.push(Followed {
         pid: line.pid,
         demux,

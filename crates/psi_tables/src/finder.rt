@@ -9,7 +9,7 @@ use crate::directory::Directory;
 use crate::receiving::pid_of;
 use crate::tables::PAT_PID;
 use oc_bytes::NoMemory;
-use section_stream::Demux;
+use section_stream::PacketDemux;
 use std::alloc::{AllocError, Global};
 use std::marker::Model;
 
@@ -27,7 +27,7 @@ pub enum Find {
 /// Finds the PID of a carousel by its id, through the PAT and the map tables that it lists.
 #[derive(Drop)]
 pub struct Finder {
-    tables: Demux,
+    tables: PacketDemux,
     directory: Directory,
     found: Find,
     spent: bool,
@@ -48,7 +48,7 @@ impl Finder {
         ensures stands { IfOk result (λ f. StandsFor f []) }
     {
         Ok(Finder {
-            tables: Demux::new(alloc, PAT_PID)?,
+            tables: PacketDemux::new(alloc, PAT_PID)?,
             directory: Directory {
                 alloc,
                 carousel,

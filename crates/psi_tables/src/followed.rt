@@ -12,7 +12,7 @@ ghost use Rattle.psi_tables.specs.Steps.{put, after_pmt, after_pmts};
 use crate::pmt::decode_pmt;
 use crate::{Pmt, PmtLine, PsiFault};
 use oc_bytes::NoMemory;
-use section_stream::Demux;
+use section_stream::PacketDemux;
 use std::alloc::{AllocError, Global};
 
 /// A program whose map table came.
@@ -27,7 +27,7 @@ pub struct Program {
 #[derive(Drop)]
 pub struct Followed {
     pub pid: u16,
-    pub demux: Demux,
+    pub demux: PacketDemux,
     /// One entry a program.
     pub programs: Vec<Program>,
 }

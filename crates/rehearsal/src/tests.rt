@@ -42,9 +42,9 @@ fn an_empty_file(rt: HostRuntime) -> Result<(), Fail> {
 }
 
 #[test]
-fn a_lost_packet_keeps_the_generation(rt: HostRuntime) -> Result<(), Fail> {
+fn a_damaged_packet_keeps_the_generation(rt: HostRuntime) -> Result<(), Fail> {
     let script =
-        "put 1 /a 6f6e65\ncommit 1\ndraw 1048576\nopen 1 /a\nput 1 /a 74776f\ncommit 1\ndraw 1048576 k1 d1 k2\nopen 1 /a\ndraw 1048576\nopen 1 /a";
+        "put 1 /a 6f6e65\ncommit 1\ndraw 1048576\nopen 1 /a\nput 1 /a 74776f\ncommit 1\ndraw 1048576 f1040 k2\nopen 1 /a\ndraw 1048576\nopen 1 /a";
     let report = reported(rt.alloc(), script)?;
     assert_eq!(rt;
         report.as_str(),

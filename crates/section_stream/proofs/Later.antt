@@ -1,15 +1,18 @@
 -- What follows unbroken on other packets is cut whole, whatever came before.
-use Rattle.std.proofs.Common.{◌≡◌, ℕ, zero, suc, ◌+◌, ◌%◌, ◌<◌, Bool, true, false, List, [], ◌∷◌, ◌++◌, length, refl, sym, ◌∙◌, ap, subst, arith, append_assoc}
-use Rattle.std.specs.List.{enumerate_from, filter_map, fold}
+use Rattle.std.proofs.Common.{◌≡◌, ℕ, suc, ◌+◌, ◌%◌, ◌<◌, Bool, true, false, List, [], ◌∷◌, ◌++◌, length, None, refl, sym, ◌∙◌, ap, subst, arith, append_assoc, length-append}
+use Rattle.std.specs.List.{All, enumerate_from, filter_map, flat_map, fold}
 use Rattle.std.proofs.lemmas.List.{map-append}
 use Rattle.std.proofs.lemmas.List.Elements.{filter_map-append}
 use Rattle.ts_packet.specs.Packets.{parsed}
 use Rattle.section_stream.specs.Cuts.{Bytes, Received, Cut, kept_of, is_repeat, without_repeats_of, without_repeats, cuts_at, cuts_of}
-use Rattle.section_stream.specs.Packing.{MuxState, packet_count, past, packets_of_all}
-use Rattle.section_stream.specs.Laws.{packets_of_all-append, LaterSectionsAreGiven}
-use Rattle.section_stream.proofs.Cutting.{bytes_of}
+use Rattle.section_stream.specs.Packing.{MuxState, IsSectionLike}
+use Rattle.section_stream.specs.Groups.{Laid, layout_of, packets_from, packets_of_group, packets_of_groups, past_group, LaterGroupsAreGiven}
+use Rattle.section_stream.specs.Rules.{nothing_counted}
+use Rattle.section_stream.proofs.CallerLemmas.{packets_of_groups-append, counter_in_range}
+use Rattle.section_stream.proofs.Cutting.{bytes_of, run_is_cuts}
 use Rattle.section_stream.proofs.Outputs.{received_from}
-use Rattle.section_stream.proofs.Packed.{Follow, none_repeats, taken_as, all_taken, received-packets, follow-all, all-cuts, their_bytes}
+use Rattle.section_stream.proofs.Packed.{Follow, none_repeats}
+use Rattle.section_stream.proofs.Grouped.{layout_taken, groups_taken, groups_received, groups_follow, groups_run}
 
 -- ---- repeats
 
@@ -51,7 +54,7 @@ cut_alone before (q ∷ first) second c some f =
     let cut = cuts-append (kept.0 ++ first) second in
     (cut.0, ap cuts_of (kept.1 ∙ sym (append_assoc kept.0 first second)) ∙ cut.1)
 
--- ---- packets of sections
+-- ---- packets of groups
 
 enumerated : (n : ℕ) (xs ys : List Bytes) → (k : ℕ) × (enumerate_from n (xs ++ ys) ≡ enumerate_from n xs ++ enumerate_from k ys)
 enumerated n [] ys = (n, refl)
@@ -63,34 +66,51 @@ received-append pid n xs ys =
     let kept = λ (x : ℕ × Bytes). kept_of pid x.0 (parsed x.1) in
     (parts.0, ap (filter_map kept) parts.1 ∙ filter_map-append kept (enumerate_from n xs) (enumerate_from parts.0 ys))
 
-taken-append : (k : ℕ) (m : MuxState) (first second : List Bytes) → (n : ℕ) × (all_taken k m (first ++ second) ≡ all_taken k m first ++ all_taken n (fold past m first) second)
+taken-append : (k : ℕ) (m : MuxState) (first second : List (List Bytes))
+    → (n : ℕ) × (groups_taken k m.counter (first ++ second) ≡ groups_taken k m.counter first ++ groups_taken n (fold past_group m first).counter second)
 taken-append k m [] second = (k, refl)
-taken-append k m (s ∷ ss) second =
-    let more = taken-append (k + packet_count s) (past m s) ss second in
-    let here = taken_as (packet_count s) k true m.counter (0 ∷ s) in
-    (more.0, ap (λ rs. here ++ rs) more.1 ∙ sym (append_assoc here (all_taken (k + packet_count s) (past m s) ss) (all_taken more.0 (fold past (past m s) ss) second)))
+taken-append k m (g ∷ gs) second =
+    let more = taken-append (k + length (layout_of g)) (past_group m g) gs second in
+    let here = layout_taken k m.counter (layout_of g) in (
+      more.0,
+      ap (λ rs. here ++ rs) more.1
+          ∙ sym (append_assoc here (groups_taken (k + length (layout_of g)) (past_group m g).counter gs) (groups_taken more.0 (fold past_group (past_group m g) gs).counter second)),
+    )
 
-some_taken : (k : ℕ) (m : MuxState) (sections : List Bytes) → 0 < length sections → 0 < length (all_taken k m sections)
-some_taken k m [] some = absurd (omega (arith, some))
-some_taken k m (s ∷ ss) some = go (packet_count s) (omega arith) where
-  go : (n : ℕ) → 0 < n → 0 < length (taken_as n k true m.counter (0 ∷ s) ++ all_taken (k + packet_count s) (past m s) ss)
-  go zero h = absurd (omega (arith, h))
-  go (suc n) h = omega arith
+as_many : (k pid c : ℕ) (ls : List Laid) → length (layout_taken k c ls) ≡ length (packets_from pid c ls)
+as_many k pid c [] = refl
+as_many k pid c (l ∷ ls) = ap suc (as_many (k + 1) pid ((c + 1) % 16) ls)
 
-pub later-sections : LaterSectionsAreGiven
-later-sections m before first second h i some like =
-    let packets : (before ++ packets_of_all m first) ++ packets_of_all (fold past m first) second ≡ before ++ packets_of_all m (first ++ second) =
-    append_assoc before (packets_of_all m first) (packets_of_all (fold past m first) second) ∙ ap (λ ps. before ++ ps) (sym (packets_of_all-append m first second)) in
-    let came = received-append m.pid 0 before (packets_of_all m (first ++ second)) in
+as_many_groups : (k : ℕ) (m : MuxState) (groups : List (List Bytes)) → length (groups_taken k m.counter groups) ≡ length (packets_of_groups m groups)
+as_many_groups k m [] = refl
+as_many_groups k m (g ∷ gs) =
+    let rest = as_many_groups (k + length (layout_of g)) (past_group m g) gs in
+    let here = as_many k m.pid m.counter (layout_of g) in
+    let taken : length (layout_taken k m.counter (layout_of g) ++ groups_taken (k + length (layout_of g)) (past_group m g).counter gs)
+    ≡ length (layout_taken k m.counter (layout_of g)) + length (groups_taken (k + length (layout_of g)) (past_group m g).counter gs) = length-append _ _ in
+    let sent : length (packets_of_group m g ++ packets_of_groups (past_group m g) gs) ≡ length (packets_of_group m g) + length (packets_of_groups (past_group m g) gs) = length-append _ _ in
+    omega (arith, rest, here, taken, sent)
+
+-- the cuts of groups that stand alone
+cut_of_groups : (n c : ℕ) (groups : List (List Bytes)) → c < 16 → All (All IsSectionLike) groups → bytes_of (cuts_of (groups_taken n c groups)) ≡ flat_map (λ g. g) groups
+cut_of_groups n c groups lt all = sym (run_is_cuts None nothing_counted 0 (groups_taken n c groups) tt) ∙ groups_run n c 0 nothing_counted groups lt all
+
+pub later-groups : LaterGroupsAreGiven
+later-groups m before first second h i some like =
+    let packets : (before ++ packets_of_groups m first) ++ packets_of_groups (fold past_group m first) second ≡ before ++ packets_of_groups m (first ++ second) =
+    append_assoc before (packets_of_groups m first) (packets_of_groups (fold past_group m first) second) ∙ ap (λ ps. before ++ ps) (sym (packets_of_groups-append m first second)) in
+    let came = received-append m.pid 0 before (packets_of_groups m (first ++ second)) in
     let parts = taken-append came.0 m first second in
-    let taken : received_from m.pid came.0 (packets_of_all m (first ++ second)) ≡ all_taken came.0 m first ++ all_taken parts.0 (fold past m first) second =
-    received-packets came.0 m (first ++ second) h i ∙ parts.1 in
-    let follow : Follow m.counter (all_taken came.0 m first ++ all_taken parts.0 (fold past m first) second) = subst (Follow m.counter) parts.1 (follow-all came.0 m (first ++ second) i) in
-    let cut = cut_alone (received_from m.pid 0 before) (all_taken came.0 m first) (all_taken parts.0 (fold past m first) second) m.counter (some_taken came.0 m first some) follow in (
+    let next = (fold past_group m first).counter in
+    let taken : received_from m.pid came.0 (packets_of_groups m (first ++ second)) ≡ groups_taken came.0 m.counter first ++ groups_taken parts.0 next second =
+    groups_received came.0 m (first ++ second) h i ∙ parts.1 in
+    let follow : Follow m.counter (groups_taken came.0 m.counter first ++ groups_taken parts.0 next second) = subst (Follow m.counter) parts.1 (groups_follow came.0 m.counter (first ++ second) i) in
+    let many = as_many_groups came.0 m first in
+    let cut = cut_alone (received_from m.pid 0 before) (groups_taken came.0 m.counter first) (groups_taken parts.0 next second) m.counter (omega (arith, some, many)) follow in (
       bytes_of cut.0,
       ap (λ ps. bytes_of (cuts_of (without_repeats (received_from m.pid 0 ps)))) packets
           ∙ ap (λ rs. bytes_of (cuts_of (without_repeats rs))) (came.1 ∙ ap (λ rs. received_from m.pid 0 before ++ rs) taken)
           ∙ ap bytes_of cut.1
-          ∙ map-append (λ (c : Cut). c.bytes) cut.0 (cuts_of (all_taken parts.0 (fold past m first) second))
-          ∙ ap (λ bs. bytes_of cut.0 ++ bs) (ap bytes_of (all-cuts parts.0 (fold past m first) second like) ∙ their_bytes parts.0 second),
+          ∙ map-append (λ (c : Cut). c.bytes) cut.0 (cuts_of (groups_taken parts.0 next second))
+          ∙ ap (λ bs. bytes_of cut.0 ++ bs) (cut_of_groups parts.0 next second (counter_in_range m first i) like),
     )

@@ -8,24 +8,19 @@ use Rattle.std.proofs.lemmas.Slice.Eq.{bytes_eq-Decides}
 use Rattle.ts_packet.specs.Packets.{Fields, parsed}
 use Rattle.ts_packet.specs.declared.PacketFault.{PacketFault}
 use Rattle.section_stream.specs.Cuts.{Bytes, Received, kept_of, is_repeat, without_repeats_of, without_repeats, going_on, cuts_at, cuts_of, candidates}
-use Rattle.section_stream.specs.Rules.{DemuxState, step, fed, counted, keeps, starts, goes_on, up, one_more, is_last, jumps_from, started, after_all}
+use Rattle.section_stream.specs.Rules.{Receiving, step, fed, counted, keeps, starts, goes_on, up, one_more, is_last, jumps_from, started, after_all, outputs}
 use Rattle.section_stream.specs.declared.counts.Counts.{Counts}
 use Rattle.section_stream.proofs.Cutting.{IsOpen, finish, finish_nothing, bytes_of, act, acts, onto}
-
--- all that comes out of these packets
-abbrev pub outputs : DemuxState → List Bytes → List Bytes
-outputs s [] = []
-outputs s (x ∷ xs) = (step s x).1 ++ outputs (step s x).0 xs
 
 abbrev pub received_from : ℕ → ℕ → List Bytes → List Received
 received_from pid n xs = filter_map (λ x. kept_of pid x.0 (parsed x.1)) (enumerate_from n xs)
 
 -- what is still to come of the open section and of the packets
-abbrev pub to_come : DemuxState → Received → List Received → List Bytes
+abbrev pub to_come : Receiving → Received → List Received → List Bytes
 to_come s a rs = finish s.opened (going_on a.counter (without_repeats_of a rs)) ++ bytes_of (cuts_of (without_repeats_of a rs))
 
 -- the state's last packet is this one
-pub record IsLast (s : DemuxState) (a : Received) : Type 0 where
+pub record IsLast (s : Receiving) (a : Received) : Type 0 where
   pub last : s.last ≡ Some (a.counter, a.payload)
   pub opened : IsOpen s.opened
 
@@ -62,13 +57,13 @@ abbrev pub received_as : ℕ → Fields → Received
 received_as n f = record { number = n; start = f.start; counter = f.counter; payload = f.payload }
 
 -- the next state's last packet, and what comes out
-abbrev pub Goes : DemuxState → Received → DemuxState × List Bytes → List Received → Type 0
+abbrev pub Goes : Receiving → Received → Receiving × List Bytes → List Received → Type 0
 Goes s a next rest = (b : Received) × IsLast next.0 b × ((rs : List Received) (ys : List Bytes) → ys ≡ to_come next.0 b rs → next.1 ++ ys ≡ to_come s a (rest ++ rs))
 
-quiet : (s : DemuxState) (a : Received) (k : Counts) → IsLast s a → Goes s a (record s { counts = k }, []) []
+quiet : (s : Receiving) (a : Received) (k : Counts) → IsLast s a → Goes s a (record s { counts = k }, []) []
 quiet s a k h = (a, record { last = h.last; opened = h.opened }, λ rs ys is. is)
 
-repeated : (s : DemuxState) (a q : Received) (k : Counts) → IsLast s a → is_repeat a q ≡ true → Goes s a (record s { counts = k }, []) (q ∷ [])
+repeated : (s : Receiving) (a q : Received) (k : Counts) → IsLast s a → is_repeat a q ≡ true → Goes s a (record s { counts = k }, []) (q ∷ [])
 repeated s a q k h r =
     let same = both (a.counter == q.counter) (bytes_eq a.payload q.payload) r in
     let counters = same_number_is a.counter q.counter same.0 in
@@ -82,13 +77,13 @@ repeated s a q k h r =
       skipped rs = rw r refl
 
 -- the state after a packet that is taken, where t tells whether its counter follows
-abbrev pub taken_state : DemuxState → Counts → Bool → Received → DemuxState × List Bytes
+abbrev pub taken_state : Receiving → Counts → Bool → Received → Receiving × List Bytes
 taken_state s k t q = (
   record { pid = s.pid; last = Some (q.counter, q.payload); opened = (act (if not t then None else s.opened) k q).opened; counts = (act (if not t then None else s.opened) k q).counts },
   (act (if not t then None else s.opened) k q).out,
 )
 
-takes_it : (s : DemuxState) (a q : Received) (k : Counts) (t : Bool) → IsLast s a → is_repeat a q ≡ false → (q.counter == (a.counter + 1) % 16) ≡ t → Goes s a (taken_state s k t q) (q ∷ [])
+takes_it : (s : Receiving) (a q : Received) (k : Counts) (t : Bool) → IsLast s a → is_repeat a q ≡ false → (q.counter == (a.counter + 1) % 16) ≡ t → Goes s a (taken_state s k t q) (q ∷ [])
 takes_it s a q k t h r is_t = (
   q,
   record { last = refl; opened = still_open s.opened k q h.opened t },
@@ -107,7 +102,7 @@ not_false true e = refl
 not_false false e = cc
 
 -- what a parsed packet does, by the outcomes of the tests on it: the PID, no payload, a repeat, a jump
-abbrev pub fed_by : DemuxState → Fields → Bool → Bool → Bool → Bool → DemuxState × List Bytes
+abbrev pub fed_by : Receiving → Fields → Bool → Bool → Bool → Bool → Receiving × List Bytes
 fed_by s f p l d j =
     if not p then counted s (record s.counts { other_pid = up s.counts.other_pid })
     else (if l then counted s (record s.counts { no_payload = up s.counts.no_payload })
@@ -119,7 +114,7 @@ fed_by s f p l d j =
 abbrev pub kept_by : ℕ → Fields → Bool → Bool → Option Received
 kept_by n f p l = if p && not l then Some (received_as n f) else None
 
-by_tests : (s : DemuxState) (a : Received) (n : ℕ) (f : Fields) (h : IsLast s a) (p l d j : Bool) → is_repeat a (received_as n f) ≡ d → not (f.counter == (a.counter + 1) % 16) ≡ j
+by_tests : (s : Receiving) (a : Received) (n : ℕ) (f : Fields) (h : IsLast s a) (p l d j : Bool) → is_repeat a (received_as n f) ≡ d → not (f.counter == (a.counter + 1) % 16) ≡ j
     → Goes s a (fed_by (one_more s) f p l d j) (cons_option (kept_by n f p l) [])
 by_tests s a n f h false l d j r i = quiet s a _ h
 by_tests s a n f h true true d j r i = quiet s a _ h
@@ -127,19 +122,19 @@ by_tests s a n f h true false true j r i = repeated s a (received_as n f) _ h r
 by_tests s a n f h true false false true r i = takes_it s a (received_as n f) _ false h r (not_true (f.counter == (a.counter + 1) % 16) i)
 by_tests s a n f h true false false false r i = takes_it s a (received_as n f) _ true h r (not_false (f.counter == (a.counter + 1) % 16) i)
 
-one_parsed : (s : DemuxState) (a : Received) (n : ℕ) (r : Result Fields PacketFault) → IsLast s a → Goes s a (fed (one_more s) r) (cons_option (kept_of s.pid n r) [])
+one_parsed : (s : Receiving) (a : Received) (n : ℕ) (r : Result Fields PacketFault) → IsLast s a → Goes s a (fed (one_more s) r) (cons_option (kept_of s.pid n r) [])
 one_parsed s a n (Err fault) h = quiet s a _ h
 one_parsed s a n (Ok f) h =
     by_tests s a n f h (f.pid == s.pid) (length f.payload == 0) (is_last f.counter f.payload s.last) (jumps_from f.counter s.last)
     (sym (ap (is_last f.counter f.payload) h.last)) (sym (ap (jumps_from f.counter) h.last))
 
-pid_by : (s : DemuxState) (f : Fields) (p l d j : Bool) → (fed_by s f p l d j).0.pid ≡ s.pid
+pid_by : (s : Receiving) (f : Fields) (p l d j : Bool) → (fed_by s f p l d j).0.pid ≡ s.pid
 pid_by s f false l d j = refl
 pid_by s f true true d j = refl
 pid_by s f true false true j = refl
 pid_by s f true false false j = refl
 
-pub pid_fed : (s : DemuxState) (r : Result Fields PacketFault) → (fed s r).0.pid ≡ s.pid
+pub pid_fed : (s : Receiving) (r : Result Fields PacketFault) → (fed s r).0.pid ≡ s.pid
 pid_fed s (Err fault) = refl
 pid_fed s (Ok f) = pid_by s f (f.pid == s.pid) (length f.payload == 0) (is_last f.counter f.payload s.last) (jumps_from f.counter s.last)
 
@@ -148,7 +143,7 @@ onto_rest None rs = refl
 onto_rest (Some q) rs = refl
 
 -- from any state that has had a packet, what comes out is what is to come
-pub outputs_are : (s : DemuxState) (a : Received) (n : ℕ) (xs : List Bytes) → IsLast s a → outputs s xs ≡ to_come s a (received_from s.pid n xs)
+pub outputs_are : (s : Receiving) (a : Received) (n : ℕ) (xs : List Bytes) → IsLast s a → outputs s xs ≡ to_come s a (received_from s.pid n xs)
 outputs_are s a n [] h = rw (finish_nothing s.opened h.opened) refl
 outputs_are s a n (x ∷ xs) h =
     let g = one_parsed s a n (parsed x) h in
@@ -158,7 +153,7 @@ outputs_are s a n (x ∷ xs) h =
     g.2 rest (outputs (step s x).0 xs) same ∙ ap (to_come s a) (onto_rest (kept_of s.pid n (parsed x)) rest)
 
 -- a state that has had no packet yet
-pub record IsStart (s : DemuxState) : Type 0 where
+pub record IsStart (s : Receiving) : Type 0 where
   pub last : s.last ≡ None
   pub opened : s.opened ≡ None
 
@@ -166,11 +161,11 @@ abbrev pub all_cuts : List Received → List Bytes
 all_cuts rs = bytes_of (cuts_of (without_repeats rs))
 
 -- either nothing is kept yet, or the packet is the first that is
-abbrev pub Begins : DemuxState → ℕ → List Bytes → DemuxState × List Bytes → Option Received → Type 0
+abbrev pub Begins : Receiving → ℕ → List Bytes → Receiving × List Bytes → Option Received → Type 0
 Begins s n xs next None = IsStart next.0 × (next.1 ≡ [])
 Begins s n xs next (Some q) = IsLast next.0 q × ((rs : List Received) (ys : List Bytes) → ys ≡ to_come next.0 q rs → next.1 ++ ys ≡ all_cuts (q ∷ rs))
 
-begins_by : (s : DemuxState) (n : ℕ) (xs : List Bytes) (f : Fields) → IsStart s → (p l d j : Bool) → d ≡ false → j ≡ false → Begins s n xs (fed_by (one_more s) f p l d j) (kept_by n f p l)
+begins_by : (s : Receiving) (n : ℕ) (xs : List Bytes) (f : Fields) → IsStart s → (p l d j : Bool) → d ≡ false → j ≡ false → Begins s n xs (fed_by (one_more s) f p l d j) (kept_by n f p l)
 begins_by s n xs f h false l d j e g = (record { last = h.last; opened = h.opened }, refl)
 begins_by s n xs f h true true d j e g = (record { last = h.last; opened = h.opened }, refl)
 begins_by s n xs f h true false true j e g = absurd (true≢false e)
@@ -195,13 +190,13 @@ begins_by s n xs f h true false false false e g = first s.opened h.opened where
   first : (o : Option Bytes) → o ≡ None → Claim o
   first o is = subst Claim (sym is) none
 
-begins : (s : DemuxState) (n : ℕ) (xs : List Bytes) (r : Result Fields PacketFault) → IsStart s → Begins s n xs (fed (one_more s) r) (kept_of s.pid n r)
+begins : (s : Receiving) (n : ℕ) (xs : List Bytes) (r : Result Fields PacketFault) → IsStart s → Begins s n xs (fed (one_more s) r) (kept_of s.pid n r)
 begins s n xs (Err fault) h = (record { last = h.last; opened = h.opened }, refl)
 begins s n xs (Ok f) h =
     begins_by s n xs f h (f.pid == s.pid) (length f.payload == 0) (is_last f.counter f.payload s.last) (jumps_from f.counter s.last)
     (ap (is_last f.counter f.payload) h.last) (ap (jumps_from f.counter) h.last)
 
-pub outputs_from_start : (s : DemuxState) (n : ℕ) (xs : List Bytes) → IsStart s → outputs s xs ≡ all_cuts (received_from s.pid n xs)
+pub outputs_from_start : (s : Receiving) (n : ℕ) (xs : List Bytes) → IsStart s → outputs s xs ≡ all_cuts (received_from s.pid n xs)
 outputs_from_start s n [] h = refl
 outputs_from_start s n (x ∷ xs) h = go (λ i. outputs_from_start (step s x).0 (n + 1) xs i) (kept_of s.pid n (parsed x)) (begins s n xs (parsed x) h) where
   rest : List Received
@@ -219,18 +214,18 @@ outputs_from_start s n (x ∷ xs) h = go (λ i. outputs_from_start (step s x).0 
 pub outputs_are_candidates : (pid : ℕ) (packets : List Bytes) → outputs (started pid) packets ≡ candidates pid packets
 outputs_are_candidates pid packets = outputs_from_start (started pid) 0 packets (record { last = refl; opened = refl })
 
-outputs_append : (s : DemuxState) (xs : List Bytes) (x : Bytes) → outputs s (xs ++ x ∷ []) ≡ outputs s xs ++ (step (after_all s xs) x).1
+outputs_append : (s : Receiving) (xs : List Bytes) (x : Bytes) → outputs s (xs ++ x ∷ []) ≡ outputs s xs ++ (step (after_all s xs) x).1
 outputs_append s [] x = append-nil (step s x).1
 outputs_append s (y ∷ ys) x = ap (λ zs. (step s y).1 ++ zs) (outputs_append (step s y).0 ys x) ∙ sym (append_assoc (step s y).1 (outputs (step s y).0 ys) (step (after_all (step s y).0 ys) x).1)
 
 -- one more packet adds what the rules give at it
-pub candidates_append : (s : DemuxState) (packets : List Bytes) (x : Bytes) → s ≡ after_all (started s.pid) packets → candidates s.pid (packets ++ x ∷ []) ≡ candidates s.pid packets ++ (step s x).1
+pub candidates_append : (s : Receiving) (packets : List Bytes) (x : Bytes) → s ≡ after_all (started s.pid) packets → candidates s.pid (packets ++ x ∷ []) ≡ candidates s.pid packets ++ (step s x).1
 candidates_append s packets x h =
     sym (outputs_are_candidates s.pid (packets ++ x ∷ [])) ∙ outputs_append (started s.pid) packets x
     ∙ ap (λ out. out ++ (step (after_all (started s.pid) packets) x).1) (outputs_are_candidates s.pid packets)
-    ∙ ap (λ (t : DemuxState). candidates s.pid packets ++ (step t x).1) (sym h)
+    ∙ ap (λ (t : Receiving). candidates s.pid packets ++ (step t x).1) (sym h)
 
-outputs-append : (s : DemuxState) (xs ys : List Bytes) → outputs s (xs ++ ys) ≡ outputs s xs ++ outputs (after_all s xs) ys
+outputs-append : (s : Receiving) (xs ys : List Bytes) → outputs s (xs ++ ys) ≡ outputs s xs ++ outputs (after_all s xs) ys
 outputs-append s [] ys = refl
 outputs-append s (x ∷ xs) ys =
     ap (λ zs. (step s x).1 ++ zs) (outputs-append (step s x).0 xs ys) ∙ sym (append_assoc (step s x).1 (outputs (step s x).0 xs) (outputs (after_all (step s x).0 xs) ys))

@@ -5,7 +5,7 @@ use Rattle.ts_packet.specs.declared.PacketFault.{PacketFault}
 use Rattle.ts_packet.specs.declared.PacketFault.TheVariants.{NoSync, Errored, Scrambled, Reserved, BadField}
 use Rattle.section_stream.specs.Cuts.{Bytes}
 use Rattle.section_stream.specs.declared.counts.Counts.{Counts}
-use Rattle.section_stream.specs.Rules.{DemuxState, After, Grown, Growing, Oversize, Whole, grown, with_out, open_on, appended, goes_on, closes, starts, keeps, takes, fed, count_fault, step, one_more, is_last, jumps_from, up}
+use Rattle.section_stream.specs.Rules.{Receiving, After, Grown, Growing, Oversize, Whole, grown, with_out, open_on, appended, goes_on, closes, starts, keeps, takes, fed, count_fault, step, one_more, is_last, jumps_from, up}
 
 abbrev short : ℕ → Counts → Counts
 short k c = record c { short_tail = k }
@@ -13,7 +13,7 @@ short k c = record c { short_tail = k }
 abbrev after_short : ℕ → After → After
 after_short k a = record a { counts = short k a.counts }
 
-abbrev pub state_short : ℕ → DemuxState → DemuxState
+abbrev pub state_short : ℕ → Receiving → Receiving
 state_short k s = record s { counts = short k s.counts }
 
 by_grown : (k n : ℕ) (here : Bytes) (c : Counts) (g : Grown) → grown here ≡ g
@@ -60,7 +60,7 @@ starts_short : (k : ℕ) (o : Option Bytes) (payload : Bytes) (c : Counts) → s
 starts_short k o payload c = starts_by k o payload c (nat_lt (slice_index payload 0) (length payload)) refl
 
 -- what a state and an output are, with another count of short tails
-abbrev pub both_short : ℕ → DemuxState × List Bytes → DemuxState × List Bytes
+abbrev pub both_short : ℕ → Receiving × List Bytes → Receiving × List Bytes
 both_short k x = (state_short k x.0, x.1)
 
 acts_short : (k : ℕ) (start : Bool) (o : Option Bytes) (payload : Bytes) (c : Counts)
@@ -68,7 +68,7 @@ acts_short : (k : ℕ) (start : Bool) (o : Option Bytes) (payload : Bytes) (c : 
 acts_short k true o payload c = starts_short k o payload c
 acts_short k false o payload c = goes_on_short k o payload c
 
-takes_by : (k : ℕ) (s : DemuxState) (p : Fields) (t : Bool) → jumps_from p.counter s.last ≡ t → takes (state_short k s) p ≡ both_short k (takes s p)
+takes_by : (k : ℕ) (s : Receiving) (p : Fields) (t : Bool) → jumps_from p.counter s.last ≡ t → takes (state_short k s) p ≡ both_short k (takes s p)
 takes_by k s p true e = rw e (ap (keeps s p) (acts_short k p.start None p.payload (record s.counts { jumps = up s.counts.jumps })))
 takes_by k s p false e = rw e (ap (keeps s p) (acts_short k p.start s.opened p.payload s.counts))
 
@@ -79,17 +79,17 @@ fault_short k Scrambled c = refl
 fault_short k Reserved c = refl
 fault_short k BadField c = refl
 
-fed_by : (k : ℕ) (s : DemuxState) (p : Fields) (a b d : Bool) → (p.pid == s.pid) ≡ a → (length p.payload == 0) ≡ b → is_last p.counter p.payload s.last ≡ d
+fed_by : (k : ℕ) (s : Receiving) (p : Fields) (a b d : Bool) → (p.pid == s.pid) ≡ a → (length p.payload == 0) ≡ b → is_last p.counter p.payload s.last ≡ d
     → fed (state_short k s) (Ok p) ≡ both_short k (fed s (Ok p))
 fed_by k s p false b d e f h = rw e refl
 fed_by k s p true true d e f h = rw (e, f) refl
 fed_by k s p true false true e f h = rw (e, f, h) refl
 fed_by k s p true false false e f h = rw (e, f, h) (takes_by k s p (jumps_from p.counter s.last) refl)
 
-fed_short : (k : ℕ) (s : DemuxState) (r : Result Fields PacketFault) → fed (state_short k s) r ≡ both_short k (fed s r)
+fed_short : (k : ℕ) (s : Receiving) (r : Result Fields PacketFault) → fed (state_short k s) r ≡ both_short k (fed s r)
 fed_short k s (Err fault) = ap (λ c. (record s { counts = c }, [])) (fault_short k fault s.counts)
 fed_short k s (Ok p) = fed_by k s p (p.pid == s.pid) (length p.payload == 0) (is_last p.counter p.payload s.last) refl refl refl
 
 -- one packet: another count of short tails is kept, and all else is the same
-pub step_short : (k : ℕ) (s : DemuxState) (x : Bytes) → step (state_short k s) x ≡ both_short k (step s x)
+pub step_short : (k : ℕ) (s : Receiving) (x : Bytes) → step (state_short k s) x ≡ both_short k (step s x)
 step_short k s x = fed_short k (one_more s) (parsed x)

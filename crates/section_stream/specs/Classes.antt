@@ -2,12 +2,12 @@
 use Rattle.std.specs.Prelude.{◌≡◌, ◌<◌, ◌≤◌, length, Ok}
 use Rattle.ts_packet.specs.Packets.{parsed, view}
 use Rattle.section_stream.specs.Cuts.{Bytes}
-use Rattle.section_stream.specs.Rules.{DemuxState, counted, jumps_from, one_more, step, takes}
+use Rattle.section_stream.specs.Rules.{Receiving, counted, jumps_from, one_more, step, takes}
 use Rattle.section_stream.specs.Steps.{count_aside}
-use Rattle.section_stream.specs.declared.demux.Class.{Class}
-use Rattle.section_stream.specs.declared.demux.Class.TheVariants.{Aside, Taken}
+use Rattle.section_stream.specs.declared.receiver.Class.{Class}
+use Rattle.section_stream.specs.declared.receiver.Class.TheVariants.{Aside, Taken}
 
-abbrev pub IsClass : DemuxState → Bytes → Class → Type 0
+abbrev pub IsClass : Receiving → Bytes → Class → Type 0
 IsClass s packet (Aside aside) = step s packet ≡ counted (one_more s) (count_aside aside (one_more s).counts)
 IsClass s packet (Taken p jumped) =
     (parsed packet ≡ Ok (view p)) × ((0 < length p.payload.now) × (length p.payload.now ≤ 184))

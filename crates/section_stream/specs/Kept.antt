@@ -5,8 +5,8 @@ use Rattle.std.specs.declared.alloc.Global.{Global}
 use Rattle.ts_packet.specs.Packets.{Fields, parsed}
 use Rattle.ts_packet.specs.declared.PacketFault.{PacketFault}
 use Rattle.section_stream.specs.Cuts.{Bytes}
-use Rattle.section_stream.specs.Rules.{DemuxState}
-use Rattle.section_stream.specs.declared.demux.Demux.TheInside.{Inside}
+use Rattle.section_stream.specs.Rules.{Receiving, DemuxState}
+use Rattle.section_stream.specs.declared.receiver.Receiver.TheInside.{Inside}
 
 abbrev pub view_bytes : Vec ℕ Global → Bytes
 view_bytes v = v.items
@@ -16,5 +16,9 @@ abbrev pub last_of : Result Fields PacketFault → Option (ℕ × Bytes)
 last_of (Ok p) = Some (p.counter, p.payload)
 last_of (Err fault) = None
 
-abbrev pub view_demux : Inside → DemuxState
-view_demux d = record { pid = d.pid; last = last_of (parsed d.last); opened = d.opened; counts = d.counts }
+abbrev pub view_receiver : Inside → Receiving
+view_receiver d = record { pid = d.pid; last = last_of (parsed d.last); opened = d.opened; counts = d.counts }
+
+-- a receiver and the bytes that are kept beside it
+abbrev pub with_unfinished : Receiving → Bytes → DemuxState
+with_unfinished r u = record { pid = r.pid; last = r.last; opened = r.opened; counts = r.counts; unfinished = u }

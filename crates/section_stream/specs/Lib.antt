@@ -1,7 +1,9 @@
 pub mod Cuts
 pub mod Rules
+pub mod Pieces
 pub mod Packing
 pub mod Steps
 pub mod Kept
 pub mod Classes
+pub mod Groups
 pub mod Laws

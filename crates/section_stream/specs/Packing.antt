@@ -1,15 +1,21 @@
--- The packets of sections: each section begins a packet. The layout of a packet's payload with a pointer
--- field is that of ISO/IEC 13818-1, 2.4.4; that a section never begins after another one in a packet is
--- this project's own rule.
-use Rattle.std.specs.Prelude.{◌≡◌, ℕ, zero, suc, ◌+◌, ◌-◌, ◌*◌, ◌%◌, ◌≤◌, ◌≢◌, Bool, true, false, List, [], ◌∷◌, ◌++◌, length, take, drop, replicate, slice_index, map}
-use Rattle.std.specs.Int.{div_ceil}
+-- How sections are packed back to back, one after another (ISO/IEC 13818-1, 2.4.4): each packet is given as soon as no further section can
+-- change it, and what isn't given yet is held back. That a section follows another one in the same packet within a group alone, and that a
+-- packet with one free byte is filled rather than begun with a pointer field, are this project's own rules.
+use Rattle.std.specs.Prelude.{◌≡◌, ℕ, zero, suc, ◌+◌, ◌-◌, ◌*◌, ◌%◌, ◌≤◌, ◌≢◌, Bool, true, false, List, [], ◌∷◌, ◌++◌, length, take, drop, replicate, slice_index, nat_le, nat_lt, ◌==◌, if◌then◌else◌}
 use Rattle.ts_packet.specs.Packets.{packet_bytes}
 use Rattle.section_stream.specs.Cuts.{Bytes}
 
--- the PID, and the counter of the next packet
+-- the PID, the counter of the next packet, the bytes left of a section that was begun in packets already given, and the bytes of the
+-- sections that begin in the packet under way
 pub record MuxState : Type 0 where
   pub pid : ℕ
   pub counter : ℕ
+  pub tail : Bytes
+  pub body : Bytes
+
+-- nothing is held back
+abbrev pub idle : ℕ → ℕ → MuxState
+idle pid counter = record { pid = pid; counter = counter; tail = []; body = [] }
 
 -- 12 to 4,096 bytes, of which the second and third say how many follow them, and which don't begin as
 -- stuffing does
@@ -22,32 +28,71 @@ pub record IsSectionLike (section : Bytes) : Type 0 where
 abbrev pub filled : Bytes → Bytes
 filled piece = piece ++ replicate (184 - length piece) 0xFF
 
--- n packets, each with the next 184 bytes
-abbrev pub pieces : ℕ → ℕ → Bool → ℕ → Bytes → List Bytes
-pieces zero pid start counter bytes = []
-pieces (suc n) pid start counter bytes = packet_bytes pid start counter (filled (take 184 bytes)) ∷ pieces n pid false ((counter + 1) % 16) (drop 184 bytes)
+abbrev pub is_none : {A : Type 0} → List A → Bool
+is_none [] = true
+is_none (x ∷ xs) = false
 
--- how many packets a section takes with the pointer field before it
-abbrev pub packet_count : Bytes → ℕ
-packet_count section = div_ceil (length section + 1) 184
+-- what is held back
+pub record Back : Type 0 where
+  pub tail : Bytes
+  pub body : Bytes
 
--- the packets of a section, after a pointer field of 0
+-- what a section more leaves: the packets that are given, each with whether a section begins in it and its bytes before the stuffing, and
+-- what is held back then
+pub record Held : Type 0 where
+  pub given : List (Bool × Bytes)
+  pub tail : Bytes
+  pub body : Bytes
+
+abbrev pub giving : Bool × Bytes → Held → Held
+giving p h = record { given = p ∷ h.given; tail = h.tail; body = h.body }
+
+-- what is left of a begun section: packets that it fills, and one that 183 bytes end, are given
+abbrev pub sent : ℕ → Bytes → Held
+sent zero begun = record { given = []; tail = begun; body = [] }
+sent (suc steps) begun =
+    if nat_le 184 (length begun) then giving (false, take 184 begun) (sent steps (drop 184 begun))
+    else (if length begun == 183 then record { given = (false, begun) ∷ []; tail = []; body = [] } else record { given = []; tail = begun; body = [] })
+
+unfoldable pub sent_of : Bytes → Held
+sent_of begun = sent (suc (length begun)) begun
+
+-- one section more: it is held back where it leaves room in the packet under way, and else that packet is given
+abbrev pub put : Bytes → Bytes → Bytes → Held
+put tail body s =
+    let room = 183 - (length tail + length body) in
+    if nat_lt (length s) room then record { given = []; tail = tail; body = body ++ s }
+    else giving (true, length tail ∷ (tail ++ (body ++ take room s))) (sent_of (drop room s))
+
+-- the group ends
+abbrev pub ended : Bytes → Bytes → List (Bool × Bytes)
+ended tail body = if is_none body then (if is_none tail then [] else (false, tail) ∷ []) else (true, length tail ∷ (tail ++ body)) ∷ []
+
+-- packets one after another, with counters that go on
+abbrev pub numbered : ℕ → ℕ → List (Bool × Bytes) → List Bytes
+numbered pid counter [] = []
+numbered pid counter (p ∷ ps) = packet_bytes pid p.0 counter (filled p.1) ∷ numbered pid ((counter + 1) % 16) ps
+
+-- the packets that a section gives, and what is held back after it
 abbrev pub packets_of : MuxState → Bytes → List Bytes
-packets_of m section = pieces (packet_count section) m.pid true m.counter (0 ∷ section)
+packets_of m section = numbered m.pid m.counter (put m.tail m.body section).given
 
 abbrev pub past : MuxState → Bytes → MuxState
-past m section = record { pid = m.pid; counter = (m.counter + packet_count section) % 16 }
+past m section = record {
+  pid = m.pid;
+  counter = (m.counter + length (put m.tail m.body section).given) % 16;
+  tail = (put m.tail m.body section).tail;
+  body = (put m.tail m.body section).body;
+}
 
+-- the packets that sections give, one after another
 abbrev pub packets_of_all : MuxState → List Bytes → List Bytes
 packets_of_all m [] = []
 packets_of_all m (s ∷ ss) = packets_of m s ++ packets_of_all (past m s) ss
 
--- the number of the packet in which each section begins
-abbrev pub first_packets : ℕ → List Bytes → List ℕ
-first_packets n [] = []
-first_packets n (s ∷ ss) = n ∷ first_packets (n + packet_count s) ss
+-- the packet that a group's end gives, where something is held back
+abbrev pub last_of : MuxState → List Bytes
+last_of m = numbered m.pid m.counter (ended m.tail m.body)
 
--- where each section begins: the number of its packet, and the byte of that packet, after its header of four
--- bytes and the pointer field
-abbrev pub starts : List Bytes → List (ℕ × ℕ)
-starts sections = map (λ n. (n, 5)) (first_packets 0 sections)
+abbrev pub finished : MuxState → MuxState
+finished m = idle m.pid ((m.counter + length (ended m.tail m.body)) % 16)

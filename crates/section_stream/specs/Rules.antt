@@ -10,7 +10,7 @@ use Rattle.ts_packet.specs.declared.PacketFault.TheVariants.{NoSync, Errored, Sc
 use Rattle.section_stream.specs.Cuts.{Bytes}
 use Rattle.section_stream.specs.declared.counts.Counts.{Counts}
 
-pub record DemuxState : Type 0 where
+pub record Receiving : Type 0 where
   pub pid : ℕ
   -- the counter and payload of the last packet that counts
   pub last : Option (ℕ × Bytes)
@@ -119,11 +119,11 @@ jumps_from counter None = false
 jumps_from counter (Some l) = not (counter == (l.0 + 1) % 16)
 
 -- what is kept of a packet, and what its payload left
-abbrev pub keeps : DemuxState → Fields → After → DemuxState × List Bytes
+abbrev pub keeps : Receiving → Fields → After → Receiving × List Bytes
 keeps s p a = (record { pid = s.pid; last = Some (p.counter, p.payload); opened = a.opened; counts = a.counts }, a.out)
 
 -- a packet that is no duplicate: where packets before it are missing, the open section is dropped
-abbrev pub takes : DemuxState → Fields → DemuxState × List Bytes
+abbrev pub takes : Receiving → Fields → Receiving × List Bytes
 takes s p =
     let jumped = jumps_from p.counter s.last in
     let opened = if jumped then None else s.opened in
@@ -131,11 +131,11 @@ takes s p =
     keeps s p (if p.start then starts opened p.payload c else goes_on opened p.payload c)
 
 -- nothing but a count changes
-abbrev pub counted : DemuxState → Counts → DemuxState × List Bytes
+abbrev pub counted : Receiving → Counts → Receiving × List Bytes
 counted s c = (record s { counts = c }, [])
 
 -- one packet: a fault, another PID, no payload and a duplicate are counted, in this order, and leave the rest
-abbrev pub fed : DemuxState → Result Fields PacketFault → DemuxState × List Bytes
+abbrev pub fed : Receiving → Result Fields PacketFault → Receiving × List Bytes
 fed s (Err fault) = counted s (count_fault fault s.counts)
 fed s (Ok p) =
     if not (p.pid == s.pid) then counted s (record s.counts { other_pid = up s.counts.other_pid })
@@ -144,22 +144,52 @@ fed s (Ok p) =
     else takes s p))
 
 -- no packet has come yet
-abbrev pub started : ℕ → DemuxState
+abbrev pub started : ℕ → Receiving
 started pid = record { pid = pid; last = None; opened = None; counts = nothing_counted }
 
-abbrev pub one_more : DemuxState → DemuxState
+abbrev pub one_more : Receiving → Receiving
 one_more s = record s { counts = record s.counts { packets = up s.counts.packets } }
 
 -- the state and the candidates after one packet
-abbrev pub step : DemuxState → Bytes → DemuxState × List Bytes
+abbrev pub step : Receiving → Bytes → Receiving × List Bytes
 step s packet = fed (one_more s) (parsed packet)
 
-abbrev pub after_all : DemuxState → List Bytes → DemuxState
+abbrev pub after_all : Receiving → List Bytes → Receiving
 after_all s [] = s
 after_all s (p ∷ ps) = after_all (step s p).0 ps
 
--- the value stands for this list of packets, part by part; last pieces that were too short are counted apart
-pub record StandsFor (s : DemuxState) (packets : List Bytes) : Type 0 where
+-- all that comes out of these packets
+abbrev pub outputs : Receiving → List Bytes → List Bytes
+outputs s [] = []
+outputs s (x ∷ xs) = (step s x).1 ++ outputs (step s x).0 xs
+
+-- the state stands for this list of packets, part by part; last pieces that were too short are counted apart
+pub record HasReceived (s : Receiving) (packets : List Bytes) : Type 0 where
   pub last : s.last ≡ (after_all (started s.pid) packets).last
   pub opened : s.opened ≡ (after_all (started s.pid) packets).opened
   pub counts : record s.counts { short_tail = 0 } ≡ (after_all (started s.pid) packets).counts
+
+-- from one state these packets lead to the other, and their candidates stand after those before them
+pub record HasRun (s t : Receiving) (packets before after : List Bytes) : Type 0 where
+  pub state : after_all s packets ≡ t
+  pub out : after ≡ before ++ outputs s packets
+
+-- what a demultiplexer is: what it received, and the bytes that it keeps of an unfinished packet
+pub record DemuxState : Type 0 where
+  pub pid : ℕ
+  pub last : Option (ℕ × Bytes)
+  pub opened : Option Bytes
+  pub counts : Counts
+  pub unfinished : Bytes
+
+abbrev pub receiving : DemuxState → Receiving
+receiving d = record { pid = d.pid; last = d.last; opened = d.opened; counts = d.counts }
+
+-- nothing has come yet
+abbrev pub fresh : ℕ → DemuxState
+fresh pid = record { pid = pid; last = None; opened = None; counts = nothing_counted; unfinished = [] }
+
+-- the value stands for this list of packets, and no bytes are kept after them
+pub record StandsFor (d : DemuxState) (packets : List Bytes) : Type 0 where
+  pub received : HasReceived (receiving d) packets
+  pub whole : d.unfinished ≡ []

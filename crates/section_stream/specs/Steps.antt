@@ -1,7 +1,7 @@
 -- The parts of one packet's step, as the code goes through them.
 use Rattle.std.specs.Prelude.{◌≡◌, Bool, ◌||◌, if◌then◌else◌, ◌==◌, List, ◌++◌, length, slice_index, Option, Some, None}
 use Rattle.section_stream.specs.Cuts.{Bytes}
-use Rattle.section_stream.specs.Rules.{After, Grown, Growing, Oversize, Whole, count_fault, goes_on, open_on, starts, up}
+use Rattle.section_stream.specs.Rules.{After, Receiving, Grown, Growing, Oversize, Whole, count_fault, goes_on, open_on, starts, up}
 use Rattle.section_stream.specs.declared.counts.Counts.{Counts}
 use Rattle.section_stream.specs.declared.counts.Aside.{Aside}
 use Rattle.section_stream.specs.declared.counts.Aside.TheVariants.{Fault, OtherPid, NoPayload, Duplicate}
@@ -34,6 +34,11 @@ pub record HasDone (after : After) (left : Option Bytes) (before candidates : Li
   pub opened : after.opened ≡ left
   pub out : candidates ≡ before ++ after.out
   pub counted : after.counts ≡ counts
+
+-- the step leads to this state, and its candidates stand after those before them
+pub record Gives (r : Receiving × List Bytes) (t : Receiving) (before after : List Bytes) : Type 0 where
+  pub state : r.0 ≡ t
+  pub out : after ≡ before ++ r.1
 
 -- no section begins at the front of these bytes: there is none, or it is stuffing
 abbrev pub no_section_in : Bytes → Bool

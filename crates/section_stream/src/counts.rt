@@ -73,6 +73,7 @@ pub fn nothing_counted() -> Counts
 }
 
 /// One more, or the greatest count.
+#[inline]
 pub fn up(count: u64) -> u64
     ensures { result ≡ rules.up count }
 {
@@ -80,6 +81,7 @@ pub fn up(count: u64) -> u64
 }
 
 /// The counts with a packet more that is taken, where packets before it are missing or not.
+#[inline]
 pub fn with_packet(counts: Counts, jumped: bool) -> Counts
     ensures { result ≡ steps.with_packet jumped counts }
 {
@@ -92,6 +94,7 @@ pub fn with_packet(counts: Counts, jumped: bool) -> Counts
 }
 
 /// Counts a packet that changes nothing else.
+#[inline]
 pub fn count_aside(counts: &mut Counts, aside: Aside)
     ensures { counts.new ≡ steps.count_aside aside (steps.with_packet false counts.old) }
 {

@@ -1,16 +1,23 @@
-ghost use Rattle.section_stream.specs.Laws.{CandidatesGrow, CutsComeInOrder, LaterSectionsAreGiven, PacketsGiveTheSections, SectionsStartThere};
+ghost use Rattle.section_stream.specs.Groups.{CallsGiveTheGroup, GroupsOpenAtTheirStarts, LaterGroupsAreGiven, PacketsGiveTheGroups, StartsRise};
+ghost use Rattle.section_stream.specs.Laws.{CandidatesGrow, CutsComeInOrder};
 
-/// What is packed is cut again: for every list of sections that meet the condition of
-/// `Mux::packets`, the candidates of their packets, with none missing and nothing before them, are
-/// those sections, in order.
-pub fn packets_give_the_sections()
-    ensures { PacketsGiveTheSections }
+/// What is packed is cut again: for every list of groups whose sections meet the condition of
+/// `Mux::packets`, the candidates of their packets, with none missing and nothing before them, are those
+/// sections, group after group.
+pub fn packets_give_the_groups()
+    ensures { PacketsGiveTheGroups }
 {}
 
-/// A receiver gets in step: whatever packets came before, those of some sections and then of others, with none of them missing,
-/// end with these others as the last candidates, in order. What came before can only spoil the sections sent first.
-pub fn later_sections_are_given()
-    ensures { LaterSectionsAreGiven }
+/// A receiver gets in step: whatever packets came before, those of some groups and then of others, with none of them missing,
+/// end with the sections of these others as the last candidates, in order. What came before can only spoil the groups sent first.
+pub fn later_groups_are_given()
+    ensures { LaterGroupsAreGiven }
+{}
+
+/// From a packer that holds nothing back, the packets that `Mux::packets` gives for the sections of a group, one after
+/// another, and `Mux::finish` at its end, are the packets of the group, laid out as a whole.
+pub fn calls_give_the_group()
+    ensures { CallsGiveTheGroup }
 {}
 
 /// What was cut out of some packets stays when more come: for every list of packets and every PID, the
@@ -25,9 +32,13 @@ pub fn cuts_come_in_order()
     ensures { CutsComeInOrder }
 {}
 
-/// The places where sections start are where packing puts them: each section begins in a later packet than the one before
-/// it, the packet has the section's bytes from that byte on, and the packets of sections that meet the condition of
-/// `Mux::packets` are cut at just these places again.
-pub fn sections_start_where_they_are_put()
-    ensures { SectionsStartThere }
+/// The candidates of groups open in the packet and at the byte at which their sections begin.
+pub fn groups_open_at_their_starts()
+    ensures { GroupsOpenAtTheirStarts }
+{}
+
+/// The sections of groups begin one after another: each in a later packet than the one before it, or at
+/// a later byte of the same packet.
+pub fn starts_rise()
+    ensures { StartsRise }
 {}

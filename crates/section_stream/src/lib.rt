@@ -3,18 +3,23 @@
 
 mod counts;
 mod demux;
+mod held;
 mod laws;
 mod mux;
 mod open_section;
+mod packet_demux;
 mod payload;
+mod piece;
+mod receiver;
 
 pub use counts::Counts;
 pub use demux::Demux;
 pub use laws::{
-    candidates_grow, cuts_come_in_order, later_sections_are_given, packets_give_the_sections,
-    sections_start_where_they_are_put,
+    calls_give_the_group, candidates_grow, cuts_come_in_order, groups_open_at_their_starts,
+    later_groups_are_given, packets_give_the_groups, starts_rise,
 };
 pub use mux::Mux;
+pub use packet_demux::PacketDemux;
 
 #[cfg(test)]
 mod tests;

@@ -1,7 +1,9 @@
-ghost use Rattle.std.specs.Prelude.{◌≡◌, ◌++◌, ◌∷◌, [], ◌<◌, ◌≤◌, ◌+◌, ◌%◌, nat_lt, drop, length, take, vec_capacity, vec_len, OnOk, OnErr};
+ghost use Rattle.std.specs.Prelude.{◌≡◌, ◌++◌, ◌∷◌, [], ◌<◌, ◌≤◌, ◌+◌, ◌/◌, ◌%◌, nat_lt, length, vec_capacity, vec_len, OnOk, OnErr};
 ghost use Rattle.ts_packet.specs.Packets.{packet_bytes};
-ghost use Rattle.section_stream.specs.Packing.{IsSectionLike, filled, packets_of, past};
+ghost use Rattle.section_stream.specs.Packing.{IsSectionLike, filled, finished, idle, last_of, numbered, packets_of, past, sent_of};
 
+use crate::held::Held;
+use crate::piece::copy_at;
 use oc_bytes::NoMemory;
 use std::alloc::Global;
 use std::marker::Model;
@@ -10,15 +12,19 @@ use ts_packet::build;
 /// The bytes of a packet's payload where there is no adaptation field.
 const PAYLOAD: usize = 184;
 
-/// Before the first section that begins in a packet stand no bytes of another one.
-const POINTER: [u8; 1] = [0];
+/// The same after a pointer field.
+const ROOM: usize = PAYLOAD - 1;
 
-/// Packs sections into transport packets of one PID (ISO/IEC 13818-1, 2.4.4). Each section begins a
-/// packet.
+/// Packs sections into transport packets of one PID (ISO/IEC 13818-1, 2.4.4). The sections given since it was made, or since
+/// the last `finish`, form a group, and stand back to back in its packets.
+///
+/// Contracts see the PID, the continuity counter of the next packet, and what is held back: `tail`, the bytes of a section that
+/// was begun in packets already given, and `body`, the bytes of the sections that begin in the packet under way.
 #[derive(Drop)]
 pub struct Mux {
     pid: u16,
     counter: u8,
+    held: Held,
 }
 
 impl Model for Mux {
@@ -27,7 +33,7 @@ impl Model for Mux {
 
     ghost Value = { MuxState };
 
-    ghost view = { λ m. record { pid = m.pid; counter = m.counter } };
+    ghost view = { λ m. record { pid = m.pid; counter = m.counter; tail = m.held.tail; body = m.held.body } };
 
     ghost invariant = { λ m. (m.pid < 8192) × (m.counter < 16) };
 }
@@ -37,83 +43,124 @@ impl Mux {
     /// no memory.
     pub fn new(alloc: Global, pid: u16) -> Mux
         requires { pid < 8192 }
-        ensures { result ≡ record { pid = pid; counter = 0 } }
+        ensures { result ≡ idle pid 0 }
     {
-        // Nothing is held back yet, so nothing has to be kept.
+        // What is held back is kept in place.
         let _ = alloc;
-        Mux { pid, counter: 0 }
+        Mux {
+            pid,
+            counter: 0,
+            held: Held::new(),
+        }
     }
 
-    /// Puts the packets of a section after those in `out`: the pointer field 0 and the section, in
-    /// pieces of 184 bytes, the last one filled with 0xFF. The first packet has the payload unit start
-    /// indicator, and the continuity counters go on from the last packet of the call before.
+    /// One section more of the group. Each packet that no further section can change is put after those in `out`; the rest is
+    /// held back, and is less than a packet. Where a section begins in a packet, the packet has the payload unit start indicator
+    /// and a pointer field, the number of bytes before that section. No section begins where a packet has one byte left for a
+    /// pointer field alone; that byte is 0xFF. The continuity counters go on from the last packet given.
     ///
     /// The section has 12 to 4,096 bytes, its length field, the last 12 bits of the second and third
     /// byte, is the number of the bytes after it, and its first byte isn't 0xFF.
     ///
-    /// Out of memory leaves `out` and the counter as before.
+    /// After out of memory, which comes only where packets were to be given, all is as before.
     pub fn packets(&mut self, section: &[u8], out: &mut Vec<[u8; 188]>) -> Result<(), NoMemory>
         requires { IsSectionLike section.now }
         ensures packets { OnOk result (out.new.items ≡ out.old.items ++ packets_of self.old section.now) }
-        ensures counter { OnOk result (self.new ≡ past self.old section.now) }
+        ensures state { OnOk result (self.new ≡ past self.old section.now) }
+        ensures memory { OnErr result (0 < length (packets_of self.old section.now)) }
         ensures err { OnErr result ((self.new ≡ self.old) × (out.new.items ≡ out.old.items)) }
     {
-        let count = (section.len() + 1).div_ceil(PAYLOAD);
-        out.reserve(count)?;
-        let mut pointer: &[u8] = &POINTER;
-        let mut rest = section;
-        let mut next = self.counter;
-        'packets: for _ in 0..count {
-            put(self.pid, next, pointer, rest, out);
-            rest = &rest[(PAYLOAD - pointer.len()).min(rest.len())..];
-            pointer = &[];
-            next = (next + 1) % 16;
+        let room = ROOM - self.held.bytes().len();
+        if section.len() < room {
+            self.held.append(section);
+            return Ok(());
         }
-        self.counter = next;
+        let (front, rest) = section.split_at(room);
+        out.reserve(1 + (rest.len() + 1) / PAYLOAD)?;
+        let pointer = [self.held.tail()];
+        put(
+            self.pid,
+            self.counter,
+            &pointer,
+            self.held.bytes(),
+            front,
+            out,
+        );
+        let (tail, counter) = put_rest(self.pid, (self.counter + 1) % 16, rest, out);
+        self.held.replace(tail);
+        self.counter = counter;
         Ok(())
     }
 
-    /// Writes what is held back. Nothing is, since each section begins a packet.
+    /// Ends the group: puts the packet of what is held back after those in `out`, filled with 0xFF, where something is. The
+    /// next section begins a packet.
+    ///
+    /// After out of memory, which comes only where something is held back, all is as before.
     pub fn finish(&mut self, out: &mut Vec<[u8; 188]>) -> Result<(), NoMemory>
-        ensures { (self.new ≡ self.old) × (out.new.items ≡ out.old.items) }
+        ensures packets { OnOk result (out.new.items ≡ out.old.items ++ last_of self.old) }
+        ensures state { OnOk result (self.new ≡ finished self.old) }
+        ensures memory { OnErr result (0 < length (last_of self.old)) }
+        ensures err { OnErr result ((self.new ≡ self.old) × (out.new.items ≡ out.old.items)) }
     {
-        let _ = out;
+        let held = self.held.bytes();
+        if held.is_empty() {
+            return Ok(());
+        }
+        out.reserve(1)?;
+        let length = [self.held.tail()];
+        let pointer: &[u8] = if self.held.begins() { &length } else { &[] };
+        put(self.pid, self.counter, pointer, held, &[], out);
+        self.held.replace(&[]);
+        self.counter = (self.counter + 1) % 16;
         Ok(())
     }
 }
 
-/// Puts one packet after those in `out`, where there is room for it.
-fn put(pid: u16, counter: u8, pointer: &[u8], rest: &[u8], out: &mut Vec<[u8; 188]>)
+/// Puts the packets that the rest of a begun section fills, or ends with one byte to spare, after those in `out`, where there
+/// is room for them. Gives what is left of the section and the counter of the next packet.
+fn put_rest<'a>(pid: u16, first: u8, section: &'a [u8], out: &mut Vec<[u8; 188]>) -> (&'a [u8], u8)
+    requires pid { pid < 8192 }
+    requires counter { first < 16 }
+    requires room { vec_len out.old + (length section.now + 1) / 184 ≤ vec_capacity out.old }
+    ensures packets { out.new.items ≡ out.old.items ++ numbered pid first (sent_of section.now).given }
+    ensures rest { (result.0.now ≡ (sent_of section.now).tail) × (length result.0.now < 183) }
+    ensures counter { (result.1 ≡ (first + length (sent_of section.now).given) % 16) × (result.1 < 16) }
+{
+    let mut rest = section;
+    let mut counter = first;
+    while rest.len() >= ROOM {
+        let (part, behind) = rest.split_at(PAYLOAD.min(rest.len()));
+        put(pid, counter, &[], &[], part, out);
+        rest = behind;
+        counter = (counter + 1) % 16;
+    }
+    (rest, counter)
+}
+
+/// Puts one packet after those in `out`, where there is room for it: its payload is the pointer field, if a section begins in
+/// it, what was held back, the front of a section, and stuffing.
+fn put(pid: u16, counter: u8, pointer: &[u8], held: &[u8], front: &[u8], out: &mut Vec<[u8; 188]>)
     requires pid { pid < 8192 }
     requires counter { counter < 16 }
-    requires pointer { length pointer.now ≤ 1 }
+    requires size { length pointer.now + length held.now + length front.now ≤ 184 }
     requires room { vec_len out.old < vec_capacity out.old }
-    ensures packet { out.new.items ≡ out.old.items ++ packet_bytes pid (nat_lt 0 (length pointer.now)) counter (filled (take 184 (pointer.now ++ rest.now))) ∷ [] }
+    ensures packet { out.new.items ≡ out.old.items ++ packet_bytes pid (nat_lt 0 (length pointer.now)) counter (filled (pointer.now ++ (held.now ++ front.now))) ∷ [] }
     ensures room { vec_capacity out.old ≤ vec_capacity out.new }
     ensures one { vec_len out.new ≡ vec_len out.old + 1 }
 {
-    let payload = payload_of(pointer, rest);
+    let payload = payload_of(pointer, held, front);
     // It takes no memory, and so isn't refused.
     let _ = out.push(build(pid, !pointer.is_empty(), counter, &payload));
 }
 
-/// The next payload of these bytes: 184 of them, or fewer and stuffing after them.
-fn payload_of(pointer: &[u8], rest: &[u8]) -> [u8; 184]
-    requires { length pointer.now ≤ 1 }
-    ensures { result ≡ filled (take 184 (pointer.now ++ rest.now)) }
+/// The payload of these bytes, with stuffing after them.
+fn payload_of(pointer: &[u8], held: &[u8], front: &[u8]) -> [u8; 184]
+    requires { length pointer.now + length held.now + length front.now ≤ 184 }
+    ensures { result ≡ filled (pointer.now ++ (held.now ++ front.now)) }
 {
     let mut payload = [0xFF; 184];
-    let front = pointer.len();
-    let taken = rest.len().min(PAYLOAD - front);
     copy_at(&mut payload, 0, pointer);
-    copy_at(&mut payload, front, &rest[..taken]);
+    copy_at(&mut payload, pointer.len(), held);
+    copy_at(&mut payload, pointer.len() + held.len(), front);
     payload
-}
-
-/// Writes these bytes from a place on.
-fn copy_at(payload: &mut [u8], at: usize, bytes: &[u8])
-    requires { at + length bytes.now ≤ length payload.old }
-    ensures { payload.new ≡ take at payload.old ++ (bytes.now ++ drop (at + length bytes.now) payload.old) }
-{
-    payload[at..at + bytes.len()].copy_from_slice(bytes);
 }

@@ -29,13 +29,13 @@ pub struct OpenSection {
 }
 
 impl Model for OpenSection {
-    ghost use Rattle.std.specs.Prelude.{◌≤◌, ℕ, List, Option, Some, None, vec_capacity, if◌then◌else◌};
+    ghost use Rattle.std.specs.Prelude.{◌≤◌, ℕ, List, Option, Some, None, vec_capacity, vec_len, if◌then◌else◌};
 
     ghost Value = { Option (List ℕ) };
 
     ghost view = { λ s. if s.is_open then Some s.bytes.items else None };
 
-    ghost invariant = { λ s. 4096 ≤ vec_capacity s.bytes };
+    ghost invariant = { λ s. (vec_len s.bytes ≤ 4096) × (4096 ≤ vec_capacity s.bytes) };
 }
 
 impl OpenSection {
@@ -48,7 +48,17 @@ impl OpenSection {
         })
     }
 
+    /// Becomes as another one is.
+    pub fn copy(&mut self, from: &OpenSection)
+        ensures { self.new ≡ from.now }
+    {
+        self.is_open = from.is_open;
+        self.bytes.clear();
+        append(&mut self.bytes, &from.bytes);
+    }
+
     /// The bytes so far, where they still count.
+    #[inline]
     pub fn bytes_unless(&self, jumped: bool) -> Option<&[u8]>
         ensures { option_copied result ≡ kept_unless jumped self.now }
     {
@@ -60,6 +70,7 @@ impl OpenSection {
     }
 
     /// Drops the section, where packets of it are missing.
+    #[inline]
     pub fn close_if(&mut self, jumped: bool)
         ensures { self.new ≡ kept_unless jumped self.old }
     {
@@ -69,6 +80,7 @@ impl OpenSection {
     }
 
     /// What is open after a packet; it is no longer than the longest section.
+    #[inline]
     pub fn turn(&mut self, turn: Turn<'_>)
         requires { ForSome (turned self.old turn) (λ bytes. length bytes ≤ 4096) }
         ensures { self.new ≡ turned self.old turn.entry }

@@ -29,6 +29,7 @@ pub enum Growth {
 }
 
 /// Whether two pieces together have at least `n` bytes.
+#[inline]
 fn have(front: &[u8], back: &[u8], n: usize) -> bool
     ensures { result ≡ nat_le n (length (front.now ++ back.now)) }
 {
@@ -36,6 +37,7 @@ fn have(front: &[u8], back: &[u8], n: usize) -> bool
 }
 
 /// The byte at a place of two pieces, one after the other.
+#[inline]
 fn byte_at(front: &[u8], back: &[u8], at: usize) -> u8
     requires { at < length (front.now ++ back.now) }
     ensures { result ≡ slice_index (front.now ++ back.now) at }
@@ -48,6 +50,7 @@ fn byte_at(front: &[u8], back: &[u8], at: usize) -> u8
 }
 
 /// How far a section with these two pieces has come.
+#[inline]
 fn growth_with(front: &[u8], back: &[u8]) -> Growth
     ensures { growth_of result ≡ rules.grown (front.now ++ back.now) }
 {
@@ -86,6 +89,7 @@ fn complete(
 }
 
 /// A packet that begins no section: its payload goes on with the open section.
+#[inline]
 fn goes_on<'a>(
     alloc: Global,
     opened: Option<&[u8]>,
@@ -175,6 +179,7 @@ fn open_sections<'a>(
 }
 
 /// A packet in which a section begins, after a pointer field.
+#[inline]
 fn starts<'a>(
     alloc: Global,
     opened: Option<&[u8]>,
@@ -199,6 +204,7 @@ fn starts<'a>(
 }
 
 /// What the payload of a packet does, as the packet begins a section or not.
+#[inline]
 pub fn payload_done<'a>(
     alloc: Global,
     start: bool,

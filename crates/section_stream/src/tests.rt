@@ -1,3 +1,5 @@
+ghost use Rattle.std.specs.Prelude.{◌<◌, ◌≤◌};
+
 use super::*;
 use crate::counts::nothing_counted;
 use oc_bytes::NoMemory;
@@ -52,7 +54,7 @@ fn splice(rt: HostRuntime) -> Result<(), Fail> {
             part(0x80, number - 23, number)
         };
         if number < 10 || number > 25 {
-            candidates.append(&mut demux.feed(&packet)?)?;
+            candidates.append(&mut demux.feed_bytes(&packet)?)?;
         }
     }
     assert_eq!(rt;
@@ -86,11 +88,11 @@ fn duplicate_and_jump(rt: HostRuntime) -> Result<(), Fail> {
     let mut whole = 0usize;
     for k in 0..23u8 {
         let packet = part(0x40, k, k);
-        whole = whole.saturating_add(twice.feed(&packet)?.len());
+        whole = whole.saturating_add(twice.feed_bytes(&packet)?.len());
         if k == 5 {
-            whole = whole.saturating_add(twice.feed(&packet)?.len());
+            whole = whole.saturating_add(twice.feed_bytes(&packet)?.len());
         } else {
-            assert_eq!(rt; lossy.feed(&packet)?.len(), 0);
+            assert_eq!(rt; lossy.feed_bytes(&packet)?.len(), 0);
         }
     }
     assert_eq!(rt; whole, 1);
@@ -185,7 +187,7 @@ fn last_part_of_a_section(rt: HostRuntime) -> Result<(), Fail> {
     }
     let mut demux = Demux::new(rt.alloc(), 256)?;
     for packet in [first, start(0, &[0xFF]), part(0x40, 1, 1)] {
-        assert_eq!(rt; demux.feed(&packet)?.len(), 0);
+        assert_eq!(rt; demux.feed_bytes(&packet)?.len(), 0);
     }
     assert_eq!(rt;
         demux.counts(),
@@ -214,7 +216,7 @@ fn packets_put_aside(rt: HostRuntime) -> Result<(), Fail> {
         let mut packet = good;
         packet[at] = byte;
         packet[4] = 183;
-        assert_eq!(rt; demux.feed(&packet)?.len(), 0);
+        assert_eq!(rt; demux.feed_bytes(&packet)?.len(), 0);
     }
     demux.short();
     let expected = Counts {
@@ -232,6 +234,7 @@ fn packets_put_aside(rt: HostRuntime) -> Result<(), Fail> {
     Ok(())
 }
 
+// The same packets as if each section began one, where each is a group.
 #[test]
 fn packed_section(rt: HostRuntime) -> Result<(), Fail> {
     let mut section = [0x55; 184];
@@ -241,10 +244,10 @@ fn packed_section(rt: HostRuntime) -> Result<(), Fail> {
     let mut mux = Mux::new(rt.alloc(), 256);
     let mut out = Vec::new(rt.alloc());
     mux.packets(&section, &mut out)?;
+    mux.finish(&mut out)?;
     mux.packets(&section, &mut out)?;
     mux.finish(&mut out)?;
-    packets_give_the_sections();
-    candidates_grow();
+    mux.finish(&mut out)?;
     assert_eq!(rt; out.len(), 4);
     let heads = [
         [0x47, 0x41, 0x00, 0x10, 0x00, 0x3B],
@@ -256,5 +259,92 @@ fn packed_section(rt: HostRuntime) -> Result<(), Fail> {
         assert_eq!(rt; &packet[..6], head.as_slice());
         assert_eq!(rt; packet[187], if packet[1] == 0x41 { 0x55 } else { 0xFF });
     }
+    Ok(())
+}
+
+const DSI: [u8; 115] = [
+    0x3B, 0xB0, 0x70, 0x00, 0x00, 0xC1, 0x00, 0x00, 0x11, 0x03, 0x10, 0x06, 0x80, 0x00, 0x00, 0x00,
+    0xFF, 0x00, 0x00, 0x5B, 0xFF, 0xFF, 0xFF, 0xFF, 0xFF, 0xFF, 0xFF, 0xFF, 0xFF, 0xFF, 0xFF, 0xFF,
+    0xFF, 0xFF, 0xFF, 0xFF, 0xFF, 0xFF, 0xFF, 0xFF, 0x00, 0x00, 0x00, 0x43, 0x00, 0x00, 0x00, 0x04,
+    0x73, 0x72, 0x67, 0x00, 0x00, 0x00, 0x00, 0x01, 0x49, 0x53, 0x4F, 0x06, 0x00, 0x00, 0x00, 0x2B,
+    0x00, 0x02, 0x49, 0x53, 0x4F, 0x50, 0x0D, 0x00, 0x00, 0x00, 0x01, 0x00, 0x01, 0x01, 0x00, 0x04,
+    0x00, 0x00, 0x00, 0x01, 0x49, 0x53, 0x4F, 0x40, 0x12, 0x01, 0x00, 0x00, 0x00, 0x16, 0x00, 0x01,
+    0x0A, 0x00, 0x01, 0x80, 0x00, 0x00, 0x02, 0xFF, 0xFF, 0xFF, 0xFF, 0x00, 0x00, 0x00, 0x00, 0xE2,
+    0x23, 0xB2, 0x69,
+];
+
+const DII: [u8; 75] = [
+    0x3B, 0xB0, 0x48, 0x00, 0x02, 0xC1, 0x00, 0x00, 0x11, 0x03, 0x10, 0x02, 0x80, 0x00, 0x00, 0x02,
+    0xFF, 0x00, 0x00, 0x33, 0x00, 0x00, 0x00, 0x01, 0x0F, 0xE2, 0x00, 0x00, 0x00, 0x00, 0x00, 0x00,
+    0x00, 0x00, 0x00, 0x00, 0x00, 0x00, 0x00, 0x01, 0x00, 0x01, 0x00, 0x00, 0x00, 0x22, 0x00, 0x15,
+    0xFF, 0xFF, 0xFF, 0xFF, 0xFF, 0xFF, 0xFF, 0xFF, 0x00, 0x00, 0x00, 0x00, 0x01, 0x00, 0x00, 0x00,
+    0x17, 0x00, 0x01, 0x00, 0x00, 0x00, 0x00, 0xA9, 0xD4, 0xF0, 0xEE,
+];
+
+const DDB: [u8; 64] = [
+    0x3C, 0xB0, 0x3D, 0x00, 0x01, 0xC1, 0x00, 0x00, 0x11, 0x03, 0x10, 0x03, 0x00, 0x00, 0x00, 0x01,
+    0xFF, 0x00, 0x00, 0x28, 0x00, 0x01, 0x00, 0xFF, 0x00, 0x00, 0x42, 0x49, 0x4F, 0x50, 0x01, 0x00,
+    0x00, 0x00, 0x00, 0x00, 0x00, 0x16, 0x04, 0x00, 0x00, 0x00, 0x01, 0x00, 0x00, 0x00, 0x04, 0x73,
+    0x72, 0x67, 0x00, 0x00, 0x00, 0x00, 0x00, 0x00, 0x00, 0x02, 0x00, 0x00, 0x38, 0x0E, 0xC4, 0x19,
+];
+
+// The packets of the sections of an empty folder, which are one group.
+fn empty_folder(alloc: Global) -> Result<Vec<[u8; 188]>, NoMemory> {
+    let mut mux = Mux::new(alloc, 256);
+    let mut out = Vec::new(alloc);
+    mux.packets(&DSI, &mut out)?;
+    mux.packets(&DII, &mut out)?;
+    mux.packets(&DDB, &mut out)?;
+    mux.finish(&mut out)?;
+    Ok(out)
+}
+
+// What a stream gives in pieces of this size, and what is counted and kept at its end.
+fn cut(alloc: Global, stream: &[u8], size: usize) -> Result<(Vec<Vec<u8>>, Counts, usize), NoMemory>
+    requires { (0 < size) × (size ≤ 400) }
+{
+    let mut demux = Demux::new(alloc, 256)?;
+    let mut candidates = Vec::new(alloc);
+    let mut rest = stream;
+    while !rest.is_empty() {
+        let (piece, behind) = rest.split_at(size.min(rest.len()));
+        candidates.append(&mut demux.feed_bytes(piece)?)?;
+        rest = behind;
+    }
+    Ok((candidates, demux.counts(), demux.pending()))
+}
+
+// Three sections in one group, byte for byte, and in pieces of each size.
+#[test]
+fn one_group(rt: HostRuntime) -> Result<(), Fail> {
+    let packets = empty_folder(rt.alloc())?;
+    assert_eq!(rt; packets.len(), 2);
+    let mut stream = Vec::new(rt.alloc());
+    for packet in &packets {
+        stream.extend_from_slice(packet)?;
+    }
+    let mut expected = Vec::new(rt.alloc());
+    expected.extend_from_slice(&[0x47, 0x41, 0x00, 0x10, 0x00])?;
+    expected.extend_from_slice(&DSI)?;
+    expected.extend_from_slice(&DII[..68])?;
+    expected.extend_from_slice(&[0x47, 0x41, 0x00, 0x11, 0x07])?;
+    expected.extend_from_slice(&DII[68..])?;
+    expected.extend_from_slice(&DDB)?;
+    expected.extend_from_slice(&[0xFF; 112])?;
+    assert!(rt; stream == expected);
+    let counts = Counts {
+        packets: 2,
+        ..nothing_counted()
+    };
+    for size in 1..=400usize {
+        let (candidates, counted, pending) = cut(rt.alloc(), &stream, size)?;
+        assert!(rt;
+            matches!(candidates.as_slice(), [dsi, dii, ddb] if dsi.as_slice() == DSI.as_slice() && dii.as_slice() == DII.as_slice() && ddb.as_slice() == DDB.as_slice()),
+            "{size}"
+        );
+        assert_eq!(rt; (counted, pending), (counts, 0), "{size}");
+    }
+    let (candidates, _, pending) = cut(rt.alloc(), stream.get(..375).unwrap_or(&[]), 7)?;
+    assert_eq!(rt; (candidates.len(), pending), (1, 187));
     Ok(())
 }

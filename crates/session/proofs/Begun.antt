@@ -39,7 +39,7 @@ use Rattle.session.proofs.Parting.{is_to_end}
 
 -- ---- the first shot
 
-pub first_shown : (down : DownlinkState) (first : Shot) (shots : List Shot) → DownlinkStands down 256 [] [] → shots ≡ first ∷ []
+pub first_shown : (down : DownlinkState) (first : Shot) (shots : List Shot) → DownlinkStands down 256 [] [] [] → shots ≡ first ∷ []
     → view first ≡ snapshot_after 0 0 (candidates_after [] 0) → HasShown [] down shots
 first_shown down first shots stands is seen = record {
   carried = stands;

@@ -11,11 +11,11 @@ use Rattle.session_actors.specs.Seats.{drawing_in}
 use Rattle.path_resolver.specs.declared.shot.Shot.{Shot}
 use Rattle.path_resolver.specs.Shots.{view}
 use Rattle.section_stream.specs.Cuts.{candidates}
-use Rattle.section_stream.specs.Packing.{packets_of_all}
+use Rattle.section_stream.specs.Groups.{packets_of_group}
 use Rattle.tuner_core.specs.LookBack.{snapshot_after}
 use Rattle.carousel_world.specs.DownView.{DownlinkState, DownlinkStands}
 use Rattle.carousel_world.specs.Fates.{received_under}
-use Rattle.carousel_world.specs.World.{WorldState, Drawing, sections_of, sections_sent, arrivals, opening}
+use Rattle.carousel_world.specs.World.{WorldState, Drawing, sections_of, groups_sent, arrivals, opening}
 use Rattle.carousel_world.proofs.CallerLemmas.{stands_after_draw}
 use Rattle.session_history.specs.Merges.{candidates_after}
 use Rattle.session_actors.specs.Shown.{AreShots, HasShown}
@@ -56,30 +56,30 @@ module _ (drawings : List Drawing) (d : Drawing) (shots : List Shot) (shot : Sho
 
 -- a drawing was carried, and then a shot was shown
 pub one_shot_more : (drawings : List Drawing) (d : Drawing) (old new : DownlinkState) (before after : List Shot) (shot : Shot) (n : ℕ)
-    → ((pid : ℕ) (sent packets : List Bytes) → DownlinkStands old pid sent packets
-    → DownlinkStands new pid (sent ++ sections_of d) (packets ++ received_under d.fates 0 (packets_of_all old.mux (sections_of d))))
-    → ((pid : ℕ) (sent packets : List Bytes) → DownlinkStands new pid sent packets → view shot ≡ snapshot_after n n (candidates pid packets))
+    → ((pid : ℕ) (groups : List (List Bytes)) (packets : List Bytes) → DownlinkStands old pid groups [] packets
+    → DownlinkStands new pid (groups ++ sections_of d ∷ []) [] (packets ++ received_under d.fates 0 (packets_of_group old.mux (sections_of d))))
+    → ((pid : ℕ) (groups : List (List Bytes)) (begun packets : List Bytes) → DownlinkStands new pid groups begun packets → view shot ≡ snapshot_after n n (candidates pid packets))
     → n ≡ length before → after ≡ before ++ shot ∷ []
     → HasShown drawings old before → HasShown (drawings ++ d ∷ []) new after
 one_shot_more drawings d old new before after shot n carry look number shown has =
     let w : WorldState = record { catalogue = (opening 0).catalogue; drawings = drawings } in
-    let stands = stands_after_draw w d old new has.carried (carry 256 (sections_sent drawings) (map (λ a. a.1) (arrivals drawings)) has.carried) in
+    let stands = stands_after_draw w d old new has.carried (carry 256 (groups_sent drawings) (map (λ a. a.1) (arrivals drawings)) has.carried) in
     let all = map (λ a. a.1) (arrivals (drawings ++ d ∷ [])) in
     let is : view shot ≡ snapshot_after (length before) (length before) (candidates 256 all) =
-    look 256 (sections_sent (drawings ++ d ∷ [])) all stands ∙ ap (λ (k : ℕ). snapshot_after k k (candidates 256 all)) number in
+    look 256 (groups_sent (drawings ++ d ∷ [])) [] all stands ∙ ap (λ (k : ℕ). snapshot_after k k (candidates 256 all)) number in
     record { carried = stands; shown = subst (AreShots (drawings ++ d ∷ [])) (sym shown) (shots_push drawings d before shot has.shown is) }
 
 -- the same of what was drawn, where it was lent
 pub one_drawing_more : (drawings : List Drawing) (b : Batch) (fates : List Fate) (old new : DownlinkState) (before after : List Shot) (shot : Shot) (n : ℕ) (g : GenerationState) (items : List Item)
     → g ≡ arc_value b.generation → items ≡ b.items.items
-    → ((pid : ℕ) (sent packets : List Bytes) → DownlinkStands old pid sent packets
-    → DownlinkStands new pid (sent ++ map (section_of g) items) (packets ++ received_under fates 0 (packets_of_all old.mux (map (section_of g) items))))
-    → ((pid : ℕ) (sent packets : List Bytes) → DownlinkStands new pid sent packets → view shot ≡ snapshot_after n n (candidates pid packets))
+    → ((pid : ℕ) (groups : List (List Bytes)) (packets : List Bytes) → DownlinkStands old pid groups [] packets
+    → DownlinkStands new pid (groups ++ map (section_of g) items ∷ []) [] (packets ++ received_under fates 0 (packets_of_group old.mux (map (section_of g) items))))
+    → ((pid : ℕ) (groups : List (List Bytes)) (begun packets : List Bytes) → DownlinkStands new pid groups begun packets → view shot ≡ snapshot_after n n (candidates pid packets))
     → n ≡ length before → after ≡ before ++ shot ∷ []
     → HasShown drawings old before → HasShown (drawings ++ drawing_in b fates ∷ []) new after
 one_drawing_more drawings b fates old new before after shot n g items generation listed carry look number shown =
-    let P : GenerationState → List Item → Type 0 = λ x xs. (pid : ℕ) (sent packets : List Bytes) → DownlinkStands old pid sent packets
-    → DownlinkStands new pid (sent ++ map (section_of x) xs) (packets ++ received_under fates 0 (packets_of_all old.mux (map (section_of x) xs))) in
+    let P : GenerationState → List Item → Type 0 = λ x xs. (pid : ℕ) (groups : List (List Bytes)) (packets : List Bytes) → DownlinkStands old pid groups [] packets
+    → DownlinkStands new pid (groups ++ map (section_of x) xs ∷ []) [] (packets ++ received_under fates 0 (packets_of_group old.mux (map (section_of x) xs))) in
     one_shot_more drawings (drawing_in b fates) old new before after shot n (subst (P (arc_value b.generation)) listed (subst (λ (x : GenerationState). P x items) generation carry)) look number shown
 
 -- P where the result is Ok

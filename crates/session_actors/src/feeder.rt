@@ -4,7 +4,7 @@ ghost use Rattle.std.specs.List.{All, Contains};
 ghost use Rattle.std.specs.Arc.{arc_value};
 ghost use Rattle.path_tree.specs.Paths.{Bytes};
 ghost use Rattle.generation.specs.Layouts.{items_of, section_of};
-ghost use Rattle.section_stream.specs.Packing.{packets_of_all};
+ghost use Rattle.section_stream.specs.Groups.{packets_of_group};
 ghost use Rattle.carousel_world.specs.DownView.{DownlinkStands};
 ghost use Rattle.carousel_world.specs.Fates.{received_under};
 ghost use Rattle.carousel_world.specs.World.{Drawing};
@@ -90,7 +90,7 @@ pub fn send_and_show<R: Threads + Wait + Sync, G: Gate>(
     }
 }
 
-/// Sends the items of a draw, at most so many sections at once.
+/// Sends the items of a draw, which are a group, at most so many sections at once.
 fn send<R: Threads + Sync, G: Gate>(
     rt: &R,
     alloc: Global,
@@ -102,19 +102,22 @@ fn send<R: Threads + Sync, G: Gate>(
 ) -> Result<(), NoMemory>
     requires items { All (λ item. Contains (items_of generation.now) item) items.now }
     requires few { length items.now ≤ 1048576 }
-    ensures { OnOk result ((pid : ℕ) (sent packets : List Bytes) → DownlinkStands downlink.old pid sent packets
+    ensures { OnOk result ((pid : ℕ) (groups : List (List Bytes)) (packets : List Bytes) → DownlinkStands downlink.old pid groups [] packets
         → (let sections = map (section_of generation.now) items.now in
-        DownlinkStands downlink.new pid (sent ++ sections) (packets ++ received_under fates.now 0 (packets_of_all downlink.old.mux sections)))) }
+        DownlinkStands downlink.new pid (groups ++ sections ∷ []) [] (packets ++ received_under fates.now 0 (packets_of_group downlink.old.mux sections)))) }
 {
     let mut number = 0;
     let mut sent = 0;
-    while sent < items.len() {
+    loop {
         let end = items.len().min(sent + PIECE);
+        let last = end == items.len();
         let sections = encode_batch(rt, alloc, generation, &items[sent..end], gate)?;
-        number = downlink.carry(&sections, fates, number, end == items.len())?;
+        number = downlink.carry(&sections, fates, number, last)?;
+        if last {
+            return Ok(());
+        }
         sent = end;
     }
-    Ok(())
 }
 
 /// Makes one draw, sends it, and shows the next shot. Out of memory is the only refusal; it also comes where 16,777,216 draws are

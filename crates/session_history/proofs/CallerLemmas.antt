@@ -1,13 +1,13 @@
 -- Lemmas for callers.
-use Rattle.std.proofs.Common.{◌≡◌, ℕ, List, [], map, sym, subst}
+use Rattle.std.proofs.Common.{ℕ, List, [], map, sym, subst}
 use Rattle.ts_packet.specs.declared.Fate.{Fate}
 use Rattle.generation.specs.Lawful.{ArePublishable}
 use Rattle.generation_catalogue.specs.History.{CatalogueState, trees_of}
 use Rattle.carousel_world.specs.Promises.{world_after}
 use Rattle.session_history.specs.Merging.{merge_of}
-use Rattle.session_history.specs.Merges.{ReaderFields, state_of, merging}
+use Rattle.session_history.specs.Merges.{ReaderFields, merging}
 use Rattle.session_history.specs.Merged.{IsReady}
-use Rattle.session_history.proofs.Numbers.{numbered, trees_same}
+use Rattle.session_history.proofs.Numbers.{trees_same}
 use Rattle.session_history.proofs.Replying.{catalogue_at_end}
 -- Lists that are filtered, counted and put together, and whose commit an event tells
 pub use Rattle.session_history.proofs.Cutting.{filter_takes, filter_skips}

@@ -32,7 +32,7 @@ abbrev kept : CatalogueState
 kept = state_of 1 those
 
 abbrev all_fates : List (List Fate)
-all_fates = (Lose ∷ Keep ∷ Keep ∷ Keep ∷ []) ∷ (Keep ∷ Keep ∷ Flip 800 ∷ Keep ∷ []) ∷ [] ∷ []
+all_fates = (Flip 800 ∷ Keep ∷ Lose ∷ []) ∷ (Keep ∷ Flip 800 ∷ Keep ∷ []) ∷ [] ∷ []
 
 abbrev first_opens : List Open
 first_opens =
@@ -126,8 +126,8 @@ cycle_drawn g fates = record { generation = g; items = Dsi ∷ Dii ∷ Block 1 0
 
 abbrev drawn : List Drawing
 drawn =
-    cycle_drawn (generation_with 1 (1 ∷ 2 ∷ 3 ∷ []) 1) (Lose ∷ Keep ∷ Keep ∷ Keep ∷ [])
-    ∷ cycle_drawn (generation_with 2 (4 ∷ 5 ∷ 6 ∷ []) 2) (Keep ∷ Keep ∷ Flip 800 ∷ Keep ∷ []) ∷ cycle_drawn (generation_with 2 (4 ∷ 5 ∷ 6 ∷ []) 2) [] ∷ []
+    cycle_drawn (generation_with 1 (1 ∷ 2 ∷ 3 ∷ []) 1) (Flip 800 ∷ Keep ∷ Lose ∷ [])
+    ∷ cycle_drawn (generation_with 2 (4 ∷ 5 ∷ 6 ∷ []) 2) (Keep ∷ Flip 800 ∷ Keep ∷ []) ∷ cycle_drawn (generation_with 2 (4 ∷ 5 ∷ 6 ∷ []) 2) [] ∷ []
 
 drawn_is : drawn ≡ drawings_of kept all_fates
 unfolding placement.kept placement.least_with

@@ -1,5 +1,5 @@
 -- Which words name a session, by the first of them.
-use Rattle.std.proofs.Common.{◌≡◌, ℕ, Bool, true, false, List, [], ◌∷◌, Option, Some, None, Result, Err, inl, inr, refl, sym, ap, ◌∙◌, subst}
+use Rattle.std.proofs.Common.{◌≡◌, ℕ, Bool, true, false, List, [], ◌∷◌, ◌||◌, Option, Some, None, Result, Ok, Err, ◌⊎◌, inl, inr, refl, sym, ap, ◌∙◌, subst}
 use Rattle.std.specs.Prelude.{if◌then◌else◌, codes}
 use Rattle.std.specs.List.{list_any, find}
 use Rattle.std.specs.Option.{option_map}
@@ -18,14 +18,15 @@ use Rattle.carousel_shell.specs.Over.{Over, over, IsUntouched, TakesPrefix}
 use Rattle.carousel_shell.specs.Promises.{Keeps}
 use Rattle.carousel_shell.specs.declared.status.Status.{Status}
 use Rattle.carousel_shell.specs.declared.status.Status.TheVariants as status
-use Rattle.session_shell.specs.Session.{Plays}
-use Rattle.session_shell.specs.Commands.{is_session, names_session, begins_session, PlaysOrDeclines, KeepsSession, PlaysOrKeeps, KeepsAll}
+use Rattle.shell_words.specs.declared.words.Command.{Command}
+use Rattle.shell_words.specs.declared.words.Command.TheVariants as code
+use Rattle.session_shell.specs.Commands.{is_session, names_session, begins_session, PromisesSession, KeepsSession, PlaysOrKeeps, KeepsAll}
 
 abbrev says_session : Option Named → Bool
 says_session (Some c) = is_session c
 says_session None = false
 
--- ---- what the words behind each keyword but `session` say
+-- ---- what the words behind each keyword but `session` and `big` say
 
 mapped : {A : Type 0} (name : A → Named) → ((a : A) → is_session (name a) ≡ false) → (o : Option A) → says_session (option_map name o) ≡ false
 mapped name h (Some a) = h a
@@ -62,11 +63,6 @@ rehearse : (words : List Bytes) → says_session (commands.rehearse_by words) �
 rehearse [] = refl
 rehearse (word ∷ words) = refl
 
-big : (words : List Bytes) → says_session (commands.big_by words) ≡ false
-big [] = refl
-big (n ∷ []) = mapped commands.Big (λ a. refl) (decimal_in 1 16 n)
-big (n ∷ m ∷ words) = refl
-
 find_one : (words : List Bytes) → says_session (commands.find_by words) ≡ false
 find_one [] = refl
 find_one (c ∷ []) = mapped commands.Find (λ a. refl) (commands.any_u32_in c)
@@ -100,8 +96,8 @@ among : (word : Bytes) (words : List Bytes) (cs : List Reader) → NoneSays word
 among word words [] h = refl
 among word words (c ∷ cs) h = one_of (bytes_eq word c.0) words c (find (λ (c : Reader). bytes_eq word c.0) cs) h.0 (among word words cs h.1)
 
-named : (word : Bytes) (words : List Bytes) → bytes_eq word (codes "session") ≡ false → says_session (commands.named word words) ≡ false
-named word words other = among word words commands.commands (
+named : (word : Bytes) (words : List Bytes) → bytes_eq word (codes "session") ≡ false → bytes_eq word (codes "big") ≡ false → says_session (commands.named word words) ≡ false
+named word words other small = among word words commands.commands (
   λ e. assemble words,
   (
     λ e. open_paths words,
@@ -116,7 +112,7 @@ named word words other = among word words commands.commands (
             (
               λ e. absurd (true≢false (sym e ∙ other)),
               (
-                λ e. big words,
+                λ e. absurd (true≢false (sym e ∙ small)),
                 (λ e. find_one words, (λ e. open_by_id words, (λ e. mapped (λ p. commands.PublishPsi p.0 p.1 p.2) (λ a. refl) (commands.publication_in words), tt))),
               ),
             ),
@@ -132,9 +128,18 @@ fitting true o h = refl
 fitting false (Some c) h = h
 fitting false None h = refl
 
+neither_first : (a b : Bool) → (a || b) ≡ false → a ≡ false
+neither_first true b h = h
+neither_first false b h = refl
+
+neither_second : (a b : Bool) → (a || b) ≡ false → b ≡ false
+neither_second true b h = cc
+neither_second false b h = h
+
 pub not_named : (words : List Bytes) → begins_session words ≡ false → names_session (command_of words) ≡ false
 not_named [] other = refl
-not_named (word ∷ words) other = fitting (list_any begins_with_dash (word ∷ words)) (commands.named word words) (named word words other)
+not_named (word ∷ words) other = fitting (list_any begins_with_dash (word ∷ words)) (commands.named word words)
+    (named word words (neither_first (bytes_eq word (codes "session")) (bytes_eq word (codes "big")) other) (neither_second (bytes_eq word (codes "session")) (bytes_eq word (codes "big")) other))
 
 -- ---- what is promised
 
@@ -151,55 +156,102 @@ pub keeps_plain : (words : List Bytes) (s : Status) (source sink : Over Bytes) (
     → Keeps (command_of words) s source sink folders → KeepsAll (command_of words) s source sink folders
 keeps_plain words s source sink folders other k = keeps_by (names_session (command_of words)) (command_of words) s source sink folders (not_named words other) k
 
-behind_session : (b : Bool) (s : Status) (source sink : Over Bytes) (folders : Over FolderTree) → KeepsSession (if b then Err commands.Words else Err commands.Words) s source sink
-    → KeepsAll (if b then Err commands.Words else Err commands.Words) s source sink folders
-behind_session true s source sink folders k = k
-behind_session false s source sink folders k = k
+-- whether they name a session or nothing
+abbrev is_session_or_none : Result Named Misfit → Bool
+is_session_or_none (Ok c) = is_session c
+is_session_or_none (Err misfit) = true
 
-with_session : (words : List Bytes) (s : Status) (source sink : Over Bytes) (folders : Over FolderTree) → KeepsSession (command_of (codes "session" ∷ words)) s source sink
-    → KeepsAll (command_of (codes "session" ∷ words)) s source sink folders
-with_session [] s source sink folders k = k
-with_session (word ∷ words) s source sink folders k = behind_session (list_any begins_with_dash (codes "session" ∷ word ∷ words)) s source sink folders k
+either : (b : Bool) → is_session_or_none (if b then Err commands.Words else Err commands.Words) ≡ true
+either true = refl
+either false = refl
 
--- where it is that of a session
+sized : (b : Bool) (n : Option ℕ) → is_session_or_none (if b then Err commands.Words else or_misfit (option_map commands.Big n)) ≡ true
+sized true n = refl
+sized false (Some n) = refl
+sized false None = refl
+
+behind_session : (words : List Bytes) → is_session_or_none (command_of (codes "session" ∷ words)) ≡ true
+behind_session [] = refl
+behind_session (word ∷ words) = either (list_any begins_with_dash (codes "session" ∷ word ∷ words))
+
+behind_big : (words : List Bytes) → is_session_or_none (command_of (codes "big" ∷ words)) ≡ true
+behind_big [] = refl
+behind_big (n ∷ []) = sized (list_any begins_with_dash (codes "big" ∷ n ∷ [])) (decimal_in 1 16 n)
+behind_big (n ∷ m ∷ words) = either (list_any begins_with_dash (codes "big" ∷ n ∷ m ∷ words))
+
+behind : (a b : Bool) (word : Bytes) (words : List Bytes) → bytes_eq word (codes "session") ≡ a → bytes_eq word (codes "big") ≡ b → (a || b) ≡ true
+    → is_session_or_none (command_of (word ∷ words)) ≡ true
+behind true b word words e f h =
+    let is : word ≡ codes "session" = (bytes_eq-Decides word (codes "session")).0 e in
+    subst (λ (w : Bytes). is_session_or_none (command_of (w ∷ words)) ≡ true) (sym is) (behind_session words)
+behind false true word words e f h =
+    let is : word ≡ codes "big" = (bytes_eq-Decides word (codes "big")).0 f in
+    subst (λ (w : Bytes). is_session_or_none (command_of (w ∷ words)) ≡ true) (sym is) (behind_big words)
+behind false false word words e f h = absurd (true≢false (sym h))
+
+by_session : (b : Bool) (c : Named) (s : Status) (source sink : Over Bytes) (folders : Over FolderTree) → b ≡ true → KeepsSession (Ok c) s source sink
+    → PlaysOrKeeps b (Ok c) s source sink folders
+by_session true c s source sink folders e k = k
+by_session false c s source sink folders e k = absurd (true≢false (sym e))
+
+by_words : (r : Result Named Misfit) (s : Status) (source sink : Over Bytes) (folders : Over FolderTree) → is_session_or_none r ≡ true → KeepsSession r s source sink
+    → KeepsAll r s source sink folders
+by_words (Ok c) s source sink folders e k = by_session (is_session c) c s source sink folders e k
+by_words (Err misfit) s source sink folders e k = k
+
+-- where the first word is that of a session
 pub keeps_session : (words : List Bytes) (s : Status) (source sink : Over Bytes) (folders : Over FolderTree) → begins_session words ≡ true → KeepsSession (command_of words) s source sink
     → KeepsAll (command_of words) s source sink folders
 keeps_session [] s source sink folders first k = absurd (true≢false (sym first))
 keeps_session (word ∷ words) s source sink folders first k =
-    let is : word ≡ codes "session" = (bytes_eq-Decides word (codes "session")).0 first in
-    let P : Bytes → Type 0 = λ w. KeepsSession (command_of (w ∷ words)) s source sink → KeepsAll (command_of (w ∷ words)) s source sink folders in
-    subst P (sym is) (with_session words s source sink folders) k
+    by_words (command_of (word ∷ words)) s source sink folders (behind (bytes_eq word (codes "session")) (bytes_eq word (codes "big")) word words refl refl first) k
 
-plays_by : (b : Bool) (s : Status) (source sink : Over Bytes) → b ≡ true → Plays s source sink → PlaysOrDeclines b s source sink
-plays_by true s source sink first p = p
-plays_by false s source sink first p = absurd (true≢false (sym first))
+-- the words name nothing, so nothing was done
+pub words_decline : (r : Result Named Misfit) (misfit : Misfit) (source sink : Over Bytes) → r ≡ Err misfit → IsUntouched source → IsUntouched sink → KeepsSession r status.Words source sink
+words_decline r misfit source sink is e f =
+    subst (λ (q : Result Named Misfit). KeepsSession q status.Words source sink) (sym is) (record { ends = inl refl; unread = e; unwritten = f })
 
--- where the words name a session
-pub named_plays : (r : Result Named Misfit) (s : Status) (source sink : Over Bytes) → names_session r ≡ true → Plays s source sink → KeepsSession r s source sink
-named_plays r s source sink first p = plays_by (names_session r) s source sink first p
-
-words_by : (b : Bool) (source sink : Over Bytes) → b ≡ false → IsUntouched source → IsUntouched sink → PlaysOrDeclines b status.Words source sink
-words_by true source sink other e f = absurd (true≢false other)
-words_by false source sink other e f = record { ends = inl refl; unread = e; unwritten = f }
-
--- where they name none, nothing was done
-pub words_decline : (r : Result Named Misfit) (source sink : Over Bytes) → names_session r ≡ false → IsUntouched source → IsUntouched sink → KeepsSession r status.Words source sink
-words_decline r source sink other e f = words_by (names_session r) source sink other e f
-
-memory_by : (b : Bool) (source sink : Over Bytes) → IsUntouched source → IsUntouched sink → PlaysOrDeclines b status.NoMemory source sink
-memory_by true source sink e f = record { ends = inl f; takes = takes_nothing source e }
-memory_by false source sink e f = record { ends = inr refl; unread = e; unwritten = f }
+-- a command of another kind names no session
+pub others_decline : (command : Command) (source sink : Over Bytes) → (command ≡ code.Session → ⊥) → ((size : ℕ) → command ≡ code.Big size → ⊥) → IsUntouched source → IsUntouched sink
+    → PromisesSession (commands.view command) status.Words source sink
+others_decline (code.Assemble id version size download) source sink other small e f = record { ends = inl refl; unread = e; unwritten = f }
+others_decline (code.OpenSections paths) source sink other small e f = record { ends = inl refl; unread = e; unwritten = f }
+others_decline (code.Open pid paths) source sink other small e f = record { ends = inl refl; unread = e; unwritten = f }
+others_decline (code.Record pid) source sink other small e f = record { ends = inl refl; unread = e; unwritten = f }
+others_decline (code.List pid) source sink other small e f = record { ends = inl refl; unread = e; unwritten = f }
+others_decline (code.Publish folder carousel cycles) source sink other small e f = record { ends = inl refl; unread = e; unwritten = f }
+others_decline code.Rehearse source sink other small e f = record { ends = inl refl; unread = e; unwritten = f }
+others_decline code.Session source sink other small e f = absurd (other refl)
+others_decline (code.Big size) source sink other small e f = absurd (small size refl)
+others_decline (code.Find carousel) source sink other small e f = record { ends = inl refl; unread = e; unwritten = f }
+others_decline (code.OpenId carousel paths) source sink other small e f = record { ends = inl refl; unread = e; unwritten = f }
+others_decline (code.PublishPsi folder carousel cycles) source sink other small e f = record { ends = inl refl; unread = e; unwritten = f }
 
 -- there was no memory before a session began
 pub memory_declines : (r : Result Named Misfit) (source sink : Over Bytes) → IsUntouched source → IsUntouched sink → KeepsSession r status.NoMemory source sink
-memory_declines r source sink e f = memory_by (names_session r) source sink e f
+memory_declines (Err misfit) source sink e f = record { ends = inr refl; unread = e; unwritten = f }
+memory_declines (Ok command) source sink e f = by command
+  where
+    by : (command : Named) → KeepsSession (Ok command) status.NoMemory source sink
+    by (commands.Assemble id version size download) = record { ends = inr refl; unread = e; unwritten = f }
+    by (commands.OpenSections paths) = record { ends = inr refl; unread = e; unwritten = f }
+    by (commands.Open pid paths) = record { ends = inr refl; unread = e; unwritten = f }
+    by (commands.Record pid) = record { ends = inr refl; unread = e; unwritten = f }
+    by (commands.ListAll pid) = record { ends = inr refl; unread = e; unwritten = f }
+    by (commands.Publish folder carousel cycles) = record { ends = inr refl; unread = e; unwritten = f }
+    by commands.Rehearse = record { ends = inr refl; unread = e; unwritten = f }
+    by commands.Session = record { ends = inl f; takes = takes_nothing source e }
+    by (commands.Big size) = record { unread = e; keeps = inl f }
+    by (commands.Find carousel) = record { ends = inr refl; unread = e; unwritten = f }
+    by (commands.OpenId carousel paths) = record { ends = inr refl; unread = e; unwritten = f }
+    by (commands.PublishPsi folder carousel cycles) = record { ends = inr refl; unread = e; unwritten = f }
 
 -- the sink that the output lends is the one that was handed in
-pub plays_over : {X : Type 0} (s : Status) (source : Over Bytes) (content : X → Option Bytes) (faults : X → ℕ) (begin end first last : X) → begin ≡ first → end ≡ last
-    → Plays s source (over content faults begin end) → Plays s source (over content faults first last)
-plays_over {X} s source content faults begin end first last a b p =
-    let P : X → Type 0 = λ x. Plays s source (over content faults x end) in
-    let Q : X → Type 0 = λ x. Plays s source (over content faults first x) in
+pub promises_over : {X : Type 0} (c : Named) (s : Status) (source : Over Bytes) (content : X → Option Bytes) (faults : X → ℕ) (begin end first last : X) → begin ≡ first → end ≡ last
+    → PromisesSession c s source (over content faults begin end) → PromisesSession c s source (over content faults first last)
+promises_over {X} c s source content faults begin end first last a b p =
+    let P : X → Type 0 = λ x. PromisesSession c s source (over content faults x end) in
+    let Q : X → Type 0 = λ x. PromisesSession c s source (over content faults first x) in
     subst Q b (subst P a p)
 
 -- nor is a write tried there after one that failed

@@ -1,2 +1,4 @@
 mod Choosing
 mod Playing
+mod Tallies
+mod Making

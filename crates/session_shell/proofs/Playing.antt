@@ -28,11 +28,11 @@ use Rattle.session_shell.specs.Session.{EndsSession, Plays, report_of_told}
 
 -- ---- what was written, by what was put
 
-writes_all : {T : Type 0} {x : T} {old new : OutputState} {text : Bytes} → old.pending ≡ [] → new.pending ≡ [] → Puts (Ok x) old new text → WritesAll (sent old new) text
+pub writes_all : {T : Type 0} {x : T} {old new : OutputState} {text : Bytes} → old.pending ≡ [] → new.pending ≡ [] → Puts (Ok x) old new text → WritesAll (sent old new) text
 writes_all {text = text} before after puts = told_weaker puts.ok (λ x y s.
     s.after_is ∙ ap (λ bs. x ++ bs) (sym (append-nil s.sent) ∙ ap (λ bs. s.sent ++ bs) (sym after) ∙ sym s.split ∙ ap (λ bs. bs ++ text) before))
 
-writes_prefix : {T : Type 0} {f : OutputFault} {old new : OutputState} {text : Bytes} → old.pending ≡ [] → Puts {T = T} (Err f) old new text → WritesPrefix (sent old new) text
+pub writes_prefix : {T : Type 0} {f : OutputFault} {old new : OutputState} {text : Bytes} → old.pending ≡ [] → Puts {T = T} (Err f) old new text → WritesPrefix (sent old new) text
 writes_prefix {text = text} before puts = told_weaker puts.err (λ x y e. record {
   part = e.sends.sent;
   after_is = e.sends.after_is;

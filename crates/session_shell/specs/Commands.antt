@@ -1,43 +1,48 @@
--- What is promised of all commands: of `session` what its own page says, and of every other one what a run without threads promises.
-use Rattle.std.specs.Prelude.{Bool, true, false, List, [], ◌∷◌, Result, Ok, Err, codes}
+-- What is promised of all commands: of `session` and `big` what their own pages say, and of every other one what a run without threads
+-- promises.
+use Rattle.std.specs.Prelude.{Bool, true, false, ◌||◌, List, [], ◌∷◌, Result, Ok, Err, codes}
 use Rattle.std.specs.Str.{bytes_eq}
 use Rattle.folder_store.specs.Folders.{FolderTree}
 use Rattle.shell_words.specs.Words as commands
 use Rattle.shell_streams.specs.Cuts.{Bytes}
 use Rattle.carousel_shell.specs.Over.{Over}
-use Rattle.carousel_shell.specs.Promises.{Declines, Keeps}
+use Rattle.carousel_shell.specs.Promises.{Declines, Keeps, WithoutInput}
 use Rattle.carousel_shell.specs.declared.status.Status.{Status}
 use Rattle.session_shell.specs.Session.{Plays}
+use Rattle.session_shell.specs.Big.{PlaysBig}
 
--- whether this is the command of a session
+-- whether this command plays a session: that of a script which is read, or of a generated one
 abbrev pub is_session : commands.Named → Bool
 is_session commands.Session = true
+is_session (commands.Big size) = true
 is_session _ = false
 
--- whether the words name one
+-- whether the words name one that does
 abbrev pub names_session : Result commands.Named commands.Misfit → Bool
 names_session (Ok command) = is_session command
 names_session (Err misfit) = false
 
--- whether the first word is that of a session
+-- whether the first word is that of one that does
 abbrev pub begins_session : List Bytes → Bool
 begins_session [] = false
-begins_session (word ∷ words) = bytes_eq word (codes "session")
+begins_session (word ∷ words) = bytes_eq word (codes "session") || bytes_eq word (codes "big")
 
--- ---- what is promised of a session alone
+-- ---- what is promised of sessions alone
 
-abbrev pub PlaysOrDeclines : Bool → Status → Over Bytes → Over Bytes → Type 0
-PlaysOrDeclines true s source sink = Plays s source sink
-PlaysOrDeclines false s source sink = Declines s source sink
+abbrev pub PromisesSession : commands.Named → Status → Over Bytes → Over Bytes → Type 0
+PromisesSession commands.Session s source sink = Plays s source sink
+PromisesSession (commands.Big size) s source sink = WithoutInput source (PlaysBig size s sink)
+PromisesSession _ s source sink = Declines s source sink
 
 -- the words name a session, or nothing is read or written
 abbrev pub KeepsSession : Result commands.Named commands.Misfit → Status → Over Bytes → Over Bytes → Type 0
-KeepsSession words s source sink = PlaysOrDeclines (names_session words) s source sink
+KeepsSession (Ok command) s source sink = PromisesSession command s source sink
+KeepsSession (Err misfit) s source sink = Declines s source sink
 
 -- ---- what is promised of all words
 
 abbrev pub PlaysOrKeeps : Bool → Result commands.Named commands.Misfit → Status → Over Bytes → Over Bytes → Over FolderTree → Type 0
-PlaysOrKeeps true words s source sink folders = Plays s source sink
+PlaysOrKeeps true words s source sink folders = KeepsSession words s source sink
 PlaysOrKeeps false words s source sink folders = Keeps words s source sink folders
 
 -- the words name a session, or what they name runs without threads

@@ -1,6 +1,8 @@
-//! The command `session`, which runs a script's actors on threads, and the one call that runs every command.
+//! The commands `session` and `big`, which run actors on threads, and the one call that runs every command.
 #![tactic(auto)]
 
+mod counts;
+mod generated;
 mod sessions;
 mod top;
 

@@ -33,7 +33,8 @@ const MEETING: &[u8] = b"commit 1\ncommit 2\ndraw 3\nopen 1 /\nopen 2 /\n";
 #[derive(Drop)]
 struct Meeting {
     actors: AtomicU64,
-    workers: AtomicU64,
+    first_worker: AtomicU64,
+    second_worker: AtomicU64,
     late: AtomicU64,
 }
 
@@ -41,16 +42,17 @@ impl Meeting {
     fn new() -> Meeting {
         Meeting {
             actors: AtomicU64::new(0),
-            workers: AtomicU64::new(0),
+            first_worker: AtomicU64::new(0),
+            second_worker: AtomicU64::new(0),
             late: AtomicU64::new(0),
         }
     }
 
-    /// Comes to a place, and waits until so many are there.
-    fn meet(&self, place: &AtomicU64, all: u64) {
-        place.fetch_add(1, Ordering::SeqCst);
+    /// Comes to a place, and waits until so many came to another one or the same.
+    fn meet(&self, own: &AtomicU64, other: &AtomicU64, all: u64) {
+        own.fetch_add(1, Ordering::SeqCst);
         for _ in 0..TURNS {
-            if place.load(Ordering::SeqCst) >= all {
+            if other.load(Ordering::SeqCst) >= all {
                 return;
             }
         }
@@ -60,7 +62,8 @@ impl Meeting {
     /// Whether all met, and nobody had to leave before.
     fn has_met(&self) -> bool {
         self.actors.load(Ordering::SeqCst) == 5
-            && self.workers.load(Ordering::SeqCst) == 2
+            && self.first_worker.load(Ordering::SeqCst) > 0
+            && self.second_worker.load(Ordering::SeqCst) > 0
             && self.late.load(Ordering::SeqCst) == 0
     }
 }
@@ -68,8 +71,9 @@ impl Meeting {
 impl Gate for Meeting {
     fn pass(&self, actor: Actor, step: u32) {
         match (actor, step) {
-            (Actor::Worker(_), _) => self.meet(&self.workers, 2),
-            (_, 0) => self.meet(&self.actors, 5),
+            (Actor::Worker(0), _) => self.meet(&self.first_worker, &self.second_worker, 1),
+            (Actor::Worker(_), _) => self.meet(&self.second_worker, &self.first_worker, 1),
+            (_, 0) => self.meet(&self.actors, &self.actors, 5),
             _ => {}
         }
     }
@@ -144,7 +148,7 @@ fn scripts_are_played(rt: HostRuntime) -> Result<(), Fail> {
         ("session", b"", 0, b""),
         ("session", b"put 1 /x 31\ncommit 1\nopen 1 x\n", 3, b""),
         ("session 1", WORKED, 2, b""),
-        ("big 1", b"", 2, b""),
+        ("big 0", b"", 2, b""),
         ("rehearse", b"commit 1\n", 0, b"commit 1 generation 1\n"),
     ];
     for (line, script, code, written) in rows {
@@ -190,13 +194,36 @@ fn each_failing_call_ends_the_session(rt: HostRuntime) -> Result<(), Fail> {
     Ok(())
 }
 
+/// The counts come from sums by hand: 32 files, of which the shortest has 1,000 bytes and each next one 500 more.
+#[test]
+fn a_generated_session_is_counted(rt: HostRuntime) -> Result<(), Fail> {
+    let alloc = rt.alloc();
+    let (status, sink) = outcome(&rt, alloc, "big 1", WORKED, NONE, &NoGate)?;
+    assert_eq!(rt; status.code(), 0);
+    assert_eq!(rt;
+        sink.written(),
+        b"big 1 editors 1 commits 4 files 32 bytes 280000\n".as_slice()
+    );
+
+    let failing = Failing {
+        read: Some(0),
+        write: Some(0),
+    };
+    let (status, sink) = outcome(&rt, alloc, "big 1", b"", failing, &NoGate)?;
+    assert_eq!(rt; status.code(), 5);
+    assert!(rt; sink.written().is_empty());
+    Ok(())
+}
+
 #[test]
 fn all_actors_are_at_work_at_once(rt: HostRuntime) -> Result<(), Fail> {
     let alloc = rt.alloc();
-    let gate = Meeting::new();
-    let (status, _sink) = outcome(&rt, alloc, "session", MEETING, NONE, &gate)?;
-    assert_eq!(rt; status.code(), 0);
-    assert!(rt; gate.has_met());
+    for (line, script) in [("session", MEETING), ("big 2", b"".as_slice())] {
+        let gate = Meeting::new();
+        let (status, _sink) = outcome(&rt, alloc, line, script, NONE, &gate)?;
+        assert_eq!(rt; status.code(), 0, "of {line}");
+        assert!(rt; gate.has_met(), "of {line}");
+    }
     Ok(())
 }
 

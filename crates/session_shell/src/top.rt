@@ -1,22 +1,24 @@
 ghost use Rattle.std.specs.Prelude.{◌≡◌, false, [], map};
 ghost use Rattle.std.specs.String.{string_bytes};
 ghost use Rattle.shell_words.specs.Words as commands;
-ghost use Rattle.carousel_shell.specs.Over.{over};
-ghost use Rattle.session_shell.specs.Commands.{KeepsAll, KeepsSession, begins_session, is_session as is_session_by_name};
+ghost use Rattle.shell_streams.specs.Sending.{IsInTime};
+ghost use Rattle.carousel_shell.specs.Over.{over, sent};
+ghost use Rattle.session_shell.specs.Commands.{KeepsAll, KeepsSession, PromisesSession, begins_session};
 
+use crate::generated::play_generated;
 use crate::sessions::play_session;
 use carousel_shell::{Status, run_plain};
 use folder_store::Folders;
 use oc_bytes::{Sink, Source};
 use section_workers::Gate;
-use shell_streams::{Buffered, room};
+use shell_streams::{Buffered, Output, room};
 use shell_words::{Command, WordsFault, command};
 use std::alloc::Global;
 use std::sync::Wait;
 use std::thread::Threads;
 
-/// Runs the command that the words name: they are the command line without the program's name. A `session` runs by `run_session`, and
-/// every other command by `run_plain`, which says what each of them answers. The first word alone decides between the two.
+/// Runs the command that the words name: they are the command line without the program's name. `session` and `big` run by `run_session`,
+/// and every other command by `run_plain`, which says what each of them answers. The first word alone decides between the two.
 ///
 /// The input comes from the source, the output goes to the sink, and the folders are those that `publish` and `publish-psi` read. Each
 /// actor of a session passes the gate before each of its steps. A write that fails is the last one that is tried, where none had failed
@@ -41,18 +43,21 @@ pub fn run<R: Threads + Wait + Sync, S: Source, K: Sink, F: Folders, G: Gate>(
     }
 }
 
-/// Runs `session`, on threads of its own: it reads a script and plays it with carousel 1, each editor, the feeder and each reader on
-/// a thread. It may wait for as long as one of them does.
+/// Runs `session` or `big`, on threads of its own: it plays a script with carousel 1, each editor, the feeder and each reader on a thread.
+/// The script of `session` is the input; that of `big` is generated, of the size that its word names, and nothing is read. It may wait
+/// for as long as one of the actors does.
 ///
-/// - `Words` comes before all else: where the words are those of another command, of `big`, which isn't built yet, or of none. Nothing was
-///   read or written.
-/// - The whole input is read before anything else is done. While it reads come `ReadFault`, where the source fails, and `InputTooLong`
-///   where a byte is left after 16,777,216. Then comes `BadLine` where the input is no script. Nothing was written up to there.
+/// - `Words` comes before all else: where the words are those of another command or of none. Nothing was read or written.
+/// - `session` reads the whole input before anything else is done. While it reads come `ReadFault`, where the source fails, and
+///   `InputTooLong` where a byte is left after 16,777,216. Then comes `BadLine` where the input is no script. Nothing was written up to
+///   there.
 /// - Then the session is played to its end. What the actors did is one history: each editor's commits stand in written order, but for
 ///   those that found no room; the draws stand in written order; and so do each reader's opens, each after the draws that it has to have
-///   heard, and right after the last draw before what it is answered on. Each line tells what comes of what stands before it.
-/// - `Done` comes when the whole report of that history was written, and `WriteFault`, where the sink fails, when a prefix of it was.
-/// - `NoMemory` comes where there is no memory, at any of these steps. Nothing was written, or a prefix of the report.
+///   heard, and right after the last draw before what it is answered on.
+/// - `session` writes the report of that history, in which each line tells what comes of what stands before it. `big` writes one line of
+///   it: its editors, its accepted commits, the last opens that answered a file, and the bytes of these files.
+/// - `Done` comes when all of that was written, and `WriteFault`, where the sink fails, when a prefix of it was.
+/// - `NoMemory` comes where there is no memory, at any of these steps. Nothing was written, or a prefix of what `Done` stands for.
 ///
 /// Below `start` each editor, the feeder and each reader passes the gate before each of its lines, with steps counted from 0; the two
 /// workers that make a draw's sections pass it too. What was written stands after what the sink had. A write that
@@ -74,20 +79,33 @@ pub fn run_session<R: Threads + Wait + Sync, S: Source, K: Sink, G: Gate>(
         Err(WordsFault::Words) => return Status::Words,
         Err(WordsFault::NoMemory) => return Status::NoMemory,
     };
-    if !is_session(&command) {
-        return Status::Words;
-    }
     let Ok(mut room) = room(alloc) else {
         return Status::NoMemory;
     };
     let mut out = Buffered::new(sink, &mut room);
-    play_session(rt, alloc, source, &mut out, gate)
+    play_command(rt, alloc, &command, source, &mut out, gate)
 }
 
-fn is_session(command: &Command) -> bool
-    ensures { result ≡ is_session_by_name (commands.view command.now) }
+/// Plays the session that the command names; every other command names none.
+fn play_command<R: Threads + Wait + Sync, S: Source, O: Output, G: Gate>(
+    rt: &R,
+    alloc: Global,
+    command: &Command,
+    source: &mut S,
+    out: &mut O,
+    gate: &G,
+) -> Status
+    requires sized { commands.IsSized command.now }
+    requires pending { (O.state out.old).pending ≡ [] }
+    ensures promises { PromisesSession (commands.view command.now) result (over S.left S.faults source.old source.new) (sent (O.state out.old) (O.state out.new)) }
+    ensures same { (O.state out.new).name ≡ (O.state out.old).name }
+    ensures in_time { IsInTime (O.state out.old) (O.state out.new) }
 {
-    matches!(command, Command::Session)
+    match command {
+        Command::Session => play_session(rt, alloc, source, out, gate),
+        Command::Big(size) => play_generated(rt, alloc, *size, out, gate),
+        _ => Status::Words,
+    }
 }
 
 /// Whether the first word is that of a session.
@@ -95,7 +113,7 @@ fn begins_a_session(words: &[String]) -> bool
     ensures { result ≡ begins_session (map string_bytes words.now) }
 {
     match words.first() {
-        Some(word) => word.as_str() == "session",
+        Some(word) => word.as_str() == "session" || word.as_str() == "big",
         None => false,
     }
 }

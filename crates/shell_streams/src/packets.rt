@@ -9,7 +9,7 @@ use crate::input::InputFault;
 use crate::sections::goes_on;
 use crate::unread::Unread;
 use oc_bytes::{Failed, NoMemory, Source};
-use section_stream::Demux;
+use section_stream::PacketDemux;
 use std::alloc::Global;
 
 /// The most packets that are taken.
@@ -22,7 +22,7 @@ pub const PACKET: usize = 188;
 #[derive(Drop)]
 pub struct PacketReader {
     unread: Unread,
-    demux: Demux,
+    demux: PacketDemux,
     /// How many packets may still be taken.
     most: u32,
 }
@@ -34,7 +34,7 @@ impl PacketReader {
     {
         Ok(PacketReader {
             unread: Unread::new(alloc)?,
-            demux: Demux::new(alloc, pid)?,
+            demux: PacketDemux::new(alloc, pid)?,
             most: MOST_PACKETS,
         })
     }

@@ -2,7 +2,7 @@ use Rattle.std.proofs.Common.{refl, ap, ◌∙◌}
 use Rattle.std.proofs.lemmas.Result.{err_from_is_err_and}
 use Rattle.psi_tables.specs.Finding.{found_in}
 use Rattle.shell_streams.specs.Carriers.{all_packets}
-use Rattle.carousel_shell.proofs.Replying.{hears_no_memory, hears_stopped}
+use Rattle.carousel_shell.proofs.Replying.{hears_no_memory}
 use Rattle.carousel_shell.proofs.find.place.Goals as goal
 
 pub returns-in_err-finder : goal.returns-in_err-finder

@@ -1,8 +1,7 @@
 use Rattle.std.proofs.Common.{refl, ap}
 use Rattle.std.proofs.lemmas.Result.{err_from_is_err_and}
-use Rattle.shell_streams.specs.Carriers.{all_packets}
 use Rattle.carousel_shell.specs.OpenId.{sections_by_id}
-use Rattle.carousel_shell.proofs.Replying.{hears_no_memory, hears_memory_after, hears_stopped}
+use Rattle.carousel_shell.proofs.Replying.{hears_no_memory, hears_memory_after}
 use Rattle.carousel_shell.proofs.Seeking.{seeks_first, heard_by_id}
 use Rattle.carousel_shell.proofs.open_id.receive_by_id.Goals as goal
 

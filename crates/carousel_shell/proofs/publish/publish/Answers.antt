@@ -1,8 +1,14 @@
-use Rattle.std.proofs.Common.{sym, subst, refl}
+use Rattle.std.proofs.Common.{sym, subst, refl, arith}
 use Rattle.generation.specs.Layouts.{GenerationState}
 use Rattle.carousel_shell.specs.Cycles.{IsOfFolder}
-use Rattle.carousel_shell.proofs.Committing.{publishes_none, publishes_all, publishes_part}
+use Rattle.carousel_shell.proofs.Committing.{cycle_like, publishes_none, publishes_all, publishes_part}
 use Rattle.carousel_shell.proofs.publish.publish.Goals as goal
+
+pub send-requires : goal.send-requires
+send-requires g c =
+    let G : GenerationState → Type 0 = λ s. IsOfFolder c.args.folder.now c.args.carousel (g.F.Folders.tree c.args.folders.now) s in
+    let of = subst G (sym c.deref.ensures) c.in-Ok.ensures.made in
+    cycle_like c.args.folder.now c.args.carousel _ c.deref.result.now c.publications_can_be_packed.ensures c.generations_are_of_the_lists.ensures (omega (arith, c.ranges.carousel.fits)) of
 
 pub returns-in-Ok-send-clause-publishes : goal.returns-in-Ok-send-clause-publishes
 returns-in-Ok-send-clause-publishes g c =

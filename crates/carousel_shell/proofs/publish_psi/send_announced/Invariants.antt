@@ -3,8 +3,7 @@ use Rattle.std.specs.List.{concat}
 use Rattle.cycle_planner.specs.Cycle.{cycle_of}
 use Rattle.generation.specs.Layouts.{lines_of, section_of}
 use Rattle.shell_streams.specs.Sending.{HasPut}
-use Rattle.carousel_shell.specs.PublishPsi.{cycles_sent, senders_start}
-use Rattle.carousel_shell.proofs.Announcing.{after_cycles}
+use Rattle.carousel_shell.specs.Announced.{after_cycles, cycles_sent, senders_start}
 use Rattle.carousel_shell.proofs.publish_psi.send_announced.Given as goal
 
 abbrev pub invariant-loop : goal.invariant-loop

@@ -2,14 +2,20 @@ use Rattle.std.proofs.Common.{◌≡◌, ◌∙◌, ap, map, sym, subst}
 use Rattle.std.specs.List.{zip}
 use Rattle.module_packer.specs.Placement.{IsPlacement}
 use Rattle.module_packer.specs.Kept.{AreObjects}
-use Rattle.generation.specs.Publication.{spots_of, sizes_of}
+use Rattle.generation.specs.Publication.{spots_of, sizes_of, AreRising}
 use Rattle.generation.specs.Layouts.{old_keys, keys_of, modules_for}
 use Rattle.generation.specs.View.{view_spot, view_placed}
 use Rattle.generation.proofs.Writing.{keys_are}
 use Rattle.generation.proofs.Placing.{within_limits, objects_arm, ready_arm}
 use Rattle.generation.proofs.Filling.{lines_arm}
+use Rattle.generation.proofs.Rising.{rising_all}
 use Rattle.generation.proofs.Staying.{are_objects, old_arm, few_old, read_objects, placed_for}
 use Rattle.generation.proofs.made.objects_after.Goals as goal
+
+pub former_of-requires-clause-rising : goal.former_of-requires-clause-rising
+former_of-requires-clause-rising c =
+    let t = c.args.tree.now in
+    subst AreRising (sym (ap (map (view_spot t)) c.deref-2.ensures.value ∙ c.in_ok-spots.ensures.spots)) (rising_all t c.in_ok-spots.ensures.tree)
 
 pub modules-requires : goal.modules-requires
 modules-requires c =
@@ -66,7 +72,7 @@ pub returns-clause-old : goal.returns-clause-old
 returns-clause-old c =
     let t = c.args.tree.now in
     let old = map (view_placed c.args.old_tree.now) c.args.old.now in
-    old_arm c.place_all.result t (keys_of old (spots_of t)) (modules_for old t) (placed c).1 (returns-clause-objects c)
+    old_arm c.place_all.result t old (modules_for old t) c.in_ok-spots.ensures.tree (placed c).1 (returns-clause-objects c)
 
 pub returns-clause-lines : goal.returns-clause-lines
 returns-clause-lines c =

@@ -34,7 +34,7 @@ perform-told-requires-clause-set_up g c = λ κs within.
       editors_are = refl;
       readers_are = refl;
       shown = first_shown c.in_ok-downlink.downlink (arc_value c.in_ok-first.first) (shown_by c.in_ok-shower.shower) c.in_ok-downlink.ensures c.in_ok-shower.ensures.list
-          (c.in_ok-first.ensures.held 256 [] [] c.in_ok-downlink.ensures);
+          (c.in_ok-first.ensures.held 256 [] [] [] c.in_ok-downlink.ensures);
       viewers_are = new_viewers setting (shower_board c.in_ok-shower.shower) (most_by c.in_ok-shower.shower) (shown_by c.in_ok-shower.shower) refl most c.in_ok-shower.viewers.items c.in_ok-shower.ensures.viewers;
     } in
     (view c.args.script, setting, begun, record { board = refl; most = most })
@@ -52,7 +52,7 @@ returns g c =
       editors_are = refl;
       readers_are = refl;
       shown = first_shown c.in_ok-downlink.downlink (arc_value c.in_ok-first.first) (shown_by c.in_ok-shower.shower) c.in_ok-downlink.ensures c.in_ok-shower.ensures.list
-          (c.in_ok-first.ensures.held 256 [] [] c.in_ok-downlink.ensures);
+          (c.in_ok-first.ensures.held 256 [] [] [] c.in_ok-downlink.ensures);
       viewers_are = new_viewers setting (shower_board c.in_ok-shower.shower) (most_by c.in_ok-shower.shower) (shown_by c.in_ok-shower.shower) refl most c.in_ok-shower.viewers.items c.in_ok-shower.ensures.viewers;
     } in
     if_ok_map c.perform-told.result (λ told f. f (view c.args.script) setting begun (record { board = refl; most = most })) c.perform-told.ensures

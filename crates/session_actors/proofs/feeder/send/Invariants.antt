@@ -3,12 +3,12 @@ use Rattle.generation.specs.Layouts.{section_of}
 use Rattle.carousel_world.proofs.CallerLemmas.{SentSo}
 use Rattle.session_actors.proofs.feeder.send.Given as goal
 
--- the items so far were sent
-abbrev pub invariant-loop-sent : goal.invariant-loop-sent
-invariant-loop-sent g l = record {
+-- the items so far were sent, and the draw goes on
+abbrev pub invariant-loop-sections : goal.invariant-loop-sections
+invariant-loop-sections g l = record {
   within : l.sent ≤ length l.items;
   so : SentSo l.fn.downlink l.downlink l.fates l.number (map (section_of l.generation) (take l.sent l.items));
 }
 
-abbrev pub decreases-loop-sent : goal.decreases-loop-sent
-decreases-loop-sent g l = length l.items - l.sent
+abbrev pub decreases-loop-sections : goal.decreases-loop-sections
+decreases-loop-sections g l = length l.items - l.sent

@@ -1,4 +1,4 @@
-use Rattle.std.proofs.Common.{ℕ, refl, sym, ap, ◌∙◌, ◌++◌, ◌∷◌, []}
+use Rattle.std.proofs.Common.{refl, sym, ap, ◌∙◌, ◌++◌, ◌∷◌, []}
 use Rattle.section_stream.specs.Rules as streams
 use Rattle.psi_tables.specs.Finding.{found_in}
 use Rattle.carousel_shell.proofs.Seeking.{not_at, seeks_on, finds_now}

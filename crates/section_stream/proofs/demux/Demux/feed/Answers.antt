@@ -1,21 +1,18 @@
-use Rattle.std.proofs.Common.{◌≡◌, map}
-use Rattle.std.proofs.lemmas.Result.{IfOk-weaker}
+use Rattle.std.proofs.Common.{ap, map}
 use Rattle.section_stream.specs.Kept.{view_bytes}
-use Rattle.section_stream.specs.Rules.{step}
-use Rattle.section_stream.proofs.Feeding.{stands_by, cuts_by, short_by}
+use Rattle.section_stream.proofs.Feeding.{feed_stands, feed_cuts, feed_pid, feed_short}
 use Rattle.section_stream.proofs.demux.Demux.feed.Goals as goal
 
 pub returns-clause-stands : goal.returns-clause-stands
 returns-clause-stands c =
-    IfOk-weaker c.step.result (λ out. step c.args.self.now c.args.packet.now ≡ (c.step.new.self, map view_bytes out.items)) _
-    (λ out is. stands_by c.args.self.now c.step.new.self c.args.packet.now (map view_bytes out.items) is) c.step.ensures.ok
+    feed_stands c.args.self.now c.self.inside.receiver c.step.new.self c.self.inside.unfinished c.args.packet.now _ _ c.self.view_is (ap (map view_bytes) c.new-out.ensures.items) c.in_ok-step.ensures.ok
 
 pub returns-clause-cuts : goal.returns-clause-cuts
 returns-clause-cuts c =
-    IfOk-weaker c.step.result (λ out. step c.args.self.now c.args.packet.now ≡ (c.step.new.self, map view_bytes out.items)) _
-    (λ out is. cuts_by c.args.self.now c.step.new.self c.args.packet.now (map view_bytes out.items) is) c.step.ensures.ok
+    feed_cuts c.args.self.now c.self.inside.receiver c.step.new.self c.self.inside.unfinished c.args.packet.now _ _ c.self.view_is (ap (map view_bytes) c.new-out.ensures.items) c.in_ok-step.ensures.ok
+
+pub returns-clause-pid : goal.returns-clause-pid
+returns-clause-pid c = feed_pid c.args.self.now c.self.inside.receiver c.step.new.self c.self.inside.unfinished c.args.packet.now _ _ c.self.view_is c.in_ok-step.ensures.ok
 
 pub returns-clause-short : goal.returns-clause-short
-returns-clause-short c =
-    IfOk-weaker c.step.result (λ out. step c.args.self.now c.args.packet.now ≡ (c.step.new.self, map view_bytes out.items)) _
-    (λ out is. short_by c.args.self.now c.step.new.self c.args.packet.now (map view_bytes out.items) is) c.step.ensures.ok
+returns-clause-short c = feed_short c.args.self.now c.self.inside.receiver c.step.new.self c.self.inside.unfinished c.args.packet.now _ _ c.self.view_is c.in_ok-step.ensures.ok

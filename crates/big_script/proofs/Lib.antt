@@ -1,0 +1,4 @@
+mod Lists
+mod Arranging
+mod Naming
+mod Lining

@@ -1,0 +1,7 @@
+use Rattle.std.proofs.Common.{◌≡◌, drop, map}
+use Rattle.generation.specs.Merging.{from_path}
+use Rattle.generation.specs.View.{view_spot, view_placed}
+use Rattle.generation.proofs.former.seek.Given as goal
+
+abbrev pub invariant-loop-passed : goal.invariant-loop-passed
+invariant-loop-passed l = from_path (view_spot l.tree l.spot).path (map (view_placed l.old_tree) l.old) ≡ from_path (view_spot l.tree l.spot).path (map (view_placed l.old_tree) (drop l.passed l.old))

@@ -1,0 +1,84 @@
+ghost use Rattle.std.specs.Prelude.{◌≡◌, ◌≤◌, ◌+◌, ◌++◌, [], length, take, drop};
+
+use std::marker::Model;
+
+/// The size of a packet in bytes (ISO/IEC 13818-1, 2.4.3.2).
+pub const PACKET: usize = 188;
+
+/// At most 188 bytes, in place: nothing here takes memory.
+#[derive(Drop)]
+pub struct Piece {
+    bytes: [u8; 188],
+    len: usize,
+}
+
+impl Model for Piece {
+    ghost use Rattle.std.specs.Prelude.{◌≤◌, ℕ, List, take};
+
+    ghost Value = { List ℕ };
+
+    ghost view = { λ p. take p.len p.bytes };
+
+    ghost invariant = { λ p. p.len ≤ 188 };
+}
+
+impl Piece {
+    pub fn new() -> Piece
+        ensures { result ≡ [] }
+    {
+        Piece {
+            bytes: [0; 188],
+            len: 0,
+        }
+    }
+
+    #[inline]
+    pub fn len(&self) -> usize
+        ensures { result ≡ length self.now }
+    {
+        self.len
+    }
+
+    #[inline]
+    pub fn as_slice(&self) -> &[u8]
+        ensures { result.now ≡ self.now }
+    {
+        &self.bytes[..self.len]
+    }
+
+    /// Puts more bytes after these.
+    pub fn append(&mut self, more: &[u8])
+        requires { length self.old + length more.now ≤ 188 }
+        ensures { self.new ≡ self.old ++ more.now }
+    {
+        copy_at(&mut self.bytes, self.len, more);
+        self.len += more.len();
+    }
+
+    /// Keeps these bytes in place of those before.
+    pub fn replace(&mut self, bytes: &[u8])
+        requires { length bytes.now ≤ 188 }
+        ensures { self.new ≡ bytes.now }
+    {
+        copy_at(&mut self.bytes, 0, bytes);
+        self.len = bytes.len();
+    }
+
+    /// The packet that these bytes and those after them make.
+    pub fn completed(&self, behind: &[u8]) -> [u8; 188]
+        requires { length self.now + length behind.now ≡ 188 }
+        ensures { result ≡ self.now ++ behind.now }
+    {
+        let mut packet = self.bytes;
+        copy_at(&mut packet, self.len, behind);
+        packet
+    }
+}
+
+/// Writes these bytes from a place on.
+pub fn copy_at(to: &mut [u8], at: usize, bytes: &[u8])
+    requires { at + length bytes.now ≤ length to.old }
+    ensures { to.new ≡ take at to.old ++ (bytes.now ++ drop (at + length bytes.now) to.old) }
+{
+    to[at..at + bytes.len()].copy_from_slice(bytes);
+}

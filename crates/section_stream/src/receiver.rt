@@ -1,0 +1,186 @@
+ghost use Rattle.std.specs.Prelude.{◌≡◌, ◌++◌, ◌∷◌, ◌<◌, ◌≤◌, ◌+◌, ◌%◌, [], length, map, Ok, OnOk, OnErr, IfOk};
+ghost use Rattle.ts_packet.specs.Packets.{parsed, view};
+ghost use Rattle.section_stream.specs.Pieces.{packets_of, rest_of};
+ghost use Rattle.section_stream.specs.Rules.{HasRun, one_more, started, up};
+ghost use Rattle.section_stream.specs.Rules as rules;
+ghost use Rattle.section_stream.specs.Steps.{Gives};
+ghost use Rattle.section_stream.specs.Kept.{view_bytes};
+
+use crate::counts::{Aside, Counts, count_aside, nothing_counted, up, with_packet};
+use crate::open_section::OpenSection;
+use crate::payload::payload_done;
+use crate::piece::PACKET;
+use oc_bytes::NoMemory;
+use std::alloc::Global;
+use std::marker::Model;
+use ts_packet::{Packet, parse};
+
+/// What is kept of the packets of one PID: the last that counts, the open section and the counts.
+#[derive(Drop)]
+pub struct Receiver {
+    alloc: Global,
+    pid: u16,
+    /// The last packet that had the PID and a payload and was no duplicate. Before the first it is all
+    /// zeros, which is no packet.
+    last: [u8; 188],
+    opened: OpenSection,
+    counts: Counts,
+}
+
+impl Model for Receiver {
+    ghost use Rattle.section_stream.specs.Rules.{Receiving};
+
+    ghost Value = { Receiving };
+
+    ghost use Rattle.section_stream.specs.Kept.{view_receiver};
+
+    ghost view = { view_receiver };
+}
+
+/// What a packet is to the receiver of one PID.
+#[derive(Clone, Copy)]
+enum Class<'a> {
+    /// It is counted, and nothing else.
+    Aside(Aside),
+    /// It is taken; whether packets before it are missing.
+    Taken(Packet<'a>, bool),
+}
+
+/// The continuity counter after this one.
+#[inline]
+fn counter_after(counter: u8) -> u8
+    ensures { result ≡ (counter + 1) % 16 }
+{
+    ((u16::from(counter) + 1) % 16) as u8
+}
+
+impl Receiver {
+    ghost use Rattle.section_stream.specs.Classes.{IsClass};
+
+    /// A receiver of the PID `pid` that has had no packet. It reserves all the memory that it keeps.
+    pub fn new(alloc: Global, pid: u16) -> Result<Receiver, NoMemory>
+        ensures { IfOk result (λ r. r ≡ started pid) }
+    {
+        Ok(Receiver {
+            alloc,
+            pid,
+            last: [0; 188],
+            opened: OpenSection::new(alloc)?,
+            counts: nothing_counted(),
+        })
+    }
+
+    /// Becomes as another one is. It takes no memory.
+    pub fn copy(&mut self, from: &Receiver)
+        ensures { self.new ≡ from.now }
+    {
+        self.pid = from.pid;
+        self.last = from.last;
+        self.opened.copy(&from.opened);
+        self.counts = from.counts;
+    }
+
+    /// The whole packets at the front of some bytes, one after another, with their candidates after those
+    /// in `out`; gives the bytes after them. After out of memory some of the packets were taken.
+    pub fn take_all<'a>(
+        &mut self,
+        bytes: &'a [u8],
+        out: &mut Vec<Vec<u8>>,
+    ) -> Result<&'a [u8], NoMemory>
+        ensures run { OnOk result (HasRun self.old self.new (packets_of bytes.now) (map view_bytes out.old.items) (map view_bytes out.new.items)) }
+        ensures rest { IfOk result (λ rest. (rest.now ≡ rest_of bytes.now) × (length rest.now < 188)) }
+    {
+        let mut rest = bytes;
+        while let Some(packet) = rest.first_chunk::<PACKET>() {
+            self.step(packet, out)?;
+            rest = &rest[PACKET..];
+        }
+        Ok(rest)
+    }
+
+    /// One packet by the receiver's rules, with its candidates after those in `out`. After out of memory
+    /// the packet isn't taken.
+    #[inline]
+    pub fn step(&mut self, packet: &[u8; 188], out: &mut Vec<Vec<u8>>) -> Result<(), NoMemory>
+        ensures ok { OnOk result (Gives (rules.step self.old packet.now) self.new (map view_bytes out.old.items) (map view_bytes out.new.items)) }
+        ensures err { OnErr result (self.new ≡ self.old) }
+    {
+        match self.classify(packet) {
+            Class::Aside(aside) => {
+                count_aside(&mut self.counts, aside);
+                Ok(())
+            }
+            Class::Taken(fields, jumped) => self.take(packet, fields, jumped, out),
+        }
+    }
+
+    /// What a packet is, by the packet that was kept before it.
+    #[inline]
+    fn classify<'a>(&self, packet: &'a [u8; 188]) -> Class<'a>
+        ensures { IsClass self.now packet.now result }
+    {
+        let fields = match parse(packet) {
+            Ok(fields) => fields,
+            Err(fault) => return Class::Aside(Aside::Fault(fault)),
+        };
+        if fields.pid != self.pid {
+            return Class::Aside(Aside::OtherPid);
+        }
+        if fields.payload.is_empty() {
+            return Class::Aside(Aside::NoPayload);
+        }
+        let Ok(last) = parse(&self.last) else {
+            return Class::Taken(fields, false);
+        };
+        if last.counter == fields.counter && last.payload == fields.payload {
+            return Class::Aside(Aside::Duplicate);
+        }
+        Class::Taken(fields, fields.counter != counter_after(last.counter))
+    }
+
+    /// Takes a packet that isn't passed over. Nothing changes before all memory is there.
+    #[inline]
+    fn take(
+        &mut self,
+        packet: &[u8; 188],
+        fields: Packet<'_>,
+        jumped: bool,
+        out: &mut Vec<Vec<u8>>,
+    ) -> Result<(), NoMemory>
+        requires packet { parsed packet.now ≡ Ok (view fields) }
+        requires payload { (0 < length fields.payload.now) × (length fields.payload.now ≤ 184) }
+        requires jumped { rules.jumps_from fields.counter self.old.last ≡ jumped }
+        ensures ok { OnOk result (Gives (rules.takes (one_more self.old) (view fields.entry)) self.new (map view_bytes out.old.items) (map view_bytes out.new.items)) }
+        ensures err { OnErr result (self.new ≡ self.old) }
+    {
+        let mut counts = with_packet(self.counts, jumped);
+        let opened = self.opened.bytes_unless(jumped);
+        let turn = payload_done(
+            self.alloc,
+            fields.start,
+            opened,
+            fields.payload,
+            out,
+            &mut counts,
+        )?;
+        self.opened.close_if(jumped);
+        self.opened.turn(turn);
+        self.counts = counts;
+        self.last = *packet;
+        Ok(())
+    }
+
+    /// What was counted so far.
+    pub fn counts(&self) -> Counts
+        ensures { result ≡ self.now.counts }
+    {
+        self.counts
+    }
+
+    /// Counts a last piece that is shorter than a packet.
+    pub fn short(&mut self)
+        ensures { self.new ≡ record self.old { counts = record self.old.counts { short_tail = up self.old.counts.short_tail } } }
+    {
+        self.counts.short_tail = up(self.counts.short_tail);
+    }
+}

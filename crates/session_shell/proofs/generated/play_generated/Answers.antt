@@ -1,0 +1,31 @@
+use Rattle.std.proofs.Common.{◌∙◌, ap, refl, map, inl, subst}
+use Rattle.session_script.specs.Scripts.{view}
+use Rattle.session_history.specs.Merges.{told_view}
+use Rattle.session.specs.Lines.{IsArranged}
+use Rattle.session.specs.Sessions.{IsSession}
+use Rattle.shell_streams.proofs.CallerLemmas.{puts_as}
+use Rattle.session_shell.specs.Big.{big_line}
+use Rattle.session_shell.proofs.Making.{counts_all, counts_part}
+use Rattle.session_shell.proofs.generated.play_generated.Goals as goal
+
+pub play-requires-after_bounds : goal.play-requires-after_bounds
+play-requires-after_bounds g c κs within = rw c.in-Ok.ensures (c.generated_is_arranged.ensures c.args.size c.requires.least c.requires.most)
+
+pub returns-in-Err-clause-plays : goal.returns-in-Err-clause-plays
+returns-in-Err-clause-plays g c = inl refl
+
+pub returns-in-Err-play-clause-plays : goal.returns-in-Err-play-clause-plays
+returns-in-Err-play-clause-plays g c = inl refl
+
+pub returns-in-Err-big_line-clause-plays : goal.returns-in-Err-big_line-clause-plays
+returns-in-Err-big_line-clause-plays g c = inl refl
+
+pub returns-in-Ok-put_all-clause-plays : goal.returns-in-Ok-put_all-clause-plays
+returns-in-Ok-put_all-clause-plays g c =
+    counts_all c.args.size _ _ (map told_view c.in-Ok-play.told.items) (rw c.in-Ok.ensures at c.in-Ok-play.ensures) c.requires.empty c.in-Ok-put_all.ensures.empty
+    (puts_as (c.as_bytes.ensures.value ∙ c.in-Ok-big_line.ensures ∙ ap (λ told. big_line c.args.size (map told_view told)) c.deref.ensures.value) c.in-Ok-put_all.ensures.puts)
+
+pub returns-clause-plays : goal.returns-clause-plays
+returns-clause-plays g c =
+    rw c.from.ensures (counts_part c.args.size _ _ (map told_view c.in-Ok-play.told.items) c.in-Err-put_all.fault (rw c.in-Ok.ensures at c.in-Ok-play.ensures) c.requires.empty
+    (puts_as (c.as_bytes.ensures.value ∙ c.in-Ok-big_line.ensures ∙ ap (λ told. big_line c.args.size (map told_view told)) c.deref.ensures.value) c.in-Err-put_all.ensures.puts))
