@@ -20,3 +20,4 @@ pub mod Soundness
 pub mod Filling
 pub mod Octets
 pub mod Assembly
+pub mod Sharing

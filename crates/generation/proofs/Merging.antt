@@ -26,7 +26,7 @@ use Rattle.generation.proofs.Spotting.{kind_apart, kind_same}
 paths_total : IsTotalOrder path_cmp
 paths_total = lists_total nat_list_cmp_total
 
-paths_equal : (a b : PathNames) → path_cmp a b ≡ Equal → a ≡ b
+pub paths_equal : (a b : PathNames) → path_cmp a b ≡ Equal → a ≡ b
 paths_equal [] [] e = refl
 paths_equal [] (y ∷ ys) e = cc
 paths_equal (x ∷ xs) [] e = cc

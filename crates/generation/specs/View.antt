@@ -1,14 +1,15 @@
 -- What a generation keeps, as one value.
-use Rattle.std.specs.Prelude.{◌≡◌, ◌≤◌, ◌<◌, ℕ, true, false, List, [], ◌∷◌, zero, suc, length, map, take, Some, None, cond}
+use Rattle.std.specs.Prelude.{◌≡◌, ◌≤◌, ◌<◌, ◌+◌, if◌then◌else◌, ℕ, true, false, List, [], ◌∷◌, zero, suc, length, map, take, Some, None, cond}
 use Rattle.std.specs.List.{All, zip}
 use Rattle.std.specs.Arc.{arc_value}
 use Rattle.path_tree.specs.Paths.{Bytes, PathNames}
 use Rattle.path_tree.specs.Trees.{Tree, IsTree}
+use Rattle.biop_object.specs.Names.{Layout, module_in}
 use Rattle.biop_object.specs.declared.written.FolderKind.{FolderKind}
 use Rattle.biop_object.specs.declared.written.FolderKind.TheVariants.{Directory, Gateway}
 use Rattle.cycle_planner.specs.Cycle.{AreLines}
 use Rattle.generation.specs.Publication.{Spot as SpotFields, spots_of, gateway_spot, most_modules, AreRising}
-use Rattle.generation.specs.Layouts.{GenerationState, Placed as PlacedState, lines_of, object_bytes, layout_of, greatest, placed_at, module_of}
+use Rattle.generation.specs.Layouts.{GenerationState, Placed as PlacedState, lines_of, object_bytes, layout_of, greatest, placed_at, module_of, same_module, count_in}
 use Rattle.generation.specs.declared.spots.Spot.{Spot}
 use Rattle.generation.specs.declared.objects.Placed.{Placed}
 use Rattle.generation.specs.declared.made.Listed.{Listed}
@@ -50,6 +51,17 @@ view_placed t o = record { spot = view_spot t o.spot; key = o.key; module_id = o
 abbrev pub view_listed : Listed → ℕ × Bytes
 view_listed l = (l.id, arc_value l.module)
 
+-- a module is marked exactly where the layout before has its bytes under its id
+abbrev pub IsMarked : Layout → Listed → Type 0
+IsMarked before l = l.stays ≡ same_module (module_in before l.id) (Some (arc_value l.module))
+
+abbrev pub AreMarked : Layout → List Listed → Type 0
+AreMarked before ls = All (IsMarked before) ls
+
+-- a marked module's count stays, and each other one's rises
+abbrev pub counted_by : List (ℕ × ℕ) → Listed → ℕ × ℕ
+counted_by counts l = (l.id, if l.stays then count_in counts l.id else count_in counts l.id + 1)
+
 abbrev pub view_generation : Inside → GenerationState
 view_generation g = record {
   carousel = g.carousel;
@@ -67,8 +79,11 @@ pub record AreOld (old : List PlacedState) : Type 0 where
   pub ids : All (λ o. (1 ≤ o.module_id) × (o.module_id ≤ most_modules)) old
   pub gateway : (m : ℕ) → module_of (placed_at old gateway_spot) ≡ Some m → m ≡ 1
 
--- what holds of what is kept: the lines are those of the layout and make a cycle, and numbers have room in their fields
+-- what holds of what is kept: the layout is that of the objects, the lines are those of the layout and make a cycle, and
+-- numbers have room in their fields
 pub record IsMade (g : Inside) : Type 0 where
+  pub tree : IsTree g.tree
+  pub layout : map view_listed g.modules.items ≡ layout_of g.carousel (map (view_placed g.tree) g.objects.items)
   pub lines : g.lines.items ≡ lines_of (view_generation g)
   pub cycle : AreLines g.lines.items
   pub number : g.number ≤ 16383

@@ -11,6 +11,7 @@ mod objects;
 mod spots;
 #[cfg(test)]
 mod tests;
+mod unchanged;
 
 pub use laws::{equal_versions_mean_equal_bytes, generations_are_of_the_lists, layouts_are_lawful};
 pub use limit::{Limit, check};

@@ -1,15 +1,17 @@
-ghost use Rattle.std.specs.Prelude.{◌≡◌, ◌≢◌, ◌==◌, ◌<◌, ◌≤◌, ◌+◌, ◌++◌, ◌∷◌, [], List, ℕ, None, Some, map, length, slice_get, IfOk, MatchOption};
+ghost use Rattle.std.specs.Prelude.{◌≡◌, ◌≢◌, ◌==◌, ◌<◌, ◌≤◌, ◌+◌, ◌++◌, ◌∷◌, [], List, ℕ, None, Some, Ok, map, length, slice_get, get_or, true, false, IfOk, IfSome, MatchOption};
 ghost use Rattle.std.specs.List.{All, Contains, filter, list_any};
 ghost use Rattle.std.specs.Arc.{arc_value};
-ghost use Rattle.std.specs.Option.{option_map};
+ghost use Rattle.std.specs.Option.{option_map, is_none};
+ghost use Rattle.path_tree.specs.Edits.{apply_all};
 ghost use Rattle.path_tree.specs.Trees.{Tree};
 ghost use Rattle.biop_object.specs.Names.{Layout, module_in};
 ghost use Rattle.cycle_planner.specs.Cycle.{AreLines};
 ghost use Rattle.dsmcc_section.specs.Sections.{IsFramed};
-ghost use Rattle.generation.specs.Layouts.{GenerationState, first_of, next_of, generation_of, lines_of, lines_in, items_of, section_of, count_in as count_at, count_after as count_next, counts_after, same_module, layout_of, listed, greatest, placed_all, keys_of, modules_for};
+ghost use Rattle.generation.specs.Layouts.{GenerationState, first_of, next_of, generation_of, lines_of, lines_in, items_of, section_of, count_in as count_at, layout_of, listed, greatest, placed_all, keys_of, modules_for};
 ghost use Rattle.generation.specs.Kept.{StandsFor, layouts_of};
 ghost use Rattle.generation.specs.Publication.{limit_of, spots_of};
-ghost use Rattle.generation.specs.View.{view_listed, view_placed, AreReady, AreOld, IsSpotIn};
+ghost use Rattle.generation.specs.Stays.{AreAsBefore, AreTheirs};
+ghost use Rattle.generation.specs.View.{view_listed, view_placed, AreReady, AreOld, IsMarked, AreMarked, IsSpotIn, counted_by};
 
 use crate::control::{block_of_module, dii_section, dsi_section};
 use crate::former::{former_of, modules};
@@ -17,11 +19,12 @@ use crate::keys::keys;
 use crate::limit::sizes;
 use crate::objects::{Placed, module_bytes, place_all};
 use crate::spots::{Spot, is_equal, spots};
+use crate::unchanged::{modules_that_stay, named_files};
 use biop_object::Module;
 use cycle_planner::Item;
 use ddb_block::block_count;
 use oc_bytes::NoMemory;
-use path_tree::Tree;
+use path_tree::{Edit, Tree};
 use std::alloc::Global;
 use std::marker::Model;
 use std::sync::Arc;
@@ -31,6 +34,8 @@ use std::sync::Arc;
 pub(crate) struct Listed {
     pub(crate) id: u16,
     pub(crate) module: Arc<Module>,
+    /// Whether the generation before listed the id with the same bytes.
+    pub(crate) stays: bool,
 }
 
 /// One published tree: its objects in modules, and what is sent of them.
@@ -82,7 +87,7 @@ impl Generation {
             module: 1,
         };
         let objects = objects_after(alloc, &[gateway], &tree, &tree)?;
-        let modules = modules_of(alloc, carousel, &tree, &objects, &[])?;
+        let modules = modules_of(alloc, carousel, &tree, &objects, &[], &[])?;
         let lines = lines_of_modules(alloc, &modules)?;
         Ok(Generation {
             alloc,
@@ -107,9 +112,51 @@ impl Generation {
         ensures stands { IfOk result (λ g. (trees : List Tree) → StandsFor self.now trees → StandsFor g (trees ++ tree ∷ [])) }
         ensures exact { IfOk result (λ g. g ≡ next_of self.now tree) }
     {
+        self.renewed(tree, &[])
+    }
+
+    /// The generation after this one, with the tree that the edits make of this one's.
+    ///
+    /// It is the generation that `next` makes of that tree, for less work: where a module has the same files as here, in the
+    /// same order, and no edit names any of them, its bytes are neither made nor compared. The tree has to pass `check`, and
+    /// this generation's number has to be below 16,383. The only refusal is out of memory.
+    pub fn next_after(&self, tree: Tree, edits: &[Edit]) -> Result<Generation, NoMemory>
+        requires tree { limit_of tree ≡ None }
+        requires number { self.now.number < 16383 }
+        requires edits { apply_all self.now.tree edits.now ≡ Ok tree }
+        ensures stands { IfOk result (λ g. (trees : List Tree) → StandsFor self.now trees → StandsFor g (trees ++ tree ∷ [])) }
+        ensures exact { IfOk result (λ g. g ≡ next_of self.now tree) }
+    {
+        let named = named_files(self.alloc, &tree, edits)?;
+        self.renewed(tree, &named)
+    }
+
+    /// The generation after this one. A file of the tree that has a flag which is off is as before.
+    fn renewed(&self, tree: Tree, flags: &[bool]) -> Result<Generation, NoMemory>
+        requires tree { limit_of tree ≡ None }
+        requires number { self.now.number < 16383 }
+        requires flags { AreAsBefore self.now.tree tree flags.now }
+        ensures stands { IfOk result (λ g. (trees : List Tree) → StandsFor self.now trees → StandsFor g (trees ++ tree ∷ [])) }
+        ensures exact { IfOk result (λ g. g ≡ next_of self.now tree) }
+    {
         let objects = objects_after(self.alloc, &self.objects, &self.tree, &tree)?;
-        let modules = modules_of(self.alloc, self.carousel, &tree, &objects, &self.modules)?;
-        let counts = counts_next(self.alloc, &self.modules, &modules, &self.counts)?;
+        let staying = modules_that_stay(
+            self.alloc,
+            &self.objects,
+            &self.tree,
+            &objects,
+            &tree,
+            flags,
+        )?;
+        let modules = modules_of(
+            self.alloc,
+            self.carousel,
+            &tree,
+            &objects,
+            &self.modules,
+            &staying,
+        )?;
+        let counts = counts_next(self.alloc, &modules, &self.counts)?;
         let lines = lines_of_modules(self.alloc, &modules)?;
         Ok(Generation {
             alloc: self.alloc,
@@ -213,20 +260,24 @@ fn objects_after(
     place_all(alloc, &spots, &keys, &modules)
 }
 
-/// The modules of objects, each shared with the one of its id before where that has the same bytes.
+/// The modules of objects, each shared with the one of its id before where that has the same bytes. A module whose flag
+/// is on is known to have them.
 fn modules_of(
     alloc: Global,
     carousel: u32,
     tree: &Tree,
     objects: &[Placed],
     before: &[Listed],
+    staying: &[bool],
 ) -> Result<Vec<Listed>, NoMemory>
-    requires { AreReady carousel tree.now objects.now }
-    ensures { IfOk result (λ v. map view_listed v.items ≡ layout_of carousel (map (view_placed tree.now) objects.now)) }
+    requires ready { AreReady carousel tree.now objects.now }
+    requires staying { AreTheirs carousel (map (view_placed tree.now) objects.now) (map view_listed before.now) staying.now }
+    ensures layout { IfOk result (λ v. map view_listed v.items ≡ layout_of carousel (map (view_placed tree.now) objects.now)) }
+    ensures stays { IfOk result (λ v. AreMarked (map view_listed before.now) v.items) }
 {
     let mut modules = Vec::new(alloc);
     for id in 1..last_module(objects) + 1 {
-        if let Some(listed) = listed_at(alloc, carousel, tree, objects, before, id)? {
+        if let Some(listed) = listed_at(alloc, carousel, tree, objects, before, staying, id)? {
             modules.push(listed)?;
         }
     }
@@ -234,7 +285,7 @@ fn modules_of(
 }
 
 /// The greatest id of a module in which an object lies.
-fn last_module(objects: &[Placed]) -> u16
+pub(crate) fn last_module(objects: &[Placed]) -> u16
     ensures { result ≡ greatest (map (λ o. o.module) objects.now) }
 {
     let mut last = 0;
@@ -245,7 +296,7 @@ fn last_module(objects: &[Placed]) -> u16
 }
 
 /// Whether an object lies in the module.
-fn is_used(objects: &[Placed], id: u16) -> bool
+pub(crate) fn is_used(objects: &[Placed], id: u16) -> bool
     ensures { result ≡ list_any (λ o. o.module == id) objects.now }
 {
     objects.iter().any(|object| object.module == id)
@@ -258,33 +309,76 @@ fn listed_at(
     tree: &Tree,
     objects: &[Placed],
     before: &[Listed],
+    staying: &[bool],
     id: u16,
 ) -> Result<Option<Listed>, NoMemory>
-    requires { AreReady carousel tree.now objects.now }
-    ensures { IfOk result (λ l. option_map view_listed l ≡ listed carousel (map (view_placed tree.now) objects.now) id) }
+    requires ready { AreReady carousel tree.now objects.now }
+    requires staying { AreTheirs carousel (map (view_placed tree.now) objects.now) (map view_listed before.now) staying.now }
+    ensures listed { IfOk result (λ l. option_map view_listed l ≡ listed carousel (map (view_placed tree.now) objects.now) id) }
+    ensures stays { IfOk result (λ l. IfSome l (IsMarked (map view_listed before.now))) }
 {
     if !is_used(objects, id) {
         return Ok(None);
     }
+    if let Some(module) = staying_module(before, staying, id) {
+        return Ok(Some(Listed {
+            id,
+            module: Arc::try_clone(module)?,
+            stays: true,
+        }));
+    }
     let bytes = module_bytes(alloc, carousel, tree, objects, id)?;
-    let module = module_after(alloc, before, id, bytes)?;
-    Ok(Some(Listed { id, module }))
+    Ok(Some(module_after(alloc, before, id, bytes)?))
 }
 
-/// The module of these bytes: the one before, where it has them, and else a new one.
+/// The module of an id before, if it is known to stay.
+fn staying_module<'a>(before: &'a [Listed], staying: &[bool], id: u16) -> Option<&'a Arc<Module>>
+    ensures { IfSome result (λ a. (get_or staying.now id false ≡ true) × (module_in (map view_listed before.now) id ≡ Some (arc_value a.now))) }
+{
+    if is_on(staying, usize::from(id)) {
+        find_module(before, id)
+    } else {
+        None
+    }
+}
+
+/// Whether a flag is there and on.
+fn is_on(flags: &[bool], place: usize) -> bool
+    ensures { result ≡ get_or flags.now place false }
+{
+    place < flags.len() && flags[place]
+}
+
+/// The module of an id with these bytes: the one before, where it has them, and else a new one.
 fn module_after(
     alloc: Global,
     before: &[Listed],
     id: u16,
     bytes: Vec<u8>,
-) -> Result<Arc<Module>, NoMemory>
-    ensures { IfOk result (λ m. arc_value m ≡ bytes.items) }
+) -> Result<Listed, NoMemory>
+    ensures listed { IfOk result (λ l. view_listed l ≡ (id, bytes.items)) }
+    ensures stays { IfOk result (IsMarked (map view_listed before.now)) }
 {
     if let Some(module) = find_module(before, id) {
-        if module.bytes() == bytes.as_slice() {
-            return Arc::try_clone(module);
+        if is_equal(module.bytes(), &bytes) {
+            return Ok(Listed {
+                id,
+                module: Arc::try_clone(module)?,
+                stays: true,
+            });
         }
     }
+    Ok(Listed {
+        id,
+        module: new_module(alloc, bytes)?,
+        stays: false,
+    })
+}
+
+/// A module that has these bytes.
+fn new_module(alloc: Global, bytes: Vec<u8>) -> Result<Arc<Module>, NoMemory>
+    ensures { IfOk result (λ m. arc_value m ≡ bytes.items) }
+{
     match Module::read(alloc, bytes) {
         Ok(module) => Ok(Arc::new(alloc, module)?),
         Err((fault, _)) => Err(fault),
@@ -306,16 +400,15 @@ pub(crate) fn find_module(modules: &[Listed], id: u16) -> Option<&Arc<Module>>
 /// How often each module has changed: of the listed ones, and then of those that aren't listed any more.
 fn counts_next(
     alloc: Global,
-    before: &[Listed],
     modules: &[Listed],
     counts: &[(u16, u64)],
 ) -> Result<Vec<(u16, u64)>, NoMemory>
     requires { All (λ c. c.1 < 16383) counts.now }
-    ensures { IfOk result (λ v. v.items ≡ counts_after (map view_listed before.now) (map view_listed modules.now) counts.now) }
+    ensures { IfOk result (λ v. v.items ≡ map (counted_by counts.now) modules.now ++ filter (λ c. is_none (module_in (map view_listed modules.now) c.0)) counts.now) }
 {
     let mut after = Vec::new(alloc);
     for listed in modules {
-        after.push((listed.id, count_after(before, listed, counts)))?;
+        after.push((listed.id, count_after(listed, counts)))?;
     }
     for count in counts {
         if find_module(modules, count.0).is_none() {
@@ -326,26 +419,12 @@ fn counts_next(
 }
 
 /// How often a listed module has changed: once more where it is new or has other bytes.
-fn count_after(before: &[Listed], listed: &Listed, counts: &[(u16, u64)]) -> u64
+fn count_after(listed: &Listed, counts: &[(u16, u64)]) -> u64
     requires { All (λ c. c.1 < 16383) counts.now }
-    ensures { (listed.now.id, result) ≡ count_next (map view_listed before.now) counts.now (view_listed listed.now) }
+    ensures { (listed.now.id, result) ≡ counted_by counts.now listed.now }
 {
     let count = count_in(counts, listed.id);
-    if is_as_before(before, listed) {
-        count
-    } else {
-        count + 1
-    }
-}
-
-/// Whether a module was listed before with the same bytes.
-fn is_as_before(before: &[Listed], listed: &Listed) -> bool
-    ensures { result ≡ same_module (module_in (map view_listed before.now) listed.now.id) (Some (view_listed listed.now).1) }
-{
-    match find_module(before, listed.id) {
-        Some(module) => is_equal(module.bytes(), listed.module.bytes()),
-        None => false,
-    }
+    if listed.stays { count } else { count + 1 }
 }
 
 pub(crate) fn count_in(counts: &[(u16, u64)], id: u16) -> u64

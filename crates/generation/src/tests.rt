@@ -79,7 +79,7 @@ fn a_file_leaves(rt: HostRuntime) -> Result<(), Fail> {
     let left = [Edit::Remove(Path::parse(alloc, b"/00000")?)];
     let tree = apply(alloc, both.tree(), &left)?;
     passes(alloc, &tree)?;
-    let one = both.next(tree)?;
+    let one = both.next_after(tree, &left)?;
     assert_eq!(rt; one.lines(), [(1, 1), (2, 10)].as_slice());
     assert_eq!(rt; one.count(1), 2);
     assert_eq!(rt; one.count(2), 1);

@@ -95,7 +95,7 @@ impl Journal {
         let tree = apply(alloc, self.current.tree(), edits)?;
         check(alloc, &tree)?;
         tree_is_of_bytes(&tree);
-        Ok(self.current.next(tree)?)
+        Ok(self.current.next_after(tree, edits)?)
     }
 
     /// The bytes that the entries and these edits put, or the greatest `u64`.

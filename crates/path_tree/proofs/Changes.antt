@@ -78,7 +78,7 @@ none_is : (l : Tree) (p : PathNames) → first_is l p ≡ false → first_conten
 none_is [] p e = refl
 none_is (f ∷ fs) p e = rw e refl
 
-no_content : (t : Tree) (p : PathNames) (place : ℕ) → IsTree t → place ≡ place_in t p → first_is (rest_at t place) p ≡ false → content_at t p ≡ None
+pub no_content : (t : Tree) (p : PathNames) (place : ℕ) → IsTree t → place ≡ place_in t p → first_is (rest_at t place) p ≡ false → content_at t p ≡ None
 no_content t p place h is e = content_at-place t p (rises_tree t h) ∙ none_is (drop (place_in t p) t) p (first-cut t p place false is e)
 
 pub node-folder : (t : Tree) (p : PathNames) (place : ℕ) → IsTree t → place ≡ place_in t p → first_is (rest_at t place) p ≡ false → is_folder t p ≡ true → node_at t p ≡ Folder (names_below t p)

@@ -8,3 +8,4 @@ pub mod Listing
 pub mod Changes
 pub mod Names
 pub mod Named
+pub mod Others

@@ -8,7 +8,7 @@ mod tree;
 
 pub use path::{Name, Path, PathFault};
 pub use text::print_name;
-pub use tree::{ApplyFault, Edit, EditFault, Edits, Lookup, Tree, apply};
+pub use tree::{ApplyFault, Edit, EditFault, Edits, Lookup, Tree, apply, others_stay};
 
 #[cfg(test)]
 mod tests;

@@ -1,6 +1,6 @@
-ghost use Rattle.std.specs.Prelude.{◌≡◌, ◌≤◌, ◌<◌, [], length, slice_get, None, Some, IfOk, IfNone, OnSome};
+ghost use Rattle.std.specs.Prelude.{◌≡◌, ◌≤◌, ◌<◌, [], length, slice_get, None, Some, IfOk, IfNone, IfSome, OnSome};
 ghost use Rattle.oc_bytes.specs.Outcome.{Gives};
-ghost use Rattle.path_tree.specs.Edits.{apply_all, apply_cause, fault_of, edited};
+ghost use Rattle.path_tree.specs.Edits.{apply_all, apply_cause, fault_of, edited, OthersStay};
 ghost use Rattle.path_tree.specs.Paths.{IsPath};
 ghost use Rattle.path_tree.specs.Places.{place_in};
 ghost use Rattle.path_tree.specs.Trees.{IfFolder, IsListing, IsTree, node_at};
@@ -21,6 +21,19 @@ pub enum Edit {
     Put(Path, Blob),
     /// The file at the path is taken out, and with it each folder that is then empty.
     Remove(Path),
+}
+
+impl Edit {
+    ghost use Rattle.path_tree.specs.Edits.{path_in};
+
+    /// The path of the file that is put or taken out.
+    pub fn path(&self) -> &Path
+        ensures { result.now ≡ path_in self.now }
+    {
+        match self {
+            Edit::Put(path, _) | Edit::Remove(path) => path,
+        }
+    }
 }
 
 /// Why an edit is refused.
@@ -116,7 +129,9 @@ impl Model for Tree {
 }
 
 impl Tree {
+    ghost use Rattle.std.specs.Option.{option_map};
     ghost use Rattle.path_tree.specs.Edits.{view_lookup};
+    ghost use Rattle.path_tree.specs.Trees.{content_at};
 
     /// The tree without files.
     pub fn empty(alloc: Global) -> Tree
@@ -143,6 +158,19 @@ impl Tree {
     {
         let (path, blob) = &self.files[i];
         (path, blob)
+    }
+
+    /// The number of the file at a path, as `file` counts them, or none where no file stands there.
+    pub fn find(&self, path: &Path) -> Option<usize>
+        ensures found { IfSome result (λ i. option_map (λ e. e.0) (slice_get self.now i) ≡ Some path.now) }
+        ensures none { IfNone result (content_at self.now path.now ≡ None) }
+    {
+        let files = self.files.as_slice();
+        let place = place_of(files, path);
+        if first_is(&files[place..], path) {
+            return Some(place);
+        }
+        None
     }
 
     /// What stands at a path. A file's bytes are shared, and not copied.
@@ -262,3 +290,9 @@ pub fn apply(alloc: Global, tree: &Tree, edits: &[Edit]) -> Result<Tree, ApplyFa
     }
     Ok(Tree { files })
 }
+
+/// Over every list of edits that aren't refused: a path that none of them names has the same file after all of them as
+/// before, or none both times.
+pub fn others_stay()
+    ensures { OthersStay }
+{}

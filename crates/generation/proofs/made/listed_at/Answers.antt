@@ -1,14 +1,29 @@
-use Rattle.std.proofs.Common.{sym, ◌∙◌, map}
+use Rattle.std.proofs.Common.{◌≡◌, sym, ◌∙◌, ap, map, Some}
 use Rattle.std.specs.Arc.{arc_value}
-use Rattle.generation.specs.View.{view_placed}
+use Rattle.generation.specs.View.{view_placed, view_listed}
 use Rattle.generation.proofs.Placing.{used_seen, listed_some, listed_none}
+use Rattle.generation.proofs.Sharing.{marked_here}
 use Rattle.generation.proofs.made.listed_at.Goals as goal
 
-pub returns : goal.returns
-returns c = listed_some c.args.carousel (map (view_placed c.args.tree.now) c.args.objects.now) c.args.id (arc_value c.in_ok-module.module)
+pub returns-clause-listed : goal.returns-clause-listed
+returns-clause-listed c =
+    ap Some c.in_ok-module_after.ensures.listed
+    ∙ listed_some c.args.carousel (map (view_placed c.args.tree.now) c.args.objects.now) c.args.id c.in_ok-bytes.bytes.items
     (sym (used_seen c.args.tree.now c.args.objects.now c.args.id) ∙ (sym c.is_used.ensures ∙ c.if-not-is_used.false))
-    (c.in_ok-module.ensures ∙ c.in_ok-bytes.ensures)
+    c.in_ok-bytes.ensures
 
-pub returns-then-not-is_used : goal.returns-then-not-is_used
-returns-then-not-is_used c = listed_none c.args.carousel (map (view_placed c.args.tree.now) c.args.objects.now) c.args.id
+pub returns-in-Some-clause-listed : goal.returns-in-Some-clause-listed
+returns-in-Some-clause-listed c =
+    let is : arc_value c.in_ok-try_clone.field-0 ≡ arc_value c.in-Some.«module».now = cc (c.in_ok-try_clone.ensures) in
+    listed_some c.args.carousel (map (view_placed c.args.tree.now) c.args.objects.now) c.args.id (arc_value c.in_ok-try_clone.field-0)
+    (sym (used_seen c.args.tree.now c.args.objects.now c.args.id) ∙ (sym c.is_used.ensures ∙ c.if-not-is_used.false))
+    (is ∙ c.requires.staying c.args.id (arc_value c.in-Some.«module».now) c.in-Some.ensures.0 c.in-Some.ensures.1)
+
+pub returns-in-Some-clause-stays : goal.returns-in-Some-clause-stays
+returns-in-Some-clause-stays c =
+    let is : arc_value c.in_ok-try_clone.field-0 ≡ arc_value c.in-Some.«module».now = cc (c.in_ok-try_clone.ensures) in
+    marked_here (map view_listed c.args.before.now) c.args.id (arc_value c.in_ok-try_clone.field-0) (arc_value c.in-Some.«module».now) c.in-Some.ensures.1 is
+
+pub returns-then-not-is_used-clause-listed : goal.returns-then-not-is_used-clause-listed
+returns-then-not-is_used-clause-listed c = listed_none c.args.carousel (map (view_placed c.args.tree.now) c.args.objects.now) c.args.id
     (sym (used_seen c.args.tree.now c.args.objects.now c.args.id) ∙ (sym c.is_used.ensures ∙ c.if-not-is_used.true))

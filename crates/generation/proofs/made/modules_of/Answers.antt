@@ -1,7 +1,9 @@
-use Rattle.std.proofs.Common.{sym, ◌∙◌, ap, map, arith}
+use Rattle.std.proofs.Common.{sym, ◌∙◌, ap, map, subst, arith}
+use Rattle.std.specs.Prelude.{IfSome}
 use Rattle.std.specs.Option.{option_map}
+use Rattle.std.proofs.lemmas.List.Elements.{All-push}
 use Rattle.generation.specs.Layouts.{listed}
-use Rattle.generation.specs.View.{view_placed, view_listed}
+use Rattle.generation.specs.View.{view_placed, view_listed, IsMarked}
 use Rattle.generation.proofs.Placing.{ids_more, ids_same, all_ids}
 use Rattle.generation.proofs.made.modules_of.Goals as goal
 use Rattle.generation.proofs.made.modules_of.Goals.{in-Some+in_ok-push, in_default}
@@ -9,11 +11,18 @@ use Rattle.generation.proofs.made.modules_of.Goals.{in-Some+in_ok-push, in_defau
 pub loop-id-preserved : goal.loop-id-preserved
 loop-id-preserved c =
     let f = listed c.args.carousel (map (view_placed c.args.tree.now) c.args.objects.now) in
+    let marked = IsMarked (map view_listed c.args.before.now) in
     elim c.match-branch-2.branch [
-      | in-Some+in_ok-push w ↦ rw (w.modules-is, w.in_ok-push.ensures.items) (ids_more f view_listed c.loop-id.id c.loop-id.modules.items w.in-Some.listed (omega arith) c.loop-id.invariant (ap (option_map view_listed) (sym w.in-Some.is) ∙ c.in_ok-listed.ensures))
-      | in_default w ↦ rw w.modules-is (ids_same f view_listed c.loop-id.id c.loop-id.modules.items (omega arith) c.loop-id.invariant (ap (option_map view_listed) (sym w.in_default.is) ∙ c.in_ok-listed.ensures))
+      | in-Some+in_ok-push w ↦ record {
+        layout = rw (w.modules-is, w.in_ok-push.ensures.items) (ids_more f view_listed c.loop-id.id c.loop-id.modules.items w.in-Some.listed (omega arith) c.loop-id.invariant.layout (ap (option_map view_listed) (sym w.in-Some.is) ∙ c.in_ok-listed.ensures.listed));
+        marked = rw (w.modules-is, w.in_ok-push.ensures.items) (All-push marked c.loop-id.modules.items w.in-Some.listed c.loop-id.invariant.marked (subst (λ o. IfSome o marked) w.in-Some.is c.in_ok-listed.ensures.stays));
+      }
+      | in_default w ↦ record {
+        layout = rw w.modules-is (ids_same f view_listed c.loop-id.id c.loop-id.modules.items (omega arith) c.loop-id.invariant.layout (ap (option_map view_listed) (sym w.in_default.is) ∙ c.in_ok-listed.ensures.listed));
+        marked = rw w.modules-is c.loop-id.invariant.marked;
+      }
     ]
 
-pub returns : goal.returns
-returns c = all_ids c.args.carousel c.args.tree.now c.args.objects.now c.loop-id.id c.last_module-id-end.result (map view_listed c.loop-id.modules.items) c.last_module-id-end.ensures
-    (omega (arith, c.loop-id.auto.id-end (omega arith))) c.loop-id.invariant
+pub returns-clause-layout : goal.returns-clause-layout
+returns-clause-layout c = all_ids c.args.carousel c.args.tree.now c.args.objects.now c.loop-id.id c.last_module-id-end.result (map view_listed c.loop-id.modules.items) c.last_module-id-end.ensures
+    (omega (arith, c.loop-id.auto.id-end (omega arith))) c.loop-id.invariant.layout

@@ -1,3 +1,5 @@
+use Rattle.std.proofs.Common.{ap, sym, ◌∙◌}
+use Rattle.path_tree.specs.Edits.{apply_all}
 use Rattle.std.proofs.lemmas.Result.{err_from_is_err_and}
 use Rattle.generation_catalogue.proofs.Replay.{seen, looked_at, number_accepted, next_accepted, outcome_at_edit, outcome_at_limit}
 use Rattle.generation_catalogue.specs.Kept.{view_journal}
@@ -29,7 +31,7 @@ returns-clause-answer c =
     let look = looked_at c.args.self.now c.args.edits.now c.deref.result.now c.deref-2.result.now c.number.result c.total_with-total.result c.tree.result.now
     first c.number.ensures c.if-number-eq-LAST_NUMBER.false c.total_with-total.ensures c.if-total-gt-MOST_PUT_BYTES.false second c.tree.ensures in
     let third = seen (view_journal c.self.inside) c.args.self.now (arc_value c.self.inside.current) c.deref-3.result.now c.deref-3.ensures c.self.invariant.current c.self.view_is in
-    number_accepted c.args.self.now c.args.edits.now c.tree.result.now c.in_ok-tree.tree c.deref-3.result.now c.in_ok-next.field-0 look c.in_ok-tree.ensures c.in_ok-check.ensures third c.in_ok-next.ensures.exact
+    number_accepted c.args.self.now c.args.edits.now c.tree.result.now c.in_ok-tree.tree c.deref-3.result.now c.in_ok-next_after.field-0 look c.in_ok-tree.ensures c.in_ok-check.ensures third c.in_ok-next_after.ensures.exact
 
 pub returns-clause-next : goal.returns-clause-next
 returns-clause-next c =
@@ -38,4 +40,10 @@ returns-clause-next c =
     let look = looked_at c.args.self.now c.args.edits.now c.deref.result.now c.deref-2.result.now c.number.result c.total_with-total.result c.tree.result.now
     first c.number.ensures c.if-number-eq-LAST_NUMBER.false c.total_with-total.ensures c.if-total-gt-MOST_PUT_BYTES.false second c.tree.ensures in
     let third = seen (view_journal c.self.inside) c.args.self.now (arc_value c.self.inside.current) c.deref-3.result.now c.deref-3.ensures c.self.invariant.current c.self.view_is in
-    next_accepted c.args.self.now c.args.edits.now c.tree.result.now c.in_ok-tree.tree c.deref-3.result.now c.in_ok-next.field-0 look c.in_ok-tree.ensures c.in_ok-check.ensures third c.in_ok-next.ensures.exact
+    next_accepted c.args.self.now c.args.edits.now c.tree.result.now c.in_ok-tree.tree c.deref-3.result.now c.in_ok-next_after.field-0 look c.in_ok-tree.ensures c.in_ok-check.ensures third c.in_ok-next_after.ensures.exact
+
+-- the tree is what the edits make of the current one's
+pub next_after-requires-clause-edits : goal.next_after-requires-clause-edits
+next_after-requires-clause-edits c =
+    let current = c.deref-2.ensures ∙ sym c.deref-3.ensures in
+    ap (λ g. apply_all g.tree c.args.edits.now) (sym current) ∙ (ap (λ t. apply_all t c.args.edits.now) (sym c.tree.ensures) ∙ c.in_ok-tree.ensures)

@@ -1,0 +1,216 @@
+-- Modules whose objects are as before have the same bytes.
+use Rattle.std.proofs.Common.{◌≡◌, ◌≢◌, ℕ, zero, suc, ◌+◌, ◌<◌, ◌≤◌, Bool, true, false, ◌&&◌, ◌||◌, not, ◌==◌, List, [], ◌∷◌, ◌++◌, length, take, drop, map, Option, Some, None, Ok, cond, refl, sym, ◌∙◌, ap, subst, arith, add-one, get_or, set, append_assoc, ◌⊎◌, inl, inr}
+use Rattle.std.specs.Prelude.{slice_get}
+use Rattle.std.specs.List.{All, filter, flat_map, list_any}
+use Rattle.std.specs.Option.{option_map, is_none}
+use Rattle.std.specs.Ordering.{is_eq}
+use Rattle.std.specs.declared.cmp.Ordering.{Ordering}
+use Rattle.std.specs.declared.cmp.Ordering.TheVariants.{Less, Equal, Greater}
+use Rattle.std.proofs.lemmas.Bool.Decides.{nat_tests}
+use Rattle.std.proofs.lemmas.Option.{same_Some}
+use Rattle.std.proofs.lemmas.List.{take_more}
+use Rattle.std.proofs.lemmas.List.Elements.{All-push, All-head, All-tail}
+use Rattle.path_tree.specs.Paths.{Bytes, PathNames, path_cmp, same_name, same_path}
+use Rattle.path_tree.specs.Trees.{Tree, IsTree, content_at}
+use Rattle.path_tree.specs.Edits.{apply_all, path_in, OthersStay}
+use Rattle.path_tree.specs.declared.tree.Edit.{Edit}
+use Rattle.biop_object.specs.Names.{Layout, module_in}
+use Rattle.generation.specs.Layouts.{Placed, key_bytes, object_bytes, is_in, module_bytes, layout_of, same_module, count_in, count_after, counts_after}
+use Rattle.generation.specs.Stays.{AreAsBefore, part_bytes, SameModules, AreTheirs}
+use Rattle.generation.specs.View.{view_placed, view_spot, view_listed, path_at, bytes_at, IsSpotIn, IsMarked, AreMarked, counted_by}
+use Rattle.generation.specs.declared.made.Listed.{Listed}
+use Rattle.generation.specs.declared.objects.Placed.{Placed as CodePlaced}
+use Rattle.generation.specs.declared.spots.Spot.{Spot as CodeSpot}
+use Rattle.biop_object.specs.Objects.{file_spelling}
+use Rattle.generation.proofs.Children.{Later, Ordered, ordered_from}
+use Rattle.generation.proofs.Treeing.{same_self}
+use Rattle.generation.proofs.Rising.{path_self, paths_differ, less_differ, same_paths}
+use Rattle.generation.proofs.Limiting.{drop_or}
+use Rattle.generation.proofs.Merging.{paths_equal}
+use Rattle.generation.proofs.Inside.{listed_bytes}
+
+-- ---- a tree's files by number
+
+later_at : (q : PathNames) (es : Tree) (i : ℕ) → Later q es → i < length es → path_cmp q (path_at es i) ≡ Less
+later_at q [] i later lt = absurd (omega (arith, lt))
+later_at q (e ∷ es) zero later lt = later.0
+later_at q (e ∷ es) (suc i) later lt = later_at q es i later.2 (omega (arith, lt))
+
+here_in : (t : Tree) (i : ℕ) → Ordered t → i < length t → content_at t (path_at t i) ≡ Some (bytes_at t i)
+here_in [] i ordered lt = absurd (omega (arith, lt))
+here_in (e ∷ es) zero ordered lt = rw (path_self e.0) refl
+here_in (e ∷ es) (suc i) ordered lt =
+    let less = later_at e.0 es i ordered.0 (omega (arith, lt)) in
+    let apart : same_path (path_at es i) e.0 ≡ false = paths_differ (path_at es i) e.0 (λ h. less_differ e.0 (path_at es i) less (sym h)) in
+    rw apart (here_in es i ordered.1 (omega (arith, lt)))
+
+pub content_here : (t : Tree) (i : ℕ) → IsTree t → i < length t → content_at t (path_at t i) ≡ Some (bytes_at t i)
+content_here t i tree lt = here_in t i (ordered_from t tree.in_order tree.apart) lt
+
+once_in : (t : Tree) (i j : ℕ) → Ordered t → i < length t → j < length t → path_at t i ≡ path_at t j → i ≡ j
+once_in [] i j ordered li lj e = absurd (omega (arith, li))
+once_in (x ∷ xs) zero zero ordered li lj e = refl
+once_in (x ∷ xs) zero (suc j) ordered li lj e = absurd (less_differ x.0 (path_at xs j) (later_at x.0 xs j ordered.0 (omega (arith, lj))) e)
+once_in (x ∷ xs) (suc i) zero ordered li lj e = absurd (less_differ x.0 (path_at xs i) (later_at x.0 xs i ordered.0 (omega (arith, li))) (sym e))
+once_in (x ∷ xs) (suc i) (suc j) ordered li lj e = ap suc (once_in xs i j ordered.1 (omega (arith, li)) (omega (arith, lj)) e)
+
+-- a number that was found is that of the path
+pub path_found : (t : Tree) (p : PathNames) (i : ℕ) → option_map (λ e. e.0) (slice_get t i) ≡ Some p → (i < length t) × (path_at t i ≡ p)
+path_found [] p i e = cc
+path_found (x ∷ xs) p zero e = (omega arith, same_Some x.0 p e)
+path_found (x ∷ xs) p (suc i) e = let h = path_found xs p i e in (omega (arith, h.0), h.1)
+
+-- ---- which files edits name
+
+-- the files that aren't flagged are named by none of these edits
+abbrev pub AreNamed : Tree → List Bool → List Edit → Type 0
+AreNamed t flags edits = (i : ℕ) → i < length t → get_or flags i true ≡ false → All (λ e. same_path (path_at t i) (path_in e) ≡ false) edits
+
+pub none_named : (t : Tree) (flags : List Bool) → AreNamed t flags []
+none_named t flags = λ i lt off k d below. absurd (omega (arith, below))
+
+-- a flag that is off was off before one more was set
+off : (flags : List Bool) (j i : ℕ) → get_or (set flags j true) i true ≡ false → (i ≢ j) × (get_or flags i true ≡ false)
+off [] j i e = cc
+off (x ∷ xs) zero zero e = cc
+off (x ∷ xs) zero (suc i) e = (λ h. absurd (omega (arith, h)), e)
+off (x ∷ xs) (suc j) zero e = (λ h. absurd (omega (arith, h)), e)
+off (x ∷ xs) (suc j) (suc i) e = let r = off xs j i e in (λ h. r.0 (omega (arith, h)), r.1)
+
+pub one_named : (t : Tree) (flags : List Bool) (edits : List Edit) (e : Edit) (file : ℕ) → IsTree t
+    → option_map (λ x. x.0) (slice_get t file) ≡ Some (path_in e) → AreNamed t flags edits → AreNamed t (set flags file true) (edits ++ e ∷ [])
+one_named t flags edits e file tree is named = λ i lt still.
+    let found = path_found t (path_in e) file is in
+    let h = off flags file i still in
+    let once : path_at t i ≡ path_in e → i ≡ file = λ same. once_in t i file (ordered_from t tree.in_order tree.apart) lt found.0 (same ∙ sym found.1) in
+    All-push (λ x. same_path (path_at t i) (path_in x) ≡ false) edits e (named i lt h.1) (paths_differ (path_at t i) (path_in e) (λ same. h.0 (once same)))
+
+pub no_file_named : (t : Tree) (flags : List Bool) (edits : List Edit) (e : Edit) → IsTree t → content_at t (path_in e) ≡ None → AreNamed t flags edits → AreNamed t flags (edits ++ e ∷ [])
+no_file_named t flags edits e tree none named = λ i lt still.
+    All-push (λ x. same_path (path_at t i) (path_in x) ≡ false) edits e (named i lt still)
+    (paths_differ (path_at t i) (path_in e) (λ same. let bad : Some (bytes_at t i) ≡ None = sym (content_here t i tree lt) ∙ (ap (content_at t) same ∙ none) in cc))
+
+pub as_before : OthersStay → (t : Tree) (flags : List Bool) (edits : List Edit) → IsTree t → AreNamed t flags edits → (old : Tree) → apply_all old edits ≡ Ok t → AreAsBefore old t flags
+as_before law t flags edits tree named old applied = λ i lt still. sym (law old t edits (path_at t i) applied (named i lt still)) ∙ content_here t i tree lt
+
+-- ---- one file
+
+file_bytes : (c : ℕ) (all : List Placed) (t : Tree) (o : CodePlaced) → o.spot.whole ≡ true → object_bytes c all (view_placed t o) ≡ file_spelling (key_bytes o.key) (bytes_at t o.spot.file)
+file_bytes c all t o whole = rw whole refl
+
+take_all : {A : Type 0} (xs : List A) → take (length xs) xs ≡ xs
+take_all [] = refl
+take_all (x ∷ xs) = ap (λ ys. x ∷ ys) (take_all xs)
+
+file_path : (t : Tree) (s : CodeSpot) → IsSpotIn t s → s.whole ≡ true → (view_spot t s).path ≡ path_at t s.file
+file_path t s valid whole = ap (λ n. take n (path_at t s.file)) (valid.whole whole).1 ∙ take_all (path_at t s.file)
+
+pub same_file : (old t : Tree) (b o : CodePlaced) (flags : List Bool) → IsTree old → IsSpotIn old b.spot → IsSpotIn t o.spot → AreAsBefore old t flags
+    → b.spot.whole ≡ true → o.spot.whole ≡ true → b.key ≡ o.key → get_or flags o.spot.file true ≡ false
+    → path_cmp (view_spot old b.spot).path (view_spot t o.spot).path ≡ Equal
+    → (c : ℕ) (olds news : List Placed) → object_bytes c olds (view_placed old b) ≡ object_bytes c news (view_placed t o)
+same_file old t b o flags tree bv ov known bw ow key still same c olds news =
+    let paths : path_at old b.spot.file ≡ path_at t o.spot.file =
+    sym (file_path old b.spot bv bw) ∙ (paths_equal (view_spot old b.spot).path (view_spot t o.spot).path same ∙ file_path t o.spot ov ow) in
+    let bytes : bytes_at old b.spot.file ≡ bytes_at t o.spot.file =
+    same_Some (bytes_at old b.spot.file) (bytes_at t o.spot.file)
+    (sym (content_here old b.spot.file tree (bv.whole bw).0) ∙ (ap (content_at old) paths ∙ known o.spot.file (ov.whole ow).0 still)) in
+    file_bytes c olds old b bw
+    ∙ (ap (λ k. file_spelling (key_bytes k) (bytes_at old b.spot.file)) key
+    ∙ (ap (file_spelling (key_bytes o.key)) bytes
+    ∙ sym (file_bytes c news t o ow)))
+
+-- ---- the objects of a module
+
+pub part_other : (c : ℕ) (all : List Placed) (t : Tree) (os : List CodePlaced) (i m : ℕ) (d : CodePlaced) → i < length os → (get_or os i d).«module» ≢ m
+    → part_bytes c all (map (view_placed t) (drop i os)) m ≡ part_bytes c all (map (view_placed t) (drop (i + 1) os)) m
+part_other c all t os i m d lt ne =
+    let other : ((get_or os i d).«module» == m) ≡ false = grind (arith, nat_tests, ne) in
+    rw (add-one i, drop_or os i d lt, other) refl
+
+pub part_one : (c : ℕ) (all : List Placed) (t : Tree) (os : List CodePlaced) (i m : ℕ) (d : CodePlaced) → i < length os → (get_or os i d).«module» ≡ m
+    → part_bytes c all (map (view_placed t) (drop i os)) m ≡ object_bytes c all (view_placed t (get_or os i d)) ++ part_bytes c all (map (view_placed t) (drop (i + 1) os)) m
+part_one c all t os i m d lt is =
+    let one : ((get_or os i d).«module» == m) ≡ true = grind (arith, nat_tests, is) in
+    rw (add-one i, drop_or os i d lt, one) refl
+
+pub part_none : (c : ℕ) (all : List Placed) (t : Tree) (os : List CodePlaced) (m : ℕ) → list_any (λ o. o.«module» == m) os ≡ false → part_bytes c all (map (view_placed t) os) m ≡ []
+part_none c all t [] m none = refl
+part_none c all t (o ∷ os) m none = go (o.«module» == m) refl none (λ rest. part_none c all t os m rest) where
+  go : (b : Bool) → (o.«module» == m) ≡ b → (b || list_any (λ q. q.«module» == m) os) ≡ false
+      → (list_any (λ q. q.«module» == m) os ≡ false → part_bytes c all (map (view_placed t) os) m ≡ []) → part_bytes c all (map (view_placed t) (o ∷ os)) m ≡ []
+  go true is bad later = cc
+  go false is rest later = rw is (later rest)
+
+drop_past : {A : Type 0} (xs : List A) (i : ℕ) → length xs ≤ i → drop i xs ≡ []
+drop_past [] zero le = refl
+drop_past [] (suc i) le = refl
+drop_past (x ∷ xs) zero le = absurd (omega (arith, le))
+drop_past (x ∷ xs) (suc i) le = drop_past xs i (omega (arith, le))
+
+pub part_over : (c : ℕ) (all : List Placed) (t : Tree) (os : List CodePlaced) (i m : ℕ) → length os ≤ i → part_bytes c all (map (view_placed t) (drop i os)) m ≡ []
+part_over c all t os i m le = ap (λ l. part_bytes c all (map (view_placed t) l) m) (drop_past os i le)
+
+-- ---- flags of modules
+
+on : (flags : List Bool) (b : Bool) (m : ℕ) → get_or (flags ++ b ∷ []) m false ≡ true → (get_or flags m false ≡ true) ⊎ ((m ≡ length flags) × (b ≡ true))
+on [] b zero e = inr (refl, e)
+on [] b (suc m) e = cc
+on (x ∷ xs) b zero e = inl e
+on (x ∷ xs) b (suc m) e = elim (on xs b m e) [ inl h ↦ inl h | inr h ↦ inr (ap suc h.0, h.1) ]
+
+pub more_same : (olds news : List Placed) (flags : List Bool) (b : Bool) (id : ℕ) → SameModules olds news flags → length flags ≡ id → (b ≡ true → (c : ℕ) → module_bytes c olds id ≡ module_bytes c news id)
+    → SameModules olds news (flags ++ b ∷ [])
+more_same olds news flags b id same at one = λ c m e. elim (on flags b m e) [
+  | inl h ↦ same c m h
+  | inr h ↦ subst (λ k. module_bytes c olds k ≡ module_bytes c news k) (sym (h.0 ∙ at)) (one h.1 c)
+]
+
+pub are_theirs : (c : ℕ) (olds news : List Placed) (layout : Layout) (flags : List Bool) → layout ≡ layout_of c olds → SameModules olds news flags → AreTheirs c news layout flags
+are_theirs c olds news layout flags is same = λ m bytes on has.
+    listed_bytes c olds m bytes (ap (λ l. module_in l m) (sym is) ∙ has) ∙ same c m on
+
+-- ---- marks of listed modules
+
+-- what the layout before has under the id is the same module
+pub marked_here : (before : Layout) (id : ℕ) (bytes other : Bytes) → module_in before id ≡ Some other → bytes ≡ other → true ≡ same_module (module_in before id) (Some bytes)
+marked_here before id bytes other has is = sym (ap (λ o. same_module o (Some bytes)) has ∙ (ap (same_name other) is ∙ same_self other))
+
+-- the counts by the marks
+pub counts_are : (before : Layout) (modules : List Listed) (counts : List (ℕ × ℕ)) → AreMarked before modules
+    → map (counted_by counts) modules ++ filter (λ c. is_none (module_in (map view_listed modules) c.0)) counts ≡ counts_after before (map view_listed modules) counts
+counts_are before modules counts marked = ap (λ xs. xs ++ filter (λ c. is_none (module_in (map view_listed modules) c.0)) counts) (each modules marked) where
+  each : (ls : List Listed) → AreMarked before ls → map (counted_by counts) ls ≡ map (count_after before counts) (map view_listed ls)
+  each [] all = refl
+  each (l ∷ ls) all =
+      ap (λ b. (l.id, cond b (count_in counts l.id) (count_in counts l.id + 1)) ∷ map (counted_by counts) ls) (All-head (IsMarked before) l ls all)
+      ∙ ap (λ xs. count_after before counts (view_listed l) ∷ xs) (each ls (All-tail (IsMarked before) l ls all))
+
+-- ---- one step over both lists
+
+pub equal_order : (o : Ordering) → is_eq o ≡ true → o ≡ Equal
+equal_order Less e = cc
+equal_order Equal e = refl
+equal_order Greater e = cc
+
+pub not_on : (b : Bool) → not b ≡ true → b ≡ false
+not_on true e = cc
+not_on false e = refl
+
+pub not_off : (b : Bool) → not b ≡ false → b ≡ true
+not_off true e = refl
+not_off false e = cc
+
+pub step_same : (c : ℕ) (olds news : List Placed) (t u : Tree) (left after os : List CodePlaced) (i id : ℕ) (d : CodePlaced) → i < length os → (get_or os i d).«module» ≡ id
+    → part_bytes c olds (map (view_placed t) left) (get_or os i d).«module» ≡ object_bytes c news (view_placed u (get_or os i d)) ++ part_bytes c olds (map (view_placed t) after) (get_or os i d).«module»
+    → part_bytes c olds (map (view_placed t) after) id ≡ part_bytes c news (map (view_placed u) (drop (i + 1) os)) id
+    → part_bytes c olds (map (view_placed t) left) id ≡ part_bytes c news (map (view_placed u) (drop i os)) id
+step_same c olds news t u left after os i id d lt is bytes rest =
+    subst (λ m. part_bytes c olds (map (view_placed t) left) m ≡ object_bytes c news (view_placed u (get_or os i d)) ++ part_bytes c olds (map (view_placed t) after) m) is bytes
+    ∙ (ap (λ x. object_bytes c news (view_placed u (get_or os i d)) ++ x) rest ∙ sym (part_one c news u os i id d lt is))
+
+pub take_whole : {A : Type 0} (xs : List A) (i : ℕ) → length xs ≤ i → take i xs ≡ xs
+take_whole [] zero le = refl
+take_whole [] (suc i) le = refl
+take_whole (x ∷ xs) zero le = absurd (omega (arith, le))
+take_whole (x ∷ xs) (suc i) le = ap (λ ys. x ∷ ys) (take_whole xs i (omega (arith, le)))

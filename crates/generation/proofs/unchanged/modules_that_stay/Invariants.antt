@@ -1,0 +1,10 @@
+use Rattle.std.proofs.Common.{◌≡◌, length, map}
+use Rattle.generation.specs.Stays.{SameModules}
+use Rattle.generation.specs.View.{view_placed}
+use Rattle.generation.proofs.unchanged.modules_that_stay.Given as goal
+
+abbrev pub invariant-loop-id : goal.invariant-loop-id
+invariant-loop-id l = record {
+  as_many : length l.staying.items ≡ l.id;
+  same : SameModules (map (view_placed l.old_tree) l.old) (map (view_placed l.tree) l.objects) l.staying.items;
+}
