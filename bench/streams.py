@@ -330,8 +330,8 @@ class Rules:
     place: object = fresh_placement
 
 
-# What the program does today. Weights of modules stand ready: Rules({1: 2}, packed, kept_placement).
-BUILT = Rules(lay=packed, place=kept_placement)
+# What the program does: it sends module 1 twice a cycle, packs sections back to back and keeps objects in their modules.
+BUILT = Rules({1: 2}, packed, kept_placement)
 
 
 def published(files, cycles, carousel=1, rules=BUILT):

@@ -10,7 +10,7 @@ use Rattle.session_script.specs.Scripts.{Act, LineFields, Fields}
 use Rattle.session_script.specs.Scripts as acts
 use Rattle.session_script.specs.Ranges.{IsActor, IsInRange, AreActors}
 use Rattle.session.specs.Lines.{is_settle, IsMentioned, IsLineOf, IsFinale, AreEnds}
-use Rattle.big_script.specs.Generated.{numbers, file_path, fill_of, commit_of, lines_of_editor, fates, lines_of_feeder, open_of, lines_of_reader, finale_of, finales_of, acts_during, acts_at_end, numbered, generated_script}
+use Rattle.big_script.specs.Generated.{numbers, file_path, fill_of, commit_of, lines_of_editor, fates, lines_of_feeder, open_of, lines_of_reader, finale_of, finales_of, acts_during, acts_at_end, number_lines, generated_script}
 use Rattle.big_script.specs.Arranged.{GeneratedIsArranged}
 use Rattle.big_script.proofs.Lists.{all_in_range, in_range, range_is_distinct, all_flat}
 
@@ -114,10 +114,10 @@ all_end size least most = of_numbers size (Ends size) finales_of most (λ e one.
 -- ---- numbered lines
 
 all_numbered : (P : Act → Type 0) (Q : LineFields → Type 0) (stage : Stage) → ((n : ℕ) (act : Act) → P act → Q (record { number = n; stage = stage; act = act }))
-    → (n : ℕ) (deeds : List Act) → All P deeds → All Q (numbered n stage deeds)
+    → (n : ℕ) (deeds : List Act) → All P deeds → All Q (number_lines n stage deeds)
 all_numbered P Q stage h n [] all = All-nil Q
 all_numbered P Q stage h n (act ∷ deeds) all =
-    All-cons Q (record { number = n; stage = stage; act = act }) (numbered (n + 1) stage deeds) (h n act (All-head P act deeds all)) (all_numbered P Q stage h (n + 1) deeds (All-tail P act deeds all))
+    All-cons Q (record { number = n; stage = stage; act = act }) (number_lines (n + 1) stage deeds) (h n act (All-head P act deeds all)) (all_numbered P Q stage h (n + 1) deeds (All-tail P act deeds all))
 
 -- ---- the whole
 
@@ -131,18 +131,18 @@ actors_are size most = record {
 
 -- a property of all lines, from those of the actions in both parts
 abbrev InLines : (size : ℕ) → (LineFields → Type 0) → Type 0
-InLines size Q = All Q (numbered 1 During (acts_during size) ++ numbered (length (acts_during size) + 1) After (acts_at_end size))
+InLines size Q = All Q (number_lines 1 During (acts_during size) ++ number_lines (length (acts_during size) + 1) After (acts_at_end size))
 
 in_lines : (size : ℕ) (Q : Act → Type 0) → ((act : Act) → Fits size act → Q act) → Q acts.Settle → 1 ≤ size → size ≤ 16 → InLines size (λ l. Q l.act)
 unfolding acts_at_end
 in_lines size Q h settle least most =
     let R : LineFields → Type 0 = λ l. Q l.act in
-    All-append R (numbered 1 During (acts_during size)) (numbered (length (acts_during size) + 1) After (acts_at_end size))
+    All-append R (number_lines 1 During (acts_during size)) (number_lines (length (acts_during size) + 1) After (acts_at_end size))
     (all_numbered (Fits size) R During (λ n act fits. h act fits) 1 (acts_during size) (during_fits size most))
-    (All-cons R (record { number = length (acts_during size) + 1; stage = After; act = acts.Settle }) (numbered (length (acts_during size) + 1 + 1) After (flat_map finales_of (numbers size))) settle
+    (All-cons R (record { number = length (acts_during size) + 1; stage = After; act = acts.Settle }) (number_lines (length (acts_during size) + 1 + 1) After (flat_map finales_of (numbers size))) settle
     (all_numbered (Ends size) R After (λ n act ends. h act ends.fits) (length (acts_during size) + 1 + 1) (flat_map finales_of (numbers size)) (all_end size least most)))
 
-are_ends : (size n : ℕ) → 1 ≤ size → size ≤ 16 → AreEnds (numbered n After (acts_at_end size))
+are_ends : (size n : ℕ) → 1 ≤ size → size ≤ 16 → AreEnds (number_lines n After (acts_at_end size))
 unfolding acts_at_end
 are_ends size n least most =
     inl (refl, refl, all_numbered (Ends size) IsFinale After (λ k act ends. (refl, ends.opens.0, ends.opens.1, ends.opens.2)) (n + 1) (flat_map finales_of (numbers size)) (all_end size least most))
@@ -157,8 +157,8 @@ generated_arranged size least most = record {
   };
   mentioned = in_lines size (IsMentioned (numbers size) (numbers size)) (λ act fits. fits.mentioned) tt least most;
   before = [];
-  during = numbered 1 During (acts_during size);
-  ends = numbered (length (acts_during size) + 1) After (acts_at_end size);
+  during = number_lines 1 During (acts_during size);
+  ends = number_lines (length (acts_during size) + 1) After (acts_at_end size);
   lines = refl;
   are_before = All-nil (IsLineOf Before);
   are_during = all_numbered (Fits size) (IsLineOf During) During (λ n act fits. (refl, fits.stays)) 1 (acts_during size) (during_fits size most);

@@ -8,7 +8,7 @@ use Rattle.session_script.specs.declared.script.Line.{Line}
 use Rattle.session_script.specs.declared.script.Stage.{Stage}
 use Rattle.session_script.specs.declared.script.Stage.TheVariants.{During, After}
 use Rattle.session_script.specs.Scripts.{Act, LineFields, view_action, view_line}
-use Rattle.big_script.specs.Generated.{numbers, commit_of, lines_of_editor, lines_of_feeder, lines_of_reader, finales_of, acts_during, acts_at_end, numbered, generated_script}
+use Rattle.big_script.specs.Generated.{numbers, commit_of, lines_of_editor, lines_of_feeder, lines_of_reader, finales_of, acts_during, acts_at_end, number_lines, generated_script}
 
 -- ---- how many
 
@@ -68,19 +68,19 @@ ends_few size xs most is = let e = end_count size in let n = length-map xs view_
 
 -- ---- numbered lines
 
-length-numbered : (n : ℕ) (stage : Stage) (deeds : List Act) → length (numbered n stage deeds) ≡ length deeds
-length-numbered n stage [] = refl
-length-numbered n stage (a ∷ deeds) = ap suc (length-numbered (n + 1) stage deeds)
+length-number_lines : (n : ℕ) (stage : Stage) (deeds : List Act) → length (number_lines n stage deeds) ≡ length deeds
+length-number_lines n stage [] = refl
+length-number_lines n stage (a ∷ deeds) = ap suc (length-number_lines (n + 1) stage deeds)
 
 numbered_more : (n m : ℕ) (stage : Stage) (deeds : List Act) (a : Act) → n + length deeds ≡ m
-    → numbered n stage (deeds ++ a ∷ []) ≡ numbered n stage deeds ++ record { number = m; stage = stage; act = a } ∷ []
+    → number_lines n stage (deeds ++ a ∷ []) ≡ number_lines n stage deeds ++ record { number = m; stage = stage; act = a } ∷ []
 numbered_more n m stage [] a e = let same : n ≡ m = omega (arith, e) in ap (λ k. (record { number = k; stage = stage; act = a }) ∷ []) same
 numbered_more n m stage (b ∷ deeds) a e = ap (λ ls. (record { number = n; stage = stage; act = b }) ∷ ls) (numbered_more (n + 1) m stage deeds a (omega (arith, e)))
 
 -- lines that were added to others, of these actions
 pub record HasLined (old : List Line) (stage : Stage) (done : List Action) (new : List Line) : Type 0 where
   pub count : length new ≡ length old + length done
-  pub lines : map view_line new ≡ map view_line old ++ numbered (length old + 1) stage (map view_action done)
+  pub lines : map view_line new ≡ map view_line old ++ number_lines (length old + 1) stage (map view_action done)
 
 pub none_lined : (old : List Line) (stage : Stage) → HasLined old stage [] old
 none_lined old stage = record { count = omega arith; lines = sym (append-nil (map view_line old)) }
@@ -90,41 +90,41 @@ pub more_lined : (old new : List Line) (stage : Stage) (done : List Action) (act
 more_lined old new stage done action l h is = record {
   count = let a = h.count in let b = length-append done (action ∷ []) in let c = length-append new (l ∷ []) in omega (arith, a, b, c);
   lines =
-      map-append view_line new (l ∷ []) ∙ ap (λ ls. ls ++ view_line l ∷ []) h.lines ∙ append_assoc (map view_line old) (numbered (length old + 1) stage (map view_action done)) (view_line l ∷ [])
-      ∙ ap (λ ls. map view_line old ++ ls) (ap (λ x. numbered (length old + 1) stage (map view_action done) ++ x ∷ []) is
-      ∙ sym (ap (numbered (length old + 1) stage) (map-append view_action done (action ∷ [])) ∙ numbered_more (length old + 1) (length new + 1) stage (map view_action done) (view_action action)
+      map-append view_line new (l ∷ []) ∙ ap (λ ls. ls ++ view_line l ∷ []) h.lines ∙ append_assoc (map view_line old) (number_lines (length old + 1) stage (map view_action done)) (view_line l ∷ [])
+      ∙ ap (λ ls. map view_line old ++ ls) (ap (λ x. number_lines (length old + 1) stage (map view_action done) ++ x ∷ []) is
+      ∙ sym (ap (number_lines (length old + 1) stage) (map-append view_action done (action ∷ [])) ∙ numbered_more (length old + 1) (length new + 1) stage (map view_action done) (view_action action)
       (let a = h.count in let b = length-map done view_action in omega (arith, a, b))));
 }
 
 pub all_done : (old new : List Line) (stage : Stage) (done actions : List Action) → map (λ (a : Action). a) done ≡ actions → HasLined old stage done new
-    → map view_line new ≡ map view_line old ++ numbered (length old + 1) stage (map view_action actions)
-all_done old new stage done actions e h = h.lines ∙ ap (λ deeds. map view_line old ++ numbered (length old + 1) stage (map view_action deeds)) (sym (same done) ∙ e)
+    → map view_line new ≡ map view_line old ++ number_lines (length old + 1) stage (map view_action actions)
+all_done old new stage done actions e h = h.lines ∙ ap (λ deeds. map view_line old ++ number_lines (length old + 1) stage (map view_action deeds)) (sym (same done) ∙ e)
   where
     same : (xs : List Action) → map (λ (a : Action). a) xs ≡ xs
     same [] = refl
     same (x ∷ xs) = ap (λ ys. x ∷ ys) (same xs)
 
 -- the first lines
-pub first_lined : (start first : List Line) (during : List Action) → start ≡ [] → map view_line first ≡ map view_line start ++ numbered (length start + 1) During (map view_action during)
-    → map view_line first ≡ [] ++ numbered 1 During (map view_action during)
-first_lined start first during e h = h ∙ ap (λ (ls : List Line). map view_line ls ++ numbered (length ls + 1) During (map view_action during)) e
+pub first_lined : (start first : List Line) (during : List Action) → start ≡ [] → map view_line first ≡ map view_line start ++ number_lines (length start + 1) During (map view_action during)
+    → map view_line first ≡ [] ++ number_lines 1 During (map view_action during)
+first_lined start first during e h = h ∙ ap (λ (ls : List Line). map view_line ls ++ number_lines (length ls + 1) During (map view_action during)) e
 
 -- how long a list is by another view of it
-pub lined_count : (first : List Line) (during : List Action) → map view_line first ≡ [] ++ numbered 1 During (map view_action during) → length first ≡ length during
-lined_count first during e = sym (length-map first view_line) ∙ ap length e ∙ length-numbered 1 During (map view_action during) ∙ length-map during view_action
+pub lined_count : (first : List Line) (during : List Action) → map view_line first ≡ [] ++ number_lines 1 During (map view_action during) → length first ≡ length during
+lined_count first during e = sym (length-map first view_line) ∙ ap length e ∙ length-number_lines 1 During (map view_action during) ∙ length-map during view_action
 
 -- ---- the whole
 
 pub script_is : (size : ℕ) (first second : List Line) (during ends : List Action) → map view_action during ≡ acts_during size → map view_action ends ≡ acts_at_end size
-    → map view_line first ≡ [] ++ numbered 1 During (map view_action during) → map view_line second ≡ map view_line first ++ numbered (length first + 1) After (map view_action ends)
+    → map view_line first ≡ [] ++ number_lines 1 During (map view_action during) → map view_line second ≡ map view_line first ++ number_lines (length first + 1) After (map view_action ends)
     → map view_line second ≡ (generated_script size).lines
 unfolding generated_script
 script_is size first second during ends d e f s =
-    let lines : map view_line first ≡ numbered 1 During (acts_during size) = f ∙ ap (numbered 1 During) d in
-    let count : length first ≡ length (acts_during size) = sym (length-map first view_line) ∙ ap length lines ∙ length-numbered 1 During (acts_during size) in
-    s ∙ ap (λ ls. ls ++ numbered (length first + 1) After (map view_action ends)) lines
-    ∙ ap (λ deeds. numbered 1 During (acts_during size) ++ numbered (length first + 1) After deeds) e
-    ∙ ap (λ n. numbered 1 During (acts_during size) ++ numbered (n + 1) After (acts_at_end size)) count
+    let lines : map view_line first ≡ number_lines 1 During (acts_during size) = f ∙ ap (number_lines 1 During) d in
+    let count : length first ≡ length (acts_during size) = sym (length-map first view_line) ∙ ap length lines ∙ length-number_lines 1 During (acts_during size) in
+    s ∙ ap (λ ls. ls ++ number_lines (length first + 1) After (map view_action ends)) lines
+    ∙ ap (λ deeds. number_lines 1 During (acts_during size) ++ number_lines (length first + 1) After deeds) e
+    ∙ ap (λ n. number_lines 1 During (acts_during size) ++ number_lines (n + 1) After (acts_at_end size)) count
 
 pub whole_script : (size : ℕ) (editors readers : List ℕ) (lines : List LineFields) → editors ≡ numbers size → readers ≡ numbers size → lines ≡ (generated_script size).lines
     → record { editors = editors; readers = readers; lines = lines } ≡ generated_script size

@@ -59,13 +59,13 @@ unfoldable pub acts_at_end : (size : ℕ) → List Act
 acts_at_end size = acts.Settle ∷ flat_map finales_of (numbers size)
 
 -- lines of one stage, counted from this number on
-abbrev pub numbered : (first : ℕ) → Stage → List Act → List LineFields
-numbered first stage [] = []
-numbered first stage (act ∷ rest) = record { number = first; stage = stage; act = act } ∷ numbered (first + 1) stage rest
+abbrev pub number_lines : (first : ℕ) → Stage → List Act → List LineFields
+number_lines first stage [] = []
+number_lines first stage (act ∷ rest) = record { number = first; stage = stage; act = act } ∷ number_lines (first + 1) stage rest
 
 unfoldable pub generated_script : (size : ℕ) → Fields
 generated_script size = record {
   editors = numbers size;
   readers = numbers size;
-  lines = numbered 1 During (acts_during size) ++ numbered (length (acts_during size) + 1) After (acts_at_end size);
+  lines = number_lines 1 During (acts_during size) ++ number_lines (length (acts_during size) + 1) After (acts_at_end size);
 }

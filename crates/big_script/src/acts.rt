@@ -18,7 +18,7 @@ const FILES_IN_COMMIT: u32 = 8;
 const COMMITS: u32 = 4;
 
 /// How many files an editor puts.
-const FILES: u32 = 32;
+const FILES: u32 = FILES_IN_COMMIT * COMMITS;
 
 /// How often a reader opens a path before the end.
 const OPENS: u32 = 64;
@@ -31,7 +31,7 @@ const ITEMS: u32 = 256;
 /// How many packets arrive before one is lost.
 const KEPT: usize = 49;
 
-/// The path of one name more, which is a name of a path.
+/// The path of an entry of this folder, whose name is one that a path may have.
 fn entry(path: &Path, name: &str) -> Result<Path, NoMemory>
     requires name { is_name name.now ≡ true }
     requires depth { length path.now < 16 }

@@ -1,7 +1,7 @@
 //! A generated script.
 ghost use Rattle.std.specs.Prelude.{◌≡◌, ◌+◌, ◌++◌, ◌≤◌, ◌<◌, ◌^◌, map, length, IfOk, OnOk};
 ghost use Rattle.session_script.specs.Scripts.{view, view_action, view_line};
-ghost use Rattle.big_script.specs.Generated.{numbers as numbers_to, numbered, generated_script};
+ghost use Rattle.big_script.specs.Generated.{numbers as numbers_to, number_lines, generated_script};
 
 use crate::acts::{acts_at_end, acts_during};
 use oc_bytes::NoMemory;
@@ -50,7 +50,7 @@ fn numbers(alloc: Global, size: u32) -> Result<Vec<u32>, NoMemory>
 fn add_lines(lines: &mut Vec<Line>, stage: Stage, actions: Vec<Action>) -> Result<(), NoMemory>
     requires { length lines.old.items + length actions.items < 2 ^ 32 }
     ensures { OnOk result (map view_line lines.new.items
-        ≡ map view_line lines.old.items ++ numbered (length lines.old.items + 1) stage (map view_action actions.items)) }
+        ≡ map view_line lines.old.items ++ number_lines (length lines.old.items + 1) stage (map view_action actions.items)) }
 {
     for action in actions {
         let number = lines.len() as u32 + 1;

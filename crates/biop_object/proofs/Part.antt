@@ -12,7 +12,7 @@ use Rattle.ior_tap.specs.declared.IorFault.{IorFault}
 use Rattle.oc_bytes.specs.Cursor.{Cursor, Reading, past, bytes_at, from_start, read_from_start}
 use Rattle.ior_tap.specs.Iors as iors
 use Rattle.ior_tap.specs.IorReading.{ior_at}
-use Rattle.ior_tap.specs.Agreement.{Agrees, InBytes, at, shifted}
+use Rattle.ior_tap.specs.Agreement.{Agrees, InBytes, at, shift_by}
 use Rattle.biop_object.specs.ObjectReading.{drop_zero}
 
 -- ---- an IOR at a place
@@ -32,7 +32,7 @@ from_fault : {A : Type 0} (m : Reading A) (p : ℕ) → read_from_start m ≡ Er
 from_fault (Ok x) p e = absurd cc
 from_fault (Err place) p e = cc
 
-at_place : (law : IorLaw) (c : Cursor) → ior_at c ≡ shifted c.place (ior_at (from_start c.rest))
+at_place : (law : IorLaw) (c : Cursor) → ior_at c ≡ shift_by c.place (ior_at (from_start c.rest))
 at_place law c = ap (λ (p : ℕ). ior_at (at p c.rest)) (sym (zero-add c.place)) ∙ law.moves c.place (from_start c.rest)
 
 abbrev pub done : iors.Fields × Cursor → Reading iors.Fields
@@ -49,12 +49,12 @@ ior_here law c ior n fits e =
     let len : length t.front ≡ n = omega (arith, t.place, k.2) in
     let place : d.place + c.place ≡ c.place + n = omega (arith, k.2) in
     let rest : d.rest ≡ drop n c.rest = sym (ap (drop n) t.parts ∙ drop_at t.front d.rest n len) in
-    at_place law c ∙ ap (shifted c.place) k.1 ∙ ap (λ (p : ℕ). done (ior, at p d.rest)) place ∙ ap (λ (r : List ℕ). done (ior, at (c.place + n) r)) rest
+    at_place law c ∙ ap (shift_by c.place) k.1 ∙ ap (λ (p : ℕ). done (ior, at p d.rest)) place ∙ ap (λ (r : List ℕ). done (ior, at (c.place + n) r)) rest
 
 pub ior_nowhere : (law : IorLaw) (c : Cursor) (p : ℕ) → read_from_start (ior_at (from_start c.rest)) ≡ Err p → ior_at c ≡ Err (c.place + p)
 ior_nowhere law c p e =
     let place : p + c.place ≡ c.place + p = omega arith in
-    at_place law c ∙ ap (shifted c.place) (from_fault (ior_at (from_start c.rest)) p e) ∙ ap (λ (q : ℕ). failed q) place
+    at_place law c ∙ ap (shift_by c.place) (from_fault (ior_at (from_start c.rest)) p e) ∙ ap (λ (q : ℕ). failed q) place
 
 -- what taking bytes leaves
 pub bytes_behind : (n : ℕ) (c d : Cursor) (s : List ℕ) → bytes_at n c ≡ Ok (s, d) → d ≡ past n c

@@ -20,7 +20,7 @@ use Rattle.biop_object.specs.declared.written.Bound.{Bound}
 use Rattle.biop_object.specs.declared.written.Bound.TheVariants as bounds
 use Rattle.biop_object.specs.declared.written.FolderKind.{FolderKind}
 use Rattle.biop_object.specs.declared.written.FolderKind.TheVariants.{Directory, Gateway}
-use Rattle.biop_object.specs.Objects.{IsFile, IsFolder, Object, IsBiop, ReadsObject, file_kind, directory_kind, gateway_kind, biop, biop_front, file_spelling, kind_of, binding_spelling, folder_spelling, binding_of, bound_size, binding_size, folder_size, IsEntry}
+use Rattle.biop_object.specs.Objects.{IsFile, IsFolder, Object, IsBiop, ReadsObject, file_kind, directory_kind, gateway_kind, biop, biop_prefix, file_spelling, kind_of, binding_spelling, folder_spelling, binding_of, bound_size, binding_size, folder_size, IsEntry}
 use Rattle.biop_object.specs.ObjectReading.{onto, and_then, read_on, index_of, object_at}
 use Rattle.biop_object.specs.Spelled.{Spelled, AFile, AFolder, spelled_bytes, spelled_object, spelled_objects, IsSpellableEntry, IsSpellable}
 use Rattle.biop_object.proofs.Messages.{IorStands, BindingParts, binding_put, zero_cut}
@@ -70,7 +70,7 @@ biop_parts key kind info body k n i b = record {
 }
 
 -- the bytes before the body, written with the sizes as numbers
-pub front_is : (key kind info body : List ℕ) → length key ≡ 4 → length kind ≡ 4 → biop_front key kind info (length body) ++ body ≡ biop key kind info body
+pub front_is : (key kind info body : List ℕ) → length key ≡ 4 → length kind ≡ 4 → biop_prefix key kind info (length body) ++ body ≡ biop key kind info body
 front_is key kind info body k n =
     let size : 20 + length info + length body ≡ length (rest_of key kind info body) = omega (arith, rest_length key kind info body) in
     let tail : ℕ → ℕ → List ℕ = λ a b. (a ∷ key) ++ four_bytes b ++ kind ++ two_bytes (length info) ++ info ++ 0 ∷ four_bytes (length body) in
@@ -98,22 +98,22 @@ file_reads place key content k small = object_there place (file_spelling key con
 
 -- ---- a binding
 
-written_stands : (kind : List ℕ) (l : Location) → length kind ≡ 4 → length l.key ≡ 4 → IsLocation l → IorStands (iors.spelling kind l) (iors.written kind l)
+written_stands : (kind : List ℕ) (l : Location) → length kind ≡ 4 → length l.key ≡ 4 → IsLocation l → IorStands (iors.spelling kind l) (iors.written_form kind l)
 written_stands kind l four key room =
-    let form : IsWritten (iors.written kind l) l = record { form = refl; four = four; key = key } in
+    let form : IsWritten (iors.written_form kind l) l = record { form = refl; four = four; key = key } in
     record {
       reads = written_reads kind l form room;
       stands = λ place rest. written_again kind l form room place rest ∙ ap (λ (n : ℕ). done (at (place + n) rest)) (sym (spelling_length kind l four key));
     } where
       done : Cursor → Reading iors.Fields
-      done d = Ok (iors.written kind l, d)
+      done d = Ok (iors.written_form kind l, d)
 
 regroup_binding : (a z k t f i : List ℕ) → a ++ (z ++ k) ++ (t ++ f ++ i) ≡ a ++ z ++ k ++ t ++ f ++ i
 regroup_binding a z k t f i = simp append_assoc
 
 -- a binding of this kind: type, reference, and objectInfo with its length
 bound_parts : (name kind info : List ℕ) (t : ℕ) (l : Location) → length name ≤ 254 → length kind ≡ 4 → t < 256 → length info ≤ 8 → length l.key ≡ 4 → IsLocation l
-    → BindingParts ((1 ∷ (length name + 1) ∷ name) ++ (0 ∷ 4 ∷ kind) ++ ((t ∷ iors.spelling kind l) ++ two_bytes (length info) ++ info)) (record { name = name; kind = kind; target = iors.written kind l })
+    → BindingParts ((1 ∷ (length name + 1) ∷ name) ++ (0 ∷ 4 ∷ kind) ++ ((t ∷ iors.spelling kind l) ++ two_bytes (length info) ++ info)) (record { name = name; kind = kind; target = iors.written_form kind l })
 bound_parts name kind info t l n four small i key room =
     let id : List ℕ = name ++ 0 ∷ [] in
     let id_length : length id ≡ length name + 1 = length-append name (0 ∷ []) in
@@ -123,7 +123,7 @@ bound_parts name kind info t l n four small i key room =
     let counts : ℕ → ℕ → List ℕ = λ a b. (1 ∷ a ∷ id) ++ (b ∷ kind) ++ (t ∷ iors.spelling kind l) ++ two_bytes (length info) ++ info in
     let whole : (1 ∷ (length name + 1) ∷ name) ++ (0 ∷ 4 ∷ kind) ++ ((t ∷ iors.spelling kind l) ++ two_bytes (length info) ++ info) ≡ counts (length id) (length kind) =
     joined ∙ ap (λ (a : ℕ). counts a 4) (sym id_length) ∙ ap (λ (b : ℕ). counts (length id) b) (sym four) in
-    binding_put ((1 ∷ (length name + 1) ∷ name) ++ (0 ∷ 4 ∷ kind) ++ ((t ∷ iors.spelling kind l) ++ two_bytes (length info) ++ info)) (record { name = name; kind = kind; target = iors.written kind l }) id (iors.spelling kind l) info t
+    binding_put ((1 ∷ (length name + 1) ∷ name) ++ (0 ∷ 4 ∷ kind) ++ ((t ∷ iors.spelling kind l) ++ two_bytes (length info) ++ info)) (record { name = name; kind = kind; target = iors.written_form kind l }) id (iors.spelling kind l) info t
     (omega (arith, id_length, n)) (omega (arith, four)) small (omega (arith, i)) whole (sym (zero_cut name)) (written_stands kind l four key room)
 
 binding_parts : (w : Written) → IsEntry w → IsLocation w.location → BindingParts (binding_spelling w) (binding_of w)
@@ -131,7 +131,7 @@ binding_parts w e room = by_bound w.bound where
   by_bound : (b : Bound) → BindingParts (binding_spelling (record { name = w.name; bound = b; location = w.location })) (binding_of (record { name = w.name; bound = b; location = w.location }))
   by_bound (bounds.File size) = bound_parts w.name file_kind (eight_bytes size) 1 w.location e.name.1 refl (omega arith) (omega arith) e.key room
   by_bound bounds.Folder =
-      subst (λ (tail : List ℕ). BindingParts ((1 ∷ (length w.name + 1) ∷ w.name) ++ (0 ∷ 4 ∷ directory_kind) ++ tail) (record { name = w.name; kind = directory_kind; target = iors.written directory_kind w.location }))
+      subst (λ (tail : List ℕ). BindingParts ((1 ∷ (length w.name + 1) ∷ w.name) ++ (0 ∷ 4 ∷ directory_kind) ++ tail) (record { name = w.name; kind = directory_kind; target = iors.written_form directory_kind w.location }))
       (append-nil ((2 ∷ iors.spelling directory_kind w.location) ++ two_bytes 0)) (bound_parts w.name directory_kind [] 2 w.location e.name.1 refl (omega arith) (omega arith) e.key room)
 
 pub binding_length : (w : Written) → length w.location.key ≡ 4 → length (binding_spelling w) ≡ binding_size w
@@ -205,11 +205,11 @@ folder_reads place kind key entries k all room small =
     (folder_parts place kind key entries k all room few (omega (arith, small, folder_length kind key entries k all)))
 
 pub folder_is : (kind : FolderKind) (key : List ℕ) (entries : List Written) (size : ℕ) → length key ≡ 4 → All IsEntry entries → size ≡ folder_size entries
-    → biop_front key (kind_of kind) [] (size - 32) ++ two_bytes (length entries) ++ lines_of entries ≡ folder_spelling kind key entries
+    → biop_prefix key (kind_of kind) [] (size - 32) ++ two_bytes (length entries) ++ lines_of entries ≡ folder_spelling kind key entries
 folder_is kind key entries size k all is =
     let body : size - 32 ≡ length (body_of entries) = omega (arith, is, lines_length entries all) in
-    append_assoc (biop_front key (kind_of kind) [] (size - 32)) (two_bytes (length entries)) (lines_of entries)
-    ∙ ap (λ (n : ℕ). biop_front key (kind_of kind) [] n ++ body_of entries) body ∙ front_is key (kind_of kind) [] (body_of entries) k (kind_length kind)
+    append_assoc (biop_prefix key (kind_of kind) [] (size - 32)) (two_bytes (length entries)) (lines_of entries)
+    ∙ ap (λ (n : ℕ). biop_prefix key (kind_of kind) [] n ++ body_of entries) body ∙ front_is key (kind_of kind) [] (body_of entries) k (kind_length kind)
 
 -- ---- spellings one after another
 

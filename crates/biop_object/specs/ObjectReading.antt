@@ -33,12 +33,12 @@ context_at c = do
   Ok ((id.0, context_data.0), context_data.1)
 
 -- a reading of which only the place after it counts
-abbrev pub passed : {A : Type 0} → Reading A → Reading (Unit {0})
-passed m = m >>= λ x. Ok (tt, x.1)
+abbrev pub skip_reading : {A : Type 0} → Reading A → Reading (Unit {0})
+skip_reading m = m >>= λ x. Ok (tt, x.1)
 
 -- so many service contexts, passed over
 abbrev pub contexts_at : ℕ → Cursor → Reading (Unit {0})
-contexts_at count c = passed (each_at context_at count c)
+contexts_at count c = skip_reading (each_at context_at count c)
 
 -- The next n bytes, read as a message of their own; what the reading leaves of them is passed over.
 abbrev pub nested_at : {A : Type 0} → ℕ → (Cursor → Reading A) → Cursor → Reading A

@@ -117,8 +117,8 @@ biop key kind info body =
     (66 ∷ 73 ∷ 79 ∷ 80 ∷ 1 ∷ 0 ∷ 0 ∷ 0 ∷ []) ++ four_bytes (length rest) ++ rest
 
 -- what stands before the body of a message whose key and kind have four bytes each
-abbrev pub biop_front : (key kind info : List ℕ) → ℕ → List ℕ
-biop_front key kind info body_length = (66 ∷ 73 ∷ 79 ∷ 80 ∷ 1 ∷ 0 ∷ 0 ∷ 0 ∷ []) ++ four_bytes (20 + length info + body_length)
+abbrev pub biop_prefix : (key kind info : List ℕ) → ℕ → List ℕ
+biop_prefix key kind info body_length = (66 ∷ 73 ∷ 79 ∷ 80 ∷ 1 ∷ 0 ∷ 0 ∷ 0 ∷ []) ++ four_bytes (20 + length info + body_length)
     ++ (4 ∷ key) ++ four_bytes 4 ++ kind ++ two_bytes (length info) ++ info ++ 0 ∷ four_bytes body_length
 
 abbrev pub file_spelling : List ℕ → List ℕ → List ℕ
@@ -144,7 +144,7 @@ folder_spelling kind key entries = biop key (kind_of kind) [] (two_bytes (length
 
 -- what a written binding is read as
 abbrev pub binding_of : Written → BindingFields
-binding_of w = record { name = w.name; kind = bound_kind w.bound; target = iors.written (bound_kind w.bound) w.location }
+binding_of w = record { name = w.name; kind = bound_kind w.bound; target = iors.written_form (bound_kind w.bound) w.location }
 
 -- how many bytes a written binding has
 abbrev pub bound_size : Bound → ℕ

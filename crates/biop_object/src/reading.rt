@@ -9,7 +9,7 @@ ghost use Rattle.ior_tap.specs.Iors as iors;
 ghost use Rattle.ior_tap.specs.IorReading.{ior_at, each_at};
 ghost use Rattle.biop_object.specs.Objects.{view_binding};
 ghost use Rattle.biop_object.specs.Index.{view_kind, view_indexed, view_index, cause};
-ghost use Rattle.biop_object.specs.ObjectReading.{drop_zero, binding_at, context_at, passed, contexts_at, nested_at, file_at, folder_at, shape_at, inside_at, object_at, index_of};
+ghost use Rattle.biop_object.specs.ObjectReading.{drop_zero, binding_at, context_at, skip_reading, contexts_at, nested_at, file_at, folder_at, shape_at, inside_at, object_at, index_of};
 ghost use Rattle.biop_object.specs.declared.reading.ReadFault.TheVariants.{NoMemory as OutOfMemory};
 
 use crate::module::{Binding, Indexed, Kind, Span};
@@ -180,7 +180,7 @@ fn file_of(fields: &mut Fields<'_>) -> Result<Kind, ReadFault>
 /// A service context, passed over.
 #[tactic(auto, unfolding(crate::specs::ObjectReading::context_at))]
 fn pass_context(fields: &mut Fields<'_>) -> Result<(), ReadFault>
-    ensures { Gives (λ _. (tt, fields.new)) cause result (passed (context_at fields.old)) }
+    ensures { Gives (λ _. (tt, fields.new)) cause result (skip_reading (context_at fields.old)) }
 {
     u32_of(fields)?;
     let length = u16_of(fields)?;

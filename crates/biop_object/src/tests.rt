@@ -160,3 +160,10 @@ fn reads_other_layouts(rt: HostRuntime) -> Result<(), Fail> {
     assert_eq!(rt; module.find(&[0, 0, 0, 2]), Found::Bad(0));
     Ok(())
 }
+
+#[test]
+fn faults_as_text(rt: HostRuntime) -> Result<(), Fail> {
+    let text = format!(in rt.alloc(); "{}", ObjectFault::TooLarge)?;
+    assert_eq!(rt; text.as_str(), "the message has more than 1,048,576 bytes");
+    Ok(())
+}

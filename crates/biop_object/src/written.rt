@@ -3,7 +3,7 @@
 ghost use Rattle.std.specs.Prelude.{◌≡◌, ◌≤◌, ◌<◌, ◌+◌, ◌∷◌, [], ◌++◌, ℕ, length, map, take, IfOk, OnOk, MatchOption, IsErrOf};
 ghost use Rattle.std.specs.List.{All, flat_map};
 ghost use Rattle.ior_tap.specs.Iors.{IsLocation};
-ghost use Rattle.biop_object.specs.Objects.{ReadsObject, IsFile, IsFolder, IsEntry, binding_of, file_spelling, folder_spelling, biop_front, kind_of, bound_kind, bound_tail, binding_spelling, binding_size, folder_size};
+ghost use Rattle.biop_object.specs.Objects.{ReadsObject, IsFile, IsFolder, IsEntry, binding_of, file_spelling, folder_spelling, biop_prefix, kind_of, bound_kind, bound_tail, binding_spelling, binding_size, folder_size};
 ghost use Rattle.biop_object.specs.declared.written.ObjectFault.TheVariants.{NoMemory as OutOfMemory};
 
 use crate::reading::{DIRECTORY, FILE, GATEWAY, HEAD};
@@ -11,6 +11,7 @@ use ior_tap::{Key, Location, put_reference};
 use oc_bytes::{NoMemory, Writer};
 use path_tree::Name;
 use std::alloc::{AllocError, Global};
+use thiserror::Error;
 
 /// Which folder is written: a directory below the root, or the root, which is the service gateway.
 #[derive(Clone, Copy, Debug, PartialEq, Eq)]
@@ -51,11 +52,13 @@ pub struct Written {
 }
 
 /// Why a folder wasn't written.
-#[derive(Clone, Copy, Debug, PartialEq, Eq)]
+#[derive(Clone, Copy, Debug, PartialEq, Eq, Error)]
 pub enum ObjectFault {
     /// The message would have more than 1,048,576 bytes, which is this project's own limit.
+    #[error("the message has more than 1,048,576 bytes")]
     TooLarge,
     /// There is no memory.
+    #[error("out of memory")]
     NoMemory,
 }
 
@@ -101,7 +104,7 @@ fn file_bytes(alloc: Global, key: &[u8], content: &[u8]) -> Result<Vec<u8>, NoMe
 ///
 /// The key has 4 bytes, each name 1 to 254, and the key of each location 4. The bindings stand in the order of the
 /// entries; the objectInfo is empty, no service context is written, and the sizes are exact. `TooLarge` comes exactly
-/// where the message would have more than 1,048,576 bytes.
+/// where the message would have more than 1,048,576 bytes, and memory is asked for only where it hasn't.
 /// (ISO/IEC 13818-6, clause 11.3.2.2; ETSI TR 101 202, clauses 4.7.4.1 and 4.7.4.3.)
 pub fn encode_folder(
     alloc: Global,
@@ -116,6 +119,8 @@ pub fn encode_folder(
     ensures reads { IfOk result (λ bytes. (at : ℕ) → ReadsObject at bytes.items
         (record { key = key.now; shape = IsFolder (map binding_of entries.now) })) }
     ensures too_large { IsErrOf result ObjectFault.TooLarge → 1048576 < length (folder_spelling kind key.now entries.now) }
+    ensures large { 1048576 < length (folder_spelling kind key.now entries.now) → IsErrOf result ObjectFault.TooLarge }
+    ensures no_memory { IsErrOf result ObjectFault.NoMemory → length (folder_spelling kind key.now entries.now) ≤ 1048576 }
 {
     let Some(size) = size_of(entries) else {
         return Err(ObjectFault::TooLarge);
@@ -184,7 +189,7 @@ fn put_front(
     requires kind { length kind.now ≡ 4 }
     requires info { length info.now ≤ 8 }
     requires body { body_length ≤ 16777220 }
-    ensures { OnOk result (out.new ≡ out.old ++ biop_front key.now kind.now info.now body_length) }
+    ensures { OnOk result (out.new ≡ out.old ++ biop_prefix key.now kind.now info.now body_length) }
 {
     out.put_u64(HEAD)?;
     out.put_u32(20 + info.len() as u32 + body_length)?;

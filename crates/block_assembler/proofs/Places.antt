@@ -4,7 +4,7 @@ use Rattle.std.proofs.lemmas.List.{drop-append-le, drop-drop, drop_all, drop_at,
 use Rattle.std.proofs.lemmas.Bool.{eq-eqb, ne_eqb, lt-ltb, le-ltb, cases_eq, cases_order}
 use Rattle.std.proofs.lemmas.Grind.{div_ceil_times}
 use Rattle.ddb_block.specs.Blocks.{block_count_of, block_span_of, block_of}
-use Rattle.block_assembler.specs.Blocks.{Bytes, AssemblerState, block_in, offered, is_new, after_forget, after_offer}
+use Rattle.block_assembler.specs.Blocks.{Bytes, AssemblerState, block_in, offer_of, is_new, after_forget, after_offer}
 use Rattle.block_assembler.specs.declared.Offer.{Offer}
 use Rattle.block_assembler.specs.declared.Offer.TheVariants.{WrongPlace, WrongLength, Again, New}
 use Rattle.block_assembler.specs.Kept.{blocks_from}
@@ -145,7 +145,7 @@ block_kept old new k b j h e ne = by_order (cases_order j b) where
 -- ---- an offer
 
 judged : (a : AssemblerState) (b : ℕ) (new : Bytes) → b < block_count_of a.size a.block_size → length new ≡ block_span_of a.size a.block_size b
-    → offered a b new ≡ (if is_some (block_in a.blocks b) then Again else New)
+    → offer_of a b new ≡ (if is_some (block_in a.blocks b) then Again else New)
 judged a b new h e = rw (lt-ltb b (block_count_of a.size a.block_size) h, eq-eqb (length new) (block_span_of a.size a.block_size b) e) refl
 
 block_if : (bytes : Bytes) (k : ℕ) (ts : List Bool) (place b : ℕ) (mark : Bool) → place ≡ b → b < length ts → mark ≡ get_or ts place mark
@@ -155,36 +155,36 @@ block_if bytes k ts place b mark e h m =
     block_there bytes k ts b ∙ ap (λ (x : Bool). cond x (Some (block_of bytes k b)) None) is
 
 pub is_again : (size k : ℕ) (bytes : Bytes) (ts : List Bool) (place b : ℕ) (mark : Bool) (new : Bytes) → place ≡ b → b < length ts → mark ≡ get_or ts place mark → mark ≡ true
-    → length ts ≡ block_count_of size k → length new ≡ block_span_of size k b → Again ≡ offered (viewed size k bytes ts) b new
+    → length ts ≡ block_count_of size k → length new ≡ block_span_of size k b → Again ≡ offer_of (viewed size k bytes ts) b new
 is_again size k bytes ts place b mark new e h m t n l =
     let there : block_in (blocks_from bytes k 0 ts) b ≡ Some (block_of bytes k b) = block_if bytes k ts place b mark e h m ∙ rw t refl in
     sym (judged (viewed size k bytes ts) b new (omega (arith, n)) l ∙ rw there refl)
 
 pub is_new_block : (size k : ℕ) (bytes : Bytes) (ts : List Bool) (place b : ℕ) (mark : Bool) (new : Bytes) → place ≡ b → b < length ts → mark ≡ get_or ts place mark → mark ≡ false
-    → length ts ≡ block_count_of size k → length new ≡ block_span_of size k b → New ≡ offered (viewed size k bytes ts) b new
+    → length ts ≡ block_count_of size k → length new ≡ block_span_of size k b → New ≡ offer_of (viewed size k bytes ts) b new
 is_new_block size k bytes ts place b mark new e h m t n l =
     let there : block_in (blocks_from bytes k 0 ts) b ≡ None = block_if bytes k ts place b mark e h m ∙ rw t refl in
     sym (judged (viewed size k bytes ts) b new (omega (arith, n)) l ∙ rw there refl)
 
-pub is_wrong_place : (size k : ℕ) (bytes : Bytes) (ts : List Bool) (b : ℕ) (new : Bytes) → length ts ≤ b → length ts ≡ block_count_of size k → WrongPlace ≡ offered (viewed size k bytes ts) b new
+pub is_wrong_place : (size k : ℕ) (bytes : Bytes) (ts : List Bool) (b : ℕ) (new : Bytes) → length ts ≤ b → length ts ≡ block_count_of size k → WrongPlace ≡ offer_of (viewed size k bytes ts) b new
 is_wrong_place size k bytes ts b new h n =
     let above : block_count_of size k ≤ b = omega (arith, n) in
     sym (rw (le-ltb b (block_count_of size k) above) refl)
 
-pub is_wrong_length : (size k : ℕ) (bytes : Bytes) (ts : List Bool) (b : ℕ) (new : Bytes) → b < length ts → length ts ≡ block_count_of size k → length new ≢ block_span_of size k b → WrongLength ≡ offered (viewed size k bytes ts) b new
+pub is_wrong_length : (size k : ℕ) (bytes : Bytes) (ts : List Bool) (b : ℕ) (new : Bytes) → b < length ts → length ts ≡ block_count_of size k → length new ≢ block_span_of size k b → WrongLength ≡ offer_of (viewed size k bytes ts) b new
 is_wrong_length size k bytes ts b new h n ne =
     let below : b < block_count_of size k = omega (arith, n) in
     sym (rw (lt-ltb b (block_count_of size k) below, ne_eqb (length new) (block_span_of size k b) ne) refl)
 
 -- an offer that isn't taken leaves the state
-pub not_taken : (a : AssemblerState) (b : ℕ) (new : Bytes) (o : Offer) → o ≡ offered a b new → is_new o ≡ false → a ≡ after_offer a b new
+pub not_taken : (a : AssemblerState) (b : ℕ) (new : Bytes) (o : Offer) → o ≡ offer_of a b new → is_new o ≡ false → a ≡ after_offer a b new
 not_taken a b new o e n = rw (← e, n) refl
 
 inside_size : (size k b : ℕ) → 0 < k → b < block_count_of size k → b * k < size
 inside_size size k b positive h = omega (arith, div_ceil_times size k positive, mul-le-mul_left k h, suc-mul b k, mul_comm (suc b) k, mul_comm k (suc b), mul_comm k (block_count_of size k))
 
 pub taken : (size k : ℕ) (bytes : Bytes) (ts : List Bool) (place b start : ℕ) (new : Bytes) → 0 < k → place ≡ b → start ≡ place * k → b < length ts → length bytes ≡ size
-    → length ts ≡ block_count_of size k → length new ≡ block_span_of size k b → New ≡ offered (viewed size k bytes ts) b new
+    → length ts ≡ block_count_of size k → length new ≡ block_span_of size k b → New ≡ offer_of (viewed size k bytes ts) b new
     → viewed size k (take start bytes ++ new ++ drop (start + length new) bytes) (set ts place true) ≡ after_offer (viewed size k bytes ts) b new
 unfolding with_blocks written
 taken size k bytes ts place b start new positive e s h n l w o =
@@ -199,7 +199,7 @@ taken size k bytes ts place b start new positive e s h n l w o =
 
 -- `taken`, as the code writes it: through a slice of the buffer, whose bytes are ws afterwards
 pub taken_through : (size k : ℕ) (bytes : Bytes) (ts : List Bool) (place b k2 : ℕ) (new seen ws : Bytes) (after : Bytes) → 0 < k → place ≡ b → k2 ≡ k → b < length ts → length bytes ≡ size
-    → length ts ≡ block_count_of size k → length new ≡ block_span_of size k b → New ≡ offered (viewed size k bytes ts) b new
+    → length ts ≡ block_count_of size k → length new ≡ block_span_of size k b → New ≡ offer_of (viewed size k bytes ts) b new
     → seen ≡ bytes → ws ≡ take (place * k2) seen ++ new ++ drop (place * k2 + length new) seen → after ≡ ws
     → viewed size k after (set ts place true) ≡ after_offer (viewed size k bytes ts) b new
 taken_through size k bytes ts place b k2 new seen ws after positive e f h n l w o s p q =

@@ -7,7 +7,7 @@ use Rattle.std.proofs.lemmas.List.Sums.{sum_by-cons, position_or_len_is}
 use Rattle.std.proofs.lemmas.Grind.{div_ceil_times}
 use Rattle.std.proofs.lemmas.Bool.{lt-ltb, le-ltb}
 use Rattle.ddb_block.specs.Blocks.{block_count_of, block_of}
-use Rattle.block_assembler.specs.Blocks.{Bytes, AssemblerState, joined, empty_of}
+use Rattle.block_assembler.specs.Blocks.{Bytes, AssemblerState, join_all, empty_of}
 use Rattle.block_assembler.specs.Kept.{blocks_from}
 use Rattle.block_assembler.proofs.Places.{viewed, length_blocks, block_there}
 
@@ -17,30 +17,30 @@ with_blocks size k blocks = record { size = size; block_size = k; blocks = block
 count_cons : (t : Bool) (ts : List Bool) → count_by not (t ∷ ts) ≡ cond (not t) 1 0 + count_by not ts
 count_cons t ts = sum_by-cons (λ (x : Bool). cond (not x) 1 0) t ts
 
-joined_if_all : (bytes : Bytes) (k b : ℕ) (ts : List Bool) → count_by not ts ≡ 0 → joined (blocks_from bytes k b ts) ≡ Some (take (length ts * k) (drop (b * k) bytes))
+joined_if_all : (bytes : Bytes) (k b : ℕ) (ts : List Bool) → count_by not ts ≡ 0 → join_all (blocks_from bytes k b ts) ≡ Some (take (length ts * k) (drop (b * k) bytes))
 joined_if_all bytes k b [] e = rw (zero-mul k) refl
 joined_if_all bytes k b (false ∷ ts) e = absurd (omega (arith, count_cons false ts))
 joined_if_all bytes k b (true ∷ ts) e =
-    let rest : joined (blocks_from bytes k (b + 1) ts) ≡ Some (take (length ts * k) (drop ((b + 1) * k) bytes)) =
+    let rest : join_all (blocks_from bytes k (b + 1) ts) ≡ Some (take (length ts * k) (drop ((b + 1) * k) bytes)) =
     joined_if_all bytes k (b + 1) ts (omega (arith, count_cons true ts)) in
     let next : drop ((b + 1) * k) bytes ≡ drop k (drop (b * k) bytes) =
     ap (λ (n : ℕ). drop n bytes) (omega (arith, add-mul b 1 k, one-mul k)) ∙ sym (drop-drop k (b * k) bytes) in
     let more : suc (length ts) * k ≡ k + length ts * k = omega (arith, suc-mul (length ts) k) in
     rw rest (rw (next, more) (ap (λ (x : Bytes). Some x) (sym (take-add k (length ts * k) (drop (b * k) bytes)))))
 
-joined_if_not : (bytes : Bytes) (k b : ℕ) (ts : List Bool) → count_by not ts ≢ 0 → joined (blocks_from bytes k b ts) ≡ None
+joined_if_not : (bytes : Bytes) (k b : ℕ) (ts : List Bool) → count_by not ts ≢ 0 → join_all (blocks_from bytes k b ts) ≡ None
 joined_if_not bytes k b [] e = absurd (e refl)
 joined_if_not bytes k b (false ∷ ts) e = refl
 joined_if_not bytes k b (true ∷ ts) e =
     rw (joined_if_not bytes k (b + 1) ts (λ g. e (omega (arith, count_cons true ts, g)))) refl
 
 pub is_whole : (size k : ℕ) (bytes : Bytes) (ts : List Bool) → 0 < k → length bytes ≡ size → length ts ≡ block_count_of size k → count_by not ts ≡ 0
-    → joined (viewed size k bytes ts).blocks ≡ Some bytes
+    → join_all (viewed size k bytes ts).blocks ≡ Some bytes
 is_whole size k bytes ts positive n l e =
     let all : length bytes ≤ length ts * k = rw (n, l) (div_ceil_times size k positive).0 in
     joined_if_all bytes k 0 ts e ∙ rw (zero-mul k) (ap (λ (x : Bytes). Some x) (take_all (length ts * k) bytes all))
 
-pub is_not_whole : (size k : ℕ) (bytes : Bytes) (ts : List Bool) → count_by not ts ≢ 0 → joined (viewed size k bytes ts).blocks ≡ None
+pub is_not_whole : (size k : ℕ) (bytes : Bytes) (ts : List Bool) → count_by not ts ≢ 0 → join_all (viewed size k bytes ts).blocks ≡ None
 is_not_whole size k bytes ts e = joined_if_not bytes k 0 ts e
 
 -- ---- the first that is missing

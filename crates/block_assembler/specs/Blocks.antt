@@ -33,8 +33,8 @@ abbrev pub fits : ℕ → ℕ → ℕ → Bytes → Bool
 fits size block_size b bytes = nat_lt b (block_count_of size block_size) && (length bytes == block_span_of size block_size b)
 
 -- what an offer answers, the first that holds
-abbrev pub offered : AssemblerState → ℕ → Bytes → Offer
-offered a b bytes =
+abbrev pub offer_of : AssemblerState → ℕ → Bytes → Offer
+offer_of a b bytes =
     if not (nat_lt b (block_count_of a.size a.block_size)) then WrongPlace
     else (if not (length bytes == block_span_of a.size a.block_size b) then WrongLength
     else (if is_some (block_in a.blocks b) then Again else New))
@@ -44,7 +44,7 @@ is_new New = true
 is_new _ = false
 
 abbrev pub after_offer : AssemblerState → ℕ → Bytes → AssemblerState
-after_offer a b bytes = if is_new (offered a b bytes) then record a { blocks = slice_set a.blocks b (Some bytes) } else a
+after_offer a b bytes = if is_new (offer_of a b bytes) then record a { blocks = slice_set a.blocks b (Some bytes) } else a
 
 abbrev pub after_forget : AssemblerState → ℕ → AssemblerState
 after_forget a b = record a { blocks = slice_set a.blocks b None }
@@ -54,9 +54,9 @@ onto_all (Some x) (Some xs) = Some (x ++ xs)
 onto_all _ _ = None
 
 -- the bytes, where each block is there
-abbrev pub joined : List (Option Bytes) → Option Bytes
-joined [] = Some []
-joined (x ∷ xs) = onto_all x (joined xs)
+abbrev pub join_all : List (Option Bytes) → Option Bytes
+join_all [] = Some []
+join_all (x ∷ xs) = onto_all x (join_all xs)
 
 -- ---- over a list of calls: what a caller did with the assembler since it was made
 

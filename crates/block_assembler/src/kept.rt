@@ -2,7 +2,7 @@ ghost use Rattle.std.specs.Prelude.{◌≡◌, ◌<◌, ◌≤◌, ◌⊎◌, �
 ghost use Rattle.std.specs.Option.{option_map, is_none};
 ghost use Rattle.std.specs.List.{position};
 ghost use Rattle.ddb_block.specs.Blocks.{block_count_of};
-ghost use Rattle.block_assembler.specs.Blocks.{StandsFor, Call, Offered, Forgotten, empty_of, offered, after_offer, after_forget, joined, IsAssembled};
+ghost use Rattle.block_assembler.specs.Blocks.{StandsFor, Call, Offered, Forgotten, empty_of, offer_of, after_offer, after_forget, join_all, IsAssembled};
 ghost use Rattle.block_assembler.specs.declared.NewFault.TheVariants.{NoMemory as OutOfMemory};
 
 use crate::put::put;
@@ -87,7 +87,7 @@ impl Assembler {
     /// Offers the bytes of block number `block`. Only `New` changes anything. Takes no memory: the bytes are copied once,
     /// to their place in the module.
     pub fn offer(&mut self, block: u16, bytes: &[u8]) -> Offer
-        ensures answer { result ≡ offered self.old block bytes.now }
+        ensures answer { result ≡ offer_of self.old block bytes.now }
         ensures after { self.new ≡ after_offer self.old block bytes.now }
         ensures stands { (calls : List Call) (size block_size : ℕ) → StandsFor self.old size block_size calls → StandsFor self.new size block_size (calls ++ Offered block bytes.now ∷ []) }
     {
@@ -122,7 +122,7 @@ impl Assembler {
 
     /// The module's bytes, exactly where no block is missing.
     pub fn whole(&self) -> Option<&[u8]>
-        ensures { option_map (λ b. b.now) result ≡ joined self.now.blocks }
+        ensures { option_map (λ b. b.now) result ≡ join_all self.now.blocks }
     {
         if self.missing == 0 {
             Some(&self.bytes)
@@ -133,7 +133,7 @@ impl Assembler {
 
     /// The module's bytes, exactly where no block is missing, and else the assembler as it was. The bytes aren't copied.
     pub fn finish(self) -> Result<Vec<u8>, Assembler>
-        ensures { MatchResult result (λ bytes. joined self.blocks ≡ Some bytes.items) (λ a. (joined self.blocks ≡ None) × (a ≡ self)) }
+        ensures { MatchResult result (λ bytes. join_all self.blocks ≡ Some bytes.items) (λ a. (join_all self.blocks ≡ None) × (a ≡ self)) }
     {
         if self.missing == 0 {
             Ok(self.bytes)

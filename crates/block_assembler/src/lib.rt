@@ -5,19 +5,25 @@
 //! place, and gives the module's bytes once no block is missing.
 #![tactic(auto)]
 
+use thiserror::Error;
+
 mod kept;
 mod put;
 
 pub use kept::Assembler;
 
 /// Why a module can't be assembled.
-#[derive(Clone, Copy, Debug, PartialEq, Eq)]
+#[derive(Clone, Copy, Debug, PartialEq, Eq, Error)]
 pub enum NewFault {
     /// The block size is 0, or above 4,066 bytes, the most that fits in a section.
+    #[error("the block size is 0 or above 4,066 bytes")]
     NoBlockSize,
     /// The module has more than 16,842,752 bytes or more than 65,536 blocks. The limit on bytes is this project's own
     /// rule; block numbers have 16 bits.
+    #[error("the module has more than 16,842,752 bytes or 65,536 blocks")]
     TooLarge,
+    /// There is no memory.
+    #[error("out of memory")]
     NoMemory,
 }
 

@@ -43,3 +43,10 @@ fn blocks_come_in_any_order(rt: HostRuntime) -> Result<(), Fail> {
     );
     Ok(())
 }
+
+#[test]
+fn faults_as_text(rt: HostRuntime) -> Result<(), Fail> {
+    let text = format!(in rt.alloc(); "{}", NewFault::NoBlockSize)?;
+    assert_eq!(rt; text.as_str(), "the block size is 0 or above 4,066 bytes");
+    Ok(())
+}

@@ -4,18 +4,19 @@ use Rattle.std.specs.List.{concat}
 use Rattle.std.proofs.lemmas.List.Folds.{concat-append}
 use Rattle.path_tree.specs.Trees.{Tree}
 use Rattle.cycle_planner.specs.Cycle.{cycle_of}
+use Rattle.cycle_planner.specs.Weights.{AreWeights}
 use Rattle.generation.specs.Layouts.{GenerationState, generation_of, lines_of, section_of}
 use Rattle.generation.specs.Kept.{GenerationsAreOfTheLists}
 use Rattle.folder_store.specs.Folders.{FolderTree}
 use Rattle.section_stream.specs.Groups.{IsBetween, layout_of, packets_of_group, past_group}
 use Rattle.section_stream.specs.Packing.{MuxState}
 use Rattle.section_stream.proofs.CallerLemmas.{between_idle}
-use Rattle.psi_tables.specs.Written.{AnnouncerState, announced, after_announcing}
+use Rattle.psi_tables.specs.Written.{AnnouncerState, announcer_packets, after_announcing}
 use Rattle.shell_streams.specs.Cuts.{Bytes}
 use Rattle.shell_streams.specs.Sending.{OutputState, Puts, HasPut}
 use Rattle.shell_streams.specs.declared.output.OutputFault.{OutputFault}
 use Rattle.shell_streams.proofs.CallerLemmas.{puts_as}
-use Rattle.carousel_shell.specs.Over.{Over, sent, IsUntouched}
+use Rattle.carousel_shell.specs.Over.{Over, sink_over, IsUntouched}
 use Rattle.carousel_shell.specs.Cycles.{IsOfFolder, Refused}
 use Rattle.carousel_shell.specs.Announced.{Senders, senders_start, cycle_sent, after_cycle, cycles_sent, after_cycles, published_psi}
 use Rattle.carousel_shell.specs.PublishPsi.{PublishesPsi}
@@ -40,12 +41,12 @@ cycles_then cycle (suc m) n s =
 
 -- one cycle more: the tables, and then the sections
 pub cycle_more : (cycle : List Bytes) (n : ℕ) (s : Senders) (tables : AnnouncerState) (objects : MuxState) → tables ≡ (after_cycles cycle n s).tables → objects ≡ (after_cycles cycle n s).objects
-    → (concat (cycles_sent cycle n s) ++ concat (announced tables)) ++ concat (packets_of_group objects cycle) ≡ concat (cycles_sent cycle (n + 1) s)
+    → (concat (cycles_sent cycle n s) ++ concat (announcer_packets tables)) ++ concat (packets_of_group objects cycle) ≡ concat (cycles_sent cycle (n + 1) s)
 cycle_more cycle n s tables objects t o =
     let now = after_cycles cycle n s in
-    append_assoc (concat (cycles_sent cycle n s)) (concat (announced tables)) (concat (packets_of_group objects cycle))
-    ∙ ap₂ (λ (a : AnnouncerState) (m : MuxState). concat (cycles_sent cycle n s) ++ (concat (announced a) ++ concat (packets_of_group m cycle))) t o
-    ∙ ap (λ bs. concat (cycles_sent cycle n s) ++ bs) (sym (concat-append (announced now.tables) (packets_of_group now.objects cycle)))
+    append_assoc (concat (cycles_sent cycle n s)) (concat (announcer_packets tables)) (concat (packets_of_group objects cycle))
+    ∙ ap₂ (λ (a : AnnouncerState) (m : MuxState). concat (cycles_sent cycle n s) ++ (concat (announcer_packets a) ++ concat (packets_of_group m cycle))) t o
+    ∙ ap (λ bs. concat (cycles_sent cycle n s) ++ bs) (sym (concat-append (announcer_packets now.tables) (packets_of_group now.objects cycle)))
     ∙ ap (λ bs. concat (cycles_sent cycle n s) ++ concat bs) (sym (append-nil (cycle_sent cycle now)))
     ∙ sym (concat-append (cycles_sent cycle n s) (cycles_sent cycle 1 now)) ∙ ap concat (cycles_then cycle n 1 s)
 
@@ -74,37 +75,37 @@ cycles_all cycle i n s h =
 
 -- the tables of one cycle more were put, and its sections are to follow
 pub tables_then : (cycle : List Bytes) (n : ℕ) (s : Senders) (tables : AnnouncerState) → tables ≡ (after_cycles cycle n s).tables
-    → (concat (cycles_sent cycle n s) ++ concat (announced tables)) ++ concat (packets_of_group (after_cycles cycle n s).objects cycle) ≡ concat (cycles_sent cycle (n + 1) s)
+    → (concat (cycles_sent cycle n s) ++ concat (announcer_packets tables)) ++ concat (packets_of_group (after_cycles cycle n s).objects cycle) ≡ concat (cycles_sent cycle (n + 1) s)
 tables_then cycle n s tables t = cycle_more cycle n s tables (after_cycles cycle n s).objects t refl
 
 -- ---- what is promised
 
-psi_by : (folder : Bytes) (carousel cycles : ℕ) (s : Status) (sink : Over Bytes) (folders : Over FolderTree) → Receptions → HasEnded folder carousel (published_psi carousel cycles) s sink folders
-    → PublishesPsi folder carousel cycles s sink folders
-psi_by folder carousel cycles s sink folders law e = record { ends = e.ends; needs = e.needs; heard = law.cycles carousel cycles }
+psi_by : (folder : Bytes) (carousel : ℕ) (weights : List ℕ) (cycles : ℕ) (s : Status) (sink : Over Bytes) (folders : Over FolderTree) → Receptions → AreWeights weights → HasEnded folder carousel (published_psi carousel weights cycles) s sink folders
+    → PublishesPsi folder carousel weights cycles s sink folders
+psi_by folder carousel weights cycles s sink folders law are e = record { ends = e.ends; needs = e.needs; heard = law.cycles carousel weights cycles are }
 
-psi_is : (carousel cycles : ℕ) (t : Tree) (g : GenerationState) → GenerationsAreOfTheLists → g ≡ generation_of carousel (t ∷ [])
-    → concat (cycles_sent (map (section_of g) (cycle_of (lines_of g))) cycles (senders_start carousel)) ≡ published_psi carousel cycles t
-psi_is carousel cycles t g law e = ap (λ cycle. concat (cycles_sent cycle cycles (senders_start carousel))) (one_cycle_is carousel t g law e)
+psi_is : (carousel : ℕ) (weights : List ℕ) (cycles : ℕ) (t : Tree) (g : GenerationState) → GenerationsAreOfTheLists → g ≡ generation_of carousel (t ∷ [])
+    → concat (cycles_sent (map (section_of g) (cycle_of weights (lines_of g))) cycles (senders_start carousel)) ≡ published_psi carousel weights cycles t
+psi_is carousel weights cycles t g law e = ap (λ cycle. concat (cycles_sent cycle cycles (senders_start carousel))) (one_cycle_is carousel weights t g law e)
 
-pub psi_none : (folder : Bytes) (carousel cycles : ℕ) (sink : Over Bytes) (folders : Over FolderTree) (s : Status) → Receptions → Refused folder carousel folders s → IsUntouched sink
-    → PublishesPsi folder carousel cycles s sink folders
-psi_none folder carousel cycles sink folders s law r none = psi_by folder carousel cycles s sink folders law (ended_none folder carousel (published_psi carousel cycles) sink folders s r none)
+pub psi_none : (folder : Bytes) (carousel : ℕ) (weights : List ℕ) (cycles : ℕ) (sink : Over Bytes) (folders : Over FolderTree) (s : Status) → Receptions → AreWeights weights → Refused folder carousel folders s → IsUntouched sink
+    → PublishesPsi folder carousel weights cycles s sink folders
+psi_none folder carousel weights cycles sink folders s law are r none = psi_by folder carousel weights cycles s sink folders law are (ended_none folder carousel (published_psi carousel weights cycles) sink folders s r none)
 
-pub psi_all : (folder : Bytes) (carousel cycles : ℕ) (old new : OutputState) (folders : Over FolderTree) (g : GenerationState) → Receptions → GenerationsAreOfTheLists
+pub psi_all : (folder : Bytes) (carousel : ℕ) (weights : List ℕ) (cycles : ℕ) (old new : OutputState) (folders : Over FolderTree) (g : GenerationState) → Receptions → AreWeights weights → GenerationsAreOfTheLists
     → IsOfFolder folder carousel folders.before g → old.pending ≡ [] → new.pending ≡ []
-    → HasPut old new (concat (cycles_sent (map (section_of g) (cycle_of (lines_of g))) cycles (senders_start carousel))) → PublishesPsi folder carousel cycles status.Done (sent old new) folders
-psi_all folder carousel cycles old new folders g law lists of begin empty puts =
-    psi_by folder carousel cycles status.Done (sent old new) folders law
-    (ended_all folder carousel (published_psi carousel cycles) old new folders g of begin empty (puts_as (psi_is carousel cycles of.tree g lists of.is) puts))
+    → HasPut old new (concat (cycles_sent (map (section_of g) (cycle_of weights (lines_of g))) cycles (senders_start carousel))) → PublishesPsi folder carousel weights cycles status.Done (sink_over old new) folders
+psi_all folder carousel weights cycles old new folders g law are lists of begin empty puts =
+    psi_by folder carousel weights cycles status.Done (sink_over old new) folders law are
+    (ended_all folder carousel (published_psi carousel weights cycles) old new folders g of begin empty (puts_as (psi_is carousel weights cycles of.tree g lists of.is) puts))
 
-pub psi_part : (folder : Bytes) (carousel cycles : ℕ) (old new : OutputState) (folders : Over FolderTree) (g : GenerationState) (f : OutputFault) → Receptions → GenerationsAreOfTheLists
+pub psi_part : (folder : Bytes) (carousel : ℕ) (weights : List ℕ) (cycles : ℕ) (old new : OutputState) (folders : Over FolderTree) (g : GenerationState) (f : OutputFault) → Receptions → AreWeights weights → GenerationsAreOfTheLists
     → IsOfFolder folder carousel folders.before g → old.pending ≡ []
-    → Puts {T = Unit {0}} (Err f) old new (concat (cycles_sent (map (section_of g) (cycle_of (lines_of g))) cycles (senders_start carousel)))
-    → PublishesPsi folder carousel cycles (output_status f) (sent old new) folders
-psi_part folder carousel cycles old new folders g f law lists of begin puts =
-    psi_by folder carousel cycles (output_status f) (sent old new) folders law
-    (ended_part folder carousel (published_psi carousel cycles) old new folders g f of begin (puts_as (psi_is carousel cycles of.tree g lists of.is) puts))
+    → Puts {T = Unit {0}} (Err f) old new (concat (cycles_sent (map (section_of g) (cycle_of weights (lines_of g))) cycles (senders_start carousel)))
+    → PublishesPsi folder carousel weights cycles (output_status f) (sink_over old new) folders
+psi_part folder carousel weights cycles old new folders g f law are lists of begin puts =
+    psi_by folder carousel weights cycles (output_status f) (sink_over old new) folders law are
+    (ended_part folder carousel (published_psi carousel weights cycles) old new folders g f of begin (puts_as (psi_is carousel weights cycles of.tree g lists of.is) puts))
 
 -- the packets that were put into the emptied room
 pub room_is : (cleared made : List Bytes) (packets : List Bytes) → made ≡ cleared ++ packets → cleared ≡ [] → made ≡ packets

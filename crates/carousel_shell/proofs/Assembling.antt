@@ -1,7 +1,7 @@
 -- What `assemble` promises, by what was heard and what was written.
 use Rattle.std.proofs.Common.{◌≡◌, List, [], Err, Option, Some, inl, inr, refl, subst}
-use Rattle.oc_bytes.specs.Outcome.{Told}
-use Rattle.block_assembler.specs.Blocks.{joined}
+use Rattle.oc_bytes.specs.Outcome.{Known}
+use Rattle.block_assembler.specs.Blocks.{join_all}
 use Rattle.shell_streams.specs.Cuts.{Bytes}
 use Rattle.shell_streams.specs.Held.{Stopped}
 use Rattle.shell_streams.specs.Carriers.{is_over}
@@ -11,7 +11,7 @@ use Rattle.shell_streams.specs.declared.input.InputFault.TheVariants as inputs
 use Rattle.shell_streams.specs.declared.output.OutputFault.{OutputFault}
 use Rattle.shell_streams.specs.declared.output.OutputFault.TheVariants as outputs
 use Rattle.shell_streams.proofs.CallerLemmas.{told_weaker, all_rear}
-use Rattle.carousel_shell.specs.Over.{Over, sent, Failed, IsUntouched, TakesPrefix}
+use Rattle.carousel_shell.specs.Over.{Over, sink_over, Failed, IsUntouched, TakesPrefix}
 use Rattle.carousel_shell.specs.Input.{Asked, blocks_among}
 use Rattle.carousel_shell.specs.Open.{Hears}
 use Rattle.carousel_shell.specs.Assemble.{module_carrier, IsModule, EndsModule, Assembles}
@@ -25,14 +25,14 @@ use Rattle.carousel_shell.proofs.Writing.{writes_prefix}
 pub assembles_nothing : (m : Asked) (source sink : Over Bytes) → TakesPrefix source → IsUntouched sink → Assembles m status.NoMemory source sink
 assembles_nothing m source sink takes none = record { ends = inl none; takes = takes }
 
-ends_stopped : (m : Asked) (source sink : Over Bytes) (fault : InputFault) → Told source.before source.after (Stopped (is_over module_carrier) fault)
+ends_stopped : (m : Asked) (source sink : Over Bytes) (fault : InputFault) → Known source.before source.after (Stopped (is_over module_carrier) fault)
     → (fault ≡ inputs.Failed → Failed source) → IsUntouched sink → EndsModule m source sink (input_status fault)
 ends_stopped m source sink inputs.Failed t cause none = (cause refl, none)
 ends_stopped m source sink inputs.TooLong t cause none = (goes_on source.before source.after t, none)
 ends_stopped m source sink inputs.NoMemory t cause none = inl none
 
 -- a fault stopped the reading
-pub assembles_stopped : (m : Asked) (source sink : Over Bytes) (fault : InputFault) → Told source.before source.after (Stopped (is_over module_carrier) fault)
+pub assembles_stopped : (m : Asked) (source sink : Over Bytes) (fault : InputFault) → Known source.before source.after (Stopped (is_over module_carrier) fault)
     → (fault ≡ inputs.Failed → Failed source) → IsUntouched sink → Assembles m (input_status fault) source sink
 assembles_stopped m source sink fault t cause none = record { ends = ends_stopped m source sink fault t cause none; takes = told_weaker t (λ x y s. s.rear) }
 
@@ -52,7 +52,7 @@ assembles_gathered m source sink sections blocks s h e w =
     record { ends = ends_gathered m source sink sections s h (subst W e w); takes = all_rear h }
 
 -- the bytes of a module were put
-pub module_put : (blocks : List (Option Bytes)) (bytes : Bytes) (old new : OutputState) (f : OutputFault) → joined blocks ≡ Some bytes → old.pending ≡ []
-    → Puts {T = Unit {0}} (Err f) old new bytes → IsModule blocks (sent old new) (output_status f)
+pub module_put : (blocks : List (Option Bytes)) (bytes : Bytes) (old new : OutputState) (f : OutputFault) → join_all blocks ≡ Some bytes → old.pending ≡ []
+    → Puts {T = Unit {0}} (Err f) old new bytes → IsModule blocks (sink_over old new) (output_status f)
 module_put blocks bytes old new outputs.Failed j begin puts = (puts.cause refl, (bytes, j, writes_prefix begin puts))
 module_put blocks bytes old new outputs.NoMemory j begin puts = (bytes, j, writes_prefix begin puts)

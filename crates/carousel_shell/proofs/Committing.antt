@@ -3,19 +3,21 @@ use Rattle.std.proofs.Common.{◌≡◌, ℕ, zero, suc, ◌+◌, ◌<◌, ◌�
 use Rattle.std.specs.Prelude.{nat_lt, MatchOption, ⊤}
 use Rattle.std.specs.List.{All, Contains}
 use Rattle.std.proofs.lemmas.Bool.{cond-true, ltb-false}
-use Rattle.std.proofs.lemmas.List.Elements.{All-append, All-contains_itself, All-head, All-tail, All-nil, All-weaker}
-use Rattle.oc_bytes.specs.Outcome.{capped}
+use Rattle.std.proofs.lemmas.List.Elements.{All-append, All-head, All-tail, All-nil, All-weaker}
+use Rattle.oc_bytes.specs.Outcome.{cap_at_u64}
 use Rattle.path_tree.specs.Trees.{Tree}
 use Rattle.path_tree.specs.Edits.{apply_all}
 use Rattle.path_tree.specs.declared.tree.Edit.{Edit}
 use Rattle.path_tree.specs.declared.tree.EditFault.{EditFault}
 use Rattle.cycle_planner.specs.Cycle.{cycle_of}
+use Rattle.cycle_planner.specs.Weights.{AreWeights}
 use Rattle.cycle_planner.specs.declared.Item.{Item}
+use Rattle.cycle_planner.proofs.CallerLemmas.{cycle_only}
 use Rattle.biop_object.specs.Names.{Layout}
 use Rattle.generation.specs.Layouts.{GenerationState, generation_of, lines_of, lines_in, items_of, section_of}
 use Rattle.generation.specs.Lawful.{IsPublishable, section_in}
 use Rattle.generation.specs.Kept.{IsGenerationOf, GenerationsAreOfTheLists}
-use Rattle.generation_catalogue.specs.History.{CatalogueState, current_of, trees_of, journal_of, put_bytes, outcome_of, unless_edit, or_same, is_entered, with_entry, committed}
+use Rattle.generation_catalogue.specs.History.{CatalogueState, current_of, trees_of, journal_of, put_bytes, outcome_of, unless_edit, or_same, is_entered, with_entry, with_commit}
 use Rattle.generation_catalogue.specs.Requests.{commit_cause}
 use Rattle.generation_catalogue.specs.declared.entry.Refusal.{Refusal}
 use Rattle.generation_catalogue.specs.declared.entry.Refusal.TheVariants as refusals
@@ -28,7 +30,7 @@ use Rattle.folder_store.specs.declared.reading.TreeFault.{TreeFault}
 use Rattle.folder_store.specs.declared.reading.ReadTree.{ReadTree}
 use Rattle.folder_store.specs.declared.reading.ReadTree.TheVariants as reads
 use Rattle.section_stream.specs.Packing.{IsSectionLike}
-use Rattle.carousel_world.specs.Publishing.{repeated, published, publication, layouts_for, PublicationsCanBePacked}
+use Rattle.carousel_world.specs.Publishing.{repeat_list, published_bytes, publication, layouts_for, PublicationsCanBePacked}
 use Rattle.carousel_world.specs.Broadcasts.{sections}
 use Rattle.carousel_world.proofs.CallerLemmas.{published_sections}
 use Rattle.shell_streams.specs.Cuts.{Bytes}
@@ -36,11 +38,11 @@ use Rattle.shell_streams.specs.Sending.{OutputState, Puts, HasPut}
 use Rattle.shell_streams.specs.declared.output.OutputFault.{OutputFault}
 use Rattle.shell_streams.specs.declared.output.OutputFault.TheVariants as outputs
 use Rattle.shell_streams.proofs.CallerLemmas.{puts_as}
-use Rattle.carousel_shell.specs.Over.{Over, sent, Failed, IsUntouched}
-use Rattle.carousel_shell.specs.Publishing.{new_carousel, unless_refused, end_by, publish_end, accepted_tree, tree_by}
+use Rattle.carousel_shell.specs.Over.{Over, sink_over, Failed, IsUntouched}
+use Rattle.carousel_shell.specs.Publishing.{new_carousel, first_outcome, unless_refused, end_by, publish_end, accepted_tree, tree_by}
 use Rattle.carousel_shell.specs.Publish.{IsTreeOf, EndsPublish, NeedsFolder, Publishes}
 use Rattle.carousel_shell.specs.Announced.{one_cycle}
-use Rattle.carousel_shell.specs.Cycles.{packed, IsOfFolder, Refused}
+use Rattle.carousel_shell.specs.Cycles.{group_bytes, IsOfFolder, Refused}
 use Rattle.carousel_shell.specs.Reception.{Receptions}
 use Rattle.carousel_shell.specs.Statuses.{output_status, walk_status, commit_status}
 use Rattle.carousel_shell.proofs.Writing.{writes_all, writes_prefix}
@@ -54,43 +56,44 @@ map_same f h [] e = refl
 map_same f h (x ∷ xs) e =
     ap (λ y. y ∷ map f xs) (All-head (λ y. f y ≡ h y) x xs e) ∙ ap (λ ys. h x ∷ ys) (map_same f h xs (All-tail (λ y. f y ≡ h y) x xs e))
 
-All-repeated : {X : Type 0} (P : X → Type 0) (n : ℕ) (xs : List X) → All P xs → All P (repeated n xs)
+All-repeated : {X : Type 0} (P : X → Type 0) (n : ℕ) (xs : List X) → All P xs → All P (repeat_list n xs)
 All-repeated P zero xs h = All-nil P
-All-repeated P (suc n) xs h = All-append P xs (repeated n xs) h (All-repeated P n xs h)
+All-repeated P (suc n) xs h = All-append P xs (repeat_list n xs) h (All-repeated P n xs h)
 
-sent_items : (carousel cycles : ℕ) (layouts : List Layout) (g : GenerationState)
+sent_items : (carousel : ℕ) (weights : List ℕ) (cycles : ℕ) (layouts : List Layout) (g : GenerationState)
     → ((item : Item) → Contains (items_of g) item → section_of g item ≡ section_in carousel layouts 1 item)
-    → map (section_of g) (repeated cycles (cycle_of (lines_of g))) ≡ map (section_in carousel layouts 1) (repeated cycles (cycle_of (lines_of g)))
-sent_items carousel cycles layouts g same =
-    map_same (section_of g) (section_in carousel layouts 1) (repeated cycles (cycle_of (lines_of g)))
-    (All-repeated (λ item. section_of g item ≡ section_in carousel layouts 1 item) cycles (cycle_of (lines_of g))
-    (All-weaker (Contains (cycle_of (lines_of g))) (λ item. section_of g item ≡ section_in carousel layouts 1 item) same (cycle_of (lines_of g)) (All-contains_itself (cycle_of (lines_of g)))))
+    → map (section_of g) (repeat_list cycles (cycle_of weights (lines_of g))) ≡ map (section_in carousel layouts 1) (repeat_list cycles (cycle_of weights (lines_of g)))
+sent_items carousel weights cycles layouts g same =
+    map_same (section_of g) (section_in carousel layouts 1) (repeat_list cycles (cycle_of weights (lines_of g)))
+    (All-repeated (λ item. section_of g item ≡ section_in carousel layouts 1 item) cycles (cycle_of weights (lines_of g))
+    (All-weaker (Contains (items_of g)) (λ item. section_of g item ≡ section_in carousel layouts 1 item) same (cycle_of weights (lines_of g)) (cycle_only weights (lines_of g))))
 
-sent_sections : (carousel cycles : ℕ) (t : Tree) (g : GenerationState) → IsGenerationOf carousel (t ∷ []) 1 g
-    → map (section_of g) (repeated cycles (cycle_of (lines_of g))) ≡ sections (publication carousel cycles t)
-sent_sections carousel cycles t g is =
-    sent_items carousel cycles (layouts_for carousel t) g is.sections
-    ∙ ap (λ (l : Layout). map (section_in carousel (layouts_for carousel t) 1) (repeated cycles (cycle_of (lines_in l)))) is.layout
-    ∙ sym (published_sections carousel cycles t)
+sent_sections : (carousel : ℕ) (weights : List ℕ) (cycles : ℕ) (t : Tree) (g : GenerationState) → IsGenerationOf carousel (t ∷ []) 1 g
+    → map (section_of g) (repeat_list cycles (cycle_of weights (lines_of g))) ≡ sections (publication carousel weights cycles t)
+sent_sections carousel weights cycles t g is =
+    sent_items carousel weights cycles (layouts_for carousel t) g is.sections
+    ∙ ap (λ (l : Layout). map (section_in carousel (layouts_for carousel t) 1) (repeat_list cycles (cycle_of weights (lines_in l)))) is.layout
+    ∙ sym (published_sections carousel weights cycles t)
 
 -- the packets of the cycles of generation 1 are those that are published
-pub published_is : (carousel cycles : ℕ) (t : Tree) (g : GenerationState) → GenerationsAreOfTheLists → g ≡ generation_of carousel (t ∷ [])
-    → packed (map (section_of g) (repeated cycles (cycle_of (lines_of g)))) ≡ published carousel cycles t
-published_is carousel cycles t g law e =
+pub published_is : (carousel : ℕ) (weights : List ℕ) (cycles : ℕ) (t : Tree) (g : GenerationState) → GenerationsAreOfTheLists → g ≡ generation_of carousel (t ∷ [])
+    → group_bytes (map (section_of g) (repeat_list cycles (cycle_of weights (lines_of g)))) ≡ published_bytes carousel weights cycles t
+published_is carousel weights cycles t g law e =
     let P : GenerationState → Type 0 = λ s. IsGenerationOf carousel (t ∷ []) 1 s in
-    ap packed (sent_sections carousel cycles t g (subst P (sym e) (law carousel (t ∷ []) 1 (lit≤ tt))))
+    ap group_bytes (sent_sections carousel weights cycles t g (subst P (sym e) (law carousel (t ∷ []) 1 (lit≤ tt))))
 
 -- one cycle of generation 1
-pub one_cycle_is : (carousel : ℕ) (t : Tree) (g : GenerationState) → GenerationsAreOfTheLists → g ≡ generation_of carousel (t ∷ [])
-    → map (section_of g) (cycle_of (lines_of g)) ≡ one_cycle carousel t
-one_cycle_is carousel t g law e =
+pub one_cycle_is : (carousel : ℕ) (weights : List ℕ) (t : Tree) (g : GenerationState) → GenerationsAreOfTheLists → g ≡ generation_of carousel (t ∷ [])
+    → map (section_of g) (cycle_of weights (lines_of g)) ≡ one_cycle carousel weights t
+one_cycle_is carousel weights t g law e =
     let P : GenerationState → Type 0 = λ s. IsGenerationOf carousel (t ∷ []) 1 s in
-    ap (map (section_of g)) (sym (append-nil (cycle_of (lines_of g)))) ∙ sent_sections carousel 1 t g (subst P (sym e) (law carousel (t ∷ []) 1 (lit≤ tt)))
+    ap (map (section_of g)) (sym (append-nil (cycle_of weights (lines_of g)))) ∙ sent_sections carousel weights 1 t g (subst P (sym e) (law carousel (t ∷ []) 1 (lit≤ tt)))
 
 -- whose sections meet the condition of a packer
-pub cycle_like : (folder : Bytes) (carousel : ℕ) (told : Option FolderTree) (g : GenerationState) → PublicationsCanBePacked → GenerationsAreOfTheLists → carousel < 4294967296
-    → IsOfFolder folder carousel told g → All IsSectionLike (map (section_of g) (cycle_of (lines_of g)))
-cycle_like folder carousel told g law lists lt of = subst (All IsSectionLike) (sym (one_cycle_is carousel of.tree g lists of.is)) (law carousel 1 of.tree lt of.of.publishable)
+pub cycle_like : (folder : Bytes) (carousel : ℕ) (weights : List ℕ) (told : Option FolderTree) (g : GenerationState) → PublicationsCanBePacked → GenerationsAreOfTheLists → carousel < 4294967296
+    → IsOfFolder folder carousel told g → All IsSectionLike (map (section_of g) (cycle_of weights (lines_of g)))
+cycle_like folder carousel weights told g law lists lt of =
+    subst (All IsSectionLike) (sym (one_cycle_is carousel weights of.tree g lists of.is)) (law carousel weights 1 of.tree lt of.of.publishable)
 
 -- ---- one commit on a new carousel
 
@@ -102,39 +105,39 @@ by_outcome false true x y k n r e = absurd (cc)
 by_outcome false false x y k n (Err fault) e = absurd (cc)
 by_outcome false false x y k n (Ok tree) e = (tree, refl, refl)
 
-tree_accepted : (carousel n : ℕ) (edits : List Edit) → outcome_of (new_carousel carousel) edits ≡ Ok n → (tree : Tree) × (apply_all [] edits ≡ Ok tree) × (put_bytes edits ≤ 536870912)
+tree_accepted : (carousel n : ℕ) (edits : List Edit) → first_outcome carousel edits ≡ Ok n → (tree : Tree) × (apply_all [] edits ≡ Ok tree) × (put_bytes edits ≤ 536870912)
 tree_accepted carousel n edits e =
-    let c = new_carousel carousel in
-    let r = by_outcome ((current_of c).number == 16383) (nat_lt 536870912 (journal_of c + put_bytes edits)) (refusals.SeasonFull 16383) (refusals.JournalFull (capped (journal_of c + put_bytes edits)))
+    let c = new_carousel carousel [] in
+    let r = by_outcome ((current_of c).number == 16383) (nat_lt 536870912 (journal_of c + put_bytes edits)) (refusals.SeasonFull 16383) (refusals.JournalFull (cap_at_u64 (journal_of c + put_bytes edits)))
     ((current_of c).number + 1) n (apply_all [] edits) e in
     let most : journal_of c + put_bytes edits ≤ 536870912 = ltb-false _ _ r.2 in
     (r.0, r.1, omega arith)
 
 -- the one tree after it
-trees_entered : (carousel editor n : ℕ) (edits : List Edit) (r : Result ℕ Refusal) → r ≡ Ok n
-    → trees_of (cond (is_entered r) (with_entry (new_carousel carousel) (entries.Commit editor edits r)) (new_carousel carousel)) ≡ or_same [] (apply_all [] edits) ∷ []
-trees_entered carousel editor n edits (Ok m) e = refl
-trees_entered carousel editor n edits (Err refusal) e = absurd (cc)
+trees_entered : (carousel : ℕ) (weights : List ℕ) (editor n : ℕ) (edits : List Edit) (r : Result ℕ Refusal) → r ≡ Ok n
+    → trees_of (cond (is_entered r) (with_entry (new_carousel carousel weights) (entries.Commit editor edits r)) (new_carousel carousel weights)) ≡ or_same [] (apply_all [] edits) ∷ []
+trees_entered carousel weights editor n edits (Ok m) e = refl
+trees_entered carousel weights editor n edits (Err refusal) e = absurd (cc)
 
 -- the generation after it is the first one's next, of that tree
-entered : (carousel editor n : ℕ) (edits : List Edit) (r : Result ℕ Refusal) → r ≡ Ok n
-    → current_of (cond (is_entered r) (with_entry (new_carousel carousel) (entries.Commit editor edits r)) (new_carousel carousel)) ≡ generation_of carousel (or_same [] (apply_all [] edits) ∷ [])
-entered carousel editor n edits (Ok m) e = refl
-entered carousel editor n edits (Err refusal) e = absurd (cc)
+entered : (carousel : ℕ) (weights : List ℕ) (editor n : ℕ) (edits : List Edit) (r : Result ℕ Refusal) → r ≡ Ok n
+    → current_of (cond (is_entered r) (with_entry (new_carousel carousel weights) (entries.Commit editor edits r)) (new_carousel carousel weights)) ≡ generation_of carousel (or_same [] (apply_all [] edits) ∷ [])
+entered carousel weights editor n edits (Ok m) e = refl
+entered carousel weights editor n edits (Err refusal) e = absurd (cc)
 
-pub made_of_folder : EditsMakeTheFiles → (folder : Bytes) (carousel editor n : ℕ) (told : Option FolderTree) (edits : List Edit) (before after : CatalogueState) (g : GenerationState)
-    → before ≡ new_carousel carousel → outcome_of before edits ≡ Ok n → after ≡ committed before editor edits → g ≡ current_of after → All IsPublishable (trees_of after)
+pub made_of_folder : EditsMakeTheFiles → (folder : Bytes) (carousel : ℕ) (weights : List ℕ) (editor n : ℕ) (told : Option FolderTree) (edits : List Edit) (before after : CatalogueState) (g : GenerationState)
+    → before ≡ new_carousel carousel weights → outcome_of before edits ≡ Ok n → after ≡ with_commit before editor edits → g ≡ current_of after → All IsPublishable (trees_of after)
     → ((t : FolderTree) → told ≡ Some t → edits_of t folder ≡ Ok edits) → ((t : FolderTree) → told ≡ Some t → is_folder_at t folder ≡ true)
     → IsOfFolder folder carousel told g
-made_of_folder law folder carousel editor n told edits before after g b o a e published is_edits there =
+made_of_folder law folder carousel weights editor n told edits before after g b o a e published is_edits there =
     let C : CatalogueState → Type 0 = λ c. outcome_of c edits ≡ Ok n in
-    let out : outcome_of (new_carousel carousel) edits ≡ Ok n = subst C b o in
+    let out : first_outcome carousel edits ≡ Ok n = subst C b o in
     let applied = tree_accepted carousel n edits out in
-    let commit : after ≡ committed (new_carousel carousel) editor edits = a ∙ ap (λ c. committed c editor edits) b in
+    let commit : after ≡ with_commit (new_carousel carousel weights) editor edits = a ∙ ap (λ c. with_commit c editor edits) b in
     let trees : trees_of after ≡ applied.0 ∷ [] =
-    ap trees_of commit ∙ trees_entered carousel editor n edits (outcome_of (new_carousel carousel) edits) out ∙ ap (λ r. or_same [] r ∷ []) applied.1 in
+    ap trees_of commit ∙ trees_entered carousel weights editor n edits (first_outcome carousel edits) out ∙ ap (λ r. or_same [] r ∷ []) applied.1 in
     let is : g ≡ generation_of carousel (applied.0 ∷ []) =
-    e ∙ ap current_of commit ∙ entered carousel editor n edits (outcome_of (new_carousel carousel) edits) out
+    e ∙ ap current_of commit ∙ entered carousel weights editor n edits (first_outcome carousel edits) out
     ∙ ap (λ r. generation_of carousel (or_same [] r ∷ [])) applied.1 in
     record {
       tree = applied.0;
@@ -183,11 +186,11 @@ refused_walk folder carousel folders reads.BadName needs failed deep bad = λ t 
 refused_walk folder carousel folders reads.NoMemory needs failed deep bad = tt
 
 -- the commit's refusal
-pub refused_commit : (folder : Bytes) (carousel : ℕ) (folders : Over FolderTree) (edits : List Edit) (before : CatalogueState) (f : CommitFault) → before ≡ new_carousel carousel
+pub refused_commit : (folder : Bytes) (carousel : ℕ) (weights : List ℕ) (folders : Over FolderTree) (edits : List Edit) (before : CatalogueState) (f : CommitFault) → before ≡ new_carousel carousel weights
     → ((t : FolderTree) → folders.before ≡ Some t → is_folder_at t folder ≡ true) → ((t : FolderTree) → folders.before ≡ Some t → edits_of t folder ≡ Ok edits)
     → MatchOption (commit_cause f) ⊤ (λ r. outcome_of before edits ≡ Err r) → Refused folder carousel folders (commit_status f)
-refused_commit folder carousel folders edits before commits.NoMemory b there is out = tt
-refused_commit folder carousel folders edits before (commits.Refused refusal) b there is out = λ t h.
+refused_commit folder carousel weights folders edits before commits.NoMemory b there is out = tt
+refused_commit folder carousel weights folders edits before (commits.Refused refusal) b there is out = λ t h.
     end_there folder carousel t (Ok edits) (there t h) (is t h) ∙ ap unless_refused (ap (λ c. outcome_of c edits) (sym b) ∙ out)
 
 -- ---- the folder that isn't there
@@ -238,7 +241,7 @@ ended_none folder carousel sent_of sink folders s r none = record {
 
 -- all that is sent of it was put
 pub ended_all : (folder : Bytes) (carousel : ℕ) (sent_of : Tree → Bytes) (old new : OutputState) (folders : Over FolderTree) (g : GenerationState) (of : IsOfFolder folder carousel folders.before g)
-    → old.pending ≡ [] → new.pending ≡ [] → HasPut old new (sent_of of.tree) → HasEnded folder carousel sent_of status.Done (sent old new) folders
+    → old.pending ≡ [] → new.pending ≡ [] → HasPut old new (sent_of of.tree) → HasEnded folder carousel sent_of status.Done (sink_over old new) folders
 ended_all folder carousel sent_of old new folders g of begin empty puts = record {
   ends = record { tree = of.tree; of = of.of; writes = writes_all begin empty puts };
   needs = needs_made folder carousel folders g status.Done of;
@@ -246,14 +249,14 @@ ended_all folder carousel sent_of old new folders g of begin empty puts = record
 
 ends_part : (folder : Bytes) (carousel : ℕ) (sent_of : Tree → Bytes) (old new : OutputState) (folders : Over FolderTree) (tree : Tree) (f : OutputFault)
     → IsTreeOf folder carousel folders.before tree → old.pending ≡ [] → Puts {T = Unit {0}} (Err f) old new (sent_of tree)
-    → EndsPublish folder carousel sent_of (sent old new) folders (output_status f)
+    → EndsPublish folder carousel sent_of (sink_over old new) folders (output_status f)
 ends_part folder carousel sent_of old new folders tree outputs.Failed of begin puts = (puts.cause refl, record { tree = tree; of = of; writes = writes_prefix begin puts })
 ends_part folder carousel sent_of old new folders tree outputs.NoMemory of begin puts = inr (record { tree = tree; of = of; writes = writes_prefix begin puts })
 
 -- a fault stopped the writing
 pub ended_part : (folder : Bytes) (carousel : ℕ) (sent_of : Tree → Bytes) (old new : OutputState) (folders : Over FolderTree) (g : GenerationState) (f : OutputFault)
     (of : IsOfFolder folder carousel folders.before g) → old.pending ≡ [] → Puts {T = Unit {0}} (Err f) old new (sent_of of.tree)
-    → HasEnded folder carousel sent_of (output_status f) (sent old new) folders
+    → HasEnded folder carousel sent_of (output_status f) (sink_over old new) folders
 ended_part folder carousel sent_of old new folders g f of begin puts = record {
   ends = ends_part folder carousel sent_of old new folders of.tree f of.of begin puts;
   needs = needs_made folder carousel folders g (output_status f) of;
@@ -261,25 +264,25 @@ ended_part folder carousel sent_of old new folders g f of begin puts = record {
 
 -- ---- `publish`
 
-publishes_by : (folder : Bytes) (carousel cycles : ℕ) (s : Status) (sink : Over Bytes) (folders : Over FolderTree) → Receptions
-    → HasEnded folder carousel (published carousel cycles) s sink folders → Publishes folder carousel cycles s sink folders
-publishes_by folder carousel cycles s sink folders law e = record { ends = e.ends; needs = e.needs; heard = law.sent carousel cycles }
+publishes_by : (folder : Bytes) (carousel : ℕ) (weights : List ℕ) (cycles : ℕ) (s : Status) (sink : Over Bytes) (folders : Over FolderTree) → Receptions → AreWeights weights
+    → HasEnded folder carousel (published_bytes carousel weights cycles) s sink folders → Publishes folder carousel weights cycles s sink folders
+publishes_by folder carousel weights cycles s sink folders law are e = record { ends = e.ends; needs = e.needs; heard = law.sent carousel weights cycles are }
 
-pub publishes_none : (folder : Bytes) (carousel cycles : ℕ) (sink : Over Bytes) (folders : Over FolderTree) (s : Status) → Receptions → Refused folder carousel folders s → IsUntouched sink
-    → Publishes folder carousel cycles s sink folders
-publishes_none folder carousel cycles sink folders s law r none =
-    publishes_by folder carousel cycles s sink folders law (ended_none folder carousel (published carousel cycles) sink folders s r none)
+pub publishes_none : (folder : Bytes) (carousel : ℕ) (weights : List ℕ) (cycles : ℕ) (sink : Over Bytes) (folders : Over FolderTree) (s : Status) → Receptions → AreWeights weights → Refused folder carousel folders s → IsUntouched sink
+    → Publishes folder carousel weights cycles s sink folders
+publishes_none folder carousel weights cycles sink folders s law are r none =
+    publishes_by folder carousel weights cycles s sink folders law are (ended_none folder carousel (published_bytes carousel weights cycles) sink folders s r none)
 
-pub publishes_all : (folder : Bytes) (carousel cycles : ℕ) (old new : OutputState) (folders : Over FolderTree) (g : GenerationState) → Receptions → GenerationsAreOfTheLists
-    → IsOfFolder folder carousel folders.before g → old.pending ≡ [] → new.pending ≡ [] → HasPut old new (packed (map (section_of g) (repeated cycles (cycle_of (lines_of g)))))
-    → Publishes folder carousel cycles status.Done (sent old new) folders
-publishes_all folder carousel cycles old new folders g law lists of begin empty puts =
-    publishes_by folder carousel cycles status.Done (sent old new) folders law
-    (ended_all folder carousel (published carousel cycles) old new folders g of begin empty (puts_as (published_is carousel cycles of.tree g lists of.is) puts))
+pub publishes_all : (folder : Bytes) (carousel : ℕ) (weights : List ℕ) (cycles : ℕ) (old new : OutputState) (folders : Over FolderTree) (g : GenerationState) → Receptions → AreWeights weights → GenerationsAreOfTheLists
+    → IsOfFolder folder carousel folders.before g → old.pending ≡ [] → new.pending ≡ [] → HasPut old new (group_bytes (map (section_of g) (repeat_list cycles (cycle_of weights (lines_of g)))))
+    → Publishes folder carousel weights cycles status.Done (sink_over old new) folders
+publishes_all folder carousel weights cycles old new folders g law are lists of begin empty puts =
+    publishes_by folder carousel weights cycles status.Done (sink_over old new) folders law are
+    (ended_all folder carousel (published_bytes carousel weights cycles) old new folders g of begin empty (puts_as (published_is carousel weights cycles of.tree g lists of.is) puts))
 
-pub publishes_part : (folder : Bytes) (carousel cycles : ℕ) (old new : OutputState) (folders : Over FolderTree) (g : GenerationState) (f : OutputFault) → Receptions → GenerationsAreOfTheLists
-    → IsOfFolder folder carousel folders.before g → old.pending ≡ [] → Puts {T = Unit {0}} (Err f) old new (packed (map (section_of g) (repeated cycles (cycle_of (lines_of g)))))
-    → Publishes folder carousel cycles (output_status f) (sent old new) folders
-publishes_part folder carousel cycles old new folders g f law lists of begin puts =
-    publishes_by folder carousel cycles (output_status f) (sent old new) folders law
-    (ended_part folder carousel (published carousel cycles) old new folders g f of begin (puts_as (published_is carousel cycles of.tree g lists of.is) puts))
+pub publishes_part : (folder : Bytes) (carousel : ℕ) (weights : List ℕ) (cycles : ℕ) (old new : OutputState) (folders : Over FolderTree) (g : GenerationState) (f : OutputFault) → Receptions → AreWeights weights → GenerationsAreOfTheLists
+    → IsOfFolder folder carousel folders.before g → old.pending ≡ [] → Puts {T = Unit {0}} (Err f) old new (group_bytes (map (section_of g) (repeat_list cycles (cycle_of weights (lines_of g)))))
+    → Publishes folder carousel weights cycles (output_status f) (sink_over old new) folders
+publishes_part folder carousel weights cycles old new folders g f law are lists of begin puts =
+    publishes_by folder carousel weights cycles (output_status f) (sink_over old new) folders law are
+    (ended_part folder carousel (published_bytes carousel weights cycles) old new folders g f of begin (puts_as (published_is carousel weights cycles of.tree g lists of.is) puts))

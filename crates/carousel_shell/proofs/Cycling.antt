@@ -8,9 +8,9 @@ use Rattle.std.proofs.lemmas.List.Folds.{concat-append}
 use Rattle.std.proofs.lemmas.List.Sums.{fold-append}
 use Rattle.std.proofs.lemmas.Option.{slice_get_within, get_or_from_slice_get}
 use Rattle.section_stream.specs.Groups.{IsBetween, packets_of_group, past_group}
-use Rattle.section_stream.specs.Packing.{MuxState, IsSectionLike, finished, last_of, packets_of, packets_of_all, past}
+use Rattle.section_stream.specs.Packing.{MuxState, IsSectionLike, after_finish, last_of, packets_of, packets_of_all, past}
 use Rattle.section_stream.proofs.CallerLemmas.{calls_give, packets_of_all-append}
-use Rattle.carousel_world.specs.Publishing.{repeated}
+use Rattle.carousel_world.specs.Publishing.{repeat_list}
 use Rattle.shell_streams.specs.Cuts.{Bytes}
 
 -- ---- sections
@@ -57,39 +57,39 @@ packs_all f start xs i =
 
 -- ---- cycles
 
-repeated_more : {X : Type 0} (n : ℕ) (xs : List X) → repeated n xs ++ xs ≡ repeated (suc n) xs
+repeated_more : {X : Type 0} (n : ℕ) (xs : List X) → repeat_list n xs ++ xs ≡ repeat_list (suc n) xs
 repeated_more zero xs = sym (append-nil xs)
-repeated_more (suc n) xs = append_assoc xs (repeated n xs) xs ∙ ap (λ ys. xs ++ ys) (repeated_more n xs)
+repeated_more (suc n) xs = append_assoc xs (repeat_list n xs) xs ∙ ap (λ ys. xs ++ ys) (repeated_more n xs)
 
-repeated_next : {X : Type 0} (n : ℕ) (xs : List X) → repeated n xs ++ xs ≡ repeated (n + 1) xs
-repeated_next n xs = let e : suc n ≡ n + 1 = omega arith in repeated_more n xs ∙ ap (λ k. repeated k xs) e
+repeated_next : {X : Type 0} (n : ℕ) (xs : List X) → repeat_list n xs ++ xs ≡ repeat_list (n + 1) xs
+repeated_next n xs = let e : suc n ≡ n + 1 = omega arith in repeated_more n xs ∙ ap (λ k. repeat_list k xs) e
 
-repeated_sum : {X : Type 0} (m n : ℕ) (xs : List X) → repeated m xs ++ repeated n xs ≡ repeated (m + n) xs
-repeated_sum zero n xs = let e : n ≡ 0 + n = omega arith in ap (λ k. repeated k xs) e
+repeated_sum : {X : Type 0} (m n : ℕ) (xs : List X) → repeat_list m xs ++ repeat_list n xs ≡ repeat_list (m + n) xs
+repeated_sum zero n xs = let e : n ≡ 0 + n = omega arith in ap (λ k. repeat_list k xs) e
 repeated_sum (suc m) n xs =
     let e : suc (m + n) ≡ suc m + n = omega arith in
-    append_assoc xs (repeated m xs) (repeated n xs) ∙ ap (λ ys. xs ++ ys) (repeated_sum m n xs) ∙ ap (λ k. repeated k xs) e
+    append_assoc xs (repeat_list m xs) (repeat_list n xs) ∙ ap (λ ys. xs ++ ys) (repeated_sum m n xs) ∙ ap (λ k. repeat_list k xs) e
 
-map_cycle : {X : Type 0} (f : X → Bytes) (xs : List X) (i : ℕ) → map f (repeated i xs) ++ map f xs ≡ map f (repeated (i + 1) xs)
-map_cycle f xs i = sym (map-append f (repeated i xs) xs) ∙ ap (map f) (repeated_next i xs)
+map_cycle : {X : Type 0} (f : X → Bytes) (xs : List X) (i : ℕ) → map f (repeat_list i xs) ++ map f xs ≡ map f (repeat_list (i + 1) xs)
+map_cycle f xs i = sym (map-append f (repeat_list i xs) xs) ∙ ap (map f) (repeated_next i xs)
 
 -- one cycle more
-pub packs_cycle : {X : Type 0} (f : X → Bytes) (start mux : MuxState) (xs : List X) (i : ℕ) → mux ≡ fold past start (map f (repeated i xs))
-    → concat (packets_of_all start (map f (repeated i xs))) ++ concat (packets_of_all mux (map f xs)) ≡ concat (packets_of_all start (map f (repeated (i + 1) xs)))
-packs_cycle f start mux xs i e = packs_then start mux (map f (repeated i xs)) (map f xs) e ∙ ap (λ ss. concat (packets_of_all start ss)) (map_cycle f xs i)
+pub packs_cycle : {X : Type 0} (f : X → Bytes) (start mux : MuxState) (xs : List X) (i : ℕ) → mux ≡ fold past start (map f (repeat_list i xs))
+    → concat (packets_of_all start (map f (repeat_list i xs))) ++ concat (packets_of_all mux (map f xs)) ≡ concat (packets_of_all start (map f (repeat_list (i + 1) xs)))
+packs_cycle f start mux xs i e = packs_then start mux (map f (repeat_list i xs)) (map f xs) e ∙ ap (λ ss. concat (packets_of_all start ss)) (map_cycle f xs i)
 
-pub counts_cycle : {X : Type 0} (f : X → Bytes) (start mux : MuxState) (xs : List X) (i : ℕ) → mux ≡ fold past start (map f (repeated i xs))
-    → fold past mux (map f xs) ≡ fold past start (map f (repeated (i + 1) xs))
-counts_cycle f start mux xs i e = counts_then start mux (map f (repeated i xs)) (map f xs) e ∙ ap (fold past start) (map_cycle f xs i)
+pub counts_cycle : {X : Type 0} (f : X → Bytes) (start mux : MuxState) (xs : List X) (i : ℕ) → mux ≡ fold past start (map f (repeat_list i xs))
+    → fold past mux (map f xs) ≡ fold past start (map f (repeat_list (i + 1) xs))
+counts_cycle f start mux xs i e = counts_then start mux (map f (repeat_list i xs)) (map f xs) e ∙ ap (fold past start) (map_cycle f xs i)
 
 -- the first cycles, and the others
 pub packs_cycles : {X : Type 0} (f : X → Bytes) (start : MuxState) (xs : List X) (i n : ℕ) → i < n
-    → concat (packets_of_all start (map f (repeated (i + 1) xs))) ++ concat (packets_of_all (fold past start (map f (repeated (i + 1) xs))) (map f (repeated (n - (i + 1)) xs)))
-    ≡ concat (packets_of_all start (map f (repeated n xs)))
+    → concat (packets_of_all start (map f (repeat_list (i + 1) xs))) ++ concat (packets_of_all (fold past start (map f (repeat_list (i + 1) xs))) (map f (repeat_list (n - (i + 1)) xs)))
+    ≡ concat (packets_of_all start (map f (repeat_list n xs)))
 packs_cycles f start xs i n h =
     let e : i + 1 + (n - (i + 1)) ≡ n = omega arith in
-    packs_then start (fold past start (map f (repeated (i + 1) xs))) (map f (repeated (i + 1) xs)) (map f (repeated (n - (i + 1)) xs)) refl
-    ∙ ap (λ ss. concat (packets_of_all start ss)) (sym (map-append f (repeated (i + 1) xs) (repeated (n - (i + 1)) xs)) ∙ ap (map f) (repeated_sum (i + 1) (n - (i + 1)) xs ∙ ap (λ k. repeated k xs) e))
+    packs_then start (fold past start (map f (repeat_list (i + 1) xs))) (map f (repeat_list (i + 1) xs)) (map f (repeat_list (n - (i + 1)) xs)) refl
+    ∙ ap (λ ss. concat (packets_of_all start ss)) (sym (map-append f (repeat_list (i + 1) xs) (repeat_list (n - (i + 1)) xs)) ∙ ap (map f) (repeated_sum (i + 1) (n - (i + 1)) xs ∙ ap (λ k. repeat_list k xs) e))
 
 -- ---- the end of a group
 
@@ -99,19 +99,19 @@ pub packs_group : (start mux : MuxState) (group : List Bytes) → IsBetween star
 packs_group start mux group between like e =
     ap (λ m. concat (packets_of_all start group) ++ concat (last_of m)) e ∙ sym (concat-append (packets_of_all start group) (last_of (fold past start group))) ∙ ap concat (calls_give start group between like).0
 
-pub counts_group : (start mux : MuxState) (group : List Bytes) → IsBetween start → All IsSectionLike group → mux ≡ fold past start group → finished mux ≡ past_group start group
-counts_group start mux group between like e = ap finished e ∙ (calls_give start group between like).1
+pub counts_group : (start mux : MuxState) (group : List Bytes) → IsBetween start → All IsSectionLike group → mux ≡ fold past start group → after_finish mux ≡ past_group start group
+counts_group start mux group between like e = ap after_finish e ∙ (calls_give start group between like).1
 
 -- in cycles there are no other sections than in one
-pub like_cycles : {X : Type 0} (f : X → Bytes) (n : ℕ) (xs : List X) → All IsSectionLike (map f xs) → All IsSectionLike (map f (repeated n xs))
+pub like_cycles : {X : Type 0} (f : X → Bytes) (n : ℕ) (xs : List X) → All IsSectionLike (map f xs) → All IsSectionLike (map f (repeat_list n xs))
 like_cycles f zero xs like = All-nil IsSectionLike
-like_cycles f (suc n) xs like = subst (All IsSectionLike) (sym (map-append f xs (repeated n xs))) (All-append IsSectionLike (map f xs) (map f (repeated n xs)) like (like_cycles f n xs like))
+like_cycles f (suc n) xs like = subst (All IsSectionLike) (sym (map-append f xs (repeat_list n xs))) (All-append IsSectionLike (map f xs) (map f (repeat_list n xs)) like (like_cycles f n xs like))
 
 -- all cycles, and the end of their group
-pub packs_end : {X : Type 0} (f : X → Bytes) (start mux : MuxState) (xs : List X) (i n : ℕ) → IsBetween start → All IsSectionLike (map f xs) → i ≡ n → mux ≡ fold past start (map f (repeated i xs))
-    → concat (packets_of_all start (map f (repeated i xs))) ++ concat (last_of mux) ≡ concat (packets_of_group start (map f (repeated n xs)))
+pub packs_end : {X : Type 0} (f : X → Bytes) (start mux : MuxState) (xs : List X) (i n : ℕ) → IsBetween start → All IsSectionLike (map f xs) → i ≡ n → mux ≡ fold past start (map f (repeat_list i xs))
+    → concat (packets_of_all start (map f (repeat_list i xs))) ++ concat (last_of mux) ≡ concat (packets_of_group start (map f (repeat_list n xs)))
 packs_end f start mux xs i n between like all e =
-    packs_group start mux (map f (repeated i xs)) between (like_cycles f i xs like) e ∙ ap (λ k. concat (packets_of_group start (map f (repeated k xs)))) all
+    packs_group start mux (map f (repeat_list i xs)) between (like_cycles f i xs like) e ∙ ap (λ k. concat (packets_of_group start (map f (repeat_list k xs)))) all
 
 -- ---- as the steps of the code have it
 

@@ -1,6 +1,7 @@
 -- What is promised where nothing was done.
-use Rattle.std.proofs.Common.{◌≡◌, ℕ, Bool, false, [], Option, Result, Ok, Err, inl, inr, refl, sym, ap, ◌∙◌, append-nil, subst}
-use Rattle.oc_bytes.specs.Outcome.{Told}
+use Rattle.std.proofs.Common.{◌≡◌, ℕ, Bool, false, List, [], Option, Result, Ok, Err, inl, inr, refl, sym, ap, ◌∙◌, append-nil, subst}
+use Rattle.cycle_planner.specs.Weights.{AreWeights}
+use Rattle.oc_bytes.specs.Outcome.{Known}
 use Rattle.folder_store.specs.Folders.{FolderTree}
 use Rattle.shell_words.specs.Words as commands
 use Rattle.shell_streams.specs.Cuts.{Bytes}
@@ -11,7 +12,7 @@ use Rattle.shell_streams.specs.declared.carrier.Carrier.TheVariants as carriers
 use Rattle.shell_streams.proofs.CallerLemmas.{told_same}
 use Rattle.carousel_shell.specs.Over.{Over, over, IsUntouched, TakesPrefix, Appends}
 use Rattle.carousel_shell.specs.Record.{AreFirst, Records}
-use Rattle.carousel_shell.specs.Open.{Question, Answers, answered, asks_paths, asks_all}
+use Rattle.carousel_shell.specs.Open.{Question, Answers, answers_to, asks_paths, asks_all}
 use Rattle.carousel_shell.specs.Find.{place_of}
 use Rattle.carousel_shell.specs.OpenId.{sections_by_id}
 use Rattle.carousel_shell.specs.Reception.{Receptions}
@@ -25,16 +26,16 @@ use Rattle.carousel_shell.proofs.Finding.{finds_by}
 use Rattle.carousel_shell.proofs.Opening.{opens_by}
 
 takes_nothing : (source : Over Bytes) → IsUntouched source → TakesPrefix source
-takes_nothing source e = let P : Option Bytes → Type 0 = λ a. Told source.before a IsRear in subst P (sym e) (told_same source.before (λ x. record { taken = []; whole = refl }))
+takes_nothing source e = let P : Option Bytes → Type 0 = λ a. Known source.before a IsRear in subst P (sym e) (told_same source.before (λ x. record { taken = []; whole = refl }))
 
 answers_nothing : (carrier : Carrier) (question : Question) (source sink : Over Bytes) → Receptions → IsUntouched source → IsUntouched sink → Answers carrier question status.NoMemory source sink
 answers_nothing carrier question source sink law e f =
-    answers_by carrier question status.NoMemory source sink law (replies_nothing (sections_by carrier) (answered question) source sink (takes_nothing source e) f)
+    answers_by carrier question status.NoMemory source sink law (replies_nothing (sections_by carrier) (answers_to question) source sink (takes_nothing source e) f)
 
 records_nothing : (pid : ℕ) (source sink : Over Bytes) → IsUntouched source → IsUntouched sink → Records pid status.NoMemory source sink
 records_nothing pid source sink e f =
-    let P : Option Bytes → Type 0 = λ a. Told source.before a (AreFirst pid []) in
-    let Q : Option Bytes → Type 0 = λ a. Told sink.before a (Appends []) in
+    let P : Option Bytes → Type 0 = λ a. Known source.before a (AreFirst pid []) in
+    let Q : Option Bytes → Type 0 = λ a. Known sink.before a (Appends []) in
     record {
       ends = record {
         sections = [];
@@ -45,42 +46,42 @@ records_nothing pid source sink e f =
     }
 
 -- there was no memory before a command began
-memory_promises : (c : commands.Named) (source sink : Over Bytes) (folders : Over FolderTree) → Receptions → IsUntouched source → IsUntouched sink → Promises c status.NoMemory source sink folders
-memory_promises (commands.Assemble id version size download) source sink folders law e f = record { ends = inl f; takes = takes_nothing source e }
-memory_promises (commands.OpenSections paths) source sink folders law e f = answers_nothing (carriers.Sections 16777216) (asks_paths paths) source sink law e f
-memory_promises (commands.Open pid paths) source sink folders law e f = answers_nothing (carriers.Packets pid) (asks_paths paths) source sink law e f
-memory_promises (commands.Record pid) source sink folders law e f = records_nothing pid source sink e f
-memory_promises (commands.ListAll pid) source sink folders law e f = answers_nothing (carriers.Packets pid) asks_all source sink law e f
-memory_promises (commands.Publish folder carousel cycles) source sink folders law e f =
-    record { unread = e; keeps = record { ends = inl f; needs = λ t h n. inr refl; heard = law.sent carousel cycles } }
-memory_promises commands.Rehearse source sink folders law e f = record { ends = inl f; takes = takes_nothing source e }
-memory_promises commands.Session source sink folders law e f = record { ends = inr refl; unread = e; unwritten = f }
-memory_promises (commands.Big n) source sink folders law e f = record { ends = inr refl; unread = e; unwritten = f }
-memory_promises (commands.Find carousel) source sink folders law e f =
+memory_promises : (weights : List ℕ) (c : commands.Named) (source sink : Over Bytes) (folders : Over FolderTree) → Receptions → AreWeights weights → IsUntouched source → IsUntouched sink → Promises weights c status.NoMemory source sink folders
+memory_promises weights (commands.Assemble id version size download) source sink folders law are e f = record { ends = inl f; takes = takes_nothing source e }
+memory_promises weights (commands.OpenSections paths) source sink folders law are e f = answers_nothing (carriers.Sections 16777216) (asks_paths paths) source sink law e f
+memory_promises weights (commands.Open pid paths) source sink folders law are e f = answers_nothing (carriers.Packets pid) (asks_paths paths) source sink law e f
+memory_promises weights (commands.Record pid) source sink folders law are e f = records_nothing pid source sink e f
+memory_promises weights (commands.ListAll pid) source sink folders law are e f = answers_nothing (carriers.Packets pid) asks_all source sink law e f
+memory_promises weights (commands.Publish folder carousel cycles) source sink folders law are e f =
+    record { unread = e; keeps = record { ends = inl f; needs = λ t h n. inr refl; heard = law.sent carousel weights cycles are } }
+memory_promises weights commands.Rehearse source sink folders law are e f = record { ends = inl f; takes = takes_nothing source e }
+memory_promises weights commands.Session source sink folders law are e f = record { ends = inr refl; unread = e; unwritten = f }
+memory_promises weights (commands.Big n) source sink folders law are e f = record { ends = inr refl; unread = e; unwritten = f }
+memory_promises weights (commands.Find carousel) source sink folders law are e f =
     finds_by carousel status.NoMemory source sink law (replies_nothing all_packets (place_of carousel) source sink (takes_nothing source e) f)
-memory_promises (commands.OpenId carousel paths) source sink folders law e f =
-    opens_by carousel paths status.NoMemory source sink law (replies_nothing (sections_by_id carousel) (answered (asks_paths paths)) source sink (takes_nothing source e) f)
-memory_promises (commands.PublishPsi folder carousel cycles) source sink folders law e f =
-    record { unread = e; keeps = record { ends = inl f; needs = λ t h n. inr refl; heard = law.cycles carousel cycles } }
+memory_promises weights (commands.OpenId carousel paths) source sink folders law are e f =
+    opens_by carousel paths status.NoMemory source sink law (replies_nothing (sections_by_id carousel) (answers_to (asks_paths paths)) source sink (takes_nothing source e) f)
+memory_promises weights (commands.PublishPsi folder carousel cycles) source sink folders law are e f =
+    record { unread = e; keeps = record { ends = inl f; needs = λ t h n. inr refl; heard = law.cycles carousel weights cycles are } }
 
-pub memory_keeps : (r : Result commands.Named commands.Misfit) (source sink : Over Bytes) (folders : Over FolderTree) → Receptions → IsUntouched source → IsUntouched sink
-    → Keeps r status.NoMemory source sink folders
-memory_keeps (Ok c) source sink folders law e f = memory_promises c source sink folders law e f
-memory_keeps (Err misfit) source sink folders law e f = record { ends = inr refl; unread = e; unwritten = f }
+pub memory_keeps : (weights : List ℕ) (r : Result commands.Named commands.Misfit) (source sink : Over Bytes) (folders : Over FolderTree) → Receptions → AreWeights weights → IsUntouched source → IsUntouched sink
+    → Keeps weights r status.NoMemory source sink folders
+memory_keeps weights (Ok c) source sink folders law are e f = memory_promises weights c source sink folders law are e f
+memory_keeps weights (Err misfit) source sink folders law are e f = record { ends = inr refl; unread = e; unwritten = f }
 
 -- the words don't fit
-pub words_keep : (r : Result commands.Named commands.Misfit) (source sink : Over Bytes) (folders : Over FolderTree) → r ≡ Err commands.Words → IsUntouched source → IsUntouched sink
-    → Keeps r status.Words source sink folders
-words_keep r source sink folders is e f =
-    let P : Result commands.Named commands.Misfit → Type 0 = λ x. Keeps x status.Words source sink folders in
+pub words_keep : (weights : List ℕ) (r : Result commands.Named commands.Misfit) (source sink : Over Bytes) (folders : Over FolderTree) → r ≡ Err commands.Words → IsUntouched source → IsUntouched sink
+    → Keeps weights r status.Words source sink folders
+words_keep weights r source sink folders is e f =
+    let P : Result commands.Named commands.Misfit → Type 0 = λ x. Keeps weights x status.Words source sink folders in
     subst P (sym is) (record { ends = inl refl; unread = e; unwritten = f })
 
 -- the sink that the output lends is the one that was handed in
-pub promises_over : {X : Type 0} (c : commands.Named) (s : Status) (source : Over Bytes) (folders : Over FolderTree) (content : X → Option Bytes) (faults : X → ℕ) (begin end first last : X)
-    → begin ≡ first → end ≡ last → Promises c s source (over content faults begin end) folders → Promises c s source (over content faults first last) folders
-promises_over {X} c s source folders content faults begin end first last a b p =
-    let P : X → Type 0 = λ x. Promises c s source (over content faults x end) folders in
-    let Q : X → Type 0 = λ x. Promises c s source (over content faults first x) folders in
+pub promises_over : {X : Type 0} (weights : List ℕ) (c : commands.Named) (s : Status) (source : Over Bytes) (folders : Over FolderTree) (content : X → Option Bytes) (faults : X → ℕ) (begin end first last : X)
+    → begin ≡ first → end ≡ last → Promises weights c s source (over content faults begin end) folders → Promises weights c s source (over content faults first last) folders
+promises_over {X} weights c s source folders content faults begin end first last a b p =
+    let P : X → Type 0 = λ x. Promises weights c s source (over content faults x end) folders in
+    let Q : X → Type 0 = λ x. Promises weights c s source (over content faults first x) folders in
     subst Q b (subst P a p)
 
 -- nor is a write tried there after one that failed

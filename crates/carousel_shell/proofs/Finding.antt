@@ -8,7 +8,7 @@ use Rattle.shell_streams.specs.Packets.{packets_of}
 use Rattle.shell_streams.specs.Carriers.{all_packets, HeardAll}
 use Rattle.shell_streams.specs.Sending.{OutputState, Puts}
 use Rattle.shell_streams.specs.declared.output.OutputFault.{OutputFault}
-use Rattle.carousel_shell.specs.Over.{Over, sent}
+use Rattle.carousel_shell.specs.Over.{Over, sink_over}
 use Rattle.carousel_shell.specs.Replies.{Replies}
 use Rattle.carousel_shell.specs.Find.{is_at, found_line, place_of, Finds}
 use Rattle.carousel_shell.specs.Reception.{Receptions}
@@ -22,7 +22,7 @@ finds_by carousel s source sink law replies = record { replies = replies; usual 
 -- the packets were read, and what was found by them was put
 written_by : (find : List Bytes → Find) (source : Over Bytes) (old new : OutputState) (found : Find) (r : Result Bool OutputFault)
     → HeardAll all_packets (λ packets. found ≡ find packets) source.before source.after → old.pending ≡ [] → IfOk r (λ all. all ≡ is_at found) → Puts r old new (found_line found)
-    → OnOk r (new.pending ≡ []) → Replies all_packets (record { text = λ packets. found_line (find packets); all = λ packets. is_at (find packets) }) (answer_status r) source (sent old new)
+    → OnOk r (new.pending ≡ []) → Replies all_packets (record { text = λ packets. found_line (find packets); all = λ packets. is_at (find packets) }) (answer_status r) source (sink_over old new)
 written_by find source old new found r h begin all puts empty =
     let A : Find → Type 0 = λ f. IfOk r (λ b. b ≡ is_at f) in
     let P : Find → Type 0 = λ f. Puts r old new (found_line f) in
@@ -31,6 +31,6 @@ written_by find source old new found r h begin all puts empty =
 
 pub finds_written : (carousel : ℕ) (source : Over Bytes) (old new : OutputState) (found : Find) (r : Result Bool OutputFault) → Receptions
     → HeardAll all_packets (λ packets. found ≡ found_in carousel packets) source.before source.after → old.pending ≡ [] → IfOk r (λ all. all ≡ is_at found) → Puts r old new (found_line found)
-    → OnOk r (new.pending ≡ []) → Finds carousel (answer_status r) source (sent old new)
+    → OnOk r (new.pending ≡ []) → Finds carousel (answer_status r) source (sink_over old new)
 finds_written carousel source old new found r law h begin all puts empty =
-    finds_by carousel (answer_status r) source (sent old new) law (written_by (found_in carousel) source old new found r h begin all puts empty)
+    finds_by carousel (answer_status r) source (sink_over old new) law (written_by (found_in carousel) source old new found r h begin all puts empty)

@@ -3,12 +3,12 @@ use Rattle.std.proofs.Common.{◌≡◌, ℕ, zero, suc, ◌+◌, ◌*◌, ◌/�
 use Rattle.std.specs.List.{filter_map, enumerate_from, cons_option}
 use Rattle.std.proofs.lemmas.List.{map-append}
 use Rattle.std.proofs.lemmas.List.Elements.{filter_map-append}
-use Rattle.ts_packet.specs.Packets.{Fields, parsed, control, payload_of, packet_bytes, bit_of}
+use Rattle.ts_packet.specs.Packets.{Fields, parse_packet, control, payload_of, packet_bytes, bit_of}
 use Rattle.ts_packet.specs.declared.PacketFault.{PacketFault}
 use Rattle.ts_packet.specs.declared.PacketFault.TheVariants.{NoSync, Errored, Scrambled, Reserved, BadField}
-use Rattle.section_stream.specs.Cuts.{Bytes, Received, Cut, kept_of, received, is_repeat, without_repeats_of, without_repeats, pointer_of, pointer_fits, going_on, whole_len, opened_in, cuts_at, cuts_of, candidates}
-use Rattle.section_stream.specs.Packing.{MuxState, ended, filled, last_of, numbered, packets_of, past, put}
-use Rattle.psi_tables.specs.Written.{AnnouncerState, pat_spelling, pmt_spelling, packets_of_table, announced}
+use Rattle.section_stream.specs.Cuts.{Bytes, Received, Cut, kept_of, payloads_in, is_repeat, without_repeats_of, without_repeats, pointer_of, pointer_fits, going_on, whole_len, opened_in, cuts_at, cuts_of, candidates}
+use Rattle.section_stream.specs.Packing.{MuxState, end_packets, with_stuffing, last_of, number_packets, packets_of, past, put}
+use Rattle.psi_tables.specs.Written.{AnnouncerState, pat_spelling, pmt_spelling, packets_of_table, announcer_packets}
 
 -- ---- the numbers of packets don't matter to the bytes that are cut
 
@@ -17,16 +17,16 @@ bare r = record { number = 0; start = r.start; counter = r.counter; payload = r.
 
 -- the packets of a PID, whatever their numbers
 abbrev pub heard_of : ℕ → List Bytes → List Received
-heard_of pid packets = filter_map (λ x. kept_of pid 0 (parsed x)) packets
+heard_of pid packets = filter_map (λ x. kept_of pid 0 (parse_packet x)) packets
 
 abbrev as_received : ℕ → Fields → Received
 as_received n f = record { number = n; start = f.start; counter = f.counter; payload = f.payload }
 
-received_bare : (pid n : ℕ) (ps : List Bytes) → map bare (filter_map (λ x. kept_of pid x.0 (parsed x.1)) (enumerate_from n ps)) ≡ heard_of pid ps
+received_bare : (pid n : ℕ) (ps : List Bytes) → map bare (filter_map (λ x. kept_of pid x.0 (parse_packet x.1)) (enumerate_from n ps)) ≡ heard_of pid ps
 received_bare pid n [] = refl
-received_bare pid n (p ∷ ps) = by (parsed p) (received_bare pid (n + 1) ps) where
+received_bare pid n (p ∷ ps) = by (parse_packet p) (received_bare pid (n + 1) ps) where
   rest : List Received
-  rest = filter_map (λ x. kept_of pid x.0 (parsed x.1)) (enumerate_from (n + 1) ps)
+  rest = filter_map (λ x. kept_of pid x.0 (parse_packet x.1)) (enumerate_from (n + 1) ps)
 
   go : (f : Fields) → map bare rest ≡ heard_of pid ps → (t : Bool)
       → map bare (cons_option (if t then Some (as_received n f) else None) rest) ≡ cons_option (if t then Some (as_received 0 f) else None) (heard_of pid ps)
@@ -90,19 +90,19 @@ cuts_bare (p ∷ ps) =
 
 cut_of_heard : (pid : ℕ) (packets : List Bytes) → candidates pid packets ≡ bytes_of (cuts_of (without_repeats (heard_of pid packets)))
 cut_of_heard pid packets =
-    cuts_bare (without_repeats (received pid packets))
-    ∙ ap (λ (rs : List Received). bytes_of (cuts_of rs)) (sym (all_bare (received pid packets)) ∙ ap without_repeats (received_bare pid 0 packets))
+    cuts_bare (without_repeats (payloads_in pid packets))
+    ∙ ap (λ (rs : List Received). bytes_of (cuts_of rs)) (sym (all_bare (payloads_in pid packets)) ∙ ap without_repeats (received_bare pid 0 packets))
 
 -- where the same packets of a PID are heard, the same is cut
 pub heard_alone : (pid : ℕ) (xs ys : List Bytes) → heard_of pid xs ≡ heard_of pid ys → candidates pid xs ≡ candidates pid ys
 heard_alone pid xs ys e = cut_of_heard pid xs ∙ ap (λ (rs : List Received). bytes_of (cuts_of (without_repeats rs))) e ∙ sym (cut_of_heard pid ys)
 
 pub heard_both : (pid : ℕ) (xs ys : List Bytes) → heard_of pid (xs ++ ys) ≡ heard_of pid xs ++ heard_of pid ys
-heard_both pid xs ys = filter_map-append (λ x. kept_of pid 0 (parsed x)) xs ys
+heard_both pid xs ys = filter_map-append (λ x. kept_of pid 0 (parse_packet x)) xs ys
 
 -- ---- packets of other PIDs
 
-other_pid : (pid : ℕ) (bytes : Bytes) → ((slice_index bytes 1 % 32 * 256 + slice_index bytes 2) == pid) ≡ false → kept_of pid 0 (parsed bytes) ≡ None
+other_pid : (pid : ℕ) (bytes : Bytes) → ((slice_index bytes 1 % 32 * 256 + slice_index bytes 2) == pid) ≡ false → kept_of pid 0 (parse_packet bytes) ≡ None
 other_pid pid bytes e =
     go (not (slice_index bytes 0 == 0x47)) (slice_index bytes 1 / 128 == 1) (not (slice_index bytes 3 / 64 == 0)) (control bytes == 0) ((control bytes == 3) && nat_lt 182 (slice_index bytes 4)) where
       fields : Fields
@@ -121,10 +121,10 @@ other_pid pid bytes e =
 abbrev IsOther : ℕ → ℕ → Type 0
 IsOther mine pid = (start : Bool) → (((64 * bit_of start + pid / 256) % 32 * 256 + pid % 256) == mine) ≡ false
 
-numbered_others : (mine pid c : ℕ) (ps : List (Bool × Bytes)) → IsOther mine pid → heard_of mine (numbered pid c ps) ≡ []
+numbered_others : (mine pid c : ℕ) (ps : List (Bool × Bytes)) → IsOther mine pid → heard_of mine (number_packets pid c ps) ≡ []
 numbered_others mine pid c [] other = refl
 numbered_others mine pid c (p ∷ ps) other =
-    ap (λ (o : Option Received). cons_option o (heard_of mine (numbered pid ((c + 1) % 16) ps))) (other_pid mine (packet_bytes pid p.0 c (filled p.1)) (other p.0))
+    ap (λ (o : Option Received). cons_option o (heard_of mine (number_packets pid ((c + 1) % 16) ps))) (other_pid mine (packet_bytes pid p.0 c (with_stuffing p.1)) (other p.0))
     ∙ numbered_others mine pid ((c + 1) % 16) ps other
 
 zero_is_other : IsOther 256 0
@@ -140,10 +140,10 @@ table_others pid m table e other =
     let its : IsOther 256 m.pid = subst (IsOther 256) (sym e) other in
     let next : MuxState = past m table in
     heard_both 256 (packets_of m table) (last_of next)
-    ∙ ap₂ (λ (xs ys : List Received). xs ++ ys) (numbered_others 256 m.pid m.counter (put m.tail m.body table).given its) (numbered_others 256 m.pid next.counter (ended next.tail next.body) its)
+    ∙ ap₂ (λ (xs ys : List Received). xs ++ ys) (numbered_others 256 m.pid m.counter (put m.tail m.body table).given its) (numbered_others 256 m.pid next.counter (end_packets next.tail next.body) its)
 
 -- no packet of the tables has the carousel's PID
-pub tables_are_others : (a : AnnouncerState) → a.tables.pid ≡ 0 → a.maps.pid ≡ 32 → heard_of 256 (announced a) ≡ []
+pub tables_are_others : (a : AnnouncerState) → a.tables.pid ≡ 0 → a.maps.pid ≡ 32 → heard_of 256 (announcer_packets a) ≡ []
 tables_are_others a t m =
     heard_both 256 (packets_of_table a.tables pat_spelling) (packets_of_table a.maps (pmt_spelling a.carousel))
     ∙ ap₂ (λ (xs ys : List Received). xs ++ ys) (table_others 0 a.tables pat_spelling t zero_is_other) (table_others 32 a.maps (pmt_spelling a.carousel) m map_is_other)

@@ -4,11 +4,11 @@ use Rattle.std.specs.List.{position, prefix_len}
 use Rattle.std.specs.Option.{is_none, is_some}
 use Rattle.std.proofs.lemmas.Bool.{ltb-false, true≢false}
 use Rattle.shell_streams.specs.Cuts.{Bytes}
-use Rattle.block_assembler.specs.Blocks.{joined, onto_all}
+use Rattle.block_assembler.specs.Blocks.{join_all, onto_all}
 
-joined_there : (blocks : List (Option Bytes)) → length blocks ≤ prefix_len (λ x. not (is_none x)) blocks → is_some (joined blocks) ≡ true
+joined_there : (blocks : List (Option Bytes)) → length blocks ≤ prefix_len (λ x. not (is_none x)) blocks → is_some (join_all blocks) ≡ true
 joined_there [] h = refl
-joined_there (Some x ∷ bs) h = onto x (joined bs) (joined_there bs (omega (arith, h)))
+joined_there (Some x ∷ bs) h = onto x (join_all bs) (joined_there bs (omega (arith, h)))
   where
     onto : (x : Bytes) (o : Option Bytes) → is_some o ≡ true → is_some (onto_all (Some x) o) ≡ true
     onto x (Some xs) e = refl
@@ -16,7 +16,7 @@ joined_there (Some x ∷ bs) h = onto x (joined bs) (joined_there bs (omega (ari
 joined_there (None ∷ bs) h = absurd (omega (arith, h))
 
 -- where no place is empty, the blocks are joined
-pub joined_all : (blocks : List (Option Bytes)) → position is_none blocks ≡ None → joined blocks ≡ None → ⊥
+pub joined_all : (blocks : List (Option Bytes)) → position is_none blocks ≡ None → join_all blocks ≡ None → ⊥
 joined_all blocks e j = true≢false (sym (joined_there blocks (ltb-false (prefix_len (λ x. not (is_none x)) blocks) (length blocks) (none _ _ e))) ∙ ap is_some j)
   where
     none : (b : Bool) (n : ℕ) → cond b (Some n) None ≡ None → b ≡ false

@@ -7,7 +7,7 @@ use Rattle.std.proofs.lemmas.List.{ext_get_or, get_or-set_same, get_or-set_other
 use Rattle.std.proofs.lemmas.List.FromFn.{get_or-map-range_with_len, length-map-range_with_len}
 use Rattle.std.proofs.lemmas.List.Elements.{filter_map-append}
 use Rattle.ddb_block.specs.Blocks as ddb
-use Rattle.block_assembler.specs.Blocks.{AssemblerState, empty_of, offered, after_offer, fits, first_of, is_new}
+use Rattle.block_assembler.specs.Blocks.{AssemblerState, empty_of, offer_of, after_offer, fits, first_of, is_new}
 use Rattle.module_cache.specs.LookBack as back
 use Rattle.shell_streams.specs.Cuts.{Bytes}
 use Rattle.carousel_shell.specs.Input.{Asked, block_heard, asked_line, asked_dii, blocks_among}
@@ -31,7 +31,7 @@ or_first (x ∷ xs) o = refl
 
 -- the block that fits in place b, of a section, and the first of them of sections
 abbrev fitting : Asked → ℕ → Bytes → Option Bytes
-fitting m b section = back.fitting (asked_dii m) (asked_line m) b (block_heard section)
+fitting m b section = back.bytes_if_fits (asked_dii m) (asked_line m) b (block_heard section)
 
 abbrev block_among : Asked → List Bytes → ℕ → Option Bytes
 block_among m sections = back.block_among block_heard sections (asked_dii m) (asked_line m)
@@ -47,11 +47,11 @@ by_tests true true within long = refl
 
 -- is there in its place where it fits
 fitting_of : (m : Asked) (b : ℕ) (x : ddb.Block) → is_of m x ≡ true
-    → back.fitting (asked_dii m) (asked_line m) b (Some x) ≡ cond ((x.number == b) && fits m.size 4066 b x.bytes) (Some x.bytes) None
+    → back.bytes_if_fits (asked_dii m) (asked_line m) b (Some x) ≡ cond ((x.number == b) && fits m.size 4066 b x.bytes) (Some x.bytes) None
 fitting_of m b x e = let rest : Bool = (x.number == b) && fits m.size 4066 b x.bytes in
     ap (λ t. cond t (Some x.bytes) None) (by_tests (is_of m x) (x.number == b) (nat_lt b (ddb.block_count_of m.size 4066)) (length x.bytes == ddb.block_span_of m.size 4066 b) ∙ ap (λ t. t && rest) e)
 
-fitting_other : (m : Asked) (b : ℕ) (x : ddb.Block) → is_of m x ≡ false → back.fitting (asked_dii m) (asked_line m) b (Some x) ≡ None
+fitting_other : (m : Asked) (b : ℕ) (x : ddb.Block) → is_of m x ≡ false → back.bytes_if_fits (asked_dii m) (asked_line m) b (Some x) ≡ None
 fitting_other m b x e = let rest : Bool = (x.number == b) && fits m.size 4066 b x.bytes in
     ap (λ t. cond t (Some x.bytes) None) (by_tests (is_of m x) (x.number == b) (nat_lt b (ddb.block_count_of m.size 4066)) (length x.bytes == ddb.block_span_of m.size 4066 b) ∙ ap (λ t. t && rest) e)
 
@@ -77,7 +77,7 @@ abbrev offered_for : AssemblerState → ℕ → Bytes → ℕ → Option Bytes
 offered_for a k bytes b = cond ((k == b) && fits a.size a.block_size b bytes) (Some bytes) None
 
 at_other : (a : AssemblerState) (k : ℕ) (bytes : Bytes) (b : ℕ) → b ≢ k → get_or (after_offer a k bytes).blocks b None ≡ get_or a.blocks b None
-at_other a k bytes b h = cond_both (is_new (offered a k bytes)) (record a { blocks = set a.blocks k (Some bytes) }) a (λ s. get_or s.blocks b None ≡ get_or a.blocks b None)
+at_other a k bytes b h = cond_both (is_new (offer_of a k bytes)) (record a { blocks = set a.blocks k (Some bytes) }) a (λ s. get_or s.blocks b None ≡ get_or a.blocks b None)
     (λ e. get_or-set_other a.blocks k b (Some bytes) None h) (λ e. refl)
 
 at_same : (a : AssemblerState) (bytes : Bytes) (b : ℕ) → b < length a.blocks → b < ddb.block_count_of a.size a.block_size → (t s : Bool)
@@ -96,11 +96,11 @@ at_place a k bytes b h l = cases (cases_eq b k)
     cases (inr n) = at_other a k bytes b n ∙ rw (ne_eqb k b (λ h. n (sym h))) (or_none (get_or a.blocks b None))
 
 same_number : (a : AssemblerState) (k : ℕ) (bytes : Bytes) → length (after_offer a k bytes).blocks ≡ length a.blocks
-same_number a k bytes = cond_both (is_new (offered a k bytes)) (record a { blocks = set a.blocks k (Some bytes) }) a (λ s. length s.blocks ≡ length a.blocks)
+same_number a k bytes = cond_both (is_new (offer_of a k bytes)) (record a { blocks = set a.blocks k (Some bytes) }) a (λ s. length s.blocks ≡ length a.blocks)
     (λ e. length-set a.blocks k (Some bytes)) (λ e. refl)
 
 same_sizes : (a : AssemblerState) (k : ℕ) (bytes : Bytes) → ((after_offer a k bytes).size ≡ a.size) × ((after_offer a k bytes).block_size ≡ a.block_size)
-same_sizes a k bytes = cond_both (is_new (offered a k bytes)) (record a { blocks = set a.blocks k (Some bytes) }) a (λ s. (s.size ≡ a.size) × (s.block_size ≡ a.block_size))
+same_sizes a k bytes = cond_both (is_new (offer_of a k bytes)) (record a { blocks = set a.blocks k (Some bytes) }) a (λ s. (s.size ≡ a.size) × (s.block_size ≡ a.block_size))
     (λ e. (refl, refl)) (λ e. (refl, refl))
 
 -- blocks that are, place by place, those of the sections
@@ -129,12 +129,12 @@ blocks_same m a sections section none h = record {
 
 -- no block at all
 pub blocks_unheard : (m : Asked) (a : AssemblerState) (sections : List Bytes) (section : Bytes) → block_heard section ≡ None → HasBlocks m a sections → HasBlocks m a (sections ++ section ∷ [])
-blocks_unheard m a sections section e h = blocks_same m a sections section (λ b. ap (back.fitting (asked_dii m) (asked_line m) b) e) h
+blocks_unheard m a sections section e h = blocks_same m a sections section (λ b. ap (back.bytes_if_fits (asked_dii m) (asked_line m) b) e) h
 
 -- one of another module
 pub blocks_other : (m : Asked) (a : AssemblerState) (sections : List Bytes) (section : Bytes) (x : ddb.Block) → block_heard section ≡ Some x → is_of m x ≡ false → HasBlocks m a sections
     → HasBlocks m a (sections ++ section ∷ [])
-blocks_other m a sections section x e t h = blocks_same m a sections section (λ b. ap (back.fitting (asked_dii m) (asked_line m) b) e ∙ fitting_other m b x t) h
+blocks_other m a sections section x e t h = blocks_same m a sections section (λ b. ap (back.bytes_if_fits (asked_dii m) (asked_line m) b) e ∙ fitting_other m b x t) h
 
 -- one whose block is offered
 pub blocks_offered : (m : Asked) (a : AssemblerState) (sections : List Bytes) (section : Bytes) (x : ddb.Block) → block_heard section ≡ Some x → is_of m x ≡ true → HasBlocks m a sections
@@ -152,4 +152,4 @@ blocks_offered m a sections section x e t h = record {
         let below : b < ddb.block_count_of a.size a.block_size = rw (h.size, h.block_size) k in
         at_place a x.number x.bytes b within below
         ∙ rw (block_at m a sections b h k, h.size, h.block_size)
-        (ap (λ o. option_or (block_among m sections b) o) (sym (ap (back.fitting (asked_dii m) (asked_line m) b) e ∙ fitting_of m b x t)))
+        (ap (λ o. option_or (block_among m sections b) o) (sym (ap (back.bytes_if_fits (asked_dii m) (asked_line m) b) e ∙ fitting_of m b x t)))

@@ -15,14 +15,14 @@ use Rattle.shell_streams.specs.declared.carrier.Carrier.TheVariants as carriers
 use Rattle.shell_streams.proofs.Packeting.{packets_behind}
 use Rattle.carousel_shell.specs.Over.{Over}
 use Rattle.carousel_shell.specs.Replies.{Replies}
-use Rattle.carousel_shell.specs.Open.{asks_paths, answered}
-use Rattle.carousel_shell.specs.OpenId.{behind, or_then, found_within, first_found, sections_behind, sections_among, sections_by_id, IsNowhere, IsFirst, IsNeverFound, OpensBehind, OpensId}
+use Rattle.carousel_shell.specs.Open.{asks_paths, answers_to}
+use Rattle.carousel_shell.specs.OpenId.{found_after, or_then, found_within, first_found, sections_after, sections_among, sections_by_id, IsNowhere, IsFirst, IsNeverFound, OpensAfter, OpensId}
 use Rattle.carousel_shell.specs.Reception.{Receptions}
 use Rattle.carousel_shell.specs.declared.status.Status.{Status}
 
 -- ---- the packet at which it is found
 
-nowhere_behind : (n : ℕ) (f : Find) → IsNowhere f → behind n f ≡ None
+nowhere_behind : (n : ℕ) (f : Find) → IsNowhere f → found_after n f ≡ None
 nowhere_behind n NoPat h = refl
 nowhere_behind n NotNamed h = refl
 nowhere_behind n (At pid) h = absurd h
@@ -45,11 +45,11 @@ first_within carousel packets (suc n) pid zero h le = absurd (omega arith)
 first_within carousel packets (suc n) pid (suc k) h le = by (cases_lt n k) (first_within carousel packets (suc n) pid k h)
   where
     by : (n < k) ⊎ (k ≤ n) → (suc n ≤ k → found_within carousel packets k ≡ Some (suc n, pid)) → found_within carousel packets (suc k) ≡ Some (suc n, pid)
-    by (inl more) fewer = ap (λ o. or_then o (behind (suc k) (found_in carousel (take (suc k) packets)))) (fewer (omega (arith, more)))
+    by (inl more) fewer = ap (λ o. or_then o (found_after (suc k) (found_in carousel (take (suc k) packets)))) (fewer (omega (arith, more)))
     by (inr here) fewer =
         let e : k ≡ n = omega arith in
         let none = none_within carousel packets n (λ m small. h.before m (omega arith)) in
-        ap (λ i. found_within carousel packets (suc i)) e ∙ or_none _ _ none ∙ ap (behind (suc n)) h.found
+        ap (λ i. found_within carousel packets (suc i)) e ∙ or_none _ _ none ∙ ap (found_after (suc n)) h.found
 
 -- ---- one packet more
 
@@ -59,23 +59,23 @@ same_front packets p n h = take-append-le n packets (p ∷ []) h
 within_more : (carousel : ℕ) (packets : List Bytes) (p : Bytes) (n : ℕ) → n ≤ length packets → found_within carousel (packets ++ p ∷ []) n ≡ found_within carousel packets n
 within_more carousel packets p zero h = refl
 within_more carousel packets p (suc n) h =
-    ap (λ o. or_then o (behind (suc n) (found_in carousel (take (suc n) (packets ++ p ∷ []))))) (within_more carousel packets p n (omega arith))
-    ∙ ap (λ ps. or_then (found_within carousel packets n) (behind (suc n) (found_in carousel ps))) (same_front packets p (suc n) h)
+    ap (λ o. or_then o (found_after (suc n) (found_in carousel (take (suc n) (packets ++ p ∷ []))))) (within_more carousel packets p n (omega arith))
+    ∙ ap (λ ps. or_then (found_within carousel packets n) (found_after (suc n) (found_in carousel ps))) (same_front packets p (suc n) h)
 
 pub first_more : (carousel : ℕ) (packets : List Bytes) (p : Bytes) → first_found carousel (packets ++ p ∷ [])
-    ≡ or_then (first_found carousel packets) (behind (suc (length packets)) (found_in carousel (packets ++ p ∷ [])))
+    ≡ or_then (first_found carousel packets) (found_after (suc (length packets)) (found_in carousel (packets ++ p ∷ [])))
 first_more carousel packets p =
     let all = packets ++ p ∷ [] in
     let e : length all ≡ suc (length packets) = omega (arith, length-append packets (p ∷ [])) in
     ap (found_within carousel all) e
-    ∙ ap (λ o. or_then o (behind (suc (length packets)) (found_in carousel (take (suc (length packets)) all)))) (within_more carousel packets p (length packets) (omega arith))
-    ∙ ap (λ ps. or_then (first_found carousel packets) (behind (suc (length packets)) (found_in carousel ps))) (take_all (suc (length packets)) all (omega (arith, e)))
+    ∙ ap (λ o. or_then o (found_after (suc (length packets)) (found_in carousel (take (suc (length packets)) all)))) (within_more carousel packets p (length packets) (omega arith))
+    ∙ ap (λ ps. or_then (first_found carousel packets) (found_after (suc (length packets)) (found_in carousel ps))) (take_all (suc (length packets)) all (omega (arith, e)))
 
 -- ---- what is promised
 
-opens_behind : Receptions → (carousel : ℕ) (input : Bytes) (n pid : ℕ) → IsFirst carousel (packets_of input) n pid → OpensBehind carousel input n pid
+opens_behind : Receptions → (carousel : ℕ) (input : Bytes) (n pid : ℕ) → IsFirst carousel (packets_of input) n pid → OpensAfter carousel input n pid
 opens_behind law carousel input n pid first = record {
-  sections = ap (sections_behind (packets_of input)) (first_within carousel (packets_of input) n pid (length (packets_of input)) first first.within)
+  sections = ap (sections_after (packets_of input)) (first_within carousel (packets_of input) n pid (length (packets_of input)) first first.within)
       ∙ ap (candidates pid) (sym (packets_behind n input first.within));
   reception = law.each (carriers.Packets pid) (drop (188 * n) input);
 }
@@ -85,9 +85,9 @@ no_carousel sections p e = ap (λ ss. answer_after ss p) e
 
 opens_nowhere : (carousel : ℕ) (input : Bytes) (p : PathNames) → IsNeverFound carousel (packets_of input) → answer_after (sections_among carousel (packets_of input)) p ≡ answers.NoCarousel
 opens_nowhere carousel input p never =
-    no_carousel (sections_among carousel (packets_of input)) p (ap (sections_behind (packets_of input)) (none_within carousel (packets_of input) (length (packets_of input)) never))
+    no_carousel (sections_among carousel (packets_of input)) p (ap (sections_after (packets_of input)) (none_within carousel (packets_of input) (length (packets_of input)) never))
 
-pub opens_by : (carousel : ℕ) (paths : List PathNames) (s : Status) (source sink : Over Bytes) → Receptions → Replies (sections_by_id carousel) (answered (asks_paths paths)) s source sink
+pub opens_by : (carousel : ℕ) (paths : List PathNames) (s : Status) (source sink : Over Bytes) → Receptions → Replies (sections_by_id carousel) (answers_to (asks_paths paths)) s source sink
     → OpensId carousel paths s source sink
 opens_by carousel paths s source sink law replies = record {
   replies = replies;

@@ -5,6 +5,7 @@ use Rattle.std.proofs.lemmas.List.Elements.{All-head, All-tail}
 use Rattle.std.specs.List.{All, concat}
 use Rattle.path_tree.specs.Paths.{PathNames}
 use Rattle.path_tree.specs.Trees.{Tree, Node, File, Folder, NoSuch, node_at}
+use Rattle.cycle_planner.specs.Weights.{AreWeights}
 use Rattle.generation.specs.Lawful.{tree_at}
 use Rattle.path_resolver.specs.declared.answer.Answer.{Answer}
 use Rattle.path_resolver.specs.declared.answer.Answer.TheVariants as answers
@@ -16,7 +17,7 @@ use Rattle.tuner_core.specs.LookBack.{answer_after}
 use Rattle.carousel_world.specs.Broadcasts.{sections}
 use Rattle.carousel_world.specs.Headline.{IsNodeAnswer}
 use Rattle.carousel_world.specs.Receptions.{EveryReceptionMeets}
-use Rattle.carousel_world.specs.Publishing.{EveryPublicationMeets, EachCycleOpens, publication, packets_sent, published}
+use Rattle.carousel_world.specs.Publishing.{EveryPublicationMeets, EachCycleOpens, publication, packets_sent, published_bytes}
 use Rattle.shell_streams.specs.Cuts.{Bytes, back_to_back}
 use Rattle.shell_streams.specs.Packets.{AreSized, packets_of, candidates_of}
 use Rattle.shell_streams.specs.declared.carrier.Carrier.{Carrier}
@@ -43,21 +44,21 @@ received law one (carriers.Sections most) input = record {
   whole = λ b from g never heard whole.
       all_same (back_to_back input) (tree_at b.trees g) (λ p. (law.sections (back_to_back input) b from never heard).opens g p whole);
   meets_published = one.sections (back_to_back input);
-  whole_published = λ carousel cycles t from never small publishable accepted whole.
-      all_same (back_to_back input) t (λ p. (one.sections (back_to_back input) carousel cycles t from never small publishable accepted).opens p whole);
+  whole_published = λ carousel weights cycles t from never small publishable accepted whole.
+      all_same (back_to_back input) t (λ p. (one.sections (back_to_back input) carousel weights cycles t from never small publishable accepted).opens p whole);
 }
 received law one (carriers.Packets pid) input = record {
   meets = law.packets pid (packets_of input);
   whole = λ b from g never heard whole.
       all_same (candidates_of pid input) (tree_at b.trees g) (λ p. (law.packets pid (packets_of input) b from never heard).opens g p whole);
   meets_published = one.packets pid (packets_of input);
-  whole_published = λ carousel cycles t from never small publishable accepted whole.
-      all_same (candidates_of pid input) t (λ p. (one.packets pid (packets_of input) carousel cycles t from never small publishable accepted).opens p whole);
+  whole_published = λ carousel weights cycles t from never small publishable accepted whole.
+      all_same (candidates_of pid input) t (λ p. (one.packets pid (packets_of input) carousel weights cycles t from never small publishable accepted).opens p whole);
 }
 
 -- ---- the packets of what was published are those that were sent
 
-filled_sized : (piece : Bytes) → length piece ≤ 184 → length (packing.filled piece) ≡ 184
+filled_sized : (piece : Bytes) → length piece ≤ 184 → length (packing.with_stuffing piece) ≡ 184
 filled_sized piece h = simp (length-append, length-replicate) (omega arith)
 
 laid_sized : (pid counter : ℕ) (ls : List Laid) → All Fits ls → AreSized (packets_from pid counter ls)
@@ -72,12 +73,12 @@ pub packets_back : (packets : List Bytes) → AreSized packets → packets_of (c
 packets_back packets h = ap packets_of (sym (append-nil (concat packets))) ∙ packets_before packets [] h ∙ append-nil packets
 
 -- whoever hears all packets of a publication has each path of its tree
-sent_opens : EachCycleOpens → (carousel cycles : ℕ) → SentOpens carousel cycles
-sent_opens law carousel zero t p some small publishable = absurd (omega arith)
-sent_opens law carousel (suc cycles) t p some small publishable =
-    let back : candidates_of 256 (published carousel (suc cycles) t) ≡ candidates 256 (packets_sent carousel (suc cycles) t) =
-    ap (candidates 256) (packets_back (packets_sent carousel (suc cycles) t) (all_sized (packing.idle 256 0) (sections (publication carousel (suc cycles) t)))) in
-    rw back (law carousel cycles t p small publishable)
+sent_opens : EachCycleOpens → (carousel : ℕ) (weights : List ℕ) (cycles : ℕ) → AreWeights weights → SentOpens carousel weights cycles
+sent_opens law carousel weights zero are t p some small publishable = absurd (omega arith)
+sent_opens law carousel weights (suc cycles) are t p some small publishable =
+    let back : candidates_of 256 (published_bytes carousel weights (suc cycles) t) ≡ candidates 256 (packets_sent carousel weights (suc cycles) t) =
+    ap (candidates 256) (packets_back (packets_sent carousel weights (suc cycles) t) (all_sized (packing.idle 256 0) (sections (publication carousel weights (suc cycles) t)))) in
+    rw back (law carousel weights cycles t p small are publishable)
 
 usually : IsNowhereElse → IsFoundOnceItCame → EachIsFollowed → (carousel : ℕ) (packets : List Bytes) → UsuallyFound carousel packets
 usually nowhere once each carousel packets = record {
@@ -86,5 +87,5 @@ usually nowhere once each carousel packets = record {
   followed = λ p l all line program few. each packets p l all line program few;
 }
 
-pub all_laws : EveryReceptionMeets → EveryPublicationMeets → EachCycleOpens → ((carousel cycles : ℕ) → CyclesOpen carousel cycles) → IsNowhereElse → IsFoundOnceItCame → EachIsFollowed → Receptions
+pub all_laws : EveryReceptionMeets → EveryPublicationMeets → EachCycleOpens → ((carousel : ℕ) (weights : List ℕ) (cycles : ℕ) → AreWeights weights → CyclesOpen carousel weights cycles) → IsNowhereElse → IsFoundOnceItCame → EachIsFollowed → Receptions
 all_laws law one cycle cycles nowhere once each = record { each = received law one; sent = sent_opens cycle; cycles = cycles; tables = usually nowhere once each }

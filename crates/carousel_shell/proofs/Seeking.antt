@@ -11,7 +11,7 @@ use Rattle.psi_tables.specs.Stands as finders
 use Rattle.shell_streams.specs.Cuts.{Bytes}
 use Rattle.shell_streams.specs.Carriers.{all_packets, HeardAll}
 use Rattle.shell_streams.proofs.CallerLemmas.{told_weaker}
-use Rattle.carousel_shell.specs.OpenId.{behind, or_then, first_found, sections_behind, sections_among, sections_by_id}
+use Rattle.carousel_shell.specs.OpenId.{found_after, or_then, first_found, sections_after, sections_among, sections_by_id}
 use Rattle.carousel_shell.specs.Seeking.{Seeks, Hears, IsAt, HasHeard}
 use Rattle.carousel_shell.specs.declared.open_id.Seeker.{Seeker}
 use Rattle.carousel_shell.proofs.Opening.{first_more}
@@ -33,7 +33,7 @@ some_since carousel finder packets stream demux None e h = absurd (no_stage stre
     no_stage (Some d) e h = h
 some_since carousel finder packets stream demux (Some x) e h = (x, refl, subst (λ (o : Option streams.DemuxState). IsAt carousel finder packets o (Some x)) e h)
 
-pub not_at : (n : ℕ) (f : Find) → ((pid : ℕ) → f ≡ At pid → ⊥) → behind n f ≡ None
+pub not_at : (n : ℕ) (f : Find) → ((pid : ℕ) → f ≡ At pid → ⊥) → found_after n f ≡ None
 not_at n NoPat h = refl
 not_at n NotNamed h = refl
 not_at n (At pid) h = absurd (h pid refl)
@@ -50,9 +50,9 @@ seeks_its_own carousel old new packets more e step h =
 -- ---- before it is found
 
 still : (carousel : ℕ) (finder : finders.FinderState) (packets : List Bytes) (p : Bytes) (f : Find) → first_found carousel packets ≡ None → found_in carousel (packets ++ p ∷ []) ≡ f
-    → first_found carousel (packets ++ p ∷ []) ≡ behind (suc (length packets)) f
+    → first_found carousel (packets ++ p ∷ []) ≡ found_after (suc (length packets)) f
 still carousel finder packets p f none e =
-    first_more carousel packets p ∙ ap (λ o. or_then o (behind (suc (length packets)) (found_in carousel (packets ++ p ∷ [])))) none ∙ ap (behind (suc (length packets))) e
+    first_more carousel packets p ∙ ap (λ o. or_then o (found_after (suc (length packets)) (found_in carousel (packets ++ p ∷ [])))) none ∙ ap (found_after (suc (length packets))) e
 
 no_sections : (pid : ℕ) (packets : List Bytes) (p : Bytes) → candidates pid (drop (suc (length packets)) (packets ++ p ∷ [])) ≡ []
 no_sections pid packets p =
@@ -60,22 +60,22 @@ no_sections pid packets p =
     ap (candidates pid) (drop_all (suc (length packets)) (packets ++ p ∷ []) all)
 
 -- no sections were heard, and none are
-unheard : (packets : List Bytes) (p : Bytes) (f : Find) → sections_behind (packets ++ p ∷ []) (behind (suc (length packets)) f) ≡ []
+unheard : (packets : List Bytes) (p : Bytes) (f : Find) → sections_after (packets ++ p ∷ []) (found_after (suc (length packets)) f) ≡ []
 unheard packets p NoPat = refl
 unheard packets p NotNamed = refl
 unheard packets p (At pid) = no_sections pid packets p
 
 receiver_waits : (carousel : ℕ) (t : tuners.TunerState) (packets : List Bytes) (p : Bytes) (f : Find) → first_found carousel packets ≡ None
-    → first_found carousel (packets ++ p ∷ []) ≡ behind (suc (length packets)) f → tuners.StandsFor t (sections_among carousel packets)
+    → first_found carousel (packets ++ p ∷ []) ≡ found_after (suc (length packets)) f → tuners.StandsFor t (sections_among carousel packets)
     → tuners.StandsFor t (sections_among carousel (packets ++ p ∷ []))
 receiver_waits carousel t packets p f none first h =
     let P : List Bytes → Type 0 = λ ss. tuners.StandsFor t ss in
-    subst P (ap (sections_behind packets) none ∙ sym (unheard packets p f) ∙ ap (sections_behind (packets ++ p ∷ [])) (sym first)) h
+    subst P (ap (sections_after packets) none ∙ sym (unheard packets p f) ∙ ap (sections_after (packets ++ p ∷ [])) (sym first)) h
 
 -- it isn't found by this packet either
 pub seeks_on : (carousel : ℕ) (old new : Seeker) (packets : List Bytes) (p : Bytes) → old.stream ≡ None → new.stream ≡ old.stream → new.receiver ≡ old.receiver
     → new.finder.directory.carousel ≡ old.finder.directory.carousel → (finders.StandsFor old.finder packets → finders.StandsFor new.finder (packets ++ p ∷ []))
-    → (f : Find) → behind (suc (length packets)) f ≡ None → (finders.StandsFor new.finder (packets ++ p ∷ []) → f ≡ found_in carousel (packets ++ p ∷ []))
+    → (f : Find) → found_after (suc (length packets)) f ≡ None → (finders.StandsFor new.finder (packets ++ p ∷ []) → f ≡ found_in carousel (packets ++ p ∷ []))
     → HasHeard carousel old packets → HasHeard carousel new (packets ++ p ∷ [])
 seeks_on carousel old new packets p e same_stream same_receiver same_carousel stands f nowhere is h =
     let s = none_yet carousel old.finder packets old.stream (first_found carousel packets) e h.is_at in
@@ -119,7 +119,7 @@ hears_on carousel old new before after packets p out is is_after same_pid stands
     let s = some_since carousel old.finder packets old.stream before (first_found carousel packets) is h.is_at in
     let since = s.2 in
     let first : first_found carousel (packets ++ p ∷ []) ≡ Some s.0 =
-    first_more carousel packets p ∙ ap (λ o. or_then o (behind (suc (length packets)) (found_in carousel (packets ++ p ∷ [])))) s.1 in
+    first_more carousel packets p ∙ ap (λ o. or_then o (found_after (suc (length packets)) (found_in carousel (packets ++ p ∷ [])))) s.1 in
     let rest = drop_then s.0.0 packets p since.within in
     let S : List Bytes → Type 0 = λ ps. streams.StandsFor after ps in
     let T : List Bytes → Type 0 = λ ss. tuners.StandsFor old.receiver.tuner ss in
@@ -133,8 +133,8 @@ hears_on carousel old new before after packets p out is is_after same_pid stands
         within = omega (arith, since.within, length-append packets (p ∷ []));
         stands = subst S (sym rest) (stands (drop s.0.0 packets) since.stands);
       });
-      receiver = subst R (sym (ap (sections_behind (packets ++ p ∷ [])) first ∙ more))
-          (heard (candidates s.0.1 (drop s.0.0 packets)) (subst T (ap (sections_behind packets) s.1) h.receiver));
+      receiver = subst R (sym (ap (sections_after (packets ++ p ∷ [])) first ∙ more))
+          (heard (candidates s.0.1 (drop s.0.0 packets)) (subst T (ap (sections_after packets) s.1) h.receiver));
     }
 
 -- ---- all packets of an input

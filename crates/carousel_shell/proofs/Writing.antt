@@ -4,15 +4,15 @@ use Rattle.shell_streams.specs.Cuts.{Bytes}
 use Rattle.shell_streams.specs.Sending.{OutputState, Puts}
 use Rattle.shell_streams.specs.declared.output.OutputFault.{OutputFault}
 use Rattle.shell_streams.proofs.CallerLemmas.{told_weaker, told_same}
-use Rattle.carousel_shell.specs.Over.{sent, WritesAll, WritesPrefix, WritesBut}
+use Rattle.carousel_shell.specs.Over.{sink_over, WritesAll, WritesPrefix, WritesBut}
 
 -- all of a text, where nothing is pending before and after
-pub writes_all : {T : Type 0} {x : T} {old new : OutputState} {text : Bytes} → old.pending ≡ [] → new.pending ≡ [] → Puts (Ok x) old new text → WritesAll (sent old new) text
+pub writes_all : {T : Type 0} {x : T} {old new : OutputState} {text : Bytes} → old.pending ≡ [] → new.pending ≡ [] → Puts (Ok x) old new text → WritesAll (sink_over old new) text
 writes_all {text = text} before after puts = told_weaker puts.ok (λ x y s.
     s.after_is ∙ ap (λ bs. x ++ bs) (sym (append-nil s.sent) ∙ ap (λ bs. s.sent ++ bs) (sym after) ∙ sym s.split ∙ ap (λ bs. bs ++ text) before))
 
 -- a prefix of it
-pub writes_prefix : {T : Type 0} {f : OutputFault} {old new : OutputState} {text : Bytes} → old.pending ≡ [] → Puts {T = T} (Err f) old new text → WritesPrefix (sent old new) text
+pub writes_prefix : {T : Type 0} {f : OutputFault} {old new : OutputState} {text : Bytes} → old.pending ≡ [] → Puts {T = T} (Err f) old new text → WritesPrefix (sink_over old new) text
 writes_prefix {text = text} before puts = told_weaker puts.err (λ x y e. record {
   part = e.sends.sent;
   after_is = e.sends.after_is;
@@ -20,7 +20,7 @@ writes_prefix {text = text} before puts = told_weaker puts.err (λ x y e. record
 })
 
 -- all but what is pending
-pub writes_but : {T : Type 0} {x : T} {old new : OutputState} {text : Bytes} (most : ℕ) → old.pending ≡ [] → length new.pending ≤ most → Puts (Ok x) old new text → WritesBut (sent old new) text most
+pub writes_but : {T : Type 0} {x : T} {old new : OutputState} {text : Bytes} (most : ℕ) → old.pending ≡ [] → length new.pending ≤ most → Puts (Ok x) old new text → WritesBut (sink_over old new) text most
 writes_but {new = new} {text = text} most before few puts = told_weaker puts.ok (λ x y s. record {
   part = s.sent;
   after_is = s.after_is;
@@ -30,7 +30,7 @@ writes_but {new = new} {text = text} most before few puts = told_weaker puts.ok 
 })
 
 -- a prefix of a text is one of a longer text
-pub prefix_here : {T : Type 0} {x : T} {old new : OutputState} {text : Bytes} → old.pending ≡ [] → Puts (Ok x) old new text → WritesPrefix (sent old new) text
+pub prefix_here : {T : Type 0} {x : T} {old new : OutputState} {text : Bytes} → old.pending ≡ [] → Puts (Ok x) old new text → WritesPrefix (sink_over old new) text
 prefix_here {new = new} {text = text} before puts = told_weaker puts.ok (λ x y s. record {
   part = s.sent;
   after_is = s.after_is;
@@ -38,5 +38,5 @@ prefix_here {new = new} {text = text} before puts = told_weaker puts.ok (λ x y 
 })
 
 -- nothing of it
-pub prefix_none : (o : OutputState) (text : Bytes) → WritesPrefix (sent o o) text
+pub prefix_none : (o : OutputState) (text : Bytes) → WritesPrefix (sink_over o o) text
 prefix_none o text = told_same o.written (λ x. record { part = []; after_is = sym (append-nil x); prefix = record { rest = text; whole_is = refl } })

@@ -13,5 +13,5 @@ abbrev pub accepted_one : Bytes → Bytes
 accepted_one candidate = if is_accepted candidate then candidate else []
 
 -- those that read, unchanged and in order
-abbrev pub accepted : List Bytes → Bytes
-accepted candidates = concat (filter is_accepted candidates)
+abbrev pub accepted_bytes : List Bytes → Bytes
+accepted_bytes candidates = concat (filter is_accepted candidates)

@@ -4,7 +4,7 @@ use Rattle.std.specs.List.{concat}
 use Rattle.path_tree.specs.Trees.{Tree}
 use Rattle.section_stream.specs.Groups.{packets_of_group, past_group}
 use Rattle.section_stream.specs.Packing.{MuxState, idle}
-use Rattle.psi_tables.specs.Written.{AnnouncerState, announcer_start, announced, after_announcing}
+use Rattle.psi_tables.specs.Written.{AnnouncerState, announcer_start, announcer_packets, after_announcing}
 use Rattle.carousel_world.specs.Broadcasts.{sections}
 use Rattle.carousel_world.specs.Publishing.{publication}
 use Rattle.shell_streams.specs.Cuts.{Bytes}
@@ -19,7 +19,7 @@ senders_start carousel = record { tables = announcer_start carousel; objects = i
 
 -- the tables, and then the sections of one cycle, which are a group
 abbrev pub cycle_sent : List Bytes → Senders → List Bytes
-cycle_sent cycle s = announced s.tables ++ packets_of_group s.objects cycle
+cycle_sent cycle s = announcer_packets s.tables ++ packets_of_group s.objects cycle
 
 abbrev pub after_cycle : List Bytes → Senders → Senders
 after_cycle cycle s = record { tables = after_announcing s.tables; objects = past_group s.objects cycle }
@@ -33,14 +33,15 @@ abbrev pub after_cycles : List Bytes → ℕ → Senders → Senders
 after_cycles cycle zero s = s
 after_cycles cycle (suc n) s = after_cycles cycle n (after_cycle cycle s)
 
--- the sections of one cycle of generation 1, whose tree this is
-abbrev pub one_cycle : ℕ → Tree → List Bytes
-one_cycle carousel t = sections (publication carousel 1 t)
+-- the sections of one cycle of generation 1, whose tree this is, under these weights
+abbrev pub one_cycle : (carousel : ℕ) (weights : List ℕ) → Tree → List Bytes
+one_cycle carousel weights t = sections (publication carousel weights 1 t)
 
 -- the cycles that follow the first ones, so many of each
-abbrev pub published_after : (carousel first cycles : ℕ) → Tree → Bytes
-published_after carousel first cycles t = concat (cycles_sent (one_cycle carousel t) cycles (after_cycles (one_cycle carousel t) first (senders_start carousel)))
+abbrev pub published_after : (carousel : ℕ) (weights : List ℕ) (first cycles : ℕ) → Tree → Bytes
+published_after carousel weights first cycles t =
+    concat (cycles_sent (one_cycle carousel weights t) cycles (after_cycles (one_cycle carousel weights t) first (senders_start carousel)))
 
 -- all of them
-abbrev pub published_psi : (carousel cycles : ℕ) → Tree → Bytes
-published_psi carousel cycles t = published_after carousel 0 cycles t
+abbrev pub published_psi : (carousel : ℕ) (weights : List ℕ) (cycles : ℕ) → Tree → Bytes
+published_psi carousel weights cycles t = published_after carousel weights 0 cycles t

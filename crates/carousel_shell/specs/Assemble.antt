@@ -2,7 +2,7 @@
 use Rattle.std.specs.Prelude.{◌≡◌, ◌⊎◌, ℕ, List, Option, Some}
 use Rattle.std.specs.List.{position}
 use Rattle.std.specs.Option.{is_none}
-use Rattle.block_assembler.specs.Blocks.{joined}
+use Rattle.block_assembler.specs.Blocks.{join_all}
 use Rattle.shell_streams.specs.Cuts.{Bytes}
 use Rattle.shell_streams.specs.declared.carrier.Carrier.{Carrier}
 use Rattle.shell_streams.specs.declared.carrier.Carrier.TheVariants as carriers
@@ -21,7 +21,7 @@ pub record Assembled (m : Asked) (source sink : Over Bytes) : Type 0 where
   pub sections : List Bytes
   pub hears : Hears module_carrier source sections
   pub bytes : Bytes
-  pub joins : joined (blocks_among m sections) ≡ Some bytes
+  pub joins : join_all (blocks_among m sections) ≡ Some bytes
   pub writes : WritesAll sink bytes
 
 -- a prefix of it was
@@ -29,7 +29,7 @@ pub record Assembling (m : Asked) (source sink : Over Bytes) : Type 0 where
   pub sections : List Bytes
   pub hears : Hears module_carrier source sections
   pub bytes : Bytes
-  pub joins : joined (blocks_among m sections) ≡ Some bytes
+  pub joins : join_all (blocks_among m sections) ≡ Some bytes
   pub writes : WritesPrefix sink bytes
 
 -- this is the least number of a block that isn't there, and nothing was written
@@ -41,10 +41,10 @@ pub record Misses (m : Asked) (block : ℕ) (source sink : Over Bytes) : Type 0 
 
 -- what is written of blocks that were gathered, with nothing to be read any more
 abbrev pub IsModule : List (Option Bytes) → Over Bytes → Status → Type 0
-IsModule blocks sink status.Done = (bytes : Bytes) × (joined blocks ≡ Some bytes) × WritesAll sink bytes
+IsModule blocks sink status.Done = (bytes : Bytes) × (join_all blocks ≡ Some bytes) × WritesAll sink bytes
 IsModule blocks sink (status.Incomplete block) = (position is_none blocks ≡ Some block) × IsUntouched sink
-IsModule blocks sink status.WriteFault = Failed sink × ((bytes : Bytes) × (joined blocks ≡ Some bytes) × WritesPrefix sink bytes)
-IsModule blocks sink status.NoMemory = (bytes : Bytes) × (joined blocks ≡ Some bytes) × WritesPrefix sink bytes
+IsModule blocks sink status.WriteFault = Failed sink × ((bytes : Bytes) × (join_all blocks ≡ Some bytes) × WritesPrefix sink bytes)
+IsModule blocks sink status.NoMemory = (bytes : Bytes) × (join_all blocks ≡ Some bytes) × WritesPrefix sink bytes
 IsModule blocks sink _ = ⊥
 
 abbrev pub EndsModule : Asked → Over Bytes → Over Bytes → Status → Type 0

@@ -30,5 +30,5 @@ abbrev pub mux_start : MuxState
 mux_start = idle 256 0
 
 -- the bytes of all packets of these sections, which are one group
-abbrev pub packed : List Bytes → Bytes
-packed sections = concat (packets_of_group mux_start sections)
+abbrev pub group_bytes : List Bytes → Bytes
+group_bytes sections = concat (packets_of_group mux_start sections)

@@ -7,7 +7,7 @@ use Rattle.psi_tables.specs.declared.finder.Find.{Find}
 use Rattle.psi_tables.specs.declared.finder.Find.TheVariants.{NoPat, NotNamed, At}
 use Rattle.psi_tables.specs.Pats.{PatFields}
 use Rattle.psi_tables.specs.Pmts.{PmtFields}
-use Rattle.psi_tables.specs.Finding.{found_in, is_program, names, pats_in, listed, first_of_each}
+use Rattle.psi_tables.specs.Finding.{found_in, is_program, names, pats_in, listed_pids, first_of_each}
 use Rattle.psi_tables.specs.Laws.{IsUsual, NowhereElse, Came, followed_since, first_pat}
 use Rattle.shell_streams.specs.Cuts.{Bytes}
 use Rattle.shell_streams.specs.Packets.{packets_of}
@@ -42,7 +42,7 @@ pub record UsuallyFound (carousel : ℕ) (packets : List Bytes) : Type 0 where
   pub once_it_came : (p : PatFields) (table : ℕ → PmtFields) (q : ℕ) (l : PatLine) → IsUsual carousel packets p table q → Contains (pats_in packets) p → Contains p.lines l → is_program l ≡ true
       → names carousel (table l.program) ≡ Some q → Came packets table l → found_in carousel packets ≡ At q
   -- a program's PID is followed from the packet after the one that completed the first PAT on
-  pub followed : (p : PatFields) (l : PatLine) → All (λ (r : PatFields). r ≡ p) (pats_in packets) → Contains p.lines l → is_program l ≡ true → length (first_of_each [] (listed 0 p.lines)) ≤ 64
+  pub followed : (p : PatFields) (l : PatLine) → All (λ (r : PatFields). r ≡ p) (pats_in packets) → Contains p.lines l → is_program l ≡ true → length (first_of_each [] (listed_pids 0 p.lines)) ≤ 64
       → followed_since packets l.pid ≡ first_pat packets
 
 -- ---- how it ends

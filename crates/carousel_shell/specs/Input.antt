@@ -18,8 +18,8 @@ pub record Asked : Type 0 where
   pub size : ℕ
   pub download : ℕ
 
-abbrev pub asked : (id version size download : ℕ) → Asked
-asked id version size download = record { id = id; version = version; size = size; download = download }
+abbrev pub asked_module : (id version size download : ℕ) → Asked
+asked_module id version size download = record { id = id; version = version; size = size; download = download }
 
 -- the block message that a section carries, where it is one
 abbrev pub block_in_table : Table → Bytes → Option ddb.Block

@@ -32,8 +32,8 @@ abbrev pub asks_all : Question
 asks_all = record { text = list_text; all = all_listed }
 
 -- what a receiver that heard these sections says to it
-abbrev pub answered : Question → Reply
-answered question = record { text = λ sections. question.text (answer_after sections); all = λ sections. question.all (answer_after sections) }
+abbrev pub answers_to : Question → Reply
+answers_to question = record { text = λ sections. question.text (answer_after sections); all = λ sections. question.all (answer_after sections) }
 
 -- ---- how it ends
 
@@ -46,5 +46,5 @@ abbrev pub GoesOn : Carrier → Over Bytes → Type 0
 GoesOn carrier source = replies.GoesOn (sections_by carrier) source
 
 pub record Answers (carrier : Carrier) (question : Question) (s : Status) (source sink : Over Bytes) : Type 0 where
-  pub replies : Replies (sections_by carrier) (answered question) s source sink
+  pub replies : Replies (sections_by carrier) (answers_to question) s source sink
   pub reception : (input : Bytes) → source.before ≡ Some input → Reception carrier input

@@ -14,17 +14,17 @@ use Rattle.shell_streams.specs.Carriers.{Reading}
 use Rattle.shell_streams.specs.declared.carrier.Carrier.TheVariants as carriers
 use Rattle.carousel_shell.specs.Over.{Over}
 use Rattle.carousel_shell.specs.Replies.{Replies}
-use Rattle.carousel_shell.specs.Open.{asks_paths, answered}
+use Rattle.carousel_shell.specs.Open.{asks_paths, answers_to}
 use Rattle.carousel_shell.specs.Reception.{Reception}
 use Rattle.carousel_shell.specs.declared.status.Status.{Status}
 
 -- ---- the packet at which the carousel is found
 
 -- the number of packets after which it is found, with its PID
-abbrev pub behind : ℕ → Find → Option (ℕ × ℕ)
-behind n NoPat = None
-behind n NotNamed = None
-behind n (At pid) = Some (n, pid)
+abbrev pub found_after : ℕ → Find → Option (ℕ × ℕ)
+found_after n NoPat = None
+found_after n NotNamed = None
+found_after n (At pid) = Some (n, pid)
 
 abbrev pub or_then : Option (ℕ × ℕ) → Option (ℕ × ℕ) → Option (ℕ × ℕ)
 or_then (Some x) later = Some x
@@ -33,19 +33,19 @@ or_then None later = later
 -- the first of the numbers of packets up to n
 abbrev pub found_within : ℕ → List Bytes → ℕ → Option (ℕ × ℕ)
 found_within carousel packets zero = None
-found_within carousel packets (suc n) = or_then (found_within carousel packets n) (behind (suc n) (found_in carousel (take (suc n) packets)))
+found_within carousel packets (suc n) = or_then (found_within carousel packets n) (found_after (suc n) (found_in carousel (take (suc n) packets)))
 
 abbrev pub first_found : ℕ → List Bytes → Option (ℕ × ℕ)
 first_found carousel packets = found_within carousel packets (length packets)
 
 -- ---- what is heard
 
-abbrev pub sections_behind : List Bytes → Option (ℕ × ℕ) → List Bytes
-sections_behind packets None = []
-sections_behind packets (Some x) = candidates x.1 (drop x.0 packets)
+abbrev pub sections_after : List Bytes → Option (ℕ × ℕ) → List Bytes
+sections_after packets None = []
+sections_after packets (Some x) = candidates x.1 (drop x.0 packets)
 
 abbrev pub sections_among : ℕ → List Bytes → List Bytes
-sections_among carousel packets = sections_behind packets (first_found carousel packets)
+sections_among carousel packets = sections_after packets (first_found carousel packets)
 
 abbrev pub sections_by_id : ℕ → Reading
 sections_by_id carousel = record { standing_in = λ input. sections_among carousel (packets_of input); goes_on = is_over_packets 16777216 }
@@ -67,14 +67,14 @@ abbrev pub IsNeverFound : ℕ → List Bytes → Type 0
 IsNeverFound carousel packets = (m : ℕ) → m ≤ length packets → IsNowhere (found_in carousel (take m packets))
 
 -- what `open` with this PID hears of the input after so many packets, and all that holds of that
-pub record OpensBehind (carousel : ℕ) (input : Bytes) (n pid : ℕ) : Type 0 where
+pub record OpensAfter (carousel : ℕ) (input : Bytes) (n pid : ℕ) : Type 0 where
   pub sections : sections_among carousel (packets_of input) ≡ candidates_of pid (drop (188 * n) input)
   pub reception : Reception (carriers.Packets pid) (drop (188 * n) input)
 
 -- ---- how it ends
 
 pub record OpensId (carousel : ℕ) (paths : List PathNames) (s : Status) (source sink : Over Bytes) : Type 0 where
-  pub replies : Replies (sections_by_id carousel) (answered (asks_paths paths)) s source sink
-  pub behind : (input : Bytes) (n pid : ℕ) → source.before ≡ Some input → IsFirst carousel (packets_of input) n pid → OpensBehind carousel input n pid
+  pub replies : Replies (sections_by_id carousel) (answers_to (asks_paths paths)) s source sink
+  pub behind : (input : Bytes) (n pid : ℕ) → source.before ≡ Some input → IsFirst carousel (packets_of input) n pid → OpensAfter carousel input n pid
   pub nowhere : (input : Bytes) (p : PathNames) → source.before ≡ Some input → IsNeverFound carousel (packets_of input)
       → answer_after (sections_among carousel (packets_of input)) p ≡ answers.NoCarousel

@@ -1,6 +1,6 @@
 -- One end of the outside over a run: its content before and after, where it is known, and its count of faults.
 use Rattle.std.specs.Prelude.{◌≡◌, ◌≤◌, ℕ, ◌++◌, length, Option}
-use Rattle.oc_bytes.specs.Outcome.{Rose, Told}
+use Rattle.oc_bytes.specs.Outcome.{Rose, Known}
 use Rattle.shell_streams.specs.Cuts.{Bytes}
 use Rattle.shell_streams.specs.Held.{IsRear}
 use Rattle.shell_streams.specs.Sending.{OutputState}
@@ -15,8 +15,8 @@ abbrev pub over : {A X : Type 0} → (X → Option A) → (X → ℕ) → (old n
 over content faults old new = record { before = content old; after = content new; faults = faults old; faults_after = faults new }
 
 -- of the sink of an output
-abbrev pub sent : (old new : OutputState) → Over Bytes
-sent old new = over (λ o. o.written) (λ o. o.faults) old new
+abbrev pub sink_over : (old new : OutputState) → Over Bytes
+sink_over old new = over (λ o. o.written) (λ o. o.faults) old new
 
 -- a fault was counted
 abbrev pub Failed : {A : Type 0} → Over A → Type 0
@@ -30,7 +30,7 @@ IsUntouched end = end.after ≡ end.before
 
 -- a prefix of the input was taken, and this is left of it
 abbrev pub TakesPrefix : Over Bytes → Type 0
-TakesPrefix source = Told source.before source.after IsRear
+TakesPrefix source = Known source.before source.after IsRear
 
 -- ---- what was written
 
@@ -40,7 +40,7 @@ pub record IsPrefix (prefix whole : Bytes) : Type 0 where
 
 -- all of the output
 abbrev pub WritesAll : Over Bytes → Bytes → Type 0
-WritesAll sink output = Told sink.before sink.after (λ before after. after ≡ before ++ output)
+WritesAll sink output = Known sink.before sink.after (λ before after. after ≡ before ++ output)
 
 pub record Appends (output before after : Bytes) : Type 0 where
   pub part : Bytes
@@ -49,7 +49,7 @@ pub record Appends (output before after : Bytes) : Type 0 where
 
 -- a prefix of it
 abbrev pub WritesPrefix : Over Bytes → Bytes → Type 0
-WritesPrefix sink output = Told sink.before sink.after (Appends output)
+WritesPrefix sink output = Known sink.before sink.after (Appends output)
 
 pub record AppendsBut (output : Bytes) (most : ℕ) (before after : Bytes) : Type 0 where
   pub part : Bytes
@@ -60,4 +60,4 @@ pub record AppendsBut (output : Bytes) (most : ℕ) (before after : Bytes) : Typ
 
 -- all of it but at most so many bytes
 abbrev pub WritesBut : Over Bytes → Bytes → ℕ → Type 0
-WritesBut sink output most = Told sink.before sink.after (AppendsBut output most)
+WritesBut sink output most = Known sink.before sink.after (AppendsBut output most)

@@ -1,12 +1,12 @@
 -- What `publish FOLDER CAROUSEL CYCLES` promises: the folder's files are one commit on generation 0, and whole cycles of generation 1 are
--- written as packets.
-use Rattle.std.specs.Prelude.{◌≡◌, ◌⊎◌, ℕ, false, Option, Some}
+-- written as packets, in which each module comes as often as it weighs.
+use Rattle.std.specs.Prelude.{◌≡◌, ◌⊎◌, ℕ, List, false, Option, Some}
 use Rattle.path_tree.specs.Trees.{Tree}
 use Rattle.generation.specs.Lawful.{IsPublishable}
 use Rattle.folder_store.specs.Folders.{FolderTree, IsFolderTree, is_folder_at, MayFail}
 use Rattle.folder_store.specs.Walk.{HasFiles}
 use Rattle.folder_store.specs.declared.reading.TreeFault.{TreeFault}
-use Rattle.carousel_world.specs.Publishing.{published}
+use Rattle.carousel_world.specs.Publishing.{published_bytes}
 use Rattle.shell_streams.specs.Cuts.{Bytes}
 use Rattle.carousel_shell.specs.Over.{Over, Failed, IsUntouched, WritesAll, WritesPrefix}
 use Rattle.carousel_shell.specs.Publishing.{publish_end, tree_of_folder}
@@ -52,7 +52,7 @@ EndsPublish folder carousel sent_of sink folders _ = ⊥
 abbrev pub NeedsFolder : Bytes → Over FolderTree → Status → Type 0
 NeedsFolder folder folders s = (t : FolderTree) → folders.before ≡ Some t → is_folder_at t folder ≡ false → (s ≡ status.FolderFault) ⊎ (s ≡ status.NoMemory)
 
-pub record Publishes (folder : Bytes) (carousel cycles : ℕ) (s : Status) (sink : Over Bytes) (folders : Over FolderTree) : Type 0 where
-  pub ends : EndsPublish folder carousel (published carousel cycles) sink folders s
+pub record Publishes (folder : Bytes) (carousel : ℕ) (weights : List ℕ) (cycles : ℕ) (s : Status) (sink : Over Bytes) (folders : Over FolderTree) : Type 0 where
+  pub ends : EndsPublish folder carousel (published_bytes carousel weights cycles) sink folders s
   pub needs : NeedsFolder folder folders s
-  pub heard : SentOpens carousel cycles
+  pub heard : SentOpens carousel weights cycles

@@ -4,12 +4,13 @@ use Rattle.path_tree.specs.Paths.{PathNames}
 use Rattle.path_tree.specs.Trees.{Tree, Node, File, Folder, NoSuch, node_at}
 use Rattle.path_resolver.specs.declared.answer.Answer.{Answer}
 use Rattle.path_resolver.specs.declared.answer.Answer.TheVariants as answers
+use Rattle.cycle_planner.specs.Weights.{AreWeights}
 use Rattle.generation.specs.Lawful.{IsPublishable, tree_at}
 use Rattle.tuner_core.specs.LookBack.{answer_after}
 use Rattle.carousel_world.specs.Broadcasts.{Broadcast, Ascription, NeverBack, IsAscribed}
 use Rattle.carousel_world.specs.Premises.{AcceptedAreSent, IsHeardOf, IsWhole}
 use Rattle.carousel_world.specs.Headline.{IsNodeAnswer}
-use Rattle.carousel_world.specs.Publishing.{published, publication, layouts_for, MeetsPublished, MeetsPublishedSections}
+use Rattle.carousel_world.specs.Publishing.{published_bytes, publication, layouts_for, MeetsPublished, MeetsPublishedSections}
 use Rattle.carousel_world.specs.Receptions.{MeetsOnPackets, MeetsOnSections}
 use Rattle.shell_streams.specs.Cuts.{Bytes}
 use Rattle.carousel_shell.specs.Announced.{published_after}
@@ -57,8 +58,8 @@ OpensGeneration carrier input = (b : Broadcast) (from : Ascription) (g : ℕ) �
 
 -- after a whole cycle of a published tree each answer is the tree's own lookup
 abbrev pub OpensWhole : Carrier → Bytes → Type 0
-OpensWhole carrier input = (carousel cycles : ℕ) (t : Tree) (from : Ascription) → NeverBack from → carousel < 4294967296 → IsPublishable t
-    → AcceptedAreSent (publication carousel cycles t) (candidates_in carrier input) (is_from carrier input (publication carousel cycles t) from)
+OpensWhole carrier input = (carousel : ℕ) (weights : List ℕ) (cycles : ℕ) (t : Tree) (from : Ascription) → NeverBack from → carousel < 4294967296 → IsPublishable t
+    → AcceptedAreSent (publication carousel weights cycles t) (candidates_in carrier input) (is_from carrier input (publication carousel weights cycles t) from)
     → IsWhole carousel (layouts_for carousel t) 1 (candidates_in carrier input) → answer_after (candidates_in carrier input) ≡ answer_in t
 
 pub record Reception (carrier : Carrier) (input : Bytes) : Type 0 where
@@ -68,18 +69,18 @@ pub record Reception (carrier : Carrier) (input : Bytes) : Type 0 where
   pub whole_published : OpensWhole carrier input
 
 -- whoever hears all packets of a publication has each path of its tree
-abbrev pub SentOpens : (carousel cycles : ℕ) → Type 0
-SentOpens carousel cycles = (t : Tree) (p : PathNames) → 0 < cycles → carousel < 4294967296 → IsPublishable t
-    → IsNodeAnswer (answer_after (candidates_of 256 (published carousel cycles t)) p) (node_at t p)
+abbrev pub SentOpens : (carousel : ℕ) (weights : List ℕ) (cycles : ℕ) → Type 0
+SentOpens carousel weights cycles = (t : Tree) (p : PathNames) → 0 < cycles → carousel < 4294967296 → IsPublishable t
+    → IsNodeAnswer (answer_after (candidates_of 256 (published_bytes carousel weights cycles t)) p) (node_at t p)
 
 -- whoever hears one or more whole cycles that are sent after tables, from any of them on, has each path of the tree
-abbrev pub CyclesOpen : (carousel cycles : ℕ) → Type 0
-CyclesOpen carousel cycles = (t : Tree) (missed heard : ℕ) (p : PathNames) → 0 < heard → missed + heard ≤ cycles → carousel < 4294967296 → IsPublishable t
-    → IsNodeAnswer (answer_after (candidates_of 256 (published_after carousel missed heard t)) p) (node_at t p)
+abbrev pub CyclesOpen : (carousel : ℕ) (weights : List ℕ) (cycles : ℕ) → Type 0
+CyclesOpen carousel weights cycles = (t : Tree) (missed heard : ℕ) (p : PathNames) → 0 < heard → missed + heard ≤ cycles → carousel < 4294967296 → IsPublishable t
+    → IsNodeAnswer (answer_after (candidates_of 256 (published_after carousel weights missed heard t)) p) (node_at t p)
 
 -- the laws of every input, of every publication, and of the tables in any packets
 pub record Receptions : Type 0 where
   pub each : (carrier : Carrier) (input : Bytes) → Reception carrier input
-  pub sent : (carousel cycles : ℕ) → SentOpens carousel cycles
-  pub cycles : (carousel cycles : ℕ) → CyclesOpen carousel cycles
+  pub sent : (carousel : ℕ) (weights : List ℕ) (cycles : ℕ) → AreWeights weights → SentOpens carousel weights cycles
+  pub cycles : (carousel : ℕ) (weights : List ℕ) (cycles : ℕ) → AreWeights weights → CyclesOpen carousel weights cycles
   pub tables : (carousel : ℕ) (packets : List Bytes) → UsuallyFound carousel packets

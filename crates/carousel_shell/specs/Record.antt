@@ -1,12 +1,12 @@
 -- What `record PID` promises: the sections of one PID that read are written, unchanged and in order, as the packets are read.
 use Rattle.std.specs.Prelude.{◌≡◌, ℕ, List, ◌++◌}
-use Rattle.oc_bytes.specs.Outcome.{Told}
+use Rattle.oc_bytes.specs.Outcome.{Known}
 use Rattle.shell_streams.specs.Cuts.{Bytes}
 use Rattle.shell_streams.specs.Packets.{candidates_of}
 use Rattle.shell_streams.specs.declared.carrier.Carrier.TheVariants as carriers
 use Rattle.carousel_shell.specs.Over.{Over, Failed, TakesPrefix, WritesAll, WritesPrefix, WritesBut}
 use Rattle.carousel_shell.specs.Open.{Hears, GoesOn}
-use Rattle.carousel_shell.specs.Accepted.{accepted}
+use Rattle.carousel_shell.specs.Accepted.{accepted_bytes}
 use Rattle.carousel_shell.specs.declared.status.Status.{Status}
 use Rattle.carousel_shell.specs.declared.status.Status.TheVariants as status
 
@@ -14,7 +14,7 @@ use Rattle.carousel_shell.specs.declared.status.Status.TheVariants as status
 pub record Recorded (pid : ℕ) (source sink : Over Bytes) : Type 0 where
   pub sections : List Bytes
   pub hears : Hears (carriers.Packets pid) source sections
-  pub writes : WritesAll sink (accepted sections)
+  pub writes : WritesAll sink (accepted_bytes sections)
 
 -- these are the first sections of what was taken of an input
 pub record AreFirst (pid : ℕ) (sections : List Bytes) (input left : Bytes) : Type 0 where
@@ -26,14 +26,14 @@ pub record AreFirst (pid : ℕ) (sections : List Bytes) (input left : Bytes) : T
 -- the first sections of what was taken were cut out, and a prefix of those that read was written
 pub record Recording (pid : ℕ) (source sink : Over Bytes) : Type 0 where
   pub sections : List Bytes
-  pub first : Told source.before source.after (AreFirst pid sections)
-  pub writes : WritesPrefix sink (accepted sections)
+  pub first : Known source.before source.after (AreFirst pid sections)
+  pub writes : WritesPrefix sink (accepted_bytes sections)
 
 -- the same, and all but at most 65,536 bytes of those that read was written: no write failed
 pub record RecordedBut (pid : ℕ) (source sink : Over Bytes) : Type 0 where
   pub sections : List Bytes
-  pub first : Told source.before source.after (AreFirst pid sections)
-  pub writes : WritesBut sink (accepted sections) 65536
+  pub first : Known source.before source.after (AreFirst pid sections)
+  pub writes : WritesBut sink (accepted_bytes sections) 65536
 
 abbrev pub EndsRecord : ℕ → Over Bytes → Over Bytes → Status → Type 0
 EndsRecord pid source sink status.Done = Recorded pid source sink

@@ -1,7 +1,7 @@
 -- What `rehearse` promises: the input is a script, whose events happen in written order in one world of carousel 1, and a line of each is
 -- written. The language of scripts and the lines are this project's own.
 use Rattle.std.specs.Prelude.{◌≡◌, ◌⊎◌, ℕ, true, List, ◌++◌, Some, Ok, Err}
-use Rattle.oc_bytes.specs.Outcome.{Told}
+use Rattle.oc_bytes.specs.Outcome.{Known}
 use Rattle.session_script.specs.Scripts.{Fields}
 use Rattle.session_script.specs.Grammar.{meaning_of}
 use Rattle.session_script.specs.declared.script.LineCause.{LineCause}
@@ -19,7 +19,7 @@ use Rattle.carousel_shell.specs.declared.status.Status.TheVariants as status
 
 -- the whole input, of at most 16,777,216 bytes
 abbrev pub ReadsAll : Over Bytes → Bytes → Type 0
-ReadsAll source text = Told source.before source.after (AllTaken (λ input. input) (is_longer 16777216) text)
+ReadsAll source text = Known source.before source.after (AllTaken (λ input. input) (is_longer 16777216) text)
 
 -- it is this script
 pub record ReadsScript (source : Over Bytes) (script : Fields) : Type 0 where
@@ -40,31 +40,31 @@ GoesOn source = (input : Bytes) → source.before ≡ Some input → is_longer 1
 -- ---- how it ends
 
 -- all events of the script happened, and the whole report was written; what is promised of every list of events holds of them
-pub record Rehearsed (source sink : Over Bytes) : Type 0 where
+pub record Rehearsed (weights : List ℕ) (source sink : Over Bytes) : Type 0 where
   pub script : Fields
   pub read : ReadsScript source script
-  pub writes : WritesAll sink (report_of (events_of script))
-  pub headline : MeetsHeadline 1 (events_of script)
+  pub writes : WritesAll sink (report_of weights (events_of script))
+  pub headline : MeetsHeadline 1 weights (events_of script)
 
 -- the first of them did, and a prefix of their report was written
-pub record Rehearsing (source sink : Over Bytes) : Type 0 where
+pub record Rehearsing (weights : List ℕ) (source sink : Over Bytes) : Type 0 where
   pub script : Fields
   pub read : ReadsScript source script
   pub happened : List Step
   pub rest : List Step
   pub events : events_of script ≡ happened ++ rest
-  pub writes : WritesPrefix sink (report_of happened)
-  pub headline : MeetsHeadline 1 happened
+  pub writes : WritesPrefix sink (report_of weights happened)
+  pub headline : MeetsHeadline 1 weights happened
 
-abbrev pub EndsRehearse : Over Bytes → Over Bytes → Status → Type 0
-EndsRehearse source sink status.Done = Rehearsed source sink
-EndsRehearse source sink (status.BadLine number cause) = ReadsBadLine source number cause × IsUntouched sink
-EndsRehearse source sink status.ReadFault = Failed source × IsUntouched sink
-EndsRehearse source sink status.InputTooLong = GoesOn source × IsUntouched sink
-EndsRehearse source sink status.WriteFault = Failed sink × Rehearsing source sink
-EndsRehearse source sink status.NoMemory = IsUntouched sink ⊎ Rehearsing source sink
-EndsRehearse source sink _ = ⊥
+abbrev pub EndsRehearse : List ℕ → Over Bytes → Over Bytes → Status → Type 0
+EndsRehearse weights source sink status.Done = Rehearsed weights source sink
+EndsRehearse weights source sink (status.BadLine number cause) = ReadsBadLine source number cause × IsUntouched sink
+EndsRehearse weights source sink status.ReadFault = Failed source × IsUntouched sink
+EndsRehearse weights source sink status.InputTooLong = GoesOn source × IsUntouched sink
+EndsRehearse weights source sink status.WriteFault = Failed sink × Rehearsing weights source sink
+EndsRehearse weights source sink status.NoMemory = IsUntouched sink ⊎ Rehearsing weights source sink
+EndsRehearse weights source sink _ = ⊥
 
-pub record Rehearses (s : Status) (source sink : Over Bytes) : Type 0 where
-  pub ends : EndsRehearse source sink s
+pub record Rehearses (weights : List ℕ) (s : Status) (source sink : Over Bytes) : Type 0 where
+  pub ends : EndsRehearse weights source sink s
   pub takes : TakesPrefix source

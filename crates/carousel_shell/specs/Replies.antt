@@ -1,6 +1,6 @@
 -- What is promised by a command that reads its input to the end and then writes a text of what stands in it.
 use Rattle.std.specs.Prelude.{◌≡◌, ◌⊎◌, Bool, true, false, List, Some}
-use Rattle.oc_bytes.specs.Outcome.{Told}
+use Rattle.oc_bytes.specs.Outcome.{Known}
 use Rattle.shell_streams.specs.Cuts.{Bytes}
 use Rattle.shell_streams.specs.Held.{AllTaken}
 use Rattle.shell_streams.specs.Carriers.{Reading}
@@ -15,7 +15,7 @@ pub record Reply : Type 0 where
 
 -- the input was read to its end, and within the limit
 abbrev pub ReadsAll : Reading → Over Bytes → List Bytes → Type 0
-ReadsAll reading source taken = Told source.before source.after (AllTaken reading.standing_in reading.goes_on taken)
+ReadsAll reading source taken = Known source.before source.after (AllTaken reading.standing_in reading.goes_on taken)
 
 -- the whole text was written
 pub record Replied (reading : Reading) (reply : Reply) (source sink : Over Bytes) (all : Bool) : Type 0 where

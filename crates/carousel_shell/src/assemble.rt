@@ -2,7 +2,7 @@ ghost use Rattle.std.specs.Prelude.{◌≡◌, ◌==◌, ◌&&◌, ◌≤◌, �
 ghost use Rattle.std.specs.Option.{option_map};
 ghost use Rattle.ddb_block.specs.Blocks as ddb;
 ghost use Rattle.shell_streams.specs.Cuts.{Bytes};
-ghost use Rattle.carousel_shell.specs.Over.{over, sent};
+ghost use Rattle.carousel_shell.specs.Over.{over, sink_over};
 ghost use Rattle.carousel_shell.specs.Input.{block_heard};
 ghost use Rattle.carousel_shell.specs.Gathering.{asked_of, HasBlocks};
 ghost use Rattle.shell_streams.specs.Sending.{Puts, IsInTime};
@@ -58,7 +58,7 @@ pub fn assemble<S: Source, O: Output>(
 ) -> Status
     requires size { wanted.size ≤ 16842752 }
     requires pending { (O.state out.old).pending ≡ [] }
-    ensures assembles { Assembles (asked_of wanted) result (over S.left S.faults source.old source.new) (sent (O.state out.old) (O.state out.new)) }
+    ensures assembles { Assembles (asked_of wanted) result (over S.left S.faults source.old source.new) (sink_over (O.state out.old) (O.state out.new)) }
     ensures same { (O.state out.new).name ≡ (O.state out.old).name }
     ensures in_time { IsInTime (O.state out.old) (O.state out.new) }
 {
@@ -82,7 +82,7 @@ pub fn assemble<S: Source, O: Output>(
 /// Writes the module where no block of it is missing.
 fn write_module<O: Output>(assembler: &Assembler, out: &mut O) -> Status
     requires { (O.state out.old).pending ≡ [] }
-    ensures writes { IsModule assembler.now.blocks (sent (O.state out.old) (O.state out.new)) result }
+    ensures writes { IsModule assembler.now.blocks (sink_over (O.state out.old) (O.state out.new)) result }
     ensures same { (O.state out.new).name ≡ (O.state out.old).name }
     ensures in_time { IsInTime (O.state out.old) (O.state out.new) }
 {

@@ -1,5 +1,5 @@
 use super::*;
-use crate::tests::words;
+use crate::tests::{run_once, words};
 use folder_store::MemFolders;
 use oc_bytes::{Blob, MemSink, MemSource};
 use std::alloc::Global;
@@ -61,7 +61,7 @@ fn run(
     let mut source = MemSource::new(Vec::from_slice(alloc, input)?, reads, 20);
     let mut sink = MemSink::new(alloc, writes, 2);
     let mut folders = folder(alloc, calls)?;
-    let status = run_plain(alloc, &words, &mut source, &mut sink, &mut folders);
+    let status = run_once(alloc, &words, &mut source, &mut sink, &mut folders)?;
     let code = status.code();
     Ok(Ended { code, sink })
 }

@@ -3,7 +3,7 @@ ghost use Rattle.std.specs.String.{string_bytes};
 ghost use Rattle.psi_tables.specs.Finding.{found_in};
 ghost use Rattle.shell_streams.specs.Carriers.{Hears, all_packets};
 ghost use Rattle.shell_streams.specs.Sending.{Puts, IsInTime};
-ghost use Rattle.carousel_shell.specs.Over.{over, sent};
+ghost use Rattle.carousel_shell.specs.Over.{over, sink_over};
 ghost use Rattle.carousel_shell.specs.Find as finding;
 ghost use Rattle.carousel_shell.specs.Find.{Finds};
 
@@ -49,7 +49,7 @@ pub fn find<S: Source, O: Output>(
     out: &mut O,
 ) -> Status
     requires { (O.state out.old).pending ≡ [] }
-    ensures finds { Finds carousel result (over S.left S.faults source.old source.new) (sent (O.state out.old) (O.state out.new)) }
+    ensures finds { Finds carousel result (over S.left S.faults source.old source.new) (sink_over (O.state out.old) (O.state out.new)) }
     ensures same { (O.state out.new).name ≡ (O.state out.old).name }
     ensures in_time { IsInTime (O.state out.old) (O.state out.new) }
 {

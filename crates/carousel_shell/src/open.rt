@@ -1,6 +1,6 @@
 ghost use Rattle.std.specs.Prelude.{◌≡◌, []};
 ghost use Rattle.shell_streams.specs.Sending.{IsInTime};
-ghost use Rattle.carousel_shell.specs.Over.{over, sent};
+ghost use Rattle.carousel_shell.specs.Over.{over, sink_over};
 ghost use Rattle.carousel_shell.specs.Open.{Answers, asks_paths, asks_all};
 ghost use Rattle.carousel_shell.specs.Statuses.{answer_status};
 
@@ -23,7 +23,7 @@ pub fn open<S: Source, O: Output>(
     out: &mut O,
 ) -> Status
     requires { (O.state out.old).pending ≡ [] }
-    ensures answers { Answers carrier (asks_paths paths.now) result (over S.left S.faults source.old source.new) (sent (O.state out.old) (O.state out.new)) }
+    ensures answers { Answers carrier (asks_paths paths.now) result (over S.left S.faults source.old source.new) (sink_over (O.state out.old) (O.state out.new)) }
     ensures same { (O.state out.new).name ≡ (O.state out.old).name }
     ensures in_time { IsInTime (O.state out.old) (O.state out.new) }
 {
@@ -42,7 +42,7 @@ pub fn list<S: Source, O: Output>(
     out: &mut O,
 ) -> Status
     requires { (O.state out.old).pending ≡ [] }
-    ensures answers { Answers carrier asks_all result (over S.left S.faults source.old source.new) (sent (O.state out.old) (O.state out.new)) }
+    ensures answers { Answers carrier asks_all result (over S.left S.faults source.old source.new) (sink_over (O.state out.old) (O.state out.new)) }
     ensures same { (O.state out.new).name ≡ (O.state out.old).name }
     ensures in_time { IsInTime (O.state out.old) (O.state out.new) }
 {

@@ -2,11 +2,11 @@ ghost use Rattle.std.specs.Prelude.{◌≡◌, ◌++◌, ◌∷◌, [], List, So
 ghost use Rattle.std.specs.Arc.{arc_value};
 ghost use Rattle.path_resolver.specs.Shots.{held_of};
 ghost use Rattle.section_stream.specs.Cuts.{Bytes};
-ghost use Rattle.tuner_core.specs.Heard.{heard};
+ghost use Rattle.tuner_core.specs.Heard.{as_heard};
 ghost use Rattle.tuner_core.specs.LookBack.{held_after};
 ghost use Rattle.shell_streams.specs.Carriers.{Hears};
 ghost use Rattle.shell_streams.specs.Sending.{IsInTime};
-ghost use Rattle.carousel_shell.specs.Over.{over, sent};
+ghost use Rattle.carousel_shell.specs.Over.{over, sink_over};
 ghost use Rattle.carousel_shell.specs.OpenId.{OpensId, sections_by_id};
 ghost use Rattle.carousel_shell.specs.Seeking.{HasHeard};
 
@@ -84,7 +84,7 @@ pub fn open_id<S: Source, O: Output>(
     out: &mut O,
 ) -> Status
     requires { (O.state out.old).pending ≡ [] }
-    ensures opens { OpensId carousel paths.now result (over S.left S.faults source.old source.new) (sent (O.state out.old) (O.state out.new)) }
+    ensures opens { OpensId carousel paths.now result (over S.left S.faults source.old source.new) (sink_over (O.state out.old) (O.state out.new)) }
     ensures same { (O.state out.new).name ≡ (O.state out.old).name }
     ensures in_time { IsInTime (O.state out.old) (O.state out.new) }
 {
@@ -101,7 +101,7 @@ fn receive_by_id<S: Source>(
     carousel: u32,
     source: &mut S,
 ) -> Result<Arc<Shot>, InputFault>
-    ensures { Hears (sections_by_id carousel) (λ shot sections. held_of (arc_value shot) ≡ held_after (map heard sections)) result
+    ensures { Hears (sections_by_id carousel) (λ shot sections. held_of (arc_value shot) ≡ held_after (map as_heard sections)) result
         (S.left source.old) (S.left source.new) (S.faults source.old) (S.faults source.new) }
 {
     let finder = Finder::new(alloc, carousel)?;

@@ -2,7 +2,7 @@ ghost use Rattle.std.specs.Prelude.{◌≡◌, false, [], map};
 ghost use Rattle.std.specs.String.{string_bytes};
 ghost use Rattle.shell_words.specs.Words as commands;
 ghost use Rattle.shell_streams.specs.Sending.{IsInTime};
-ghost use Rattle.carousel_shell.specs.Over.{over, sent};
+ghost use Rattle.carousel_shell.specs.Over.{over, sink_over};
 ghost use Rattle.carousel_shell.specs.Promises.{Promises, Keeps};
 
 use crate::assemble::{Wanted, assemble};
@@ -15,6 +15,7 @@ use crate::publish_psi::publish_psi;
 use crate::record::record;
 use crate::rehearse::rehearse;
 use crate::status::Status;
+use cycle_planner::Weigh;
 use folder_store::Folders;
 use oc_bytes::{Sink, Source};
 use shell_streams::{Buffered, Carrier, Output, room};
@@ -25,7 +26,8 @@ use std::alloc::Global;
 const MOST_SECTIONS: u32 = 16_777_216;
 
 /// Runs the command that the words name: they are the command line without the program's name. The input comes from the
-/// source, the output goes to the sink, and the folders are those that `publish` and `publish-psi` read.
+/// source, the output goes to the sink, and the folders are those that `publish` and `publish-psi` read. `weigh` says how often each
+/// module is sent in every cycle.
 ///
 /// - `Words` comes before all else: where the words name no command with its values, or one that needs threads, which are
 ///   `session` and `big`. Nothing was read or written.
@@ -53,8 +55,9 @@ pub fn run_plain<S: Source, K: Sink, F: Folders>(
     source: &mut S,
     sink: &mut K,
     folders: &mut F,
+    weigh: Weigh,
 ) -> Status
-    ensures keeps { Keeps (commands.command_of (map string_bytes words.now)) result (over S.left S.faults source.old source.new)
+    ensures keeps { Keeps weigh.weights (commands.command_of (map string_bytes words.now)) result (over S.left S.faults source.old source.new)
         (over K.written K.faults sink.old sink.new) (over F.tree F.faults folders.old folders.new) }
     ensures in_time { K.failed sink.old ≡ false → K.late sink.new ≡ K.late sink.old }
 {
@@ -68,7 +71,7 @@ pub fn run_plain<S: Source, K: Sink, F: Folders>(
         return Status::NoMemory;
     };
     let mut out = Buffered::new(sink, &mut room);
-    run_command(alloc, command, source, &mut out, folders)
+    run_command(alloc, command, source, &mut out, folders, weigh)
 }
 
 /// Runs a command; one that needs threads is none here.
@@ -78,10 +81,11 @@ fn run_command<S: Source, O: Output, F: Folders>(
     source: &mut S,
     out: &mut O,
     folders: &mut F,
+    weigh: Weigh,
 ) -> Status
     requires sized { commands.IsSized command }
     requires pending { (O.state out.old).pending ≡ [] }
-    ensures promises { Promises (commands.view command) result (over S.left S.faults source.old source.new) (sent (O.state out.old) (O.state out.new))
+    ensures promises { Promises weigh.weights (commands.view command) result (over S.left S.faults source.old source.new) (sink_over (O.state out.old) (O.state out.new))
         (over F.tree F.faults folders.old folders.new) }
     ensures same { (O.state out.new).name ≡ (O.state out.old).name }
     ensures in_time { IsInTime (O.state out.old) (O.state out.new) }
@@ -108,13 +112,29 @@ fn run_command<S: Source, O: Output, F: Folders>(
         Command::Record(pid) => record(alloc, pid, source, out),
         Command::List(pid) => list(alloc, Carrier::Packets(pid), source, out),
         Command::Publish(folder, carousel, cycles) => {
-            publish(alloc, folder.as_str(), carousel, cycles, out, folders)
+            publish(
+                alloc,
+                folder.as_str(),
+                carousel,
+                cycles,
+                weigh,
+                out,
+                folders,
+            )
         }
-        Command::Rehearse => rehearse(alloc, source, out),
+        Command::Rehearse => rehearse(alloc, weigh, source, out),
         Command::Find(carousel) => find(alloc, carousel, source, out),
         Command::OpenId(carousel, paths) => open_id(alloc, carousel, &paths, source, out),
         Command::PublishPsi(folder, carousel, cycles) => {
-            publish_psi(alloc, folder.as_str(), carousel, cycles, out, folders)
+            publish_psi(
+                alloc,
+                folder.as_str(),
+                carousel,
+                cycles,
+                weigh,
+                out,
+                folders,
+            )
         }
         Command::Session | Command::Big(_) => Status::Words,
     }

@@ -1,6 +1,6 @@
 use super::*;
 use crate::publish_tests::{answers, empty_folder, outcome};
-use crate::tests::{joined, no_folders, words};
+use crate::tests::{joined, no_folders, run_once, words};
 use oc_bytes::{MemSink, MemSource};
 use std::alloc::Global;
 use std::test::Fail;
@@ -97,14 +97,14 @@ fn faults_stop_a_search(rt: HostRuntime) -> Result<(), Fail> {
         let input = Vec::from_slice(alloc, cycle.written())?;
         let mut source = MemSource::new(input, Vec::from_slice(alloc, &[1])?, 300);
         let mut sink = MemSink::new(alloc, Vec::new(alloc), 2);
-        let status = run_plain(alloc, &words, &mut source, &mut sink, &mut folders);
+        let status = run_once(alloc, &words, &mut source, &mut sink, &mut folders)?;
         assert_eq!(rt; status.code(), 4, "of {line}");
         assert_eq!(rt; sink.written(), b"".as_slice(), "of {line}");
 
         let input = Vec::from_slice(alloc, cycle.written())?;
         let mut source = MemSource::new(input, Vec::new(alloc), 300);
         let mut sink = MemSink::new(alloc, Vec::from_slice(alloc, &[1])?, 2);
-        let status = run_plain(alloc, &words, &mut source, &mut sink, &mut folders);
+        let status = run_once(alloc, &words, &mut source, &mut sink, &mut folders)?;
         assert_eq!(rt; status.code(), 5, "of {line}");
         assert_eq!(rt; sink.written().len(), 2, "of {line}");
     }

@@ -4,20 +4,21 @@ ghost use Rattle.std.specs.Arc.{arc_value};
 ghost use Rattle.cycle_planner.specs.Cycle.{cycle_of};
 ghost use Rattle.generation.specs.Layouts.{items_of, lines_of, section_of};
 ghost use Rattle.section_stream.specs.Groups.{IsBetween, packets_of_group, past_group};
-ghost use Rattle.section_stream.specs.Packing.{IsSectionLike, finished, last_of, packets_of, packets_of_all, past};
-ghost use Rattle.carousel_world.specs.Publishing.{repeated};
+ghost use Rattle.section_stream.specs.Packing.{IsSectionLike, after_finish, last_of, packets_of, packets_of_all, past};
+ghost use Rattle.carousel_world.specs.Publishing.{repeat_list};
 ghost use Rattle.shell_streams.specs.Sending.{Puts, IsInTime};
-ghost use Rattle.carousel_shell.specs.Over.{over, sent};
+ghost use Rattle.carousel_shell.specs.Over.{over, sink_over};
 ghost use Rattle.carousel_shell.specs.Publish.{Publishes};
-ghost use Rattle.carousel_shell.specs.Cycles.{IsOfFolder, Refused, packed, mux_start};
+ghost use Rattle.carousel_shell.specs.Cycles.{IsOfFolder, Refused, group_bytes, mux_start};
 
 use crate::law::receptions;
 use crate::status::Status;
 use carousel_world::publications_can_be_packed;
-use cycle_planner::{Item, cycle_len, item_at};
+use cycle_planner::{Item, Weigh, cycle_len, item_at};
 use folder_store::{Folders, edits_make_the_files, read_tree};
 use generation::{Generation, generations_are_of_the_lists};
-use generation_catalogue::Catalogue;
+use generation_catalogue::Journal;
+use path_tree::Edits;
 use section_stream::Mux;
 use shell_streams::{Output, OutputFault};
 use std::alloc::Global;
@@ -33,27 +34,29 @@ const EDITOR: u32 = 1;
 /// cycles of packets (ISO/IEC 13818-1, 2.4.3) on the PID 256, with continuity counters from 0. All cycles are one group of sections,
 /// which stand back to back.
 ///
-/// `folder` is a path text of the folders, `carousel` the carousel's id, any 32-bit number, and `cycles` is 1 to 1,000. The answer is
-/// `FolderFault` where the folders fail or the folder isn't there, and `TreeRefused` exactly where the walk or the commit refuses the
-/// folder's files; then nothing is written. After `WriteFault` and `NoMemory` a prefix of the packets was written.
+/// `folder` is a path text of the folders, `carousel` the carousel's id, any 32-bit number, `cycles` is 1 to 1,000, and `weigh` says
+/// how often each module is sent in a cycle, which is 1 to 8 times. The answer is `FolderFault` where the folders fail or the folder
+/// isn't there, and `TreeRefused` exactly where the walk or the commit refuses the folder's files; then nothing is written. After
+/// `WriteFault` and `NoMemory` a prefix of the packets was written.
 pub fn publish<O: Output, F: Folders>(
     alloc: Global,
     folder: &str,
     carousel: u32,
     cycles: u32,
+    weigh: Weigh,
     out: &mut O,
     folders: &mut F,
 ) -> Status
     requires { (O.state out.old).pending ≡ [] }
-    ensures publishes { Publishes folder.now carousel cycles result (sent (O.state out.old) (O.state out.new)) (over F.tree F.faults folders.old folders.new) }
+    ensures publishes { Publishes folder.now carousel weigh.weights cycles result (sink_over (O.state out.old) (O.state out.new)) (over F.tree F.faults folders.old folders.new) }
     ensures same { (O.state out.new).name ≡ (O.state out.old).name }
     ensures in_time { IsInTime (O.state out.old) (O.state out.new) }
 {
     generations_are_of_the_lists();
     publications_can_be_packed();
     receptions();
-    match first_generation(alloc, folder, carousel, folders) {
-        Ok(generation) => match send(alloc, &generation, cycles, out) {
+    match first_generation(alloc, folder, carousel, &weigh, folders) {
+        Ok(generation) => match send(alloc, &generation, &weigh, cycles, out) {
             Ok(()) => Status::Done,
             Err(fault) => Status::from(fault),
         },
@@ -66,6 +69,7 @@ pub fn first_generation<F: Folders>(
     alloc: Global,
     folder: &str,
     carousel: u32,
+    weigh: &Weigh,
     folders: &mut F,
 ) -> Result<Arc<Generation>, Status>
     ensures made { IfOk result (λ g. IsOfFolder folder.now carousel (F.tree folders.old) (arc_value g)) }
@@ -73,28 +77,30 @@ pub fn first_generation<F: Folders>(
 {
     edits_make_the_files();
     let edits = read_tree(alloc, folders, folder)?;
-    let mut catalogue = Catalogue::new(alloc, carousel)?;
-    catalogue.commit(EDITOR, edits)?;
+    let edits = Edits::new(edits);
+    let mut journal = Journal::new(alloc, carousel, weigh.kept())?;
+    journal.commit_edits(EDITOR, edits)?;
     // Nothing is done with the entries: they say that the tree of the commit can be published.
-    let _entries = catalogue.entries();
-    let generation = Arc::try_clone(catalogue.current())?;
+    let _entries = journal.entries();
+    let generation = Arc::try_clone(journal.current())?;
     Ok(generation)
 }
 
-/// Writes so many cycles of a generation, which are one group.
+/// Writes so many cycles of a generation under these weights, which are one group.
 fn send<O: Output>(
     alloc: Global,
     generation: &Generation,
+    weigh: &Weigh,
     cycles: u32,
     out: &mut O,
 ) -> Result<(), OutputFault>
-    requires { All IsSectionLike (map (section_of generation.now) (cycle_of (lines_of generation.now))) }
-    ensures puts { Puts result (O.state out.old) (O.state out.new) (packed (map (section_of generation.now) (repeated cycles (cycle_of (lines_of generation.now))))) }
+    requires { All IsSectionLike (map (section_of generation.now) (cycle_of weigh.now.weights (lines_of generation.now))) }
+    ensures puts { Puts result (O.state out.old) (O.state out.new) (group_bytes (map (section_of generation.now) (repeat_list cycles (cycle_of weigh.now.weights (lines_of generation.now))))) }
     ensures empty { OnOk result ((O.state out.new).pending ≡ []) }
 {
     let mut sender = Sender::new(alloc);
     for _ in 0..cycles {
-        sender.send_cycle(generation, out)?;
+        sender.send_cycle(generation, weigh, out)?;
     }
     sender.finish(out)?;
     out.flush()
@@ -122,14 +128,15 @@ impl Sender {
     pub fn send_group<O: Output>(
         &mut self,
         generation: &Generation,
+        weigh: &Weigh,
         out: &mut O,
     ) -> Result<(), OutputFault>
         requires between { IsBetween self.old.mux }
-        requires like { All IsSectionLike (map (section_of generation.now) (cycle_of (lines_of generation.now))) }
-        ensures puts { Puts result (O.state out.old) (O.state out.new) (concat (packets_of_group self.old.mux (map (section_of generation.now) (cycle_of (lines_of generation.now))))) }
-        ensures mux { OnOk result (self.new.mux ≡ past_group self.old.mux (map (section_of generation.now) (cycle_of (lines_of generation.now)))) }
+        requires like { All IsSectionLike (map (section_of generation.now) (cycle_of weigh.now.weights (lines_of generation.now))) }
+        ensures puts { Puts result (O.state out.old) (O.state out.new) (concat (packets_of_group self.old.mux (map (section_of generation.now) (cycle_of weigh.now.weights (lines_of generation.now))))) }
+        ensures mux { OnOk result (self.new.mux ≡ past_group self.old.mux (map (section_of generation.now) (cycle_of weigh.now.weights (lines_of generation.now)))) }
     {
-        self.send_cycle(generation, out)?;
+        self.send_cycle(generation, weigh, out)?;
         self.finish(out)
     }
 
@@ -137,15 +144,16 @@ impl Sender {
     fn send_cycle<O: Output>(
         &mut self,
         generation: &Generation,
+        weigh: &Weigh,
         out: &mut O,
     ) -> Result<(), OutputFault>
-        ensures puts { Puts result (O.state out.old) (O.state out.new) (concat (packets_of_all self.old.mux (map (section_of generation.now) (cycle_of (lines_of generation.now))))) }
-        ensures mux { OnOk result (self.new.mux ≡ fold past self.old.mux (map (section_of generation.now) (cycle_of (lines_of generation.now)))) }
+        ensures puts { Puts result (O.state out.old) (O.state out.new) (concat (packets_of_all self.old.mux (map (section_of generation.now) (cycle_of weigh.now.weights (lines_of generation.now))))) }
+        ensures mux { OnOk result (self.new.mux ≡ fold past self.old.mux (map (section_of generation.now) (cycle_of weigh.now.weights (lines_of generation.now)))) }
     {
         let lines = generation.lines();
-        let items = cycle_len(lines);
+        let items = cycle_len(lines, weigh);
         for at in 0..items {
-            self.send_item(generation, item_at(lines, at), out)?;
+            self.send_item(generation, item_at(lines, weigh, at), out)?;
         }
         Ok(())
     }
@@ -170,7 +178,7 @@ impl Sender {
     /// Ends the group: sends what is held back of it.
     fn finish<O: Output>(&mut self, out: &mut O) -> Result<(), OutputFault>
         ensures puts { Puts result (O.state out.old) (O.state out.new) (concat (last_of self.old.mux)) }
-        ensures mux { OnOk result (self.new.mux ≡ finished self.old.mux) }
+        ensures mux { OnOk result (self.new.mux ≡ after_finish self.old.mux) }
     {
         self.packets.clear();
         self.mux.finish(&mut self.packets)?;

@@ -3,9 +3,9 @@ ghost use Rattle.std.specs.List.{All, concat};
 ghost use Rattle.cycle_planner.specs.Cycle.{cycle_of};
 ghost use Rattle.generation.specs.Layouts.{lines_of, section_of};
 ghost use Rattle.section_stream.specs.Packing.{IsSectionLike};
-ghost use Rattle.psi_tables.specs.Written.{announced, after_announcing};
+ghost use Rattle.psi_tables.specs.Written.{announcer_packets, after_announcing};
 ghost use Rattle.shell_streams.specs.Sending.{Puts, IsInTime};
-ghost use Rattle.carousel_shell.specs.Over.{over, sent};
+ghost use Rattle.carousel_shell.specs.Over.{over, sink_over};
 ghost use Rattle.carousel_shell.specs.Announced.{cycles_sent, senders_start};
 ghost use Rattle.carousel_shell.specs.PublishPsi.{PublishesPsi};
 
@@ -13,6 +13,7 @@ use crate::law::receptions;
 use crate::publish::{Sender, first_generation, put_packets};
 use crate::status::Status;
 use carousel_world::publications_can_be_packed;
+use cycle_planner::Weigh;
 use folder_store::Folders;
 use generation::{Generation, generations_are_of_the_lists};
 use psi_tables::Announcer;
@@ -29,19 +30,20 @@ pub fn publish_psi<O: Output, F: Folders>(
     folder: &str,
     carousel: u32,
     cycles: u32,
+    weigh: Weigh,
     out: &mut O,
     folders: &mut F,
 ) -> Status
     requires { (O.state out.old).pending ≡ [] }
-    ensures publishes { PublishesPsi folder.now carousel cycles result (sent (O.state out.old) (O.state out.new)) (over F.tree F.faults folders.old folders.new) }
+    ensures publishes { PublishesPsi folder.now carousel weigh.weights cycles result (sink_over (O.state out.old) (O.state out.new)) (over F.tree F.faults folders.old folders.new) }
     ensures same { (O.state out.new).name ≡ (O.state out.old).name }
     ensures in_time { IsInTime (O.state out.old) (O.state out.new) }
 {
     generations_are_of_the_lists();
     publications_can_be_packed();
     receptions();
-    match first_generation(alloc, folder, carousel, folders) {
-        Ok(generation) => match send_announced(alloc, &generation, carousel, cycles, out) {
+    match first_generation(alloc, folder, carousel, &weigh, folders) {
+        Ok(generation) => match send_announced(alloc, &generation, &weigh, carousel, cycles, out) {
             Ok(()) => Status::Done,
             Err(fault) => Status::from(fault),
         },
@@ -49,23 +51,24 @@ pub fn publish_psi<O: Output, F: Folders>(
     }
 }
 
-/// Writes so many cycles of a generation, each after the tables.
+/// Writes so many cycles of a generation under these weights, each after the tables.
 fn send_announced<O: Output>(
     alloc: Global,
     generation: &Generation,
+    weigh: &Weigh,
     carousel: u32,
     cycles: u32,
     out: &mut O,
 ) -> Result<(), OutputFault>
-    requires { All IsSectionLike (map (section_of generation.now) (cycle_of (lines_of generation.now))) }
-    ensures puts { Puts result (O.state out.old) (O.state out.new) (concat (cycles_sent (map (section_of generation.now) (cycle_of (lines_of generation.now))) cycles (senders_start carousel))) }
+    requires { All IsSectionLike (map (section_of generation.now) (cycle_of weigh.now.weights (lines_of generation.now))) }
+    ensures puts { Puts result (O.state out.old) (O.state out.new) (concat (cycles_sent (map (section_of generation.now) (cycle_of weigh.now.weights (lines_of generation.now))) cycles (senders_start carousel))) }
     ensures empty { OnOk result ((O.state out.new).pending ≡ []) }
 {
     let mut announcer = Announcer::new(alloc, carousel)?;
     let mut sender = Sender::new(alloc);
     for _ in 0..cycles {
         announce(&mut announcer, &mut sender.packets, out)?;
-        sender.send_group(generation, out)?;
+        sender.send_group(generation, weigh, out)?;
     }
     out.flush()
 }
@@ -76,7 +79,7 @@ fn announce<O: Output>(
     room: &mut Vec<[u8; 188]>,
     out: &mut O,
 ) -> Result<(), OutputFault>
-    ensures puts { Puts result (O.state out.old) (O.state out.new) (concat (announced announcer.old)) }
+    ensures puts { Puts result (O.state out.old) (O.state out.new) (concat (announcer_packets announcer.old)) }
     ensures counters { OnOk result (announcer.new ≡ after_announcing announcer.old) }
 {
     room.clear();

@@ -1,10 +1,20 @@
 use super::*;
-use crate::tests::words;
+use crate::tests::{joined, run_once, run_twice, words};
 use folder_store::{EntryKind, FolderEntry, FolderFault, Folders, MemFolders, TreeFault};
 use generation_catalogue::Refusal;
 use oc_bytes::{Blob, MemSink, MemSource, NoMemory};
+use sample_sections::{BLOCK, DSI};
 use std::alloc::Global;
 use std::test::Fail;
+
+/// The section of the DII of generation 1 of the folder without an entry, by an independent program: module 1 is that of generation 0.
+const SAME_DII: [u8; 75] = [
+    0x3B, 0xB0, 0x48, 0x00, 0x03, 0xC1, 0x00, 0x00, 0x11, 0x03, 0x10, 0x02, 0x80, 0x01, 0x00, 0x03,
+    0xFF, 0x00, 0x00, 0x33, 0x00, 0x00, 0x00, 0x01, 0x0F, 0xE2, 0x00, 0x00, 0x00, 0x00, 0x00, 0x00,
+    0x00, 0x00, 0x00, 0x00, 0x00, 0x00, 0x00, 0x01, 0x00, 0x01, 0x00, 0x00, 0x00, 0x22, 0x00, 0x15,
+    0xFF, 0xFF, 0xFF, 0xFF, 0xFF, 0xFF, 0xFF, 0xFF, 0x00, 0x00, 0x00, 0x00, 0x01, 0x00, 0x00, 0x00,
+    0x17, 0x00, 0x01, 0x00, 0x00, 0x00, 0x00, 0x01, 0x73, 0xE8, 0xC5,
+];
 
 /// The folder F without an entry, in which the calls of these numbers fail.
 pub(crate) fn empty_folder(alloc: Global, fail_at: Vec<u64>) -> Result<MemFolders, Fail> {
@@ -88,7 +98,7 @@ pub(crate) fn outcome<F: Folders>(
     let words = words(alloc, line)?;
     let mut source = MemSource::new(Vec::new(alloc), Vec::new(alloc), 1);
     let mut sink = MemSink::new(alloc, fail_at, 100);
-    let status = run_plain(alloc, &words, &mut source, &mut sink, folders);
+    let status = run_once(alloc, &words, &mut source, &mut sink, folders)?;
     Ok((status, sink))
 }
 
@@ -99,7 +109,7 @@ pub(crate) fn answers(alloc: Global, line: &str, packets: &[u8]) -> Result<(u8, 
     let mut source = MemSource::new(packets, Vec::new(alloc), 1000);
     let mut sink = MemSink::new(alloc, Vec::new(alloc), 100);
     let mut folders = tests::no_folders(alloc);
-    let status = run_plain(alloc, &words, &mut source, &mut sink, &mut folders);
+    let status = run_once(alloc, &words, &mut source, &mut sink, &mut folders)?;
     Ok((status.code(), sink))
 }
 
@@ -127,6 +137,24 @@ fn published_folders_are_received(rt: HostRuntime) -> Result<(), Fail> {
         b"/a file 5\nhello\n/a/b no-such\n".as_slice()
     );
     assert_eq!(rt; code, 1);
+    Ok(())
+}
+
+/// A cycle in which module 1 is sent twice: the packets and sections are those of an independent program.
+#[test]
+fn a_module_of_weight_two_is_sent_twice(rt: HostRuntime) -> Result<(), Fail> {
+    let alloc = rt.alloc();
+    let words = words(alloc, "publish F 1 1")?;
+    let mut source = MemSource::new(Vec::new(alloc), Vec::new(alloc), 1);
+    let mut sink = MemSink::new(alloc, Vec::new(alloc), 100);
+    let mut folders = empty_folder(alloc, Vec::new(alloc))?;
+    let status = run_twice(alloc, &words, &mut source, &mut sink, &mut folders)?;
+    assert_eq!(rt; status.code(), 0);
+    assert_eq!(rt; sink.written().len(), 564);
+    let (code, sections) = answers(alloc, "record 256", sink.written())?;
+    let cycle = joined(alloc, &[&DSI, &SAME_DII, &BLOCK, &SAME_DII, &BLOCK])?;
+    assert_eq!(rt; sections.written(), cycle.as_slice());
+    assert_eq!(rt; code, 0);
     Ok(())
 }
 

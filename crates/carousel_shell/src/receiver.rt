@@ -1,7 +1,7 @@
 ghost use Rattle.std.specs.Prelude.{◌≡◌, map};
 ghost use Rattle.std.specs.Arc.{arc_value};
 ghost use Rattle.path_resolver.specs.Shots.{held_of};
-ghost use Rattle.tuner_core.specs.Heard.{heard};
+ghost use Rattle.tuner_core.specs.Heard.{as_heard};
 ghost use Rattle.tuner_core.specs.LookBack.{held_after};
 ghost use Rattle.shell_streams.specs.Carriers.{Hears, sections_by};
 
@@ -35,7 +35,7 @@ pub fn receive<S: Source>(
     carrier: Carrier,
     source: &mut S,
 ) -> Result<Arc<Shot>, InputFault>
-    ensures { Hears (sections_by carrier) (λ shot sections. held_of (arc_value shot) ≡ held_after (map heard sections)) result
+    ensures { Hears (sections_by carrier) (λ shot sections. held_of (arc_value shot) ≡ held_after (map as_heard sections)) result
         (S.left source.old) (S.left source.new) (S.faults source.old) (S.faults source.new) }
 {
     let mut receiver = Receiver {

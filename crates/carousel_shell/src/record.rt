@@ -1,7 +1,7 @@
 ghost use Rattle.std.specs.Prelude.{◌≡◌, ◌≤◌, ◌<◌, [], length, map, OnOk};
 ghost use Rattle.section_stream.specs.Kept.{view_bytes};
 ghost use Rattle.shell_streams.specs.Sending.{Puts, IsInTime};
-ghost use Rattle.carousel_shell.specs.Over.{over, sent};
+ghost use Rattle.carousel_shell.specs.Over.{over, sink_over};
 ghost use Rattle.carousel_shell.specs.Accepted as sections;
 ghost use Rattle.carousel_shell.specs.Record.{Records};
 ghost use Rattle.carousel_shell.specs.Statuses.{end_status};
@@ -25,7 +25,7 @@ use std::alloc::Global;
 /// Nothing may be pending in the output when it is called.
 pub fn record<S: Source, O: Output>(alloc: Global, pid: u16, source: &mut S, out: &mut O) -> Status
     requires { (O.state out.old).pending ≡ [] }
-    ensures records { Records pid result (over S.left S.faults source.old source.new) (sent (O.state out.old) (O.state out.new)) }
+    ensures records { Records pid result (over S.left S.faults source.old source.new) (sink_over (O.state out.old) (O.state out.new)) }
     ensures same { (O.state out.new).name ≡ (O.state out.old).name }
     ensures in_time { IsInTime (O.state out.old) (O.state out.new) }
 {
@@ -43,7 +43,7 @@ fn record_all<S: Source, O: Output>(
     out: &mut O,
 ) -> Result<(), Status>
     requires { (O.state out.old).pending ≡ [] }
-    ensures records { Records pid (end_status result) (over S.left S.faults source.old source.new) (sent (O.state out.old) (O.state out.new)) }
+    ensures records { Records pid (end_status result) (over S.left S.faults source.old source.new) (sink_over (O.state out.old) (O.state out.new)) }
     ensures same { (O.state out.new).name ≡ (O.state out.old).name }
     ensures in_time { IsInTime (O.state out.old) (O.state out.new) }
 {
@@ -58,7 +58,7 @@ fn record_all<S: Source, O: Output>(
 
 /// Puts those of the candidates that are sections after what is pending.
 fn put_accepted<O: Output>(candidates: &[Vec<u8>], out: &mut O) -> Result<(), OutputFault>
-    ensures puts { Puts result (O.state out.old) (O.state out.new) (sections.accepted (map view_bytes candidates.now)) }
+    ensures puts { Puts result (O.state out.old) (O.state out.new) (sections.accepted_bytes (map view_bytes candidates.now)) }
     ensures few { OnOk result (length (O.state out.old).pending ≤ 65536 → length (O.state out.new).pending ≤ 65536) }
 {
     for candidate in candidates {

@@ -1,9 +1,10 @@
 ghost use Rattle.std.specs.Prelude.{◌≡◌, []};
 ghost use Rattle.shell_streams.specs.Sending.{IsInTime};
-ghost use Rattle.carousel_shell.specs.Over.{over, sent};
+ghost use Rattle.carousel_shell.specs.Over.{over, sink_over};
 ghost use Rattle.carousel_shell.specs.Rehearse.{Rehearses};
 
 use crate::status::Status;
+use cycle_planner::Weigh;
 use oc_bytes::Source;
 use session_script::parse;
 use shell_streams::{Output, read_all};
@@ -12,8 +13,8 @@ use std::alloc::Global;
 /// The most bytes of a script.
 const MOST_BYTES: usize = 16_777_216;
 
-/// Reads a script, runs its events in written order in one world of carousel 1, and writes a line for each commit, draw
-/// and open after it has happened. The language and the lines are this project's own.
+/// Reads a script, runs its events in written order in one world of carousel 1, in which each module is sent as often as it weighs,
+/// and writes a line for each commit, draw and open after it has happened. The language and the lines are this project's own.
 ///
 /// `ReadFault` comes where the source fails, and `InputTooLong` exactly where at least a byte more than 16,777,216 is read.
 /// The whole input is read before anything else is done. `BadLine` comes exactly where it is no script; it names the
@@ -22,9 +23,14 @@ const MOST_BYTES: usize = 16_777_216;
 /// `NoMemory` a prefix of the report of those that happened was. No other status comes.
 ///
 /// Nothing may be pending in the output when it is called.
-pub fn rehearse<S: Source, O: Output>(alloc: Global, source: &mut S, out: &mut O) -> Status
+pub fn rehearse<S: Source, O: Output>(
+    alloc: Global,
+    weigh: Weigh,
+    source: &mut S,
+    out: &mut O,
+) -> Status
     requires { (O.state out.old).pending ≡ [] }
-    ensures rehearses { Rehearses result (over S.left S.faults source.old source.new) (sent (O.state out.old) (O.state out.new)) }
+    ensures rehearses { Rehearses weigh.weights result (over S.left S.faults source.old source.new) (sink_over (O.state out.old) (O.state out.new)) }
     ensures same { (O.state out.new).name ≡ (O.state out.old).name }
     ensures in_time { IsInTime (O.state out.old) (O.state out.new) }
 {
@@ -38,7 +44,7 @@ pub fn rehearse<S: Source, O: Output>(alloc: Global, source: &mut S, out: &mut O
     };
     // The text is of no use any more, and may be large.
     drop(text);
-    match rehearsal::rehearse(alloc, script, out) {
+    match rehearsal::rehearse(alloc, script, weigh, out) {
         Ok(()) => Status::Done,
         Err(fault) => Status::from(fault),
     }

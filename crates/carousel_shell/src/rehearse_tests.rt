@@ -1,5 +1,5 @@
 use super::*;
-use crate::tests::{no_folders, words};
+use crate::tests::{no_folders, run_once, words};
 use oc_bytes::{MemSink, MemSource};
 use std::alloc::Global;
 use std::test::Fail;
@@ -11,7 +11,7 @@ fn outcome(alloc: Global, script: &[u8], fail_at: &[u64]) -> Result<(Status, Mem
     let mut source = MemSource::new(script, Vec::from_slice(alloc, fail_at)?, 20);
     let mut sink = MemSink::new(alloc, Vec::new(alloc), 100);
     let mut folders = no_folders(alloc);
-    let status = run_plain(alloc, &words, &mut source, &mut sink, &mut folders);
+    let status = run_once(alloc, &words, &mut source, &mut sink, &mut folders)?;
     Ok((status, sink))
 }
 

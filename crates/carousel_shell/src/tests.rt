@@ -1,6 +1,9 @@
+ghost use Rattle.std.specs.Prelude.{◌≡◌, ◌==◌, if◌then◌else◌};
+
 use super::*;
-use folder_store::MemFolders;
-use oc_bytes::{MemSink, MemSource};
+use cycle_planner::{GREATEST_ID, Weigh};
+use folder_store::{Folders, MemFolders};
+use oc_bytes::{MemSink, MemSource, NoMemory};
 use sample_sections::{BLOCK, DII, DSI, FILE_BLOCK, FILE_DII};
 use std::alloc::Global;
 use std::test::Fail;
@@ -64,13 +67,51 @@ pub(crate) fn no_folders(alloc: Global) -> MemFolders {
     MemFolders::new(Vec::new(alloc), Vec::new(alloc))
 }
 
+/// The status of a command under which each module is sent once a cycle.
+pub(crate) fn run_once<F: Folders>(
+    alloc: Global,
+    words: &[String],
+    source: &mut MemSource,
+    sink: &mut MemSink,
+    folders: &mut F,
+) -> Result<Status, NoMemory> {
+    let call = Box::new(
+        alloc,
+        |_id: u16| -> u8
+            ensures { result ≡ 1 }
+        { 1 },
+    )?;
+    let weigh = Weigh::new([1; GREATEST_ID], call);
+    Ok(run_plain(alloc, words, source, sink, folders, weigh))
+}
+
+/// The status of a command under which module 1 is sent twice a cycle, and each other one once.
+pub(crate) fn run_twice<F: Folders>(
+    alloc: Global,
+    words: &[String],
+    source: &mut MemSource,
+    sink: &mut MemSink,
+    folders: &mut F,
+) -> Result<Status, NoMemory> {
+    let mut weights = [1; GREATEST_ID];
+    weights[0] = 2;
+    let call = Box::new(
+        alloc,
+        |id: u16| -> u8
+            ensures { result ≡ (if id == 1 then 2 else 1) }
+        { if id == 1 { 2u8 } else { 1u8 } },
+    )?;
+    let weigh = Weigh::new(weights, call);
+    Ok(run_plain(alloc, words, source, sink, folders, weigh))
+}
+
 /// The exit status and what was written, in pieces of 7 bytes.
 fn outcome(alloc: Global, line: &str, input: Vec<u8>) -> Result<(u8, MemSink), Fail> {
     let words = words(alloc, line)?;
     let mut source = MemSource::new(input, Vec::new(alloc), 7);
     let mut sink = MemSink::new(alloc, Vec::new(alloc), 3);
     let mut folders = no_folders(alloc);
-    let status = run_plain(alloc, &words, &mut source, &mut sink, &mut folders);
+    let status = run_once(alloc, &words, &mut source, &mut sink, &mut folders)?;
     Ok((status.code(), sink))
 }
 
@@ -178,13 +219,13 @@ fn faults_stop_a_command(rt: HostRuntime) -> Result<(), Fail> {
     let mut source = MemSource::new(joined(alloc, &[&HELLO])?, Vec::from_slice(alloc, &[1])?, 20);
     let mut sink = MemSink::new(alloc, Vec::new(alloc), 2);
     let mut folders = no_folders(alloc);
-    let status = run_plain(alloc, &words, &mut source, &mut sink, &mut folders);
+    let status = run_once(alloc, &words, &mut source, &mut sink, &mut folders)?;
     assert_eq!(rt; status.code(), 4);
     assert_eq!(rt; sink.written(), b"".as_slice());
 
     let mut source = MemSource::new(joined(alloc, &[&HELLO])?, Vec::new(alloc), 20);
     let mut sink = MemSink::new(alloc, Vec::from_slice(alloc, &[1])?, 2);
-    let status = run_plain(alloc, &words, &mut source, &mut sink, &mut folders);
+    let status = run_once(alloc, &words, &mut source, &mut sink, &mut folders)?;
     assert_eq!(rt; status.code(), 5);
     assert_eq!(rt; sink.written(), b"he".as_slice());
     Ok(())

@@ -8,13 +8,13 @@ use Rattle.path_tree.specs.Trees.{Tree, Node, File, Folder, NoSuch, node_at}
 use Rattle.ior_tap.specs.Iors.{TapFields, biop_of_profiles, delivery_of_taps}
 use Rattle.ior_tap.specs.declared.Location.{Location}
 use Rattle.dsi_dii.specs.Controls.{identification_of}
-use Rattle.biop_object.specs.Names.{Layout, module_in, Thing, AFile, AFolder, AnOther, first_of_key, thing_in, thing_at, location_in, location_of, named}
+use Rattle.biop_object.specs.Names.{Layout, module_in, Thing, AFile, AFolder, AnOther, first_of_key, thing_in, thing_at, location_in, location_of, thing_named}
 use Rattle.biop_object.specs.Objects.{IsFolder, BindingFields}
 use Rattle.biop_object.specs.ObjectReading.{objects_of, found_of}
 use Rattle.biop_object.specs.declared.module.Found.{Found}
 use Rattle.generation.specs.Layouts.{gateway_location}
 use Rattle.generation.specs.Lawful.{IsNode, IsInside, identification_for, Carries}
-use Rattle.path_resolver.specs.Resolving.{HeldModule, Held, is_elsewhere, by_binding, in_folder, goes_on, at_target, walk, answer_of, ended}
+use Rattle.path_resolver.specs.Resolving.{HeldModule, Held, is_elsewhere, by_binding, in_folder, goes_on, at_target, walk, answer_of, answer_at_end}
 use Rattle.path_resolver.specs.declared.answer.Answer.{Answer}
 use Rattle.path_resolver.specs.declared.answer.Answer.TheVariants as answers
 use Rattle.carousel_world.specs.Headline.{IsNodeAnswer, IsAnswer, modules_on}
@@ -27,7 +27,7 @@ use Rattle.carousel_world.proofs.Finding.{same_test, entry_of, IsThere, IsAwaite
 -- The tree as it is seen from a location on: `node` gives what stands at each path from there. The delivery names the DII of identification 1, where
 -- it is known.
 pub record IsPlace (carousel : ℕ) (layout : Layout) (node : PathNames → Node) (l : Location) (delivery : Option ℕ) : Type 0 where
-  pub paths : (q : PathNames) → IsNode (named layout (Some l) q) (node q)
+  pub paths : (q : PathNames) → IsNode (thing_named layout (Some l) q) (node q)
   pub there : node [] ≡ NoSuch → ⊥
   pub closed : IsClosed node
   pub same_carousel : l.carousel ≡ carousel
@@ -135,8 +135,8 @@ not_other NoSuch is = is
 
 -- what stands from the next name on
 paths_on : (carousel : ℕ) (layout : Layout) (node : PathNames → Node) (l : Location) (d : Option ℕ) → IsPlace carousel layout node l d → (n : Bytes) (next : Option Location)
-    → location_of n (thing_at layout l) ≡ next → (q : PathNames) → IsNode (named layout next q) (node (n ∷ q))
-paths_on carousel layout node l d place n next e q = subst (λ o. IsNode (named layout o q) (node (n ∷ q))) e (place.paths (n ∷ q))
+    → location_of n (thing_at layout l) ≡ next → (q : PathNames) → IsNode (thing_named layout next q) (node (n ∷ q))
+paths_on carousel layout node l d place n next e q = subst (λ o. IsNode (thing_named layout o q) (node (n ∷ q))) e (place.paths (n ∷ q))
 
 -- a folder: its first binding of the name leads on, or nothing of the name is there
 through : (carousel : ℕ) (layout : Layout) (held : Held) (n : Bytes) (ns : PathNames) (node : PathNames → Node) (l : Location) (d : Option ℕ) → IsPlace carousel layout node l d
@@ -197,7 +197,7 @@ tells : (carousel : ℕ) (layout : Layout) (held : Held) → HoldsOf carousel la
     → Tells carousel layout held ns (node ns) l d
 tells carousel layout held holds inside [] node l d place =
     let s = standing_at carousel layout node l d place in
-    arrives carousel layout held holds node l d place s (λ bytes. ended l.module bytes (found_of bytes l.key)) [] (node [])
+    arrives carousel layout held holds node l d place s (λ bytes. answer_at_end l.module bytes (found_of bytes l.key)) [] (node [])
     (ends_at l.module s.bytes s.thing (node []) (found_of s.bytes l.key) (thing_seen s.bytes l.key s.thing s.first) (subst (λ x. IsNode x (node [])) s.is (place.paths [])))
 tells carousel layout held holds inside (n ∷ ns) node l d place =
     let s = standing_at carousel layout node l d place in

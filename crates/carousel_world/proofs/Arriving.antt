@@ -3,7 +3,7 @@ use Rattle.std.proofs.Common.{◌≡◌, ℕ, ◌+◌, ◌≤◌, List, [], ◌�
 use Rattle.std.proofs.lemmas.Option.{slice_get-map}
 use Rattle.path_tree.specs.Paths.{Bytes}
 use Rattle.ts_packet.specs.declared.Fate.{Fate}
-use Rattle.ts_packet.specs.Fates.{arrived}
+use Rattle.ts_packet.specs.Fates.{arrival_of}
 use Rattle.section_stream.specs.Packing.{MuxState}
 use Rattle.section_stream.specs.Groups.{packets_of_group, past_group}
 use Rattle.carousel_world.specs.Broadcasts.{NeverBack}
@@ -20,7 +20,7 @@ lower lo hi (n ∷ ns) le c = (let first = c.0 in omega (arith, le, first), c.1)
 under_climbs : (fates : List Fate) (i n : ℕ) (ps : List Bytes) (rest : List Arrival) → Climbs (n + length ps) (map (λ a. a.0) rest) → Climbs n (map (λ a. a.0) (under fates i n ps ++ rest))
 under_climbs fates i n [] rest c = lower n (n + length {A = Bytes} []) (map (λ a. a.0) rest) (omega arith) c
 under_climbs fates i n (p ∷ ps) rest c =
-    go (arrived (fate_of fates i) p) (under_climbs fates (i + 1) (n + 1) ps rest (lower (n + 1 + length ps) (n + length (p ∷ ps)) (map (λ a. a.0) rest) (omega arith) c)) where
+    go (arrival_of (fate_of fates i) p) (under_climbs fates (i + 1) (n + 1) ps rest (lower (n + 1 + length ps) (n + length (p ∷ ps)) (map (λ a. a.0) rest) (omega arith) c)) where
       go : (o : Option Bytes) → Climbs (n + 1) (map (λ a. a.0) (under fates (i + 1) (n + 1) ps ++ rest)) → Climbs n (map (λ a. a.0) (onto_arrivals n o (under fates (i + 1) (n + 1) ps) ++ rest))
       go (Some x) h = (omega arith, lower n (n + 1) (map (λ a. a.0) (under fates (i + 1) (n + 1) ps ++ rest)) (omega arith) h)
       go None h = lower n (n + 1) (map (λ a. a.0) (under fates (i + 1) (n + 1) ps ++ rest)) (omega arith) h

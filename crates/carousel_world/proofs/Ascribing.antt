@@ -7,7 +7,7 @@ use Rattle.biop_object.specs.Names.{Layout}
 use Rattle.dsi_dii.specs.Controls.{DiiFields}
 use Rattle.dsmcc_section.specs.Sections as sections
 use Rattle.dsmcc_section.specs.declared.Skip.{Skip}
-use Rattle.tuner_core.specs.Heard.{Heard, Skipped, NoControl, NoBlock, ADsi, ADii, ABlock, heard, heard_section, is_accepted}
+use Rattle.tuner_core.specs.Heard.{Heard, Skipped, NoControl, NoBlock, ADsi, ADii, ABlock, as_heard, heard_section, is_accepted}
 use Rattle.carousel_world.specs.Premises.{IsDiiAt, IsBlockAt}
 use Rattle.carousel_world.proofs.Generations.{IsSaidIn, IsNearTo, AreHeardOf, OnDii, DiisAre, gens_with, gens_after, newer}
 
@@ -17,7 +17,7 @@ OfGeneration = ℕ → ℕ → Type 0
 
 -- each accepted candidate is of a generation that says it, none goes back, and no block is 256 or more after the DII before it
 pub record AreAscribed (carousel : ℕ) (ls : List Layout) (cs : List Bytes) (of : OfGeneration) : Type 0 where
-  pub each : (i : ℕ) (bytes : Bytes) → slice_get cs i ≡ Some bytes → IsTrue (is_accepted bytes) → (g : ℕ) × (of i g × ((g < length ls) × IsSaidIn carousel ls g (heard bytes)))
+  pub each : (i : ℕ) (bytes : Bytes) → slice_get cs i ≡ Some bytes → IsTrue (is_accepted bytes) → (g : ℕ) × (of i g × ((g < length ls) × IsSaidIn carousel ls g (as_heard bytes)))
   pub order : (i j g h : ℕ) → i < j → of i g → of j h → g ≤ h
   pub near : (i j g h : ℕ) → i < j → IsDiiAt cs i → IsBlockAt cs j → ((k : ℕ) → i < k → k < j → IsDiiAt cs k → ⊥) → of i g → of j h → h < g + 256
 
@@ -40,30 +40,30 @@ NearUpTo cs of (g ∷ gs) = (j h : ℕ) → IsBlockAt cs j → ((k : ℕ) → k 
 pub record WithGenerations (carousel : ℕ) (ls : List Layout) (P : ℕ → Type 0) (top : ℕ) (gs : List ℕ) (cs : List Bytes) : Type 0 where
   pub pairs : List (ℕ × Heard)
   pub diis : DiisAre P pairs
-  pub heard_is : map (λ x. x.1) pairs ≡ map heard cs
+  pub heard_is : map (λ x. x.1) pairs ≡ map as_heard cs
   pub are : AreHeardOf carousel ls top gs pairs
 
-put : (carousel : ℕ) (ls : List Layout) (P : ℕ → Type 0) (top k : ℕ) (gs : List ℕ) (c : Bytes) (cs : List Bytes) → top ≤ k → k < length ls → IsSaidIn carousel ls k (heard c) → IsNearTo gs k (heard c) → OnDii P k (heard c)
-    → WithGenerations carousel ls P k (gens_with gs k (heard c)) cs → WithGenerations carousel ls P top gs (c ∷ cs)
+put : (carousel : ℕ) (ls : List Layout) (P : ℕ → Type 0) (top k : ℕ) (gs : List ℕ) (c : Bytes) (cs : List Bytes) → top ≤ k → k < length ls → IsSaidIn carousel ls k (as_heard c) → IsNearTo gs k (as_heard c) → OnDii P k (as_heard c)
+    → WithGenerations carousel ls P k (gens_with gs k (as_heard c)) cs → WithGenerations carousel ls P top gs (c ∷ cs)
 put carousel ls P top k gs c cs le lt said near on t = record {
   diis = (on, t.diis);
-  pairs = (k, heard c) ∷ t.pairs;
-  heard_is = ap (λ hs. heard c ∷ hs) t.heard_is;
+  pairs = (k, as_heard c) ∷ t.pairs;
+  heard_is = ap (λ hs. as_heard c ∷ hs) t.heard_is;
   are = (le, (lt, (said, (near, t.are))));
 }
 
-not_dii : (c : Bytes) (cs : List Bytes) (h : Heard) → heard c ≡ h → ((d : DiiFields) → h ≡ ADii d → ⊥) → (j : ℕ) → ((k : ℕ) → k < j → IsDiiAt cs k → ⊥) → (k : ℕ) → k < suc j → IsDiiAt (c ∷ cs) k → ⊥
-not_dii c cs h e f j none zero lt dii = f dii.1 (sym e ∙ ap heard (some_same c dii.0 dii.2) ∙ dii.3) where
+not_dii : (c : Bytes) (cs : List Bytes) (h : Heard) → as_heard c ≡ h → ((d : DiiFields) → h ≡ ADii d → ⊥) → (j : ℕ) → ((k : ℕ) → k < j → IsDiiAt cs k → ⊥) → (k : ℕ) → k < suc j → IsDiiAt (c ∷ cs) k → ⊥
+not_dii c cs h e f j none zero lt dii = f dii.1 (sym e ∙ ap as_heard (some_same c dii.0 dii.2) ∙ dii.3) where
   some_same : (a b : Bytes) → Some a ≡ Some b → a ≡ b
   some_same a b e = cc
 not_dii c cs h e f j none (suc k) lt dii = none k (omega (arith, lt)) dii
 
-pass_near : (c : Bytes) (cs : List Bytes) (of : OfGeneration) (gs : List ℕ) (h : Heard) → heard c ≡ h → ((d : DiiFields) → h ≡ ADii d → ⊥) → NearUpTo (c ∷ cs) of gs → NearUpTo cs (λ i g. of (suc i) g) gs
+pass_near : (c : Bytes) (cs : List Bytes) (of : OfGeneration) (gs : List ℕ) (h : Heard) → as_heard c ≡ h → ((d : DiiFields) → h ≡ ADii d → ⊥) → NearUpTo (c ∷ cs) of gs → NearUpTo cs (λ i g. of (suc i) g) gs
 pass_near c cs of [] h e f near = tt
 pass_near c cs of (g ∷ gs) h e f near = λ j k block none p. near (suc j) k block (not_dii c cs h e f j none) p
 
 -- after a DII
-dii_near : (carousel : ℕ) (ls : List Layout) (c : Bytes) (cs : List Bytes) (of : OfGeneration) → AreAscribed carousel ls (c ∷ cs) of → (d : DiiFields) → heard c ≡ ADii d → (g k : ℕ) → of 0 k → g ≡ k
+dii_near : (carousel : ℕ) (ls : List Layout) (c : Bytes) (cs : List Bytes) (of : OfGeneration) → AreAscribed carousel ls (c ∷ cs) of → (d : DiiFields) → as_heard c ≡ ADii d → (g k : ℕ) → of 0 k → g ≡ k
     → (gs : List ℕ) → NearUpTo cs (λ i g. of (suc i) g) (g ∷ gs)
 dii_near carousel ls c cs of a d e g k p same gs j h block none q =
     subst (λ x. h < x + 256) (sym same) (a.near 0 (suc j) k h (omega arith) (c, d, refl, e) block (between none) p q) where
@@ -73,17 +73,17 @@ dii_near carousel ls c cs of a d e g k p same gs j h block none q =
 
 -- ---- one candidate after another
 
-no_message : (carousel : ℕ) (ls : List Layout) (k : ℕ) (c : Bytes) (skip : Skip) → heard c ≡ Skipped skip → IsSaidIn carousel ls k (heard c)
+no_message : (carousel : ℕ) (ls : List Layout) (k : ℕ) (c : Bytes) (skip : Skip) → as_heard c ≡ Skipped skip → IsSaidIn carousel ls k (as_heard c)
 no_message carousel ls k c skip e = subst (IsSaidIn carousel ls k) (sym e) tt
 
-never_near : (gs : List ℕ) (k : ℕ) (c : Bytes) (skip : Skip) → heard c ≡ Skipped skip → IsNearTo gs k (heard c)
+never_near : (gs : List ℕ) (k : ℕ) (c : Bytes) (skip : Skip) → as_heard c ≡ Skipped skip → IsNearTo gs k (as_heard c)
 never_near gs k c skip e = subst (IsNearTo gs k) (sym e) (none gs) where
   none : (gs : List ℕ) → IsNearTo gs k (Skipped skip)
   none [] = tt
   none (g ∷ gs) = tt
 
 -- a candidate that is no section keeps the generations
-skipped : (carousel : ℕ) (ls : List Layout) (P : ℕ → Type 0) (top : ℕ) (gs : List ℕ) (c : Bytes) (cs : List Bytes) (skip : Skip) → heard c ≡ Skipped skip → top < length ls → WithGenerations carousel ls P top gs cs → WithGenerations carousel ls P top gs (c ∷ cs)
+skipped : (carousel : ℕ) (ls : List Layout) (P : ℕ → Type 0) (top : ℕ) (gs : List ℕ) (c : Bytes) (cs : List Bytes) (skip : Skip) → as_heard c ≡ Skipped skip → top < length ls → WithGenerations carousel ls P top gs cs → WithGenerations carousel ls P top gs (c ∷ cs)
 skipped carousel ls P top gs c cs skip e lt t =
     put carousel ls P top top gs c cs (omega arith) lt (no_message carousel ls top c skip e) (never_near gs top c skip e) (subst (OnDii P top) (sym e) tt) (subst (λ h. WithGenerations carousel ls P top (gens_with gs top h) cs) (sym e) t)
 
@@ -112,10 +112,10 @@ with_generations carousel ls P (c ∷ cs) of a each top lt above gs near = by (s
   on k p (NoBlock c) = tt
 
   -- an accepted candidate, by what it says
-  accepted : (k : ℕ) → of 0 k → k < length ls → Rest → (h : Heard) → heard c ≡ h → IsSaidIn carousel ls k h → WithGenerations carousel ls P top gs (c ∷ cs)
+  accepted : (k : ℕ) → of 0 k → k < length ls → Rest → (h : Heard) → as_heard c ≡ h → IsSaidIn carousel ls k h → WithGenerations carousel ls P top gs (c ∷ cs)
   accepted k p klt rest (ADii d) e said =
       let head = head_is k gs (newer gs k) refl in
-      put carousel ls P top k gs c cs (above 0 k p) klt (subst (IsSaidIn carousel ls k) (sym e) said) (subst (IsNearTo gs k) (sym e) (free gs)) (on k p (heard c))
+      put carousel ls P top k gs c cs (above 0 k p) klt (subst (IsSaidIn carousel ls k) (sym e) said) (subst (IsNearTo gs k) (sym e) (free gs)) (on k p (as_heard c))
       (subst (λ h. WithGenerations carousel ls P k (gens_with gs k h) cs) (sym e)
       (rest k klt (λ i g q. a.order 0 (suc i) k g (omega arith) p q) (gens_after gs k (newer gs k))
       (subst (λ hs. NearUpTo cs (λ i g. of (suc i) g) hs) (sym head.1.1.0) (dii_near carousel ls c cs of a d e head.0 k p head.1.1.1 head.1.0)))) where
@@ -123,21 +123,21 @@ with_generations carousel ls P (c ∷ cs) of a each top lt above gs near = by (s
         free [] = tt
         free (g ∷ gs) = tt
   accepted k p klt rest (ABlock x) e said =
-      put carousel ls P top k gs c cs (above 0 k p) klt (subst (IsSaidIn carousel ls k) (sym e) said) (subst (IsNearTo gs k) (sym e) (close gs near)) (on k p (heard c))
+      put carousel ls P top k gs c cs (above 0 k p) klt (subst (IsSaidIn carousel ls k) (sym e) said) (subst (IsNearTo gs k) (sym e) (close gs near)) (on k p (as_heard c))
       (subst (λ h. WithGenerations carousel ls P k (gens_with gs k h) cs) (sym e)
       (rest k klt (λ i g q. a.order 0 (suc i) k g (omega arith) p q) gs (pass_near c cs of gs (ABlock x) e (λ d f. cc) near))) where
         close : (gs : List ℕ) → NearUpTo (c ∷ cs) of gs → IsNearTo gs k (ABlock x)
         close [] n = tt
         close (g ∷ gs) n = n 0 k (c, x, refl, e) (λ i lt dii. omega (arith, lt)) p
   accepted k p klt rest (ADsi d) e said =
-      put carousel ls P top k gs c cs (above 0 k p) klt (subst (IsSaidIn carousel ls k) (sym e) said) (subst (IsNearTo gs k) (sym e) (free gs)) (on k p (heard c))
+      put carousel ls P top k gs c cs (above 0 k p) klt (subst (IsSaidIn carousel ls k) (sym e) said) (subst (IsNearTo gs k) (sym e) (free gs)) (on k p (as_heard c))
       (subst (λ h. WithGenerations carousel ls P k (gens_with gs k h) cs) (sym e)
       (rest k klt (λ i g q. a.order 0 (suc i) k g (omega arith) p q) gs (pass_near c cs of gs (ADsi d) e (λ x f. cc) near))) where
         free : (gs : List ℕ) → IsNearTo gs k (ADsi d)
         free [] = tt
         free (g ∷ gs) = tt
   accepted k p klt rest (Skipped skip) e said =
-      put carousel ls P top k gs c cs (above 0 k p) klt (subst (IsSaidIn carousel ls k) (sym e) said) (never_near gs k c skip e) (on k p (heard c))
+      put carousel ls P top k gs c cs (above 0 k p) klt (subst (IsSaidIn carousel ls k) (sym e) said) (never_near gs k c skip e) (on k p (as_heard c))
       (subst (λ h. WithGenerations carousel ls P k (gens_with gs k h) cs) (sym e)
       (rest k klt (λ i g q. a.order 0 (suc i) k g (omega arith) p q) gs (pass_near c cs of gs (Skipped skip) e (λ x f. cc) near)))
   accepted k p klt rest (NoControl n) e said = absurd said
@@ -145,6 +145,6 @@ with_generations carousel ls P (c ∷ cs) of a each top lt above gs near = by (s
 
   by : (r : Result sections.Fields Skip) → sections.read c ≡ r → Rest → WithGenerations carousel ls P top gs (c ∷ cs)
   by (Err skip) e rest =
-      let says : heard c ≡ Skipped skip = ap heard_section e in
+      let says : as_heard c ≡ Skipped skip = ap heard_section e in
       skipped carousel ls P top gs c cs skip says lt (rest top lt (λ i g q. above (suc i) g q) gs (pass_near c cs of gs (Skipped skip) says (λ d f. cc) near))
-  by (Ok s) e rest = let x = a.each 0 c refl (ap (λ r. is_ok r) e) in accepted x.0 x.1.0 x.1.1.0 rest (heard c) refl x.1.1.1
+  by (Ok s) e rest = let x = a.each 0 c refl (ap (λ r. is_ok r) e) in accepted x.0 x.1.0 x.1.1.0 rest (as_heard c) refl x.1.1.1

@@ -10,8 +10,8 @@ use Rattle.carousel_world.specs.Broadcasts.{Sending, sections}
 use Rattle.carousel_world.specs.Events.{Step, Commit, Draw, Open}
 use Rattle.carousel_world.specs.Promises.{world_after}
 use Rattle.carousel_world.specs.Publishing.{layouts_for, items_sent, publication}
-use Rattle.carousel_world.specs.Settling.{IsOpening, whole_draw, settled}
-use Rattle.carousel_world.specs.World.{WorldState, opening, happens, after_all}
+use Rattle.carousel_world.specs.Settling.{IsOpening, whole_draw, with_settling}
+use Rattle.carousel_world.specs.World.{WorldState, initial_world, happens, after_all}
 -- A draw that is sent in pieces: `SentSo` says what the pieces so far left of a downlink, from `none_sent_so` on, and `piece_sent` adds one, which
 -- `piece_of` cuts from the draw's items, and `draw_sent` the last. The sections of a generation are as a downlink asks by `framed_is_like`. `stands_after_draw` says that a downlink
 -- which stood for some draws, and sent one more, stands for these and it. `generation_with` writes out a generation of a tree of one small file.
@@ -32,8 +32,8 @@ sections_are carousel ls g items =
     ∙ map_map (λ (s : Sending). section_in carousel ls s.0 s.1) (λ (item : Item). (g, item)) items
 
 -- what is sent of a published tree
-pub published_sections : (carousel cycles : ℕ) (t : Tree) → sections (publication carousel cycles t) ≡ map (section_in carousel (layouts_for carousel t) 1) (items_sent carousel cycles t)
-published_sections carousel cycles t = sections_are carousel (layouts_for carousel t) 1 (items_sent carousel cycles t)
+pub published_sections : (carousel : ℕ) (weights : List ℕ) (cycles : ℕ) (t : Tree) → sections (publication carousel weights cycles t) ≡ map (section_in carousel (layouts_for carousel t) 1) (items_sent carousel weights cycles t)
+published_sections carousel weights cycles t = sections_are carousel (layouts_for carousel t) 1 (items_sent carousel weights cycles t)
 
 -- ---- opens and settling
 
@@ -49,13 +49,13 @@ after_all-append w [] ys = refl
 after_all-append w (x ∷ xs) ys = after_all-append (happens w x) xs ys
 
 -- two whole draws leave the same world where opens stand between and after them
-pub settled_among_opens : (carousel : ℕ) (before between after : List Step) → All IsOpening between → All IsOpening after
-    → world_after carousel (before ++ whole_draw ∷ (between ++ whole_draw ∷ after)) ≡ world_after carousel (settled before)
-settled_among_opens carousel before between after opens others =
-    let w = world_after carousel before in
+pub settled_among_opens : (carousel : ℕ) (weights : List ℕ) (before between after : List Step) → All IsOpening between → All IsOpening after
+    → world_after carousel weights (before ++ whole_draw ∷ (between ++ whole_draw ∷ after)) ≡ world_after carousel weights (with_settling before)
+settled_among_opens carousel weights before between after opens others =
+    let w = world_after carousel weights before in
     let one = happens w whole_draw in
-    after_all-append (opening carousel) before (whole_draw ∷ (between ++ whole_draw ∷ after))
+    after_all-append (initial_world carousel weights) before (whole_draw ∷ (between ++ whole_draw ∷ after))
     ∙ after_all-append one between (whole_draw ∷ after)
     ∙ ap (λ v. after_all (happens v whole_draw) after) (opens_leave one between opens)
     ∙ opens_leave (happens one whole_draw) after others
-    ∙ sym (after_all-append (opening carousel) before (whole_draw ∷ whole_draw ∷ []))
+    ∙ sym (after_all-append (initial_world carousel weights) before (whole_draw ∷ whole_draw ∷ []))

@@ -9,11 +9,11 @@ use Rattle.std.proofs.lemmas.List.Elements.{All-append, All-map, All-nil, All-ta
 use Rattle.std.proofs.lemmas.List.Sums.{fold-append}
 use Rattle.path_tree.specs.Paths.{Bytes}
 use Rattle.ts_packet.specs.declared.Fate.{Fate}
-use Rattle.ts_packet.specs.Fates.{arrived}
+use Rattle.ts_packet.specs.Fates.{arrival_of}
 use Rattle.section_stream.specs.Cuts.{candidates}
 use Rattle.section_stream.specs.Kept.{view_bytes}
 use Rattle.section_stream.proofs.CallerLemmas.{packets_of_all-append}
-use Rattle.section_stream.specs.Packing.{MuxState, IsSectionLike, finished, idle, last_of, packets_of, packets_of_all, past}
+use Rattle.section_stream.specs.Packing.{MuxState, IsSectionLike, after_finish, idle, last_of, packets_of, packets_of_all, past}
 use Rattle.section_stream.specs.Groups.{IsBetween, layout_of, packets_of_group, past_group}
 use Rattle.section_stream.proofs.CallerLemmas.{between_idle, calls_give, few_packets}
 use Rattle.section_stream.specs.Rules as rules
@@ -26,7 +26,7 @@ use Rattle.carousel_world.specs.DownView.{DownlinkState, DownlinkStands, Hears, 
 -- which packets arrive doesn't depend on their numbers in the air
 pub same_packets : (fates : List Fate) (i n m : ℕ) (ps : List Bytes) → map (λ a. a.1) (under fates i n ps) ≡ map (λ a. a.1) (under fates i m ps)
 same_packets fates i n m [] = refl
-same_packets fates i n m (p ∷ ps) = go (arrived (fate_of fates i) p) (same_packets fates (i + 1) (n + 1) (m + 1) ps) where
+same_packets fates i n m (p ∷ ps) = go (arrival_of (fate_of fates i) p) (same_packets fates (i + 1) (n + 1) (m + 1) ps) where
   go : (o : Option Bytes) → map (λ a. a.1) (under fates (i + 1) (n + 1) ps) ≡ map (λ a. a.1) (under fates (i + 1) (m + 1) ps)
       → map (λ a. a.1) (onto_arrivals n o (under fates (i + 1) (n + 1) ps)) ≡ map (λ a. a.1) (onto_arrivals m o (under fates (i + 1) (m + 1) ps))
   go (Some x) h = ap (λ xs. x ∷ xs) h
@@ -36,7 +36,7 @@ pub under-append : (fates : List Fate) (i n : ℕ) (ps qs : List Bytes) → unde
 under-append fates i n [] qs =
     ap (λ k. under fates k n qs) (sym (add-zero i)) ∙ ap (λ k. under fates (i + length {A = Bytes} []) k qs) (sym (add-zero n))
 under-append fates i n (p ∷ ps) qs =
-    go (arrived (fate_of fates i) p) (under-append fates (i + 1) (n + 1) ps qs
+    go (arrival_of (fate_of fates i) p) (under-append fates (i + 1) (n + 1) ps qs
     ∙ ap (λ k. under fates (i + 1) (n + 1) ps ++ under fates k (n + 1 + length ps) qs) (omega arith)
     ∙ ap (λ k. under fates (i + 1) (n + 1) ps ++ under fates (i + length (p ∷ ps)) k qs) (omega arith)) where
       go : (o : Option Bytes) → under fates (i + 1) (n + 1) (ps ++ qs) ≡ under fates (i + 1) (n + 1) ps ++ under fates (i + length (p ∷ ps)) (n + length (p ∷ ps)) qs
@@ -51,7 +51,7 @@ received-append fates i ps qs =
     ∙ ap (λ xs. received_under fates i ps ++ xs) (same_packets fates (i + length ps) (0 + length ps) 0 qs)
 
 -- one packet more, which arrives
-pub one_arrives : (fates : List Fate) (from number k : ℕ) (ps : List Bytes) (p x d : Bytes) → number ≡ from + k → k < length ps → p ≡ get_or ps k d → Some x ≡ arrived (fate_of fates number) p
+pub one_arrives : (fates : List Fate) (from number k : ℕ) (ps : List Bytes) (p x d : Bytes) → number ≡ from + k → k < length ps → p ≡ get_or ps k d → Some x ≡ arrival_of (fate_of fates number) p
     → received_under fates from (take (k + 1) ps) ≡ received_under fates from (take k ps) ++ x ∷ []
 one_arrives fates from number k ps p x d n lt e a =
     let size : length (take k ps) ≡ k = length-take-le k ps (omega (arith, lt)) in
@@ -61,7 +61,7 @@ one_arrives fates from number k ps p x d n lt e a =
     ∙ ap (λ o. received_under fates from (take k ps) ++ map (λ a. a.1) (onto_arrivals 0 o [])) (sym a)
 
 -- one packet more, which doesn't
-pub one_is_lost : (fates : List Fate) (from number k : ℕ) (ps : List Bytes) (p d : Bytes) → number ≡ from + k → k < length ps → p ≡ get_or ps k d → None ≡ arrived (fate_of fates number) p
+pub one_is_lost : (fates : List Fate) (from number k : ℕ) (ps : List Bytes) (p d : Bytes) → number ≡ from + k → k < length ps → p ≡ get_or ps k d → None ≡ arrival_of (fate_of fates number) p
     → received_under fates from (take (k + 1) ps) ≡ received_under fates from (take k ps)
 one_is_lost fates from number k ps p d n lt e a =
     let size : length (take k ps) ≡ k = length-take-le k ps (omega (arith, lt)) in
@@ -134,7 +134,7 @@ stands_on last d e pid groups begun more packets came framed m h st = by last m 
   by false n = record { works = h.spent ∙ st.works; mux = n ∙ steps; like = like; one_pid = h.one_pid ∙ st.one_pid; demux = h.demux packets st.demux; tuner = tuned }
   by true n = record {
     works = h.spent ∙ st.works;
-    mux = n ∙ ap finished steps ∙ (calls_give start (begun ++ more) (between_groups pid groups) like).1 ∙ sym (fold-append past_group (idle pid 0) groups ((begun ++ more) ∷ []));
+    mux = n ∙ ap after_finish steps ∙ (calls_give start (begun ++ more) (between_groups pid groups) like).1 ∙ sym (fold-append past_group (idle pid 0) groups ((begun ++ more) ∷ []));
     like = All-nil IsSectionLike;
     one_pid = h.one_pid ∙ st.one_pid;
     demux = h.demux packets st.demux;
@@ -144,13 +144,13 @@ stands_on last d e pid groups begun more packets came framed m h st = by last m 
 -- ---- one packet of a list, and one section
 
 -- a packet that arrives, heard
-pub one_heard : (d e f : DownlinkState) (fates : List Fate) (from number k : ℕ) (ps : List Bytes) (p x q : Bytes) → number ≡ from + k → k < length ps → p ≡ get_or ps k q → Some x ≡ arrived (fate_of fates number) p
+pub one_heard : (d e f : DownlinkState) (fates : List Fate) (from number k : ℕ) (ps : List Bytes) (p x q : Bytes) → number ≡ from + k → k < length ps → p ≡ get_or ps k q → Some x ≡ arrival_of (fate_of fates number) p
     → Hears d e (received_under fates from (take k ps)) → Hears e f (x ∷ []) → Hears d f (received_under fates from (take (k + 1) ps))
 one_heard d e f fates from number k ps p x q n lt is a h more =
     hears_more d e f (received_under fates from (take k ps)) (x ∷ []) (received_under fates from (take (k + 1) ps)) (one_arrives fates from number k ps p x q n lt is a) h more
 
 -- and one that is lost
-pub one_not_heard : (d e : DownlinkState) (fates : List Fate) (from number k : ℕ) (ps : List Bytes) (p q : Bytes) → number ≡ from + k → k < length ps → p ≡ get_or ps k q → None ≡ arrived (fate_of fates number) p
+pub one_not_heard : (d e : DownlinkState) (fates : List Fate) (from number k : ℕ) (ps : List Bytes) (p q : Bytes) → number ≡ from + k → k < length ps → p ≡ get_or ps k q → None ≡ arrival_of (fate_of fates number) p
     → Hears d e (received_under fates from (take k ps)) → Hears d e (received_under fates from (take (k + 1) ps))
 one_not_heard d e fates from number k ps p q n lt is a h = subst (Hears d e) (sym (one_is_lost fates from number k ps p q n lt is a)) h
 
@@ -240,9 +240,9 @@ ended_number last d e fates from number after sections t a so =
     length-append (packets_of_all d.mux sections) (last_of (fold past d.mux sections)) ∙ ap (λ x. length (packets_of_all d.mux sections) + length (last_of x)) (sym so.mux) in
     subst (λ b. after ≡ from + length (packets_given d.mux sections b)) (sym t) (omega (arith, a, c, size))
 
-pub ended_mux : (last : Bool) (d e f : DownlinkState) (fates : List Fate) (from number : ℕ) (sections : List Bytes) → last ≡ true → f.mux ≡ finished e.mux → Sent d e fates from number sections
+pub ended_mux : (last : Bool) (d e f : DownlinkState) (fates : List Fate) (from number : ℕ) (sections : List Bytes) → last ≡ true → f.mux ≡ after_finish e.mux → Sent d e fates from number sections
     → f.mux ≡ past_given d.mux sections last
-ended_mux last d e f fates from number sections t m so = subst (λ b. f.mux ≡ past_given d.mux sections b) (sym t) (m ∙ ap finished so.mux)
+ended_mux last d e f fates from number sections t m so = subst (λ b. f.mux ≡ past_given d.mux sections b) (sym t) (m ∙ ap after_finish so.mux)
 
 pub ended_hears : (last : Bool) (d e f : DownlinkState) (fates : List Fate) (from number : ℕ) (sections : List Bytes) → last ≡ true → Hears e f (received_under fates number (last_of e.mux)) → Sent d e fates from number sections
     → Hears d f (received_under fates from (packets_given d.mux sections last))

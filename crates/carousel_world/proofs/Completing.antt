@@ -10,7 +10,7 @@ use Rattle.dsi_dii.specs.Controls.{DiiFields, version_of, dii_transaction}
 use Rattle.cycle_planner.specs.declared.Item.TheVariants.{Block}
 use Rattle.generation.specs.Lawful.{layout_at, version_in, dii_in, IsItem, EqualVersionsMeanEqualBytes}
 use Rattle.tuner_core.specs.Heard.{Heard, Skipped, NoControl, NoBlock, ADsi, ADii, ABlock}
-use Rattle.tuner_core.specs.LookBack.{is_sound, fitting, block_among, module_among}
+use Rattle.tuner_core.specs.LookBack.{is_sound, bytes_if_fits, block_among, module_among}
 use Rattle.tuner_core.specs.Spans.{Span, span_after, turns, stretch, earlier, held_module, table_in, version, identification}
 use Rattle.carousel_world.proofs.Answering.{AreWhole}
 use Rattle.carousel_world.proofs.Lists.{first_there, joined_all}
@@ -87,9 +87,9 @@ module_whole carousel ls law g top lt le glt kept since heard gs ss near of has 
     joined_all (block_among all held line) m.1 4066 (lit< tt)
     (λ b inside.
     let there : Contains all (says carousel ls g (Block m.0 b)) = contains_right (earlier held line kept ss) since (says carousel ls g (Block m.0 b)) (has m.0 b (glt, (m.1, listed, inside))) in
-    first_there (fitting held line b) (ddb.block_of m.1 4066 b) all there.0 (says carousel ls g (Block m.0 b))
+    first_there (bytes_if_fits held line b) (ddb.block_of m.1 4066 b) all there.0 (says carousel ls g (Block m.0 b))
     (stretch_right carousel ls law g top lt le kept since heard gs ss near of m listed b)
-    there.1 (ap (fitting held line b) there.2 ∙ fitting_itself carousel ls g m b listed inside))
+    there.1 (ap (bytes_if_fits held line b) there.2 ∙ fitting_itself carousel ls g m b listed inside))
 
 rows_whole : (s : Span) (ss : List Span) (versions : ℕ → ℕ) (ms : Layout) → All (λ m. module_among (stretch s ss (line_of versions m)) s.dii (line_of versions m) ≡ Some m.1) ms
     → AreWhole (map (held_module s ss) (map (line_of versions) ms))

@@ -1,19 +1,21 @@
 -- The items of whole cycles.
-use Rattle.std.proofs.Common.{◌≡◌, ℕ, zero, suc, ◌<◌, Bool, true, false, eqb, List, [], ◌∷◌, length, get_or, Some, None, refl, ap, sym, ◌∙◌, subst, arith}
+use Rattle.std.proofs.Common.{◌≡◌, ℕ, zero, suc, ◌-◌, ◌<◌, ◌≤◌, Bool, true, false, eqb, List, [], ◌∷◌, ◌++◌, length, get_or, Some, None, refl, ap, sym, ◌∙◌, subst, append_assoc, arith}
 use Rattle.std.proofs.lemmas.Bool.{eqb-true}
 use Rattle.std.proofs.lemmas.Option.{same_Some}
-use Rattle.std.proofs.lemmas.List.Elements.{All-head, All-tail, All-cons, All-nil, All-map, All-append, Contains-append_left, Contains-append_right}
+use Rattle.std.proofs.lemmas.List.Elements.{All-head, All-tail, All-nil, All-map, All-append, Contains-append_left, Contains-append_right}
 use Rattle.std.proofs.lemmas.List.FromFn.{length-range_with_len, get_or-range_with_len, length-map-range_with_len, get_or-map-range_with_len}
 use Rattle.std.specs.List.{All, Contains, flat_map, range_with_len}
 use Rattle.path_tree.specs.Paths.{Bytes}
 use Rattle.biop_object.specs.Names.{Layout, module_in}
-use Rattle.cycle_planner.specs.Cycle.{Line, blocks_of, cycle_of}
+use Rattle.cycle_planner.specs.Cycle.{Line, blocks_of, round, greatest_weight, cycle_of}
+use Rattle.cycle_planner.proofs.CallerLemmas.{cycle_all, cycle_begins}
+use Rattle.cycle_planner.specs.Weights.{AreWeights}
 use Rattle.cycle_planner.specs.declared.Item.{Item}
 use Rattle.cycle_planner.specs.declared.Item.TheVariants.{Dsi, Dii, Block}
 use Rattle.ddb_block.specs.Blocks as ddb
 use Rattle.generation.specs.Layouts.{lines_in}
 use Rattle.generation.specs.Lawful.{layout_at, IsItem}
-use Rattle.carousel_world.specs.Publishing.{repeated}
+use Rattle.carousel_world.specs.Publishing.{repeat_list}
 use Rattle.carousel_world.proofs.Modules.{IsSent, each_listed}
 
 -- ---- the items of a cycle are the generation's
@@ -41,18 +43,16 @@ modules_are_items ls g lt (m ∷ ms) all =
     (blocks_are_items ls g lt m (All-head (λ m. module_in (layout_at ls g) m.0 ≡ Some m.1) m ms all))
     (modules_are_items ls g lt ms (All-tail (λ m. module_in (layout_at ls g) m.0 ≡ Some m.1) m ms all))
 
-pub cycle_items : (carousel : ℕ) (ls : List Layout) (g : ℕ) → IsSent carousel ls g → g < length ls → All (IsItem ls g) (cycle_of (lines_in (layout_at ls g)))
-cycle_items carousel ls g sent lt =
-    All-cons (IsItem ls g) Dsi (Dii ∷ flat_map blocks_of (lines_in (layout_at ls g))) lt
-    (All-cons (IsItem ls g) Dii (flat_map blocks_of (lines_in (layout_at ls g))) lt
-    (modules_are_items ls g lt (layout_at ls g) (each_listed (layout_at ls g) sent.rising)))
+pub cycle_items : (carousel : ℕ) (ls : List Layout) (g : ℕ) (weights : List ℕ) → IsSent carousel ls g → g < length ls → All (IsItem ls g) (cycle_of weights (lines_in (layout_at ls g)))
+cycle_items carousel ls g weights sent lt =
+    cycle_all (IsItem ls g) weights (lines_in (layout_at ls g)) lt lt (modules_are_items ls g lt (layout_at ls g) (each_listed (layout_at ls g) sent.rising))
 
-each_repeated : {A : Type 0} (P : A → Type 0) (n : ℕ) (xs : List A) → All P xs → All P (repeated n xs)
+each_repeated : {A : Type 0} (P : A → Type 0) (n : ℕ) (xs : List A) → All P xs → All P (repeat_list n xs)
 each_repeated P zero xs all = All-nil P
-each_repeated P (suc n) xs all = All-append P xs (repeated n xs) all (each_repeated P n xs all)
+each_repeated P (suc n) xs all = All-append P xs (repeat_list n xs) all (each_repeated P n xs all)
 
-pub sent_items : (carousel : ℕ) (ls : List Layout) (g cycles : ℕ) → IsSent carousel ls g → g < length ls → All (IsItem ls g) (repeated cycles (cycle_of (lines_in (layout_at ls g))))
-sent_items carousel ls g cycles sent lt = each_repeated (IsItem ls g) cycles (cycle_of (lines_in (layout_at ls g))) (cycle_items carousel ls g sent lt)
+pub sent_items : (carousel : ℕ) (ls : List Layout) (g : ℕ) (weights : List ℕ) (cycles : ℕ) → IsSent carousel ls g → g < length ls → All (IsItem ls g) (repeat_list cycles (cycle_of weights (lines_in (layout_at ls g))))
+sent_items carousel ls g weights cycles sent lt = each_repeated (IsItem ls g) cycles (cycle_of weights (lines_in (layout_at ls g))) (cycle_items carousel ls g weights sent lt)
 
 -- ---- each item is in a cycle
 
@@ -76,3 +76,22 @@ modules_have m b bytes (n ∷ ns) e lt = by (eqb n.0 m) refl (λ h. modules_have
 
 pub cycle_has : (ls : List Layout) (g m b : ℕ) → IsItem ls g (Block m b) → Contains (flat_map blocks_of (lines_in (layout_at ls g))) (Block m b)
 cycle_has ls g m b item = modules_have m b item.1.0 (layout_at ls g) item.1.1 item.1.2
+
+-- ---- whole cycles begin with a whole round
+
+-- the rounds of a cycle after the first
+abbrev pub later_rounds : List ℕ → List Line → List Item
+later_rounds weights lines = flat_map (round weights lines) (range_with_len 1 (greatest_weight weights lines - 1))
+
+pub some_lines : (layout : Layout) → 1 ≤ length layout → 0 < length (lines_in layout)
+some_lines [] some = absurd (omega (arith, some))
+some_lines (m ∷ ms) some = omega arith
+
+pub first_round : (weights : List ℕ) (layout : Layout) (cycles : ℕ) → AreWeights weights → 1 ≤ length layout
+    → repeat_list (suc cycles) (cycle_of weights (lines_in layout))
+    ≡ Dsi ∷ Dii ∷ flat_map blocks_of (lines_in layout) ++ (later_rounds weights (lines_in layout) ++ repeat_list cycles (cycle_of weights (lines_in layout)))
+first_round weights layout cycles are some =
+    let lines = lines_in layout in
+    let others = repeat_list cycles (cycle_of weights lines) in
+    ap (λ (xs : List Item). xs ++ others) (cycle_begins weights lines are (some_lines layout some))
+    ∙ ap (λ (xs : List Item). Dsi ∷ Dii ∷ xs) (append_assoc (flat_map blocks_of lines) (later_rounds weights lines) others)

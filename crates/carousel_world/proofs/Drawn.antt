@@ -12,13 +12,13 @@ use Rattle.cycle_planner.specs.declared.Item.{Item}
 use Rattle.generation.specs.Layouts.{generation_of, items_of, section_of}
 use Rattle.generation.specs.Kept.{layouts_of, GenerationsAreOfTheLists}
 use Rattle.generation.specs.Lawful.{IsItem, section_in}
-use Rattle.generation_catalogue.specs.History.{CatalogueState, current_of, trees_of, draws_of, committed, drawn, outcome_of, is_entered, with_entry}
+use Rattle.generation_catalogue.specs.History.{CatalogueState, current_of, trees_of, draws_of, with_commit, with_draw, outcome_of, is_entered, with_entry}
 use Rattle.generation_catalogue.specs.Laws.{HistoriesGrow}
 use Rattle.generation_catalogue.specs.declared.entry.Entry.{Entry}
 use Rattle.generation_catalogue.specs.declared.entry.Entry.TheVariants as entries
 use Rattle.carousel_world.specs.Broadcasts.{Sending, sendings_of, sections, SendsInOrder}
 use Rattle.carousel_world.specs.Events.{Step, Commit, Draw, Open}
-use Rattle.carousel_world.specs.World.{WorldState, Drawing, drawing_of, sections_of, sections_sent, opening, happens, after_all}
+use Rattle.carousel_world.specs.World.{WorldState, Drawing, drawing_of, sections_of, sections_sent, initial_world, happens, after_all}
 use Rattle.carousel_world.specs.Promises.{group_of, broadcast_of}
 
 -- a draw's generation is the one of that number, and its items are items of it
@@ -49,7 +49,7 @@ risen : (lo n : ℕ) (ds : List Drawing) (d : Drawing) → lo ≤ n → n ≡ d.
 risen lo n [] d le e below r = (subst (λ k. lo ≤ k) e le, tt)
 risen lo n (x ∷ ds) d le e below r = (r.0, risen x.generation.number n ds d (All-head (λ y. y.generation.number ≤ n) x ds below) e (All-tail (λ y. y.generation.number ≤ n) x ds below) r.1)
 
-carousel_stays : (c : CatalogueState) (editor : ℕ) (edits : List Edit) → (committed c editor edits).carousel ≡ c.carousel
+carousel_stays : (c : CatalogueState) (editor : ℕ) (edits : List Edit) → (with_commit c editor edits).carousel ≡ c.carousel
 carousel_stays c editor edits = go (is_entered (outcome_of c edits)) (entries.Commit editor edits (outcome_of c edits)) where
   go : (b : Bool) (e : Entry) → (cond b (with_entry c e) c).carousel ≡ c.carousel
   go true e = refl
@@ -59,7 +59,7 @@ by_commit : HistoriesGrow → (w : WorldState) (editor : ℕ) (edits : List Edit
 by_commit grow w editor edits a =
     let more = grow.by_commit w.catalogue editor edits in
     record {
-      each = subst (λ c. All (IsDrawnOf c (trees_of (committed w.catalogue editor edits))) w.drawings) (sym (carousel_stays w.catalogue editor edits))
+      each = subst (λ c. All (IsDrawnOf c (trees_of (with_commit w.catalogue editor edits))) w.drawings) (sym (carousel_stays w.catalogue editor edits))
           (subst (λ ts. All (IsDrawnOf w.catalogue.carousel ts) w.drawings) (sym more.1)
           (All-weaker (IsDrawnOf w.catalogue.carousel (trees_of w.catalogue)) (IsDrawnOf w.catalogue.carousel (trees_of w.catalogue ++ more.0)) (longer w.catalogue.carousel (trees_of w.catalogue) more.0) w.drawings a.each));
       order = a.order;
@@ -77,7 +77,7 @@ by_draw grow w asked fates a = go (nat_le 16777216 (draws_of w.catalogue)) where
     items = grow.items w.catalogue asked;
   }
 
-  all : AreDrawn (record { catalogue = drawn w.catalogue asked; drawings = w.drawings ++ drawing_of w.catalogue asked fates ∷ [] })
+  all : AreDrawn (record { catalogue = with_draw w.catalogue asked; drawings = w.drawings ++ drawing_of w.catalogue asked fates ∷ [] })
   all = record {
     each = subst (λ ts. All (IsDrawnOf w.catalogue.carousel ts) (w.drawings ++ drawing_of w.catalogue asked fates ∷ [])) (sym (grow.by_draw w.catalogue asked))
         (All-push (IsDrawnOf w.catalogue.carousel (trees_of w.catalogue)) w.drawings (drawing_of w.catalogue asked fates) a.each one);
@@ -85,7 +85,7 @@ by_draw grow w asked fates a = go (nat_le 16777216 (draws_of w.catalogue)) where
         (All-weaker (IsDrawnOf w.catalogue.carousel (trees_of w.catalogue)) (λ x. x.generation.number ≤ length (trees_of w.catalogue)) (λ x is. is.published) w.drawings a.each) a.order;
   }
 
-  go : (full : Bool) → AreDrawn (cond full w (record { catalogue = drawn w.catalogue asked; drawings = w.drawings ++ drawing_of w.catalogue asked fates ∷ [] }))
+  go : (full : Bool) → AreDrawn (cond full w (record { catalogue = with_draw w.catalogue asked; drawings = w.drawings ++ drawing_of w.catalogue asked fates ∷ [] }))
   go true = a
   go false = all
 
@@ -98,8 +98,8 @@ pub drawn_all : HistoriesGrow → (w : WorldState) (es : List Step) → AreDrawn
 drawn_all grow w [] a = a
 drawn_all grow w (e ∷ es) a = drawn_all grow (happens w e) es (drawn_on grow w e a)
 
-pub nothing_drawn : (carousel : ℕ) → AreDrawn (opening carousel)
-nothing_drawn carousel = record { each = All-nil (IsDrawnOf carousel []); order = tt }
+pub nothing_drawn : (carousel : ℕ) (weights : List ℕ) → AreDrawn (initial_world carousel weights)
+nothing_drawn carousel weights = record { each = All-nil (IsDrawnOf carousel []); order = tt }
 
 -- ---- what was sent
 

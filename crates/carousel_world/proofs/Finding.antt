@@ -13,7 +13,7 @@ use Rattle.biop_object.specs.declared.module.Found.TheVariants as found
 use Rattle.biop_object.specs.declared.module.Span.{Span}
 use Rattle.generation.specs.Lawful.{IsNode}
 use Rattle.path_resolver.specs.Names.{names_of}
-use Rattle.path_resolver.specs.Resolving.{HeldModule, Held, Target, ended, goes_on, in_folder, in_module}
+use Rattle.path_resolver.specs.Resolving.{HeldModule, Held, Target, answer_at_end, goes_on, in_folder, in_module}
 use Rattle.path_resolver.specs.declared.answer.Answer.{Answer}
 use Rattle.path_resolver.specs.declared.answer.Answer.TheVariants as answers
 use Rattle.carousel_world.specs.Headline.{IsNodeAnswer}
@@ -121,12 +121,12 @@ pub folder_goes_on : (rest : Target → Answer) (name : Bytes) (m : ℕ) (bytes 
 folder_goes_on rest name m bytes bindings f s = ap (goes_on rest name m bytes) s.1 ∙ ap (in_folder rest name) s.2
 
 -- the end of a walk
-pub ends_at : (m : ℕ) (bytes : Bytes) (thing : Thing) (node : Node) (f : Found) → Sees bytes thing f → IsNode (Some thing) node → IsNodeAnswer (ended m bytes f) node
-ends_at m bytes (AFile b) (File c) f s is = subst (λ g. IsNodeAnswer (ended m bytes g) (File c)) (sym s.1) (sym s.2 ∙ is)
+pub ends_at : (m : ℕ) (bytes : Bytes) (thing : Thing) (node : Node) (f : Found) → Sees bytes thing f → IsNode (Some thing) node → IsNodeAnswer (answer_at_end m bytes f) node
+ends_at m bytes (AFile b) (File c) f s is = subst (λ g. IsNodeAnswer (answer_at_end m bytes g) (File c)) (sym s.1) (sym s.2 ∙ is)
 ends_at m bytes (AFile b) (Folder names) f s is = absurd is
 ends_at m bytes (AFile b) NoSuch f s is = absurd is
 ends_at m bytes (AFolder bindings) (File c) f s is = absurd is
-ends_at m bytes (AFolder bindings) (Folder names) f s is = subst (λ g. IsNodeAnswer (ended m bytes g) (Folder names)) (sym s.1) (ap names_of s.2 ∙ is)
+ends_at m bytes (AFolder bindings) (Folder names) f s is = subst (λ g. IsNodeAnswer (answer_at_end m bytes g) (Folder names)) (sym s.1) (ap names_of s.2 ∙ is)
 ends_at m bytes (AFolder bindings) NoSuch f s is = absurd is
 ends_at m bytes AnOther (File c) f s is = absurd is
 ends_at m bytes AnOther (Folder names) f s is = absurd is

@@ -4,12 +4,12 @@ use Rattle.std.specs.List.{fold}
 use Rattle.std.specs.Option.{option_map}
 use Rattle.std.proofs.lemmas.List.Sums.{fold-append}
 use Rattle.std.proofs.lemmas.List.{map-append}
-use Rattle.oc_bytes.specs.Outcome.{capped}
+use Rattle.oc_bytes.specs.Outcome.{cap_at_u64}
 use Rattle.path_tree.specs.Paths.{Bytes}
 use Rattle.dsi_dii.specs.Controls.{DiiFields, distance_of}
 use Rattle.section_stream.specs.Cuts.{candidates}
 use Rattle.section_stream.specs.Laws.{CandidatesGrow}
-use Rattle.tuner_core.specs.Heard.{Heard, Skipped, NoControl, NoBlock, ADsi, ADii, ABlock, heard}
+use Rattle.tuner_core.specs.Heard.{Heard, Skipped, NoControl, NoBlock, ADsi, ADii, ABlock, as_heard}
 use Rattle.tuner_core.specs.Spans.{Span, spans, span_after, within, is_near, turns, label_in, version}
 use Rattle.carousel_world.specs.Receptions.{label_after, GoesOn, LabelsNeverFall}
 
@@ -39,14 +39,14 @@ labels_capped : (ss : List Span) → IsCapped (label_in ss)
 labels_capped [] = tt
 labels_capped (s ∷ []) = let v = small_version s.dii in omega (arith, v)
 labels_capped (s ∷ t ∷ ss) = go (label_in (t ∷ ss)) where
-  go : (o : Option ℕ) → IsCapped (option_map (λ n. capped (n + distance_of (version t.dii) (version s.dii))) o)
+  go : (o : Option ℕ) → IsCapped (option_map (λ n. cap_at_u64 (n + distance_of (version t.dii) (version s.dii))) o)
   go None = tt
   go (Some n) = omega arith
 
 turned_label : (d : DiiFields) (ss : List Span) → GoesOn (label_in ss) (label_in (record { dii = d; kept = is_near ss d; since = [] } ∷ ss))
 turned_label d [] = tt
 turned_label d (s ∷ ss) = go (label_in (s ∷ ss)) (labels_capped (s ∷ ss)) where
-  go : (o : Option ℕ) → IsCapped o → GoesOn o (option_map (λ n. capped (n + distance_of (version s.dii) (version d))) o)
+  go : (o : Option ℕ) → IsCapped o → GoesOn o (option_map (λ n. cap_at_u64 (n + distance_of (version s.dii) (version d))) o)
   go None c = tt
   go (Some n) c = omega (arith, c)
 
@@ -69,8 +69,8 @@ more ss (h ∷ hs) = then (label_in ss) (label_in (span_after ss h)) (label_in (
 pub never_falls : (cs ds : List Bytes) → GoesOn (label_after cs) (label_after (cs ++ ds))
 never_falls cs ds =
     subst (λ ss. GoesOn (label_after cs) (label_in ss))
-    (sym (ap spans (map-append heard cs ds) ∙ fold-append span_after [] (map heard cs) (map heard ds)))
-    (more (spans (map heard cs)) (map heard ds))
+    (sym (ap spans (map-append as_heard cs ds) ∙ fold-append span_after [] (map as_heard cs) (map as_heard ds)))
+    (more (spans (map as_heard cs)) (map as_heard ds))
 
 pub never_fall : CandidatesGrow → LabelsNeverFall
 never_fall grow = record {

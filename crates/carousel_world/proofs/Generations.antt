@@ -1,7 +1,7 @@
 -- All that is held over turns is of one generation.
 use Rattle.std.proofs.Common.{◌≡◌, ℕ, ◌+◌, ◌-◌, ◌<◌, ◌≤◌, inl, inr, Bool, true, false, cond, not, ◌&&◌, eqb, ltb, List, [], ◌∷◌, ◌++◌, map, length, get_or, Some, None, refl, ap, sym, ◌∙◌, subst, arith, lit<}
 use Rattle.std.specs.List.{All, fold, find}
-use Rattle.oc_bytes.specs.Outcome.{capped}
+use Rattle.oc_bytes.specs.Outcome.{cap_at_u64}
 use Rattle.std.proofs.lemmas.Bool.{and_parts, cond-true, cond-false, eqb-true, ltb-true}
 use Rattle.std.proofs.lemmas.Option.{same_Some}
 use Rattle.std.proofs.lemmas.List.Elements.{All-head, All-tail, All-cons, All-nil, All-append}
@@ -12,7 +12,7 @@ use Rattle.dsi_dii.specs.Controls.{DiiFields, version_of, identification_of, dii
 use Rattle.dsi_dii.specs.declared.ModuleLine.{ModuleLine}
 use Rattle.generation.specs.Lawful.{layout_at, version_in, dii_in, EqualVersionsMeanEqualBytes}
 use Rattle.tuner_core.specs.Heard.{Heard, Skipped, NoControl, NoBlock, ADsi, ADii, ABlock}
-use Rattle.tuner_core.specs.LookBack.{is_sound, fits, fitting, block_among, module_among}
+use Rattle.tuner_core.specs.LookBack.{is_sound, fits, bytes_if_fits, block_among, module_among}
 use Rattle.tuner_core.specs.Spans.{Span, span_after, within, turns, earlier, stretch, is_near, agrees, same_line, same_line_in, label_in, held_module, table_in, version, identification}
 use Rattle.carousel_world.specs.Headline.{block_of_line, block_in}
 use Rattle.carousel_world.proofs.Holding.{IsTable}
@@ -109,7 +109,7 @@ six a b c d e f h =
 -- a block that fits is the module's, whenever it was heard
 fit_right : (ls : List Layout) → EqualVersionsMeanEqualBytes ls → (held : DiiFields) (versions : ℕ → ℕ) (m : ℕ × Bytes) (b g top : ℕ) → top < length ls
     → module_in (layout_at ls g) m.0 ≡ Some m.1 → version_in ls g m.0 ≡ versions m.0
-    → (x : ddb.Block) → IsHeardIn ls g top x → MaybeIs (fitting held (line_of versions m) b (ABlock x)) (ddb.block_of m.1 4066 b)
+    → (x : ddb.Block) → IsHeardIn ls g top x → MaybeIs (bytes_if_fits held (line_of versions m) b (ABlock x)) (ddb.block_of m.1 4066 b)
 fit_right ls law held versions m b g top lt listed versioned x of = by (fits held (line_of versions m) b x) refl where
   by : (t : Bool) → fits held (line_of versions m) b x ≡ t → MaybeIs (cond t (Some x.bytes) None) (ddb.block_of m.1 4066 b)
   by false t = inr refl
@@ -124,7 +124,7 @@ fit_right ls law held versions m b g top lt listed versioned x of = by (fits hel
 
 heard_right : (ls : List Layout) → EqualVersionsMeanEqualBytes ls → (held : DiiFields) (versions : ℕ → ℕ) (m : ℕ × Bytes) (b g top : ℕ) → top < length ls
     → module_in (layout_at ls g) m.0 ≡ Some m.1 → version_in ls g m.0 ≡ versions m.0
-    → (h : Heard) → HeardIn ls g top h → MaybeIs (fitting held (line_of versions m) b h) (ddb.block_of m.1 4066 b)
+    → (h : Heard) → HeardIn ls g top h → MaybeIs (bytes_if_fits held (line_of versions m) b h) (ddb.block_of m.1 4066 b)
 heard_right ls law held versions m b g top lt listed versioned (ABlock x) of = fit_right ls law held versions m b g top lt listed versioned x of
 heard_right ls law held versions m b g top lt listed versioned (Skipped c) of = inr refl
 heard_right ls law held versions m b g top lt listed versioned (NoControl c) of = inr refl
@@ -133,7 +133,7 @@ heard_right ls law held versions m b g top lt listed versioned (ADsi c) of = inr
 heard_right ls law held versions m b g top lt listed versioned (ADii c) of = inr refl
 
 abbrev pub IsRight : DiiFields → (ℕ → ℕ) → ℕ × Bytes → ℕ → Heard → Type 0
-IsRight held versions m b h = MaybeIs (fitting held (line_of versions m) b h) (ddb.block_of m.1 4066 b)
+IsRight held versions m b h = MaybeIs (bytes_if_fits held (line_of versions m) b h) (ddb.block_of m.1 4066 b)
 
 -- in the spans before, as far as the stretch goes
 earlier_right : (carousel : ℕ) (ls : List Layout) → EqualVersionsMeanEqualBytes ls → (held : DiiFields) (versions : ℕ → ℕ) (m : ℕ × Bytes) (b : ℕ)
@@ -182,7 +182,7 @@ module_right carousel ls law g top lt le kept since heard gs ss near of m listed
     let line = line_of (version_in ls g) m in
     let all = stretch (newest carousel ls g kept since) ss line in
     joined_maybe (block_among all held line) m.1 4066 (lit< tt)
-    (λ b. first_maybe (fitting held line b) (ddb.block_of m.1 4066 b) all (stretch_right carousel ls law g top lt le kept since heard gs ss near of m listed b))
+    (λ b. first_maybe (bytes_if_fits held line b) (ddb.block_of m.1 4066 b) all (stretch_right carousel ls law g top lt le kept since heard gs ss near of m listed b))
 
 pub as_newest : (s : Span) (d : DiiFields) → s.dii ≡ d → s ≡ record { dii = d; kept = s.kept; since = s.since }
 as_newest s d e = ap (λ x. record { dii = x; kept = s.kept; since = s.since }) e
@@ -208,7 +208,7 @@ block_right carousel ls law g top gs s ss lt of m b bytes listed =
     let all = stretch (newest carousel ls g s.kept s.since) ss line in
     subst (λ x. MaybeIs (block_in (x ∷ ss) m b) (ddb.block_of bytes 4066 b)) (sym (as_newest s held of.0.dii))
     (subst (λ o. MaybeIs (block_of_line (newest carousel ls g s.kept s.since) ss o b) (ddb.block_of bytes 4066 b)) (sym (line_found (version_in ls g) (layout_at ls g) m bytes listed))
-    (first_maybe (fitting held line b) (ddb.block_of bytes 4066 b) all
+    (first_maybe (bytes_if_fits held line b) (ddb.block_of bytes 4066 b) all
     (stretch_right carousel ls law g top lt of.0.generation s.kept s.since of.0.since gs ss of.0.near of.1 (m, bytes) listed b)))
 
 rows_right : (s : Span) (ss : List Span) (versions : ℕ → ℕ) (ms : Layout)
@@ -243,7 +243,7 @@ label_right carousel ls few top lt (h ∷ hs) g s (u ∷ us) of =
     ap (λ d. distance_of (version d) (version s.dii)) of.1.0.dii ∙ ap (λ d. distance_of (version (dii_in carousel ls h)) (version d)) of.0.dii
     ∙ distance_is h g of.1.0.generation (omega (arith, of.0.generation, lt, few)) in
     rw (before, apart) (ap (λ (n : ℕ). Some n) (sums h g of.1.0.generation (omega (arith, of.0.generation, lt, few)))) where
-      sums : (h g : ℕ) → h ≤ g → g < 16384 → capped (h + (g - h)) ≡ g
+      sums : (h g : ℕ) → h ≤ g → g < 16384 → cap_at_u64 (h + (g - h)) ≡ g
       sums h g le lt = omega (arith, le, lt)
 
 -- ---- one candidate more

@@ -14,7 +14,7 @@ use Rattle.ts_packet.specs.declared.Fate.{Fate}
 use Rattle.cycle_planner.specs.declared.Item.{Item}
 use Rattle.dsmcc_section.specs.Sections.{IsFramed}
 use Rattle.generation.specs.Layouts.{GenerationState, section_of}
-use Rattle.generation_catalogue.specs.History.{CatalogueState, current_of, cursor_of, items_drawn, draws_of, drawn, committed, outcome_of}
+use Rattle.generation_catalogue.specs.History.{CatalogueState, current_of, cursor_of, items_drawn, draws_of, with_draw, with_commit, outcome_of}
 use Rattle.generation_catalogue.specs.Calls.{IsCommitted, IsDrawn, BatchFields, view_batch}
 use Rattle.generation_catalogue.specs.declared.entry.Refusal.{Refusal}
 use Rattle.generation_catalogue.specs.declared.entry.CommitFault.TheVariants as commits
@@ -27,7 +27,7 @@ use Rattle.carousel_world.specs.Events.{Step, Commit, Draw, Open, view}
 use Rattle.carousel_world.specs.Fates.{received_under}
 use Rattle.carousel_world.specs.Promises.{MeetsHeadline, world_after}
 use Rattle.carousel_world.specs.View.{Kept, StandsFor}
-use Rattle.carousel_world.specs.World.{WorldState, InRange, commit_reply, drawing_of, groups_sent, received_in, reply_to, happens, replies_to, after_all, opening}
+use Rattle.carousel_world.specs.World.{WorldState, InRange, commit_reply, drawing_of, groups_sent, received_in, reply_to, happens, replies_to, after_all, initial_world}
 use Rattle.carousel_world.specs.declared.event.Event.{Event}
 use Rattle.carousel_world.specs.declared.event.Reply.{Reply}
 use Rattle.carousel_world.specs.declared.event.Reply.TheVariants as replies
@@ -53,7 +53,7 @@ pub refused : (s d : CatalogueState) (w : WorldState) (down : DownlinkState) (ed
     → (replies.Refused r ≡ commit_reply (outcome_of w.catalogue edits)) × StandsFor (record { catalogue = d; down = down }) (happens w (Commit editor edits))
 refused s d w down editor edits r is st = (
   sym (ap commit_reply (ap (λ (c : CatalogueState). outcome_of c edits) (sym st.catalogue) ∙ is.answer)),
-  record { catalogue = is.entry ∙ ap (λ (c : CatalogueState). committed c editor edits) st.catalogue; down = st.down },
+  record { catalogue = is.entry ∙ ap (λ (c : CatalogueState). with_commit c editor edits) st.catalogue; down = st.down },
 )
 
 -- ---- a draw
@@ -77,9 +77,9 @@ drawn_stands s d w b asked fates old new g items is generation listed st on =
     let all : items ≡ drawing.items = listed ∙ ap (λ (x : BatchFields). x.items) (sym parts.1) ∙ ap (λ (c : CatalogueState). items_drawn c asked) same in
     let P : GenerationState → List Item → Type 0 = λ x xs. DownlinkStands new 256 (groups_sent w.drawings ++ map (section_of x) xs ∷ []) [] (received_in w ++ received_under fates 0 (packets_of_group old.mux (map (section_of x) xs))) in
     let sent : P drawing.generation drawing.items = subst (P drawing.generation) all (subst (λ (x : GenerationState). P x items) its (on 256 (groups_sent w.drawings) (received_in w) st.down)) in
-    let after : StandsFor (record { catalogue = d; down = new }) (record { catalogue = drawn w.catalogue asked; drawings = w.drawings ++ drawing ∷ [] }) =
-    record { catalogue = is.entry ∙ ap (λ (c : CatalogueState). drawn c asked) same; down = stands_after_draw w drawing old new st.down sent } in
-    subst (λ (full : Bool). StandsFor (record { catalogue = d; down = new }) (cond full w (record { catalogue = drawn w.catalogue asked; drawings = w.drawings ++ drawing ∷ [] }))) (sym room) after
+    let after : StandsFor (record { catalogue = d; down = new }) (record { catalogue = with_draw w.catalogue asked; drawings = w.drawings ++ drawing ∷ [] }) =
+    record { catalogue = is.entry ∙ ap (λ (c : CatalogueState). with_draw c asked) same; down = stands_after_draw w drawing old new st.down sent } in
+    subst (λ (full : Bool). StandsFor (record { catalogue = d; down = new }) (cond full w (record { catalogue = with_draw w.catalogue asked; drawings = w.drawings ++ drawing ∷ [] }))) (sym room) after
 
 -- ---- an open
 
@@ -117,8 +117,8 @@ one_more_event k l w events yielded e given more r lt at before stands reply m =
 
 -- ---- the headline of a world that was run
 
-pub headline_of : (k l : Kept) (events : List Step) → ((carousel : ℕ) (all : List Step) → StandsFor l (world_after carousel all) → MeetsHeadline carousel all)
+pub headline_of : (k l : Kept) (events : List Step) → ((carousel : ℕ) (weights : List ℕ) (all : List Step) → StandsFor l (world_after carousel weights all) → MeetsHeadline carousel weights all)
     → ((w : WorldState) → StandsFor k w → StandsFor l (after_all w events))
-    → (carousel : ℕ) (before : List Step) → StandsFor k (world_after carousel before) → MeetsHeadline carousel (before ++ events)
-headline_of k l events keeps stands carousel before st =
-    keeps carousel (before ++ events) (subst (StandsFor l) (sym (after-append (opening carousel) before events)) (stands (world_after carousel before) st))
+    → (carousel : ℕ) (weights : List ℕ) (before : List Step) → StandsFor k (world_after carousel weights before) → MeetsHeadline carousel weights (before ++ events)
+headline_of k l events keeps stands carousel weights before st =
+    keeps carousel weights (before ++ events) (subst (StandsFor l) (sym (after-append (initial_world carousel weights) before events)) (stands (world_after carousel weights before) st))

@@ -4,7 +4,7 @@ use Rattle.std.specs.List.{flat_map}
 use Rattle.path_tree.specs.Paths.{Bytes}
 use Rattle.path_tree.specs.Trees.{Tree}
 use Rattle.biop_object.specs.Names.{Layout}
-use Rattle.module_packer.specs.Kept.{kept, least_with}
+use Rattle.module_packer.specs.Kept.{kept_modules, least_with}
 use Rattle.generation.specs.Publication.{gateway_spot}
 use Rattle.generation.specs.Layouts.{GenerationState, Placed, object_bytes, gateway_before, first_of, next_of}
 use Rattle.generation.specs.Kept.{layouts_of, states_from}
@@ -35,25 +35,25 @@ abbrev pub laid : Bytes → Bytes → List Layout
 laid a b = layout_with gateway_before ∷ layout_with (objects_with a) ∷ layout_with (objects_with b) ∷ []
 
 is_empty : first_of 1 ≡ empty
-unfolding kept
+unfolding kept_modules
 is_empty = refl
 
 -- ---- from one to the next
 
 first_after : next_of empty (tree_of first_content) ≡ generation_with 1 first_content 1
-unfolding kept least_with
+unfolding kept_modules least_with
 first_after = refl
 
 second_after : next_of (generation_with 1 first_content 1) (tree_of second_content) ≡ generation_with 2 second_content 2
-unfolding kept least_with
+unfolding kept_modules least_with
 second_after = refl
 
 seven_after : next_of empty (tree_of seven) ≡ generation_with 1 seven 1
-unfolding kept least_with
+unfolding kept_modules least_with
 seven_after = refl
 
 again_after : next_of (generation_with 1 seven 1) (tree_of seven) ≡ generation_with 2 seven 1
-unfolding kept least_with
+unfolding kept_modules least_with
 again_after = refl
 
 -- ---- from the first on

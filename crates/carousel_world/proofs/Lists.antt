@@ -3,7 +3,7 @@ use Rattle.std.proofs.Common.{◌≡◌, ℕ, zero, suc, ◌+◌, ◌*◌, ◌<�
 use Rattle.std.proofs.lemmas.Grind.{div_ceil_times}
 use Rattle.std.proofs.lemmas.List.Elements.{All-head, All-tail}
 use Rattle.std.specs.List.{All, filter_map, cons_option, last_or, list_any, range_with_len}
-use Rattle.block_assembler.specs.Blocks.{Bytes, joined, onto_all, first_of}
+use Rattle.block_assembler.specs.Blocks.{Bytes, join_all, onto_all, first_of}
 use Rattle.ddb_block.specs.Blocks.{block_count_of, block_of}
 
 -- ---- blocks
@@ -19,7 +19,7 @@ next_blocks bytes k a n =
     rw (next, more) (take-add k (n * k) (drop (a * k) bytes))
 
 joined_all_from : (f : ℕ → Option Bytes) (bytes : Bytes) (k a n : ℕ) → ((b : ℕ) → b < a + n → f b ≡ Some (block_of bytes k b))
-    → joined (map f (range_with_len a n)) ≡ Some (take (n * k) (drop (a * k) bytes))
+    → join_all (map f (range_with_len a n)) ≡ Some (take (n * k) (drop (a * k) bytes))
 joined_all_from f bytes k a zero h = rw (zero-mul k) refl
 joined_all_from f bytes k a (suc n) h =
     let rest = joined_all_from f bytes k (a + 1) n (λ b lt. h b (omega arith)) in
@@ -32,11 +32,11 @@ onto_maybe o p x y (inl e) (inr h) = inr (rw (e, h) refl)
 onto_maybe o p x y (inr e) h = inr (rw e refl)
 
 joined_maybe_from : (f : ℕ → Option Bytes) (bytes : Bytes) (k a n : ℕ) → ((b : ℕ) → MaybeIs (f b) (block_of bytes k b))
-    → MaybeIs (joined (map f (range_with_len a n))) (take (n * k) (drop (a * k) bytes))
+    → MaybeIs (join_all (map f (range_with_len a n))) (take (n * k) (drop (a * k) bytes))
 joined_maybe_from f bytes k a zero h = inl (rw (zero-mul k) refl)
 joined_maybe_from f bytes k a (suc n) h =
     rw (next_blocks bytes k a n)
-    (onto_maybe (f a) (joined (map f (range_with_len (a + 1) n))) (block_of bytes k a) (take (n * k) (drop ((a + 1) * k) bytes))
+    (onto_maybe (f a) (join_all (map f (range_with_len (a + 1) n))) (block_of bytes k a) (take (n * k) (drop ((a + 1) * k) bytes))
     (h a) (joined_maybe_from f bytes k (a + 1) n h))
 
 all_blocks : (bytes : Bytes) (k : ℕ) → 0 < k → take (block_count_of (length bytes) k * k) (drop (0 * k) bytes) ≡ bytes
@@ -44,14 +44,14 @@ all_blocks bytes k positive = rw (zero-mul k) (take_all (block_count_of (length 
 
 -- a module whose blocks are each there or not is there or not
 pub joined_maybe : (f : ℕ → Option Bytes) (bytes : Bytes) (k : ℕ) → 0 < k → ((b : ℕ) → MaybeIs (f b) (block_of bytes k b))
-    → MaybeIs (joined (map f (range_with_len 0 (block_count_of (length bytes) k)))) bytes
+    → MaybeIs (join_all (map f (range_with_len 0 (block_count_of (length bytes) k)))) bytes
 joined_maybe f bytes k positive h =
-    subst (λ x. MaybeIs (joined (map f (range_with_len 0 (block_count_of (length bytes) k)))) x) (all_blocks bytes k positive)
+    subst (λ x. MaybeIs (join_all (map f (range_with_len 0 (block_count_of (length bytes) k)))) x) (all_blocks bytes k positive)
     (joined_maybe_from f bytes k 0 (block_count_of (length bytes) k) h)
 
 -- a module whose blocks are all there is there
 pub joined_all : (f : ℕ → Option Bytes) (bytes : Bytes) (k : ℕ) → 0 < k → ((b : ℕ) → b < block_count_of (length bytes) k → f b ≡ Some (block_of bytes k b))
-    → joined (map f (range_with_len 0 (block_count_of (length bytes) k))) ≡ Some bytes
+    → join_all (map f (range_with_len 0 (block_count_of (length bytes) k))) ≡ Some bytes
 joined_all f bytes k positive h =
     joined_all_from f bytes k 0 (block_count_of (length bytes) k) (λ b lt. h b (omega arith))
     ∙ ap (λ (x : Bytes). Some x) (all_blocks bytes k positive)

@@ -27,16 +27,16 @@ use Rattle.tuner_core.specs.Heard.{is_accepted}
 use Rattle.carousel_world.specs.Broadcasts.{Broadcast, IsAscribed}
 use Rattle.carousel_world.specs.Premises.{AcceptedAreSent, BlocksAreNear, IsHeardOf, IsWhole}
 use Rattle.carousel_world.specs.Instances.{tree_of, cycles_with}
-use Rattle.carousel_world.specs.World.{WorldState, Drawing, candidates_in, received_in, opening, happens, reply_to, replies_to, after_all}
+use Rattle.carousel_world.specs.World.{WorldState, Drawing, candidates_in, received_in, initial_world, happens, reply_to, replies_to, after_all}
 use Rattle.carousel_world.specs.Events.{Step, Commit, Draw, Open}
 use Rattle.carousel_world.specs.declared.event.Reply.{Reply}
 use Rattle.carousel_world.specs.declared.event.Reply.TheVariants as replies
 use Rattle.carousel_world.specs.Promises.{broadcast_of, group_of, from_of, IsUndamaged}
-use Rattle.carousel_world.specs.Runs.{the_path, puts, lossy_run, RunIsPremised}
+use Rattle.carousel_world.specs.Runs.{ones, the_path, puts, lossy_run, RunIsPremised}
 use Rattle.carousel_world.proofs.Instances.{first_content, second_content, first_publishable, second_publishable}
 use Rattle.carousel_world.proofs.Premised.{heard_by, its_blocks}
 use Rattle.carousel_world.proofs.Laid.{generation_with, laid, changed_laid}
-use Rattle.module_packer.specs.Kept.{kept, least_with}
+use Rattle.module_packer.specs.Kept.{kept_modules, least_with}
 
 -- ---- the worlds on the way, written out
 
@@ -63,7 +63,7 @@ abbrev pub last_drawing : Drawing
 last_drawing = cycle_drawn (generation_with 2 second_content 2) []
 
 abbrev pub world_of : List Entry → List Drawing → WorldState
-world_of es ds = record { catalogue = record { carousel = 1; entries = es }; drawings = ds }
+world_of es ds = record { catalogue = record { carousel = 1; weights = ones; entries = es }; drawings = ds }
 
 abbrev pub committed_once : WorldState
 committed_once = world_of (first_commit ∷ []) []
@@ -227,44 +227,44 @@ draws_second = Draw 1048576 (Keep ∷ Flip 800 ∷ Keep ∷ [])
 abbrev draws_last : Step
 draws_last = Draw 1048576 []
 
-first_committed : happens (opening 1) commits_first ≡ committed_once
-unfolding kept least_with
+first_committed : happens (initial_world 1 ones) commits_first ≡ committed_once
+unfolding kept_modules least_with
 first_committed = refl
 
 first_drawn : happens committed_once draws_first ≡ drawn_once
-unfolding kept least_with
+unfolding kept_modules least_with
 first_drawn = refl
 
 second_committed : happens drawn_once commits_second ≡ committed_twice
-unfolding kept least_with
+unfolding kept_modules least_with
 second_committed = refl
 
 second_drawn : happens committed_twice draws_second ≡ drawn_twice
-unfolding kept least_with
+unfolding kept_modules least_with
 second_drawn = refl
 
 last_drawn : happens drawn_twice draws_last ≡ after_run
-unfolding kept least_with
+unfolding kept_modules least_with
 last_drawn = refl
 
-first_number : reply_to (opening 1) commits_first ≡ replies.Committed 1
-unfolding kept least_with
+first_number : reply_to (initial_world 1 ones) commits_first ≡ replies.Committed 1
+unfolding kept_modules least_with
 first_number = refl
 
 first_items : reply_to committed_once draws_first ≡ replies.Drawn 1 0 3
-unfolding kept least_with
+unfolding kept_modules least_with
 first_items = refl
 
 second_number : reply_to drawn_once commits_second ≡ replies.Committed 2
-unfolding kept least_with
+unfolding kept_modules least_with
 second_number = refl
 
 second_items : reply_to committed_twice draws_second ≡ replies.Drawn 2 0 3
-unfolding kept least_with
+unfolding kept_modules least_with
 second_items = refl
 
 last_items : reply_to drawn_twice draws_last ≡ replies.Drawn 2 0 3
-unfolding kept least_with
+unfolding kept_modules least_with
 last_items = refl
 
 first_opened : reply_to drawn_once (Open 1 the_path) ≡ replies.Opened (Some 1) answers.NoCarousel
@@ -279,11 +279,11 @@ last_opened : reply_to after_run (Open 2 the_path) ≡ replies.Opened (Some 2) (
 unfolding message_at block_at each_at tap_at component_at location_at taps_at components_at profile_at ior_at info_at line_at dii_at dsi_at binding_at context_at file_at folder_at object_at head_at sized_at frame_at private_at inside_at
 last_opened = refl
 
-run : Leads (opening 1) lossy_run after_run
+run : Leads (initial_world 1 ones) lossy_run after_run
     (replies.Committed 1 ∷ replies.Drawn 1 0 3 ∷ replies.Opened (Some 1) answers.NoCarousel ∷ replies.Committed 2 ∷ replies.Drawn 2 0 3
     ∷ replies.Opened (Some 2) (answers.NotYet 1) ∷ replies.Drawn 2 0 3 ∷ replies.Opened (Some 2) (answers.File second_content) ∷ [])
 run =
-    one_more (opening 1) committed_once after_run commits_first _ (replies.Committed 1) _ first_committed first_number
+    one_more (initial_world 1 ones) committed_once after_run commits_first _ (replies.Committed 1) _ first_committed first_number
     (one_more committed_once drawn_once after_run draws_first _ (replies.Drawn 1 0 3) _ first_drawn first_items
     (one_more drawn_once drawn_once after_run (Open 1 the_path) _ (replies.Opened (Some 1) answers.NoCarousel) _ refl first_opened
     (one_more drawn_once committed_twice after_run commits_second _ (replies.Committed 2) _ second_committed second_number

@@ -21,6 +21,7 @@ pub record IsSent (carousel : ℕ) (ls : List Layout) (g : ℕ) : Type 0 where
   pub generation : g < 16384
   pub rising : AllPairs (λ m n. m.0 < n.0) (layout_at ls g)
   pub ids : All (λ m. m.0 < 65536) (layout_at ls g)
+  pub some : 1 ≤ length (layout_at ls g)
   pub few : length (layout_at ls g) ≤ 139
   pub total : sum_by (λ m. length m.1) (layout_at ls g) ≤ 268435456
   pub sizes : All (λ m. length m.1 ≤ 16842752) (layout_at ls g)
@@ -38,6 +39,7 @@ is_sent carousel ls ts g lawful lt =
       generation = omega (arith, lawful.few);
       rising = maps.rising;
       ids = maps.ids;
+      some = (at_layout (λ l. (1 ≤ length l) × (length l ≤ most_modules)) ls g lawful.modules lt).0;
       few = (at_layout (λ l. (1 ≤ length l) × (length l ≤ most_modules)) ls g lawful.modules lt).1;
       total = at_layout (λ l. sum_by (λ m. length m.1) l ≤ 268435456) ls g lawful.total lt;
       sizes = at_layout (λ l. All (λ m. length m.1 ≤ 16842752) l) ls g lawful.sizes lt;

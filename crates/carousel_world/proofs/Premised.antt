@@ -20,6 +20,7 @@ use Rattle.generation.specs.Lawful.{Lawful, ArePublishable, IsItem, layout_at, s
 use Rattle.carousel_world.specs.Broadcasts.{Sending, sendings_of, sendings, NeverBack}
 use Rattle.carousel_world.specs.Premises.{Ascribed, AcceptedAreSent, IsHeardOf}
 use Rattle.carousel_world.specs.Instances.{cycles_with}
+use Rattle.carousel_world.specs.Runs.{ones}
 use Rattle.carousel_world.proofs.Climbing.{Climbs, climbs_at}
 use Rattle.carousel_world.proofs.Cycles.{cycle_items}
 use Rattle.carousel_world.proofs.Modules.{is_sent}
@@ -48,14 +49,14 @@ pairs_by xs e i j d lt inside =
 -- ---- whole cycles
 
 items_of_groups : (carousel : ℕ) (ls : List Layout) (trees : List Tree) → Lawful carousel ls trees → (gs : List ℕ) → All (λ g. nat_lt g (length ls) ≡ true) gs
-    → All (λ s. IsItem ls s.0 s.1) (sendings (record { carousel = carousel; trees = trees; layouts = ls; groups = map (λ g. record { generation = g; items = cycle_of (lines_in (layout_at ls g)) }) gs }))
+    → All (λ s. IsItem ls s.0 s.1) (sendings (record { carousel = carousel; trees = trees; layouts = ls; groups = map (λ g. record { generation = g; items = cycle_of ones (lines_in (layout_at ls g)) }) gs }))
 items_of_groups carousel ls trees lawful [] all = All-nil (λ s. IsItem ls s.0 s.1)
 items_of_groups carousel ls trees lawful (g ∷ gs) all =
     let lt : g < length ls = ltb-true g (length ls) (All-head (λ g. nat_lt g (length ls) ≡ true) g gs all) in
-    let items = cycle_items carousel ls g (is_sent carousel ls trees g lawful lt) lt in
-    All-append (λ s. IsItem ls s.0 s.1) (sendings_of (record { generation = g; items = cycle_of (lines_in (layout_at ls g)) }))
-    (sendings (record { carousel = carousel; trees = trees; layouts = ls; groups = map (λ g. record { generation = g; items = cycle_of (lines_in (layout_at ls g)) }) gs }))
-    (All-map (λ s. IsItem ls s.0 s.1) (λ (item : Item). (g, item)) (cycle_of (lines_in (layout_at ls g))) items)
+    let items = cycle_items carousel ls g ones (is_sent carousel ls trees g lawful lt) lt in
+    All-append (λ s. IsItem ls s.0 s.1) (sendings_of (record { generation = g; items = cycle_of ones (lines_in (layout_at ls g)) }))
+    (sendings (record { carousel = carousel; trees = trees; layouts = ls; groups = map (λ g. record { generation = g; items = cycle_of ones (lines_in (layout_at ls g)) }) gs }))
+    (All-map (λ s. IsItem ls s.0 s.1) (λ (item : Item). (g, item)) (cycle_of ones (lines_in (layout_at ls g))) items)
     (items_of_groups carousel ls trees lawful gs (All-tail (λ g. nat_lt g (length ls) ≡ true) g gs all))
 
 -- what holds of each thing sent holds of the one at a place

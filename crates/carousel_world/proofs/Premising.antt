@@ -19,7 +19,7 @@ use Rattle.section_stream.specs.Packing.{IsSectionLike}
 use Rattle.section_stream.specs.Groups.{layout_of, places_in, starts_from}
 use Rattle.section_stream.specs.Laws.{CutsComeInOrder}
 use Rattle.section_stream.proofs.CallerLemmas.{places_count, places_within, starts_behind}
-use Rattle.tuner_core.specs.Heard.{heard}
+use Rattle.tuner_core.specs.Heard.{as_heard}
 use Rattle.carousel_world.specs.Broadcasts.{Broadcast, Group, Sending, SendsInOrder, Ascription, NeverBack, IsAscribed, sendings, sendings_of}
 use Rattle.carousel_world.specs.Premises.{Ascribed, IsFromGeneration, IsHeardOf}
 use Rattle.carousel_world.specs.Receptions.{IsSentIn, EveryReceptionMeets}
@@ -90,7 +90,7 @@ ascribed b cs is_from spelled h ordered = record {
           (x.0, s, x.1, y.1.0, refl),
           (
             lt,
-            subst (λ z. IsSaidIn b.carousel b.layouts s.0 (heard z)) (sym y.1.1)
+            subst (λ z. IsSaidIn b.carousel b.layouts s.0 (as_heard z)) (sym y.1.1)
                 (subst (IsSaidIn b.carousel b.layouts s.0) (sym (hears_item b.carousel b.layouts s.0 spelled sent s.1 item)) (said b.carousel b.layouts s.0 s.1 item)),
           ),
         ),

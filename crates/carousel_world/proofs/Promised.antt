@@ -6,7 +6,7 @@ use Rattle.std.proofs.lemmas.List.Elements.{All-head, All-tail, All-nil, All-con
 use Rattle.path_tree.specs.Trees.{Tree}
 use Rattle.generation.specs.Kept.{LayoutsAreLawful, GenerationsAreOfTheLists}
 use Rattle.generation.specs.Lawful.{ArePublishable, IsPublishable}
-use Rattle.generation_catalogue.specs.History.{CatalogueState, IsHistory, trees_of, draws_of, drawn, outcome_of, is_entered, with_entry}
+use Rattle.generation_catalogue.specs.History.{CatalogueState, IsHistory, trees_of, draws_of, with_draw, outcome_of, is_entered, with_entry}
 use Rattle.generation_catalogue.specs.Laws.{HistoriesGrow}
 use Rattle.generation_catalogue.specs.declared.entry.Entry.{Entry}
 use Rattle.generation_catalogue.specs.declared.entry.Entry.TheVariants as entries
@@ -14,7 +14,7 @@ use Rattle.carousel_world.specs.Receptions.{EveryReceptionMeets, LabelsNeverFall
 use Rattle.section_stream.specs.Cuts.{candidates}
 use Rattle.carousel_world.specs.Fates.{Arrival}
 use Rattle.carousel_world.specs.Events.{Step, Commit, Draw, Open}
-use Rattle.carousel_world.specs.World.{WorldState, Drawing, drawing_of, arrivals, first_packet, received_in, candidates_in, opening, happens, after_all}
+use Rattle.carousel_world.specs.World.{WorldState, Drawing, drawing_of, arrivals, first_packet, received_in, candidates_in, initial_world, happens, after_all}
 use Rattle.carousel_world.specs.Promises.{broadcast_of, from_of, IsUndamaged, HoldsAfter, MeetsHeadline, EveryRunMeetsTheHeadline, world_after, label_in_world}
 use Rattle.carousel_world.specs.View.{Kept, StandsFor}
 use Rattle.carousel_world.proofs.Drawn.{AreDrawn, drawn_all, nothing_drawn, sends_in_order, sections_are_sent}
@@ -29,17 +29,19 @@ after-append w (x ∷ xs) ys = after-append (happens w x) xs ys
 -- a later world has the trees and the draws of an earlier one, and others after them
 pub record Grows (v w : WorldState) : Type 0 where
   pub carousel : w.catalogue.carousel ≡ v.catalogue.carousel
+  pub weights : w.catalogue.weights ≡ v.catalogue.weights
   pub trees : List Tree
   pub same_trees : trees_of w.catalogue ≡ trees_of v.catalogue ++ trees
   pub drawings : List Drawing
   pub same_drawings : w.drawings ≡ v.drawings ++ drawings
 
 still : (w : WorldState) → Grows w w
-still w = record { carousel = refl; trees = []; same_trees = sym (append-nil (trees_of w.catalogue)); drawings = []; same_drawings = sym (append-nil w.drawings) }
+still w = record { carousel = refl; weights = refl; trees = []; same_trees = sym (append-nil (trees_of w.catalogue)); drawings = []; same_drawings = sym (append-nil w.drawings) }
 
 grows_on : (u v w : WorldState) → Grows u v → Grows v w → Grows u w
 grows_on u v w g h = record {
   carousel = h.carousel ∙ g.carousel;
+  weights = h.weights ∙ g.weights;
   trees = g.trees ++ h.trees;
   same_trees = h.same_trees ∙ ap (λ ts. ts ++ h.trees) g.same_trees ∙ append_assoc (trees_of u.catalogue) g.trees h.trees;
   drawings = g.drawings ++ h.drawings;
@@ -52,6 +54,7 @@ grows_by grow w (Commit editor edits) =
     let more = grow.by_commit w.catalogue editor edits in
     record {
       carousel = stays (is_entered (outcome_of w.catalogue edits)) (entries.Commit editor edits (outcome_of w.catalogue edits));
+      weights = weigh_alike (is_entered (outcome_of w.catalogue edits)) (entries.Commit editor edits (outcome_of w.catalogue edits));
       trees = more.0;
       same_trees = more.1;
       drawings = [];
@@ -60,11 +63,16 @@ grows_by grow w (Commit editor edits) =
       stays : (b : Bool) (e : Entry) → (cond b (with_entry w.catalogue e) w.catalogue).carousel ≡ w.catalogue.carousel
       stays true e = refl
       stays false e = refl
+
+      weigh_alike : (b : Bool) (e : Entry) → (cond b (with_entry w.catalogue e) w.catalogue).weights ≡ w.catalogue.weights
+      weigh_alike true e = refl
+      weigh_alike false e = refl
 grows_by grow w (Draw asked fates) = go (nat_le 16777216 (draws_of w.catalogue)) where
-  go : (full : Bool) → Grows w (cond full w (record { catalogue = drawn w.catalogue asked; drawings = w.drawings ++ drawing_of w.catalogue asked fates ∷ [] }))
+  go : (full : Bool) → Grows w (cond full w (record { catalogue = with_draw w.catalogue asked; drawings = w.drawings ++ drawing_of w.catalogue asked fates ∷ [] }))
   go true = still w
   go false = record {
     carousel = refl;
+    weights = refl;
     trees = [];
     same_trees = grow.by_draw w.catalogue asked ∙ sym (append-nil (trees_of w.catalogue));
     drawings = drawing_of w.catalogue asked fates ∷ [];
@@ -125,18 +133,18 @@ label_goes_on laws v w g =
     subst (λ ps. GoesOn (label_in_world v) (label_after (candidates 256 ps))) (sym received) (laws.labels.packets 256 (received_in v) (map (λ a. a.1) more.0))
 
 pub every_run : Laws → EveryRunMeetsTheHeadline
-every_run laws carousel events published = record {
+every_run laws carousel weights events published = record {
   holds = λ before after e.
-      let v = world_after carousel before in
-      let all : world_after carousel events ≡ after_all v after = ap (world_after carousel) e ∙ after-append (opening carousel) before after in
-      let g : Grows v (world_after carousel events) = subst (Grows v) (sym all) (grows_all laws.grow v after) in
-      holds_after laws v (drawn_all laws.grow (opening carousel) before (nothing_drawn carousel)) (publishable_before v (world_after carousel events) g published);
+      let v = world_after carousel weights before in
+      let all : world_after carousel weights events ≡ after_all v after = ap (world_after carousel weights) e ∙ after-append (initial_world carousel weights) before after in
+      let g : Grows v (world_after carousel weights events) = subst (Grows v) (sym all) (grows_all laws.grow v after) in
+      holds_after laws v (drawn_all laws.grow (initial_world carousel weights) before (nothing_drawn carousel weights)) (publishable_before v (world_after carousel weights events) g published);
   forward = λ before between after e.
-      let v = world_after carousel before in
-      let w = world_after carousel (before ++ between) in
-      label_goes_on laws v w (subst (Grows v) (sym (after-append (opening carousel) before between)) (grows_all laws.grow v between));
+      let v = world_after carousel weights before in
+      let w = world_after carousel weights (before ++ between) in
+      label_goes_on laws v w (subst (Grows v) (sym (after-append (initial_world carousel weights) before between)) (grows_all laws.grow v between));
 }
 
 -- of what a world's parts stand for
-pub kept_headline : EveryRunMeetsTheHeadline → (k : Kept) → IsHistory k.catalogue → (carousel : ℕ) (events : List Step) → StandsFor k (world_after carousel events) → MeetsHeadline carousel events
-kept_headline law k history carousel events st = law carousel events (subst (λ (c : CatalogueState). ArePublishable c.carousel (trees_of c)) st.catalogue history.published)
+pub kept_headline : EveryRunMeetsTheHeadline → (k : Kept) → IsHistory k.catalogue → (carousel : ℕ) (weights : List ℕ) (events : List Step) → StandsFor k (world_after carousel weights events) → MeetsHeadline carousel weights events
+kept_headline law k history carousel weights events st = law carousel weights events (subst (λ (c : CatalogueState). ArePublishable c.carousel (trees_of c)) st.catalogue history.published)

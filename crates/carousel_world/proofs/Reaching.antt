@@ -1,6 +1,8 @@
 -- The premises can be met.
-use Rattle.std.proofs.Common.{ℕ, suc, ◌<◌, [], ◌∷◌, refl, sym, subst}
+use Rattle.std.proofs.Common.{ℕ, suc, ◌<◌, List, [], ◌∷◌, refl, sym, subst}
 use Rattle.path_tree.specs.Trees.{Tree}
+use Rattle.cycle_planner.specs.Weights.{AreWeights}
+use Rattle.cycle_planner.proofs.CallerLemmas.{are_ones}
 use Rattle.generation.specs.Kept.{LayoutsAreLawful}
 use Rattle.generation.specs.Lawful.{IsPublishable}
 use Rattle.carousel_world.specs.Broadcasts.{sections}
@@ -18,16 +20,17 @@ use Rattle.carousel_world.proofs.Saying.{Spelled}
 use Rattle.carousel_world.proofs.Single.{second_of, in_order}
 use Rattle.carousel_world.proofs.Waiting.{waits}
 
-whole_round : LayoutsAreLawful → (carousel cycles : ℕ) (t : Tree) → carousel < 4294967296 → IsPublishable t → IsWhole carousel (layouts_for carousel t) 1 (sections (publication carousel (suc cycles) t))
-whole_round lawful carousel cycles t lt is =
+whole_round : LayoutsAreLawful → (carousel : ℕ) (weights : List ℕ) (cycles : ℕ) (t : Tree) → carousel < 4294967296 → AreWeights weights → IsPublishable t → IsWhole carousel (layouts_for carousel t) 1 (sections (publication carousel weights (suc cycles) t))
+whole_round lawful carousel weights cycles t lt are is =
     let ls = layouts_for carousel t in
-    subst (IsWhole carousel ls 1) (sym (published_sections carousel (suc cycles) t)) (whole_cycles carousel ls 1 cycles (second_of lawful carousel t lt is).two)
+    subst (IsWhole carousel ls 1) (sym (published_sections carousel weights (suc cycles) t)) (whole_cycles carousel weights ls 1 cycles are (second_of lawful carousel t lt is).sent.some (second_of lawful carousel t lt is).two)
 
 pub can_be_met : Spelled → LayoutsAreLawful → EveryPublicationMeets → PremisesCanBeMet
 can_be_met spelled lawful meets = record {
+  weights = are_ones;
   tree = (tree_of first_content, record { publishable = first_publishable; path = letter ∷ []; content = first_content; there = first_node });
-  in_order = λ carousel cycles t lt is. in_order carousel cycles t (second_of lawful carousel t lt is);
-  undamaged = λ carousel cycles t i bytes e accepted. (i, refl, e);
+  in_order = λ carousel weights cycles t lt is. in_order carousel weights cycles t (second_of lawful carousel t lt is);
+  undamaged = λ carousel weights cycles t i bytes e accepted. (i, refl, e);
   whole = whole_round lawful;
   waits = waits spelled lawful meets;
   damage = damage lawful;

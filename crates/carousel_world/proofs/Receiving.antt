@@ -13,7 +13,7 @@ use Rattle.generation.specs.Lawful.{layout_at, tree_at, dii_in, section_in, Lawf
 use Rattle.generation.specs.Layouts.{gateway_location}
 use Rattle.path_resolver.specs.Resolving.{Root, HeldModule, answer_of}
 use Rattle.path_resolver.specs.declared.answer.Answer.TheVariants as answers
-use Rattle.tuner_core.specs.Heard.{Heard, Skipped, NoControl, NoBlock, ADsi, ADii, ABlock, heard}
+use Rattle.tuner_core.specs.Heard.{Heard, Skipped, NoControl, NoBlock, ADsi, ADii, ABlock, as_heard}
 use Rattle.tuner_core.specs.LookBack.{is_sound, root_in, gateway_of}
 use Rattle.tuner_core.specs.Spans.{Span, spans, span_after, within, is_near, turns, label_in, table_in, identification_in, held_after, answer_after}
 use Rattle.carousel_world.specs.Headline.{is_dsi, is_dii, IsAnswer, block_in}
@@ -228,7 +228,7 @@ pub record IsReceived (b : Broadcast) (candidates : List Bytes) : Type 0 where
   pub lawful : Lawful b.carousel b.layouts b.trees
   pub same : EqualVersionsMeanEqualBytes b.layouts
   pub pairs : List (ℕ × Heard)
-  pub heard_is : map (λ x. x.1) pairs ≡ map heard candidates
+  pub heard_is : map (λ x. x.1) pairs ≡ map as_heard candidates
   pub are : AreHeardOf b.carousel b.layouts 0 [] pairs
   pub sent : DiisAre (IsSentIn b) pairs
 
@@ -237,7 +237,7 @@ sent_of b cs r k lt = is_sent b.carousel b.layouts b.trees k r.lawful lt
 
 -- something of the generation was sent, and its DII was heard
 abbrev pub IsSentAndHeard : Broadcast → List Bytes → ℕ → Type 0
-IsSentAndHeard b cs g = IsSentIn b g × Contains (map heard cs) (ADii (dii_in b.carousel b.layouts g))
+IsSentAndHeard b cs g = IsSentIn b g × Contains (map as_heard cs) (ADii (dii_in b.carousel b.layouts g))
 
 diis_heard : (carousel : ℕ) (ls : List Layout) (P : ℕ → Type 0) (hs : List Heard) (top : ℕ) (gs : List ℕ) (xs : List (ℕ × Heard)) → AreHeardOf carousel ls top gs xs → DiisAre P xs
     → ((h : Heard) → Contains (map (λ x. x.1) xs) h → Contains hs h) → DiisAre (λ g. P g × Contains hs (ADii (dii_in carousel ls g))) xs
@@ -255,17 +255,17 @@ diis_heard carousel ls P hs top gs ((k, h) ∷ xs) heard diis within = (
   one (NoBlock c) said on here = tt
 
 heard_too : (b : Broadcast) (cs : List Bytes) (r : IsReceived b cs) → DiisAre (IsSentAndHeard b cs) r.pairs
-heard_too b cs r = diis_heard b.carousel b.layouts (IsSentIn b) (map heard cs) 0 [] r.pairs r.are r.sent (λ h has. subst (λ hs. Contains hs h) r.heard_is has)
+heard_too b cs r = diis_heard b.carousel b.layouts (IsSentIn b) (map as_heard cs) 0 [] r.pairs r.are r.sent (λ h has. subst (λ hs. Contains hs h) r.heard_is has)
 
 -- all that is held, where a DII was heard
 pub record HoldsAll (b : Broadcast) (cs : List Bytes) : Type 0 where
   pub generation : ℕ
   pub one : HoldsOne b cs generation
-  pub holds : list_any is_dsi (map heard cs) ≡ true → HoldsOf b.carousel (layout_at b.layouts generation) (held_after (map heard cs))
+  pub holds : list_any is_dsi (map as_heard cs) ≡ true → HoldsOf b.carousel (layout_at b.layouts generation) (held_after (map as_heard cs))
 
-holds_all : (b : Broadcast) (cs : List Bytes) → IsReceived b cs → list_any is_dii (map heard cs) ≡ true → HoldsAll b cs
+holds_all : (b : Broadcast) (cs : List Bytes) → IsReceived b cs → list_any is_dii (map as_heard cs) ≡ true → HoldsAll b cs
 holds_all b cs r dii =
-    let h = holds_one b.carousel b.layouts r.same r.lawful.few r.first (sent_of b cs r) (map heard cs) r.pairs r.heard_is r.are (IsSentAndHeard b cs) (heard_too b cs r) dii in
+    let h = holds_one b.carousel b.layouts r.same r.lawful.few r.first (sent_of b cs r) (map as_heard cs) r.pairs r.heard_is r.are (IsSentAndHeard b cs) (heard_too b cs r) dii in
     record {
       generation = h.generation;
       one = record { labelled = h.labelled; published = h.published; sent = h.sent.0; dii_heard = h.sent.1; turned = h.turned; blocks = h.blocks };
@@ -274,9 +274,9 @@ holds_all b cs r dii =
 
 tells : (b : Broadcast) (cs : List Bytes) → IsReceived b cs → (p : PathNames) → TellsOne b cs p (label_after cs) (answer_after cs p)
 tells b cs r p = record {
-  silent = λ e. holds_none b.carousel b.layouts (map heard cs) r.pairs r.heard_is r.are e p;
+  silent = λ e. holds_none b.carousel b.layouts (map as_heard cs) r.pairs r.heard_is r.are e p;
   known = λ e.
-      let both = and_parts (list_any is_dsi (map heard cs)) (list_any is_dii (map heard cs)) e in
+      let both = and_parts (list_any is_dsi (map as_heard cs)) (list_any is_dii (map as_heard cs)) e in
       let h = holds_all b cs r both.1 in
       record {
         generation = h.generation;
@@ -284,7 +284,7 @@ tells b cs r p = record {
         holds = h.one;
         answered =
             subst (λ o. IsAnswer o (node_at (tree_at b.trees h.generation) p) (answer_after cs p)) (first_is b.carousel (layout_at b.layouts h.generation) cs p)
-            (answers_told b.carousel (layout_at b.layouts h.generation) (tree_at b.trees h.generation) (held_after (map heard cs)) (h.holds both.0) (r.lawful.carries h.generation h.one.published) p);
+            (answers_told b.carousel (layout_at b.layouts h.generation) (tree_at b.trees h.generation) (held_after (map as_heard cs)) (h.holds both.0) (r.lawful.carries h.generation h.one.published) p);
       };
 }
 
@@ -296,30 +296,30 @@ opens b cs r g p whole =
     let ls = b.layouts in
     let sent = sent_of b cs r in
     let dii = dii_in b.carousel ls g in
-    let says_dii : heard (section_in b.carousel ls g Dii) ≡ ADii dii = hears_item b.carousel ls g r.spelled (sent g whole.generation) Dii whole.generation in
-    let says_dsi : heard (section_in b.carousel ls g Dsi) ≡ ADsi (dsi_of b.carousel) = hears_item b.carousel ls g r.spelled (sent g whole.generation) Dsi whole.generation in
-    let dsi : list_any is_dsi (map heard cs) ≡ true = any_heard is_dsi cs (section_in b.carousel ls g Dsi) whole.gateway (ap is_dsi says_dsi) in
-    let place : map heard cs ≡ map heard whole.round.before ++ ADii dii ∷ map heard whole.round.after =
-    ap (map heard) whole.round.place ∙ map-append heard whole.round.before (section_in b.carousel ls g Dii ∷ whole.round.after)
-    ∙ ap (λ h. map heard whole.round.before ++ h ∷ map heard whole.round.after) says_dii in
-    let s = split_at r.pairs (map heard whole.round.before) (ADii dii) (map heard whole.round.after) (r.heard_is ∙ place) in
+    let says_dii : as_heard (section_in b.carousel ls g Dii) ≡ ADii dii = hears_item b.carousel ls g r.spelled (sent g whole.generation) Dii whole.generation in
+    let says_dsi : as_heard (section_in b.carousel ls g Dsi) ≡ ADsi (dsi_of b.carousel) = hears_item b.carousel ls g r.spelled (sent g whole.generation) Dsi whole.generation in
+    let dsi : list_any is_dsi (map as_heard cs) ≡ true = any_heard is_dsi cs (section_in b.carousel ls g Dsi) whole.gateway (ap is_dsi says_dsi) in
+    let place : map as_heard cs ≡ map as_heard whole.round.before ++ ADii dii ∷ map as_heard whole.round.after =
+    ap (map as_heard) whole.round.place ∙ map-append as_heard whole.round.before (section_in b.carousel ls g Dii ∷ whole.round.after)
+    ∙ ap (λ h. map as_heard whole.round.before ++ h ∷ map as_heard whole.round.after) says_dii in
+    let s = split_at r.pairs (map as_heard whole.round.before) (ADii dii) (map as_heard whole.round.after) (r.heard_is ∙ place) in
     let pairs : AreHeardOf b.carousel ls 0 [] (s.before ++ s.here ∷ s.after) = subst (AreHeardOf b.carousel ls 0 []) s.whole r.are in
     let at = at_place b.carousel ls r.lawful.few sent 0 r.first [] [] tt s.before (s.here ∷ s.after) pairs in
     let upto : IsUpTo g s.after = none_later b.carousel ls g s.here.0 (gens_with at.gens s.here.0 s.here.1) s.after at.heard.1.1.1.1
     (λ h lt inside has. whole.no_later h lt inside
     (subst (λ hs. Contains hs (ADii (dii_in b.carousel ls h))) (sym place)
-    (in_tail (map heard whole.round.before) (ADii dii) (map heard whole.round.after) (ADii (dii_in b.carousel ls h)) (subst (λ hs. Contains hs (ADii (dii_in b.carousel ls h))) s.rest has)))) in
+    (in_tail (map as_heard whole.round.before) (ADii dii) (map as_heard whole.round.after) (ADii (dii_in b.carousel ls h)) (subst (λ hs. Contains hs (ADii (dii_in b.carousel ls h))) s.rest has)))) in
     let end = ends_in b.carousel ls r.lawful.few sent g whole.generation (fold span_after [] (map (λ x. x.1) s.before)) s.here s.after at s.said upto in
-    let these : spans (map heard cs) ≡ end.head ∷ end.tail =
+    let these : spans (map as_heard cs) ≡ end.head ∷ end.tail =
     ap spans (sym r.heard_is) ∙ ap (λ xs. spans (map (λ x. x.1) xs)) s.whole ∙ ap spans (map-append (λ (x : ℕ × Heard). x.1) s.before (s.here ∷ s.after))
     ∙ fold-append span_after [] (map (λ x. x.1) s.before) (map (λ x. x.1) (s.here ∷ s.after)) ∙ end.are in
-    let held = holds_from b.carousel ls r.same r.lawful.few sent (map heard cs) r.pairs r.heard_is r.are dsi end.head end.tail these end.top end.published g end.gens end.of in
+    let held = holds_from b.carousel ls r.same r.lawful.few sent (map as_heard cs) r.pairs r.heard_is r.are dsi end.head end.tail these end.top end.published g end.gens end.of in
     let rows : AreWhole (table_in (end.head ∷ end.tail)) = table_whole b.carousel ls r.same g end.top end.gens end.head end.tail end.published (sent g whole.generation) end.of
     (λ m n item. end.has (says b.carousel ls g (Block m n))
     (subst (λ hs. Contains hs (says b.carousel ls g (Block m n))) (sym s.rest)
-    (subst (Contains (map heard whole.round.after)) (hears_item b.carousel ls g r.spelled (sent g whole.generation) (Block m n) item)
-    (contains_map heard whole.round.after (section_in b.carousel ls g (Block m n)) (whole.round.blocks m n tt item))))) in
-    answers_whole b.carousel (layout_at ls g) (tree_at b.trees g) (held_after (map heard cs)) held (r.lawful.carries g whole.generation)
+    (subst (Contains (map as_heard whole.round.after)) (hears_item b.carousel ls g r.spelled (sent g whole.generation) (Block m n) item)
+    (contains_map as_heard whole.round.after (section_in b.carousel ls g (Block m n)) (whole.round.blocks m n tt item))))) in
+    answers_whole b.carousel (layout_at ls g) (tree_at b.trees g) (held_after (map as_heard cs)) held (r.lawful.carries g whole.generation)
     (subst (λ ss. AreWhole (table_in ss)) (sym these) rows) p
 
 -- what is known of candidates meets all that a receiver owes

@@ -10,8 +10,8 @@ use Rattle.cycle_planner.specs.declared.Item.TheVariants.{Block}
 use Rattle.ddb_block.specs.Blocks as ddb
 use Rattle.dsi_dii.specs.Controls.{DiiFields}
 use Rattle.generation.specs.Lawful.{layout_at, version_in, dii_in}
-use Rattle.tuner_core.specs.Heard.{Heard, ABlock, heard}
-use Rattle.tuner_core.specs.LookBack.{fits, fitting}
+use Rattle.tuner_core.specs.Heard.{Heard, ABlock, as_heard}
+use Rattle.tuner_core.specs.LookBack.{fits, bytes_if_fits}
 use Rattle.carousel_world.proofs.Modules.{line_of}
 use Rattle.carousel_world.proofs.Saying.{says, module_of}
 
@@ -22,10 +22,10 @@ any_there test [] k d lt e = absurd (omega (arith, lt))
 any_there test (x ∷ xs) zero d lt e = or_left (test x) (list_any test xs) e
 any_there test (x ∷ xs) (suc k) d lt e = or_right (test x) (list_any test xs) (any_there test xs k d (omega (arith, lt)) e)
 
-pub any_heard : (test : Heard → Bool) (candidates : List Bytes) (c : Bytes) → Contains candidates c → test (heard c) ≡ true → list_any test (map heard candidates) ≡ true
+pub any_heard : (test : Heard → Bool) (candidates : List Bytes) (c : Bytes) → Contains candidates c → test (as_heard c) ≡ true → list_any test (map as_heard candidates) ≡ true
 any_heard test candidates c has e =
-    any_there test (map heard candidates) has.0 (heard c) (omega (arith, length-map candidates heard, has.1))
-    (ap test (get_or-map heard candidates has.0 c (heard c) has.1 ∙ ap heard has.2) ∙ e)
+    any_there test (map as_heard candidates) has.0 (as_heard c) (omega (arith, length-map candidates as_heard, has.1))
+    (ap test (get_or-map as_heard candidates has.0 c (as_heard c) has.1 ∙ ap as_heard has.2) ∙ e)
 
 pub contains_map : {X Y : Type 0} (f : X → Y) (xs : List X) (x : X) → Contains xs x → Contains (map f xs) (f x)
 contains_map f xs x has = (has.0, omega (arith, length-map xs f, has.1), get_or-map f xs has.0 x (f x) has.1 ∙ ap f has.2)
@@ -45,10 +45,10 @@ fits_itself carousel held version m b own size lt =
     (eq-eqb carousel held.download (sym own)) (eq-eqb m.0 m.0 refl)) (eq-eqb (version m.0) (version m.0) refl)) (eq-eqb b b refl)) count) span
 
 pub fitting_itself : (carousel : ℕ) (ls : List Layout) (g : ℕ) (m : ℕ × Bytes) (b : ℕ) → module_in (layout_at ls g) m.0 ≡ Some m.1 → b < ddb.block_count_of (length m.1) 4066
-    → fitting (dii_in carousel ls g) (line_of (version_in ls g) m) b (says carousel ls g (Block m.0 b)) ≡ Some (ddb.block_of m.1 4066 b)
+    → bytes_if_fits (dii_in carousel ls g) (line_of (version_in ls g) m) b (says carousel ls g (Block m.0 b)) ≡ Some (ddb.block_of m.1 4066 b)
 fitting_itself carousel ls g m b listed lt =
     let bytes : module_of ls g m.0 ≡ m.1 = ap (λ o. unwrap_or o []) listed in
     let held = dii_in carousel ls g in
     let x : ddb.Block = record { download = carousel; module_id = m.0; version = version_in ls g m.0; number = b; bytes = ddb.block_of m.1 4066 b } in
-    ap (λ y. fitting held (line_of (version_in ls g) m) b (ABlock (record { download = carousel; module_id = m.0; version = version_in ls g m.0; number = b; bytes = ddb.block_of y 4066 b }))) bytes
+    ap (λ y. bytes_if_fits held (line_of (version_in ls g) m) b (ABlock (record { download = carousel; module_id = m.0; version = version_in ls g m.0; number = b; bytes = ddb.block_of y 4066 b }))) bytes
     ∙ cond-true (fits held (line_of (version_in ls g) m) b x) (Some (ddb.block_of m.1 4066 b)) None (fits_itself carousel held (version_in ls g) m b refl refl lt)

@@ -18,7 +18,7 @@ use Rattle.dsi_dii.specs.Spellings.{IsSpellable, DiiSpellingsReadBack, DiiSpelli
 use Rattle.dsmcc_section.specs.Sections as sections
 use Rattle.generation.specs.Layouts.{gateway_location, control_section, block_section}
 use Rattle.generation.specs.Lawful.{layout_at, version_in, dii_in, section_in, IsItem}
-use Rattle.tuner_core.specs.Heard.{Heard, ADsi, ADii, ABlock, heard, heard_section, heard_in, heard_control, heard_block}
+use Rattle.tuner_core.specs.Heard.{Heard, ADsi, ADii, ABlock, as_heard, heard_section, heard_in, heard_control, heard_block}
 use Rattle.carousel_world.proofs.Modules.{IsSent, listed_holds, line_of, few_blocks}
 
 -- what the crates below say of spellings
@@ -32,7 +32,7 @@ pub record Spelled : Type 0 where
   pub dsi_size : DsiSpellingsHaveSize
 
 abbrev pub dsi_of : ℕ → DsiFields
-dsi_of carousel = record { transaction = 0x80000000; gateway = iors.written gateway_kind (gateway_location carousel) }
+dsi_of carousel = record { transaction = 0x80000000; gateway = iors.written_form gateway_kind (gateway_location carousel) }
 
 abbrev pub module_of : List Layout → ℕ → ℕ → Bytes
 module_of ls g m = unwrap_or (module_in (layout_at ls g) m) []
@@ -50,7 +50,7 @@ says carousel ls g (Block m b) = ABlock (block_in carousel ls g m b)
 short_length : (xs : Bytes) → length (take 4066 xs) ≤ 4066
 short_length xs = omega (arith, length-take 4066 xs)
 
-dsi_written : (carousel : ℕ) → iors.IsWritten (iors.written gateway_kind (gateway_location carousel)) (gateway_location carousel)
+dsi_written : (carousel : ℕ) → iors.IsWritten (iors.written_form gateway_kind (gateway_location carousel)) (gateway_location carousel)
 dsi_written carousel = record { form = refl; four = refl; key = refl }
 
 pub number_below : (ls : List Layout) (g m b : ℕ) (carousel : ℕ) → IsSent carousel ls g → IsItem ls g (Block m b) → (m < 65536) × (b < 65536)
@@ -96,15 +96,15 @@ message_fits carousel m version b bytes h i j k = record { download = h; module_
 
 -- ---- what is heard
 
-hears : (s : sections.Fields) → Spelled → sections.Fits s → heard (sections.spelling s) ≡ heard_in s.table s.payload
+hears : (s : sections.Fields) → Spelled → sections.Fits s → as_heard (sections.spelling s) ≡ heard_in s.table s.payload
 hears s spelled f = ap heard_section (spelled.section s f)
 
 hears_control : (extension : ℕ) (payload : Bytes) (message : Message) → Spelled → sections.Fits (control_section extension payload) → controls.read payload ≡ Ok message
-    → heard (sections.spelling (control_section extension payload)) ≡ heard_control (Ok message)
+    → as_heard (sections.spelling (control_section extension payload)) ≡ heard_control (Ok message)
 hears_control extension payload message spelled f e = hears (control_section extension payload) spelled f ∙ ap heard_control e
 
 hears_block : (carousel m version b : ℕ) (bytes : Bytes) → Spelled → carousel < 4294967296 → m < 65536 → version < 256 → b < 65536
-    → heard (sections.spelling (block_section carousel m version b bytes))
+    → as_heard (sections.spelling (block_section carousel m version b bytes))
     ≡ ABlock (record { download = carousel; module_id = m; version = version; number = b; bytes = ddb.block_of bytes 4066 b })
 hears_block carousel m version b bytes spelled h i j k =
     hears (block_section carousel m version b bytes) spelled (block_fits carousel m version b bytes spelled i)
@@ -142,7 +142,7 @@ spellable carousel ls g sent = record {
 }
 
 pub hears_item : (carousel : ℕ) (ls : List Layout) (g : ℕ) → Spelled → IsSent carousel ls g → (item : Item) → IsItem ls g item
-    → heard (section_in carousel ls g item) ≡ says carousel ls g item
+    → as_heard (section_in carousel ls g item) ≡ says carousel ls g item
 hears_item carousel ls g spelled sent Dsi item =
     hears_control 0 (dsi_spelling 0x80000000 gateway_kind (gateway_location carousel)) (IsDsi (dsi_of carousel)) spelled (dsi_fits carousel spelled)
     (spelled.dsi 0x80000000 gateway_kind (gateway_location carousel) (lit< tt) (dsi_written carousel) (record { carousel = sent.carousel_id; module_id = lit< tt }))

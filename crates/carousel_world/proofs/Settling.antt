@@ -8,6 +8,7 @@ use Rattle.std.proofs.lemmas.List.Sums.{fold-append}
 use Rattle.path_tree.specs.Paths.{Bytes}
 use Rattle.biop_object.specs.Names.{Layout}
 use Rattle.cycle_planner.specs.Cycle.{cycle_of}
+use Rattle.cycle_planner.specs.Weights.{AreWeights}
 use Rattle.cycle_planner.specs.declared.Item.{Item}
 use Rattle.cycle_planner.specs.declared.Item.TheVariants.{Dsi, Dii, Block}
 use Rattle.dsmcc_section.specs.Sections as sections
@@ -24,8 +25,8 @@ use Rattle.carousel_world.specs.Fates.{Arrival, under}
 use Rattle.carousel_world.specs.Events.{Step}
 use Rattle.carousel_world.specs.Premises.{IsWhole}
 use Rattle.carousel_world.specs.Promises.{broadcast_of, world_after, HoldsAfter, EveryRunMeetsTheHeadline}
-use Rattle.carousel_world.specs.Settling.{whole_draw, settled, EverySettledRunIsWhole, EverySettledRunOpens}
-use Rattle.carousel_world.specs.World.{WorldState, Drawing, drawing_of, sections_of, groups_sent, arrivals, first_packet, candidates_in, opening, happens}
+use Rattle.carousel_world.specs.Settling.{whole_draw, with_settling, EverySettledRunIsWhole, EverySettledRunOpens}
+use Rattle.carousel_world.specs.World.{WorldState, Drawing, drawing_of, sections_of, groups_sent, arrivals, first_packet, candidates_in, initial_world, happens}
 use Rattle.carousel_world.proofs.Cycles.{cycle_items}
 use Rattle.carousel_world.proofs.Happening.{framed_is_like}
 use Rattle.carousel_world.proofs.Modules.{IsSent, is_sent}
@@ -131,12 +132,15 @@ ends_whole carousel ls g earlier items last is =
 by_end : (P : List Bytes → Type 0) (all xs ys : List Bytes) → (earlier : List Bytes) × (all ≡ earlier ++ xs) → xs ≡ ys → ((earlier : List Bytes) → P (earlier ++ ys)) → P all
 by_end P all xs ys ends same whole = subst P (sym (ends.1 ∙ ap (λ ss. ends.0 ++ ss) same)) (whole ends.0)
 
-like_each : Laws → (carousel : ℕ) (ls : List Layout) (g : ℕ) → IsSent carousel ls g → g < length ls → All (λ item. IsSectionLike (section_in carousel ls g item)) (cycle_of (lines_in (layout_at ls g)))
-like_each laws carousel ls g sent lt k d inside = framed_is_like _ (item_framed carousel ls g laws.framed laws.spelled sent _ (cycle_items carousel ls g sent lt k d inside))
+like_each : Laws → (carousel : ℕ) (ls : List Layout) (g : ℕ) (weights : List ℕ) → IsSent carousel ls g → g < length ls
+    → All (λ item. IsSectionLike (section_in carousel ls g item)) (cycle_of weights (lines_in (layout_at ls g)))
+like_each laws carousel ls g weights sent lt k d inside =
+    framed_is_like _ (item_framed carousel ls g laws.framed laws.spelled sent _ (cycle_items carousel ls g weights sent lt k d inside))
 
-like_all : Laws → (carousel : ℕ) (ls : List Layout) (g : ℕ) → IsSent carousel ls g → g < length ls → All IsSectionLike (map (section_in carousel ls g) (cycle_of (lines_in (layout_at ls g))))
-like_all laws carousel ls g sent lt =
-    All-map IsSectionLike (section_in carousel ls g) (cycle_of (lines_in (layout_at ls g))) (like_each laws carousel ls g sent lt)
+like_all : Laws → (carousel : ℕ) (ls : List Layout) (g : ℕ) (weights : List ℕ) → IsSent carousel ls g → g < length ls
+    → All IsSectionLike (map (section_in carousel ls g) (cycle_of weights (lines_in (layout_at ls g))))
+like_all laws carousel ls g weights sent lt =
+    All-map IsSectionLike (section_in carousel ls g) (cycle_of weights (lines_in (layout_at ls g))) (like_each laws carousel ls g weights sent lt)
 
 -- ---- a world after two whole draws
 
@@ -153,11 +157,11 @@ draws_two w room =
 
 -- the second of two whole draws is a whole cycle of the last generation
 second_draw : Laws → (c : CatalogueState) → IsShort c
-    → map (section_of (current_of (turned c))) (items_drawn (turned c) 1048576) ≡ map (last_section c.carousel (trees_of c)) (cycle_of (lines_in (layout_at (layouts_of c.carousel (trees_of c)) (length (trees_of c)))))
+    → map (section_of (current_of (turned c))) (items_drawn (turned c) 1048576) ≡ map (last_section c.carousel (trees_of c)) (cycle_of c.weights (lines_in (layout_at (layouts_of c.carousel (trees_of c)) (length (trees_of c)))))
 second_draw laws c short =
     sent_by laws.grow laws.lists (turned c) 1048576
     ∙ ap (λ ts. map (last_section c.carousel ts) (items_drawn (turned c) 1048576)) (laws.grow.by_draw c 1048576)
-    ∙ ap (map (last_section c.carousel (trees_of c))) (cycle_drawn laws.grow c short ∙ ap (λ l. cycle_of (lines_in l)) (is_of_lists laws.lists c).layout)
+    ∙ ap (map (last_section c.carousel (trees_of c))) (cycle_drawn laws.grow c short ∙ ap (λ l. cycle_of c.weights (lines_in l)) (is_of_lists laws.lists c).layout)
 
 -- the sections of the first one are as a packer asks
 first_like : Laws → (c : CatalogueState) → All (λ item. IsSectionLike (last_section c.carousel (trees_of c) item)) (cycle_in c) → All IsSectionLike (map (section_of (current_of c)) (items_drawn c 1048576))
@@ -167,58 +171,59 @@ first_like laws c each =
     subst (All IsSectionLike) (sym (sent_by laws.grow laws.lists c 1048576))
     (All-map IsSectionLike (last_section c.carousel (trees_of c)) (items_drawn c 1048576) (All-take its (count_drawn c 1048576) left (All-drop its (cursor_of c) (cycle_in c) each)))
 
-twice_whole : Laws → (w : WorldState) → ArePublishable w.catalogue.carousel (trees_of w.catalogue)
+twice_whole : Laws → (w : WorldState) → AreWeights w.catalogue.weights → ArePublishable w.catalogue.carousel (trees_of w.catalogue)
     → IsWhole w.catalogue.carousel (layouts_of w.catalogue.carousel (trees_of w.catalogue)) (length (trees_of w.catalogue)) (candidates_in (after_one (after_one w)))
-twice_whole laws w published =
+twice_whole laws w are published =
     let c = w.catalogue in
     let ls = layouts_of c.carousel (trees_of c) in
     let g = length (trees_of c) in
     let lawful = laws.lawful c.carousel (trees_of c) published in
     let last : length ls ≡ g + 1 = let many = lawful.as_many in omega (arith, many) in
     let sent : IsSent c.carousel ls g = is_sent c.carousel ls ([] ∷ trees_of c) g lawful (omega (arith, last)) in
-    let cycle = cycle_of (lines_in (layout_at ls g)) in
-    let few = short_cycle c.carousel ls g sent in
-    let same : cycle_in c ≡ cycle = ap (λ l. cycle_of (lines_in l)) (is_of_lists laws.lists c).layout in
+    let cycle = cycle_of c.weights (lines_in (layout_at ls g)) in
+    let few = short_cycle c.carousel ls g c.weights are sent in
+    let same : cycle_in c ≡ cycle = ap (λ l. cycle_of c.weights (lines_in l)) (is_of_lists laws.lists c).layout in
     let short : IsShort c = let size = ap length same in omega (arith, size, few) in
     let second = second_draw laws c short in
     let like : All IsSectionLike (map (section_of (current_of (turned c))) (items_drawn (turned c) 1048576)) =
-    subst (All IsSectionLike) (sym second) (like_all laws c.carousel ls g sent (omega (arith, last))) in
+    subst (All IsSectionLike) (sym second) (like_all laws c.carousel ls g c.weights sent (omega (arith, last))) in
     let each : All (λ item. IsSectionLike (last_section c.carousel (trees_of c) item)) (cycle_in c) =
-    subst (All (λ item. IsSectionLike (last_section c.carousel (trees_of c) item))) (sym same) (like_each laws c.carousel ls g sent (omega (arith, last))) in
+    subst (All (λ item. IsSectionLike (last_section c.carousel (trees_of c) item))) (sym same) (like_each laws c.carousel ls g c.weights sent (omega (arith, last))) in
     let heard = ends_with laws.later w.drawings (current_of c) (current_of (turned c)) (items_drawn c 1048576) (items_drawn (turned c) 1048576) (some_drawn c short) (first_like laws c each) like in
-    by_end (IsWhole c.carousel ls g) _ _ _ heard second (λ earlier. ends_whole c.carousel ls g earlier cycle last (cycle_is_round ls g))
+    by_end (IsWhole c.carousel ls g) _ _ _ heard second (λ earlier. ends_whole c.carousel ls g earlier cycle last (cycle_is_round ls g c.weights are sent.some))
 
 -- ---- a run
 
-settled_world : HistoriesGrow → (carousel : ℕ) (events : List Step) → draws_of (world_after carousel events).catalogue + 2 ≤ 16777216
-    → world_after carousel (settled events) ≡ after_one (after_one (world_after carousel events))
-settled_world grow carousel events room = after-append (opening carousel) events (whole_draw ∷ whole_draw ∷ []) ∙ draws_two (world_after carousel events) room
+settled_world : HistoriesGrow → (carousel : ℕ) (weights : List ℕ) (events : List Step) → draws_of (world_after carousel weights events).catalogue + 2 ≤ 16777216
+    → world_after carousel weights (with_settling events) ≡ after_one (after_one (world_after carousel weights events))
+settled_world grow carousel weights events room = after-append (initial_world carousel weights) events (whole_draw ∷ whole_draw ∷ []) ∙ draws_two (world_after carousel weights events) room
 
 same_trees : HistoriesGrow → (w : WorldState) → trees_of (after_one (after_one w)).catalogue ≡ trees_of w.catalogue
 same_trees grow w = grow.by_draw (turned w.catalogue) 1048576 ∙ grow.by_draw w.catalogue 1048576
 
 pub every_whole : Laws → EverySettledRunIsWhole
-every_whole laws carousel events published room =
-    let w = world_after carousel events in
+every_whole laws carousel weights events are published room =
+    let w = world_after carousel weights events in
     let two = after_one (after_one w) in
-    let its : w.catalogue.carousel ≡ carousel = (grows_all laws.grow (opening carousel) events).carousel in
+    let grown = grows_all laws.grow (initial_world carousel weights) events in
+    let its : w.catalogue.carousel ≡ carousel = grown.carousel in
     let whole : IsWhole w.catalogue.carousel (layouts_of w.catalogue.carousel (trees_of two.catalogue)) (length (trees_of two.catalogue)) (candidates_in two) =
-    subst (λ ts. IsWhole w.catalogue.carousel (layouts_of w.catalogue.carousel ts) (length ts) (candidates_in two)) (sym (same_trees laws.grow w)) (twice_whole laws w published) in
-    subst (λ (v : WorldState). IsWhole carousel (broadcast_of v).layouts (length (trees_of v.catalogue)) (candidates_in v)) (sym (settled_world laws.grow carousel events room))
+    subst (λ ts. IsWhole w.catalogue.carousel (layouts_of w.catalogue.carousel ts) (length ts) (candidates_in two)) (sym (same_trees laws.grow w)) (twice_whole laws w (subst AreWeights (sym grown.weights) are) published) in
+    subst (λ (v : WorldState). IsWhole carousel (broadcast_of v).layouts (length (trees_of v.catalogue)) (candidates_in v)) (sym (settled_world laws.grow carousel weights events room))
     (subst (λ n. IsWhole n (layouts_of w.catalogue.carousel (trees_of two.catalogue)) (length (trees_of two.catalogue)) (candidates_in two)) its whole)
 
-still_publishable : HistoriesGrow → (carousel : ℕ) (events : List Step) → ArePublishable (world_after carousel events).catalogue.carousel (trees_of (world_after carousel events).catalogue)
-    → draws_of (world_after carousel events).catalogue + 2 ≤ 16777216 → ArePublishable (world_after carousel (settled events)).catalogue.carousel (trees_of (world_after carousel (settled events)).catalogue)
-still_publishable grow carousel events published room =
-    let w = world_after carousel events in
-    subst (λ (v : WorldState). ArePublishable v.catalogue.carousel (trees_of v.catalogue)) (sym (settled_world grow carousel events room))
+still_publishable : HistoriesGrow → (carousel : ℕ) (weights : List ℕ) (events : List Step) → ArePublishable (world_after carousel weights events).catalogue.carousel (trees_of (world_after carousel weights events).catalogue)
+    → draws_of (world_after carousel weights events).catalogue + 2 ≤ 16777216 → ArePublishable (world_after carousel weights (with_settling events)).catalogue.carousel (trees_of (world_after carousel weights (with_settling events)).catalogue)
+still_publishable grow carousel weights events published room =
+    let w = world_after carousel weights events in
+    subst (λ (v : WorldState). ArePublishable v.catalogue.carousel (trees_of v.catalogue)) (sym (settled_world grow carousel weights events room))
     (subst (ArePublishable w.catalogue.carousel) (sym (same_trees grow w)) published)
 
 pub every_opens : EveryRunMeetsTheHeadline → Laws → EverySettledRunOpens
-every_opens headline laws carousel events published room undamaged_so reader p =
-    let w = world_after carousel (settled events) in
-    let whole = every_whole laws carousel events published room in
-    let its : w.catalogue.carousel ≡ carousel = (grows_all laws.grow (opening carousel) (settled events)).carousel in
-    let holds : HoldsAfter w = (headline carousel (settled events) (still_publishable laws.grow carousel events published room)).holds (settled events) [] (sym (append-nil (settled events))) in
+every_opens headline laws carousel weights events are published room undamaged_so reader p =
+    let w = world_after carousel weights (with_settling events) in
+    let whole = every_whole laws carousel weights events are published room in
+    let its : w.catalogue.carousel ≡ carousel = (grows_all laws.grow (initial_world carousel weights) (with_settling events)).carousel in
+    let holds : HoldsAfter w = (headline carousel weights (with_settling events) (still_publishable laws.grow carousel weights events published room)).holds (with_settling events) [] (sym (append-nil (with_settling events))) in
     (holds.meets undamaged_so).opens (length (trees_of w.catalogue)) p
     (subst (λ n. IsWhole n (broadcast_of w).layouts (length (trees_of w.catalogue)) (candidates_in w)) (sym its) whole)

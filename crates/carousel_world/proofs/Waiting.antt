@@ -1,23 +1,31 @@
 -- A receiver that has heard no block waits for the first module.
-use Rattle.std.proofs.Common.{◌≡◌, ℕ, zero, suc, ◌<◌, Bool, true, false, cond, ◌&&◌, eqb, List, [], ◌∷◌, map, length, Some, None, refl, ap, sym, ◌∙◌, subst, arith}
+use Rattle.std.proofs.Common.{◌≡◌, ℕ, zero, suc, ◌<◌, ◌≤◌, Bool, true, false, cond, ◌&&◌, eqb, List, [], ◌∷◌, ◌++◌, map, length, Some, None, refl, ap, sym, ◌∙◌, subst, arith}
 use Rattle.std.proofs.lemmas.Bool.{and_from, or_left, or_right}
-use Rattle.std.specs.List.{find, list_all, range_with_len}
+use Rattle.std.specs.Prelude.{slice_get}
+use Rattle.std.specs.List.{find, list_all, flat_map, range_with_len}
 use Rattle.path_tree.specs.Paths.{Bytes, PathNames}
 use Rattle.path_tree.specs.Trees.{Tree, Node, File, Folder, NoSuch, node_at}
 use Rattle.biop_object.specs.Names.{Layout, module_in, thing_in}
+use Rattle.cycle_planner.specs.declared.Item.{Item}
 use Rattle.cycle_planner.specs.declared.Item.TheVariants.{Dsi, Dii}
+use Rattle.cycle_planner.specs.Cycle.{blocks_of}
+use Rattle.cycle_planner.proofs.CallerLemmas.{are_ones}
 use Rattle.ddb_block.specs.Blocks as ddb
 use Rattle.dsi_dii.specs.Controls.{DiiFields}
 use Rattle.generation.specs.Kept.{LayoutsAreLawful}
-use Rattle.generation.specs.Layouts.{gateway_location}
+use Rattle.generation.specs.Layouts.{gateway_location, lines_in}
 use Rattle.generation.specs.Lawful.{Carries, IsNode, IsPublishable, layout_at, version_in, dii_in, section_in}
 use Rattle.path_resolver.specs.declared.answer.Answer.TheVariants as answers
-use Rattle.tuner_core.specs.Heard.{ADsi, heard}
+use Rattle.tuner_core.specs.Heard.{ADsi, as_heard}
 use Rattle.tuner_core.specs.Spans.{Span, turns, spans, answer_after}
 use Rattle.carousel_world.specs.Headline.{is_dsi, is_dii, has_carousel, is_line_whole, is_whole_in, is_whole, first_missing, IsAnswer}
 use Rattle.carousel_world.specs.Premises.{AcceptedAreSent}
-use Rattle.carousel_world.specs.Publishing.{layouts_for, publication, EveryPublicationMeets}
+use Rattle.carousel_world.specs.Publishing.{layouts_for, layout_for, publication, EveryPublicationMeets}
+use Rattle.carousel_world.specs.Broadcasts.{sections}
 use Rattle.carousel_world.specs.Instances.{control_alone}
+use Rattle.carousel_world.specs.Runs.{ones}
+use Rattle.carousel_world.proofs.CallerLemmas.{published_sections}
+use Rattle.carousel_world.proofs.Cycles.{first_round, later_rounds}
 use Rattle.carousel_world.proofs.Below.{root_there}
 use Rattle.carousel_world.proofs.Modules.{IsSent, line_of}
 use Rattle.carousel_world.proofs.Saying.{Spelled, dsi_of, hears_item}
@@ -70,7 +78,7 @@ first_has_bytes carousel layout t carries [] e =
 
 first_awaited : (carousel : ℕ) (ls : List Layout) (t : Tree) → Spelled → IsSecond carousel ls t → is_whole (section_in carousel ls 1 Dsi ∷ section_in carousel ls 1 Dii ∷ []) 1 ≡ false
 first_awaited carousel ls t spelled is =
-    ap (λ h. is_whole_in (spans (h ∷ heard (section_in carousel ls 1 Dii) ∷ [])) 1) (hears_item carousel ls 1 spelled is.sent Dsi is.listed)
+    ap (λ h. is_whole_in (spans (h ∷ as_heard (section_in carousel ls 1 Dii) ∷ [])) 1) (hears_item carousel ls 1 spelled is.sent Dsi is.listed)
     ∙ ap (λ h. is_whole_in (spans (ADsi (dsi_of carousel) ∷ h ∷ [])) 1) (hears_item carousel ls 1 spelled is.sent Dii is.listed)
     ∙ go (turns [] (dii_in carousel ls 1)) where
       go : (t : Bool) → is_whole_in (cond t (alone (dii_in carousel ls 1) ∷ []) []) 1 ≡ false
@@ -88,17 +96,23 @@ control_tells carousel ls g spelled sent lt = and_from _ _
     (or_right _ _ (or_left _ _ (ap is_dii (hears_item carousel ls g spelled sent Dii lt))))
 
 -- they are the first two sections of a cycle
-control_sent : (carousel : ℕ) (t : Tree) → AcceptedAreSent (publication carousel 1 t) (control_alone carousel t) (λ i k. Some i ≡ Some k)
-control_sent carousel t zero bytes e accepted = (0, refl, e)
-control_sent carousel t (suc zero) bytes e accepted = (1, refl, e)
-control_sent carousel t (suc (suc i)) bytes e accepted = cc
+cycle_sections : (carousel : ℕ) (t : Tree) → 1 ≤ length (layout_for carousel t) → (later : List Item) × (sections (publication carousel ones 1 t) ≡ map (section_in carousel (layouts_for carousel t) 1) (Dsi ∷ Dii ∷ later))
+cycle_sections carousel t some = (
+  flat_map blocks_of (lines_in (layout_for carousel t)) ++ (later_rounds ones (lines_in (layout_for carousel t)) ++ []),
+  published_sections carousel ones 1 t ∙ ap (map (section_in carousel (layouts_for carousel t) 1)) (first_round ones (layout_for carousel t) 0 are_ones some),
+)
+
+control_sent : (carousel : ℕ) (t : Tree) → 1 ≤ length (layout_for carousel t) → AcceptedAreSent (publication carousel ones 1 t) (control_alone carousel t) (λ i k. Some i ≡ Some k)
+control_sent carousel t some zero bytes e accepted = (0, refl, ap (λ (ss : List Bytes). slice_get ss 0) (cycle_sections carousel t some).1 ∙ e)
+control_sent carousel t some (suc zero) bytes e accepted = (1, refl, ap (λ (ss : List Bytes). slice_get ss 1) (cycle_sections carousel t some).1 ∙ e)
+control_sent carousel t some (suc (suc i)) bytes e accepted = cc
 
 pub waits : Spelled → LayoutsAreLawful → EveryPublicationMeets → (carousel : ℕ) (t : Tree) (p : PathNames) → carousel < 4294967296 → IsPublishable t
     → answer_after (control_alone carousel t) p ≡ answers.NotYet 1
 waits spelled lawful meets carousel t p lt is =
     let ls = layouts_for carousel t in
     let of : IsSecond carousel ls t = second_of lawful carousel t lt is in
-    let m = meets.sections (control_alone carousel t) carousel 1 t (λ i. Some i) never_back lt is (control_sent carousel t) in
+    let m = meets.sections (control_alone carousel t) carousel ones 1 t (λ i. Some i) never_back lt is (control_sent carousel t of.sent.some) in
     subst (λ o. IsAnswer o (node_at t p) (answer_after (control_alone carousel t) p))
     (first_is_one carousel (layout_at ls 1) (control_alone carousel t) (first_awaited carousel ls t spelled of) p)
     (m.known p (control_tells carousel ls 1 spelled of.sent of.listed))

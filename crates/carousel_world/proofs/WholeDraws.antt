@@ -3,25 +3,26 @@ use Rattle.std.proofs.Common.{◌≡◌, ℕ, ◌+◌, ◌-◌, ◌*◌, ◌%◌
 use Rattle.std.specs.List.{Contains, flat_map, sum_by}
 use Rattle.std.proofs.Math.Nat.{mod-add-mod, mod_self, mod-lt}
 use Rattle.std.proofs.lemmas.Grind.{div_ceil_times}
-use Rattle.std.proofs.lemmas.List.{length-append, length-drop, take_all}
-use Rattle.std.proofs.lemmas.List.Elements.{All-weaker}
-use Rattle.std.proofs.lemmas.List.FromFn.{length-map-range_with_len}
+use Rattle.std.proofs.lemmas.List.{length-drop, take_all}
+use Rattle.std.proofs.lemmas.List.Elements.{All-weaker, Contains-append_left}
 use Rattle.std.proofs.lemmas.List.Sums.{sum_by-cons, sum_by-append}
 use Rattle.path_tree.specs.Paths.{Bytes}
 use Rattle.path_tree.specs.Trees.{Tree}
 use Rattle.biop_object.specs.Names.{Layout}
 use Rattle.cycle_planner.specs.Cycle.{Line, blocks_of, cycle_of}
+use Rattle.cycle_planner.specs.Weights.{AreWeights}
 use Rattle.cycle_planner.specs.declared.Item.{Item}
 use Rattle.cycle_planner.specs.declared.Item.TheVariants.{Dsi, Dii, Block}
+use Rattle.cycle_planner.proofs.CallerLemmas.{cycle_at_most, cycle_begins}
 use Rattle.ddb_block.specs.Blocks as ddb
 use Rattle.generation.specs.Layouts.{generation_of, items_of, lines_in, lines_of, section_of}
 use Rattle.generation.specs.Kept.{layouts_of, GenerationsAreOfTheLists, IsGenerationOf}
 use Rattle.generation.specs.Lawful.{layout_at, section_in, IsItem}
-use Rattle.generation_catalogue.specs.History.{CatalogueState, trees_of, current_of, cycle_in, cursor_of, count_drawn, items_drawn, draws_of, drawn, drawn_since, is_draw}
+use Rattle.generation_catalogue.specs.History.{CatalogueState, trees_of, current_of, cycle_in, cursor_of, count_drawn, items_drawn, draws_of, with_draw, drawn_since, is_draw}
 use Rattle.generation_catalogue.specs.Laws.{HistoriesGrow}
 use Rattle.generation_catalogue.specs.declared.entry.Entry.{Entry}
 use Rattle.generation_catalogue.specs.declared.entry.Entry.TheVariants as entries
-use Rattle.carousel_world.proofs.Cycles.{cycle_has}
+use Rattle.carousel_world.proofs.Cycles.{cycle_has, later_rounds, some_lines}
 use Rattle.carousel_world.proofs.Drawn.{alike}
 use Rattle.carousel_world.proofs.Modules.{IsSent}
 
@@ -39,23 +40,14 @@ blocks_fit (m ∷ ms) =
     let fits = blocks_fit ms in
     omega (arith, here, total, fit, fits)
 
-blocks_in : (lines : List Line) → length (flat_map blocks_of lines) ≡ sum_by (λ l. l.1) lines
-blocks_in [] = refl
-blocks_in (line ∷ lines) =
-    let here : length (blocks_of line) ≡ line.1 = length-map-range_with_len (λ b. Block line.0 b) 0 line.1 in
-    let both : length (blocks_of line ++ flat_map blocks_of lines) ≡ length (blocks_of line) + length (flat_map blocks_of lines) = length-append (blocks_of line) (flat_map blocks_of lines) in
-    let rest = blocks_in lines in
-    let sum = sum_by-cons (λ (l : Line). l.1) line lines in
-    omega (arith, here, both, rest, sum)
-
--- 268,435,456 bytes in 139 modules have at most 66,158 blocks
-pub short_cycle : (carousel : ℕ) (ls : List Layout) (g : ℕ) → IsSent carousel ls g → length (cycle_of (lines_in (layout_at ls g))) ≤ 66160
-short_cycle carousel ls g sent =
+-- 268,435,456 bytes in 139 modules have at most 66,158 blocks, each of which is sent up to eight times
+pub short_cycle : (carousel : ℕ) (ls : List Layout) (g : ℕ) (weights : List ℕ) → AreWeights weights → IsSent carousel ls g → length (cycle_of weights (lines_in (layout_at ls g))) ≤ 529273
+short_cycle carousel ls g weights are sent =
     let fit = blocks_fit (layout_at ls g) in
-    let blocks = blocks_in (lines_in (layout_at ls g)) in
+    let size = cycle_at_most weights (lines_in (layout_at ls g)) are in
     let few = sent.few in
     let total = sent.total in
-    omega (arith, fit, blocks, few, total)
+    omega (arith, fit, size, few, total)
 
 -- ---- and a whole round
 
@@ -67,14 +59,18 @@ pub record IsRound (ls : List Layout) (g : ℕ) (items : List Item) : Type 0 whe
   pub place : items ≡ before ++ Dii ∷ after
   pub blocks : (m b : ℕ) → IsItem ls g (Block m b) → Contains after (Block m b)
 
-pub cycle_is_round : (ls : List Layout) (g : ℕ) → IsRound ls g (cycle_of (lines_in (layout_at ls g)))
-cycle_is_round ls g = record {
-  gateway = (0, omega arith, refl);
-  before = Dsi ∷ [];
-  after = flat_map blocks_of (lines_in (layout_at ls g));
-  place = refl;
-  blocks = cycle_has ls g;
-}
+pub cycle_is_round : (ls : List Layout) (g : ℕ) (weights : List ℕ) → AreWeights weights → 1 ≤ length (layout_at ls g) → IsRound ls g (cycle_of weights (lines_in (layout_at ls g)))
+cycle_is_round ls g weights are some =
+    let lines = lines_in (layout_at ls g) in
+    let blocks = flat_map blocks_of lines in
+    let later = later_rounds weights lines in
+    record {
+      gateway = (0, omega arith, refl);
+      before = Dsi ∷ [];
+      after = blocks ++ later;
+      place = cycle_begins weights lines are (some_lines (layout_at ls g) some);
+      blocks = λ m b item. Contains-append_left blocks later (Block m b) (cycle_has ls g m b item);
+    }
 
 -- ---- a draw of the most items
 
@@ -83,7 +79,7 @@ IsShort c = length (cycle_in c) ≤ 1048576
 
 -- the catalogue after a draw of the most items
 abbrev pub turned : CatalogueState → CatalogueState
-turned c = drawn c 1048576
+turned c = with_draw c 1048576
 
 lesser : (a b : ℕ) → b ≤ a → min a b ≡ b
 lesser a b le = omega (arith, le)
@@ -121,7 +117,7 @@ begins_again n size inside =
     sym (mod-add-mod n size (size - n % size)) ∙ ap (λ k. k % size) whole ∙ mod_self size
 
 same_cycle : HistoriesGrow → (c : CatalogueState) → cycle_in (turned c) ≡ cycle_in c
-same_cycle grow c = ap (λ ts. cycle_of (lines_of (generation_of c.carousel ts))) (grow.by_draw c 1048576)
+same_cycle grow c = ap (λ ts. cycle_of c.weights (lines_of (generation_of c.carousel ts))) (grow.by_draw c 1048576)
 
 at_start : HistoriesGrow → (c : CatalogueState) → IsShort c → cursor_of (turned c) ≡ 0
 at_start grow c short =

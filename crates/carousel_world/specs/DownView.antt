@@ -3,7 +3,7 @@ use Rattle.std.specs.Prelude.{◌≡◌, ℕ, Bool, false, List, [], ◌∷◌, 
 use Rattle.std.specs.List.{All, fold}
 use Rattle.path_tree.specs.Paths.{Bytes}
 use Rattle.section_stream.specs.Cuts.{candidates}
-use Rattle.section_stream.specs.Packing.{MuxState, IsSectionLike, finished, idle, last_of, packets_of_all, past}
+use Rattle.section_stream.specs.Packing.{MuxState, IsSectionLike, after_finish, idle, last_of, packets_of_all, past}
 use Rattle.section_stream.specs.Groups.{past_group}
 use Rattle.section_stream.specs.Rules as rules
 use Rattle.tuner_core.specs.Stands as tuning
@@ -19,7 +19,7 @@ abbrev pub packets_given : MuxState → List Bytes → Bool → List Bytes
 packets_given m sections last = if last then packets_of_all m sections ++ last_of (fold past m sections) else packets_of_all m sections
 
 abbrev pub past_given : MuxState → List Bytes → Bool → MuxState
-past_given m sections last = if last then finished (fold past m sections) else fold past m sections
+past_given m sections last = if last then after_finish (fold past m sections) else fold past m sections
 
 -- the groups that ended, and the sections of the one under way, when more sections of it were sent
 abbrev pub ended_with : List (List Bytes) → List Bytes → Bool → List (List Bytes)

@@ -1,7 +1,7 @@
 -- What becomes of the packets of a draw.
 use Rattle.std.specs.Prelude.{ℕ, ◌+◌, ◌%◌, List, [], ◌∷◌, length, map, slice_index_or, Option, Some, None}
 use Rattle.path_tree.specs.Paths.{Bytes}
-use Rattle.ts_packet.specs.Fates.{arrived}
+use Rattle.ts_packet.specs.Fates.{arrival_of}
 use Rattle.ts_packet.specs.declared.Fate.{Fate}
 use Rattle.ts_packet.specs.declared.Fate.TheVariants.{Keep}
 
@@ -20,7 +20,7 @@ onto_arrivals n None rest = rest
 -- what arrives of packets of a draw, of which the first is packet i of the draw and packet n of the air
 abbrev pub under : List Fate → ℕ → ℕ → List Bytes → List Arrival
 under fates i n [] = []
-under fates i n (p ∷ ps) = onto_arrivals n (arrived (fate_of fates i) p) (under fates (i + 1) (n + 1) ps)
+under fates i n (p ∷ ps) = onto_arrivals n (arrival_of (fate_of fates i) p) (under fates (i + 1) (n + 1) ps)
 
 -- the packets that arrive
 abbrev pub received_under : List Fate → ℕ → List Bytes → List Bytes

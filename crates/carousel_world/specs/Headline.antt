@@ -10,7 +10,7 @@ use Rattle.biop_object.specs.Names.{Layout, thing_at, location_of}
 use Rattle.generation.specs.Layouts.{gateway_location}
 use Rattle.path_resolver.specs.declared.answer.Answer.{Answer}
 use Rattle.path_resolver.specs.declared.answer.Answer.TheVariants as answers
-use Rattle.tuner_core.specs.Heard.{Heard, ADsi, ADii, heard}
+use Rattle.tuner_core.specs.Heard.{Heard, ADsi, ADii, as_heard}
 use Rattle.tuner_core.specs.LookBack.{block_among}
 use Rattle.tuner_core.specs.Spans.{Span, spans, stretch}
 
@@ -35,7 +35,7 @@ block_in (s ∷ ss) m b = block_of_line s ss (find (λ l. l.id == m) s.dii.modul
 
 -- block b of module m, after these candidates: the first that fits in the module's stretch
 abbrev pub block_there : List Bytes → ℕ → ℕ → Option Bytes
-block_there candidates m b = block_in (spans (map heard candidates)) m b
+block_there candidates m b = block_in (spans (map as_heard candidates)) m b
 
 -- each block is there
 abbrev pub has_each_block : Span → List Span → ModuleLine → Bool
@@ -51,7 +51,7 @@ is_whole_in (s ∷ ss) m = is_line_whole s ss (find (λ l. l.id == m) s.dii.modu
 
 -- the last DII that turned lists the module, and each block of it was heard
 abbrev pub is_whole : List Bytes → ℕ → Bool
-is_whole candidates m = is_whole_in (spans (map heard candidates)) m
+is_whole candidates m = is_whole_in (spans (map as_heard candidates)) m
 
 -- ---- the walk in a generation
 
@@ -77,7 +77,7 @@ is_dii _ = false
 
 -- a DSI and a DII were heard
 abbrev pub has_carousel : List Bytes → Bool
-has_carousel candidates = list_any is_dsi (map heard candidates) && list_any is_dii (map heard candidates)
+has_carousel candidates = list_any is_dsi (map as_heard candidates) && list_any is_dii (map as_heard candidates)
 
 -- NotYet exactly of the first module on the walk that isn't whole; where each is whole, the lookup
 abbrev pub IsAnswer : Option ℕ → Node → Answer → Type 0

@@ -5,6 +5,7 @@ use Rattle.path_tree.specs.Paths.{Bytes, PathNames}
 use Rattle.path_tree.specs.Trees.{Tree, File, node_at}
 use Rattle.biop_object.specs.Names.{Layout}
 use Rattle.cycle_planner.specs.Cycle.{cycle_of}
+use Rattle.cycle_planner.specs.Weights.{AreWeights}
 use Rattle.cycle_planner.specs.declared.Item.TheVariants.{Dsi, Dii}
 use Rattle.generation.specs.Layouts.{lines_in}
 use Rattle.generation.specs.Kept.{layouts_of}
@@ -19,7 +20,7 @@ use Rattle.carousel_world.specs.Broadcasts.{Broadcast, SendsInOrder, section_gro
 use Rattle.carousel_world.specs.Premises.{AcceptedAreSent, IsHeardOf, IsWhole}
 use Rattle.carousel_world.specs.Receptions.{label_after}
 use Rattle.carousel_world.specs.Publishing.{layouts_for, publication}
-use Rattle.carousel_world.specs.Runs.{RunIsPremised}
+use Rattle.carousel_world.specs.Runs.{ones, RunIsPremised}
 
 -- a tree with a file, which can be published
 pub record HasFile (t : Tree) : Type 0 where
@@ -44,7 +45,7 @@ cycles_with ls trees generations = record {
   carousel = 1;
   trees = [] ∷ trees;
   layouts = ls;
-  groups = map (λ g. record { generation = g; items = cycle_of (lines_in (layout_at ls g)) }) generations;
+  groups = map (λ g. record { generation = g; items = cycle_of ones (lines_in (layout_at ls g)) }) generations;
 }
 
 -- with the layouts that the rules make
@@ -86,16 +87,16 @@ damaged_of b = record {
   numbers = 0 ∷ 1 ∷ 1 ∷ 3 ∷ 4 ∷ 5 ∷ 6 ∷ 7 ∷ 8 ∷ [];
 }
 
-abbrev pub damaged : Reception
-damaged = damaged_of changed_file
+abbrev pub damaged_reception : Reception
+damaged_reception = damaged_of changed_file
 
 pub record DamageIsPremised : Type 0 where
-  pub premised : IsPremised damaged 2
+  pub premised : IsPremised damaged_reception 2
   -- the DII of generation 1 was heard, and no DSI
-  pub before : Tells damaged 3 (Some 1) answers.NoCarousel
+  pub before : Tells damaged_reception 3 (Some 1) answers.NoCarousel
   -- generation 2's DII turned, and its block is damaged
-  pub damaged_block : Tells damaged 6 (Some 2) (answers.NotYet 1)
-  pub after : Tells damaged 9 (Some 2) (answers.File (4 ∷ 5 ∷ 6 ∷ []))
+  pub damaged_block : Tells damaged_reception 6 (Some 2) (answers.NotYet 1)
+  pub after : Tells damaged_reception 9 (Some 2) (answers.File (4 ∷ 5 ∷ 6 ∷ []))
 
 -- The same file is published twice, in a module of two blocks. Generation 1 is sent once and generation 2 three times, each cycle in 24
 -- packets: the first block begins in the second packet, and ends in the last, where the second block begins. Of generation 1 the DSI and the
@@ -130,15 +131,17 @@ pub record CarryingIsPremised : Type 0 where
   pub carried : Tells carried_over 28 (Some 2) (answers.File seven)
 
 pub record PremisesCanBeMet : Type 0 where
+  -- the weights of the instances here are weights
+  pub weights : AreWeights ones
   -- some tree can be published
   pub tree : (t : Tree) × HasFile t
   -- what is published is sent in order
-  pub in_order : (carousel cycles : ℕ) (t : Tree) → carousel < 4294967296 → IsPublishable t → SendsInOrder (publication carousel cycles t)
+  pub in_order : (carousel : ℕ) (weights : List ℕ) (cycles : ℕ) (t : Tree) → carousel < 4294967296 → IsPublishable t → SendsInOrder (publication carousel weights cycles t)
   -- its sections, as they were sent, are what was sent
-  pub undamaged : (carousel cycles : ℕ) (t : Tree) → AcceptedAreSent (publication carousel cycles t) (sections (publication carousel cycles t)) (λ i k. i ≡ k)
+  pub undamaged : (carousel : ℕ) (weights : List ℕ) (cycles : ℕ) (t : Tree) → AcceptedAreSent (publication carousel weights cycles t) (sections (publication carousel weights cycles t)) (λ i k. i ≡ k)
   -- one cycle or more is a whole one
-  pub whole : (carousel cycles : ℕ) (t : Tree) → carousel < 4294967296 → IsPublishable t
-      → IsWhole carousel (layouts_for carousel t) 1 (sections (publication carousel (suc cycles) t))
+  pub whole : (carousel : ℕ) (weights : List ℕ) (cycles : ℕ) (t : Tree) → carousel < 4294967296 → AreWeights weights → IsPublishable t
+      → IsWhole carousel (layouts_for carousel t) 1 (sections (publication carousel weights (suc cycles) t))
   -- who has heard no block waits for the module in which the gateway lies, whatever the path
   pub waits : (carousel : ℕ) (t : Tree) (p : PathNames) → carousel < 4294967296 → IsPublishable t → answer_after (control_alone carousel t) p ≡ answers.NotYet 1
   -- a loss, a repeated packet and a changed byte, before a whole cycle of the later of two generations

@@ -8,7 +8,7 @@ use Rattle.ddb_block.specs.Blocks as ddb
 use Rattle.cycle_planner.specs.declared.Item.{Item}
 use Rattle.cycle_planner.specs.declared.Item.TheVariants.{Dsi, Dii, Block}
 use Rattle.generation.specs.Lawful.{Lawful, dii_in, section_in, IsItem}
-use Rattle.tuner_core.specs.Heard.{ADii, ABlock, heard, is_accepted}
+use Rattle.tuner_core.specs.Heard.{ADii, ABlock, as_heard, is_accepted}
 use Rattle.carousel_world.specs.Broadcasts.{Broadcast, Sending, sections, sendings, SendsInOrder}
 
 -- which candidate is from which section that was sent
@@ -22,10 +22,10 @@ AcceptedAreSent b candidates is_from = (i : ℕ) (bytes : Bytes) → slice_get c
 
 -- candidate number i is an accepted DII, or an accepted block
 abbrev pub IsDiiAt : List Bytes → ℕ → Type 0
-IsDiiAt candidates i = (bytes : Bytes) × (d : DiiFields) × (slice_get candidates i ≡ Some bytes) × (heard bytes ≡ ADii d)
+IsDiiAt candidates i = (bytes : Bytes) × (d : DiiFields) × (slice_get candidates i ≡ Some bytes) × (as_heard bytes ≡ ADii d)
 
 abbrev pub IsBlockAt : List Bytes → ℕ → Type 0
-IsBlockAt candidates i = (bytes : Bytes) × (x : ddb.Block) × (slice_get candidates i ≡ Some bytes) × (heard bytes ≡ ABlock x)
+IsBlockAt candidates i = (bytes : Bytes) × (x : ddb.Block) × (slice_get candidates i ≡ Some bytes) × (as_heard bytes ≡ ABlock x)
 
 -- the last accepted DII before candidate j is candidate i
 pub record IsLastDiiBefore (candidates : List Bytes) (i j : ℕ) : Type 0 where
@@ -70,4 +70,4 @@ pub record IsWhole (carousel : ℕ) (ls : List Layout) (g : ℕ) (candidates : L
   pub generation : g < length ls
   pub gateway : Contains candidates (section_in carousel ls g Dsi)
   pub round : HasRound carousel ls g candidates Dii every_module
-  pub no_later : (h : ℕ) → g < h → h < length ls → Contains (map heard candidates) (ADii (dii_in carousel ls h)) → ⊥
+  pub no_later : (h : ℕ) → g < h → h < length ls → Contains (map as_heard candidates) (ADii (dii_in carousel ls h)) → ⊥

@@ -10,7 +10,7 @@ use Rattle.carousel_world.specs.Premises.{AcceptedAreSent, BlocksAreNear}
 use Rattle.carousel_world.specs.Receptions.{TellsOne, Meets, label_after, GoesOn}
 use Rattle.carousel_world.specs.Fates.{Arrival}
 use Rattle.carousel_world.specs.Events.{Step, Open}
-use Rattle.carousel_world.specs.World.{WorldState, Drawing, sections_sent, arrivals, received_in, candidates_in, reply_to, opening, after_all}
+use Rattle.carousel_world.specs.World.{WorldState, Drawing, sections_sent, arrivals, received_in, candidates_in, reply_to, initial_world, after_all}
 use Rattle.carousel_world.specs.declared.event.Reply.{Reply}
 use Rattle.carousel_world.specs.declared.event.Reply.TheVariants as replies
 
@@ -63,20 +63,20 @@ pub record HoldsAfter (w : WorldState) : Type 0 where
   pub meets : IsUndamaged w → Meets (broadcast_of w) (candidates_in w)
   pub each : IsUndamaged w → (reader : ℕ) (p : PathNames) → IsOpened (reply_to w (Open reader p)) w p
 
-abbrev pub world_after : ℕ → List Step → WorldState
-world_after carousel events = after_all (opening carousel) events
+abbrev pub world_after : ℕ → List ℕ → List Step → WorldState
+world_after carousel weights events = after_all (initial_world carousel weights) events
 
 abbrev pub label_in_world : WorldState → Option ℕ
 label_in_world w = label_after (candidates_in w)
 
 -- it holds after each of the events, and the generation that is held never goes back
-pub record MeetsHeadline (carousel : ℕ) (events : List Step) : Type 0 where
-  pub holds : (before after : List Step) → events ≡ before ++ after → HoldsAfter (world_after carousel before)
+pub record MeetsHeadline (carousel : ℕ) (weights : List ℕ) (events : List Step) : Type 0 where
+  pub holds : (before after : List Step) → events ≡ before ++ after → HoldsAfter (world_after carousel weights before)
   pub forward : (before between after : List Step) → events ≡ before ++ (between ++ after)
-      → GoesOn (label_in_world (world_after carousel before)) (label_in_world (world_after carousel (before ++ between)))
+      → GoesOn (label_in_world (world_after carousel weights before)) (label_in_world (world_after carousel weights (before ++ between)))
 
 -- of every list of events after which the published trees are of bytes and within the limits
 abbrev pub EveryRunMeetsTheHeadline : Type 0
 EveryRunMeetsTheHeadline =
-    (carousel : ℕ) (events : List Step) → ArePublishable (world_after carousel events).catalogue.carousel (trees_of (world_after carousel events).catalogue)
-    → MeetsHeadline carousel events
+    (carousel : ℕ) (weights : List ℕ) (events : List Step) → ArePublishable (world_after carousel weights events).catalogue.carousel (trees_of (world_after carousel weights events).catalogue)
+    → MeetsHeadline carousel weights events

@@ -5,6 +5,7 @@ use Rattle.path_tree.specs.Paths.{Bytes, PathNames}
 use Rattle.path_tree.specs.Trees.{Tree, node_at}
 use Rattle.biop_object.specs.Names.{Layout}
 use Rattle.cycle_planner.specs.Cycle.{cycle_of}
+use Rattle.cycle_planner.specs.Weights.{AreWeights}
 use Rattle.cycle_planner.specs.declared.Item.{Item}
 use Rattle.generation.specs.Layouts.{lines_in}
 use Rattle.generation.specs.Kept.{layouts_of}
@@ -18,9 +19,9 @@ use Rattle.carousel_world.specs.Broadcasts.{Broadcast, sections, Ascription, Nev
 use Rattle.carousel_world.specs.Premises.{Ascribed, AcceptedAreSent, IsWhole}
 use Rattle.carousel_world.specs.Headline.{IsAnswer, IsNodeAnswer, has_carousel, first_missing}
 
-abbrev pub repeated : {A : Type 0} → ℕ → List A → List A
-repeated zero xs = []
-repeated (suc n) xs = xs ++ repeated n xs
+abbrev pub repeat_list : {A : Type 0} → ℕ → List A → List A
+repeat_list zero xs = []
+repeat_list (suc n) xs = xs ++ repeat_list n xs
 
 -- the layouts of generation 0, whose tree is empty, and of generation 1, whose tree this is
 abbrev pub layouts_for : ℕ → Tree → List Layout
@@ -30,29 +31,30 @@ layouts_for carousel t = layouts_of carousel (t ∷ [])
 abbrev pub layout_for : ℕ → Tree → Layout
 layout_for carousel t = layout_at (layouts_for carousel t) 1
 
--- so many whole cycles of generation 1
-abbrev pub items_sent : (carousel cycles : ℕ) → Tree → List Item
-items_sent carousel cycles t = repeated cycles (cycle_of (lines_in (layout_for carousel t)))
+-- so many whole cycles of generation 1, under these weights
+abbrev pub items_sent : (carousel : ℕ) (weights : List ℕ) (cycles : ℕ) → Tree → List Item
+items_sent carousel weights cycles t = repeat_list cycles (cycle_of weights (lines_in (layout_for carousel t)))
 
 -- what is sent
-abbrev pub publication : (carousel cycles : ℕ) → Tree → Broadcast
-publication carousel cycles t = record {
+abbrev pub publication : (carousel : ℕ) (weights : List ℕ) (cycles : ℕ) → Tree → Broadcast
+publication carousel weights cycles t = record {
   carousel = carousel;
   trees = [] ∷ t ∷ [];
   layouts = layouts_for carousel t;
-  groups = record { generation = 1; items = items_sent carousel cycles t } ∷ [];
+  groups = record { generation = 1; items = items_sent carousel weights cycles t } ∷ [];
 }
 
 -- its packets, one group on PID 256 with continuity counters from 0
-abbrev pub packets_sent : (carousel cycles : ℕ) → Tree → List Bytes
-packets_sent carousel cycles t = packets_of_group (idle 256 0) (sections (publication carousel cycles t))
+abbrev pub packets_sent : (carousel : ℕ) (weights : List ℕ) (cycles : ℕ) → Tree → List Bytes
+packets_sent carousel weights cycles t = packets_of_group (idle 256 0) (sections (publication carousel weights cycles t))
 
-abbrev pub published : (carousel cycles : ℕ) → Tree → Bytes
-published carousel cycles t = concat (packets_sent carousel cycles t)
+abbrev pub published_bytes : (carousel : ℕ) (weights : List ℕ) (cycles : ℕ) → Tree → Bytes
+published_bytes carousel weights cycles t = concat (packets_sent carousel weights cycles t)
 
 -- each of its sections meets the condition of a packer
 abbrev pub PublicationsCanBePacked : Type 0
-PublicationsCanBePacked = (carousel cycles : ℕ) (t : Tree) → carousel < 4294967296 → IsPublishable t → All IsSectionLike (sections (publication carousel cycles t))
+PublicationsCanBePacked = (carousel : ℕ) (weights : List ℕ) (cycles : ℕ) (t : Tree) → carousel < 4294967296 → IsPublishable t
+    → All IsSectionLike (sections (publication carousel weights cycles t))
 
 -- ---- what a receiver owes
 
@@ -65,19 +67,19 @@ pub record MeetsTree (carousel : ℕ) (t : Tree) (candidates : List Bytes) : Typ
   pub opens : (p : PathNames) → IsWhole carousel (layouts_for carousel t) 1 candidates → IsNodeAnswer (answer_after candidates p) (node_at t p)
 
 -- for every tree that can be published, however the accepted candidates are ascribed to what is sent of it
-abbrev pub MeetsPublication : List Bytes → (carousel cycles : ℕ) → Tree → Ascribed → Type 0
-MeetsPublication candidates carousel cycles t is_from = carousel < 4294967296 → IsPublishable t
-    → AcceptedAreSent (publication carousel cycles t) candidates is_from → MeetsTree carousel t candidates
+abbrev pub MeetsPublication : List Bytes → (carousel : ℕ) (weights : List ℕ) (cycles : ℕ) → Tree → Ascribed → Type 0
+MeetsPublication candidates carousel weights cycles t is_from = carousel < 4294967296 → IsPublishable t
+    → AcceptedAreSent (publication carousel weights cycles t) candidates is_from → MeetsTree carousel t candidates
 
 -- for every such tree, and every way in which the packets can be from its cycles
 abbrev pub MeetsPublished : ℕ → List Bytes → List Bytes → Type 0
-MeetsPublished pid packets candidates = (carousel cycles : ℕ) (t : Tree) (from : Ascription) → NeverBack from
-    → MeetsPublication candidates carousel cycles t (IsAscribed (publication carousel cycles t) pid packets from)
+MeetsPublished pid packets candidates = (carousel : ℕ) (weights : List ℕ) (cycles : ℕ) (t : Tree) (from : Ascription) → NeverBack from
+    → MeetsPublication candidates carousel weights cycles t (IsAscribed (publication carousel weights cycles t) pid packets from)
 
 -- the same over sections that stand back to back
 abbrev pub MeetsPublishedSections : List Bytes → Type 0
-MeetsPublishedSections candidates = (carousel cycles : ℕ) (t : Tree) (from : Ascription) → NeverBack from
-    → MeetsPublication candidates carousel cycles t (λ i k. from i ≡ Some k)
+MeetsPublishedSections candidates = (carousel : ℕ) (weights : List ℕ) (cycles : ℕ) (t : Tree) (from : Ascription) → NeverBack from
+    → MeetsPublication candidates carousel weights cycles t (λ i k. from i ≡ Some k)
 
 -- it holds of whatever is heard
 pub record EveryPublicationMeets : Type 0 where
@@ -86,5 +88,5 @@ pub record EveryPublicationMeets : Type 0 where
 
 -- the packets of one or more whole cycles, undamaged, give each path of the tree
 abbrev pub EachCycleOpens : Type 0
-EachCycleOpens = (carousel cycles : ℕ) (t : Tree) (p : PathNames) → carousel < 4294967296 → IsPublishable t
-    → IsNodeAnswer (answer_after (candidates 256 (packets_sent carousel (suc cycles) t)) p) (node_at t p)
+EachCycleOpens = (carousel : ℕ) (weights : List ℕ) (cycles : ℕ) (t : Tree) (p : PathNames) → carousel < 4294967296 → AreWeights weights → IsPublishable t
+    → IsNodeAnswer (answer_after (candidates 256 (packets_sent carousel weights (suc cycles) t)) p) (node_at t p)

@@ -10,7 +10,7 @@ use Rattle.generation.specs.Lawful.{layout_at, tree_at, dii_in}
 use Rattle.path_resolver.specs.declared.answer.Answer.{Answer}
 use Rattle.path_resolver.specs.declared.answer.Answer.TheVariants as answers
 use Rattle.section_stream.specs.Cuts.{candidates}
-use Rattle.tuner_core.specs.Heard.{ADii, heard}
+use Rattle.tuner_core.specs.Heard.{ADii, as_heard}
 use Rattle.tuner_core.specs.Spans.{Span, spans, label_in, answer_after}
 use Rattle.carousel_world.specs.Broadcasts.{Broadcast, Sending, sendings, Ascription, NeverBack, IsAscribed}
 use Rattle.carousel_world.specs.Headline.{IsAnswer, IsNodeAnswer, is_dii, has_carousel, first_missing, block_there}
@@ -18,7 +18,7 @@ use Rattle.carousel_world.specs.Premises.{IsHeardOf, IsWhole}
 
 -- the number of the generation that a receiver takes what it holds for
 abbrev pub label_after : List Bytes → Option ℕ
-label_after candidates = label_in (spans (map heard candidates))
+label_after candidates = label_in (spans (map as_heard candidates))
 
 -- the last DII that turned
 abbrev pub newest_dii : List Span → Option DiiFields
@@ -35,8 +35,8 @@ pub record HoldsOne (b : Broadcast) (candidates : List Bytes) (generation : ℕ)
   pub labelled : label_after candidates ≡ Some generation
   pub published : generation < length b.layouts
   pub sent : IsSentIn b generation
-  pub dii_heard : Contains (map heard candidates) (ADii (dii_in b.carousel b.layouts generation))
-  pub turned : newest_dii (spans (map heard candidates)) ≡ Some (dii_in b.carousel b.layouts generation)
+  pub dii_heard : Contains (map as_heard candidates) (ADii (dii_in b.carousel b.layouts generation))
+  pub turned : newest_dii (spans (map as_heard candidates)) ≡ Some (dii_in b.carousel b.layouts generation)
   pub blocks : (m n : ℕ) (bytes block : Bytes) → module_in (layout_at b.layouts generation) m ≡ Some bytes → block_there candidates m n ≡ Some block
       → block ≡ block_of bytes 4066 n
 
@@ -56,7 +56,7 @@ pub record TellsOne (b : Broadcast) (candidates : List Bytes) (p : PathNames) (l
 -- From the first DII on all that is held is of one generation; each answer tells of that one; and after a whole cycle of a generation
 -- each path of it opens.
 pub record Meets (b : Broadcast) (candidates : List Bytes) : Type 0 where
-  pub held : list_any is_dii (map heard candidates) ≡ true → (g : ℕ) × HoldsOne b candidates g
+  pub held : list_any is_dii (map as_heard candidates) ≡ true → (g : ℕ) × HoldsOne b candidates g
   pub answers : (p : PathNames) → TellsOne b candidates p (label_after candidates) (answer_after candidates p)
   pub opens : (g : ℕ) (p : PathNames) → IsWhole b.carousel b.layouts g candidates → IsNodeAnswer (answer_after candidates p) (node_at (tree_at b.trees g) p)
 

@@ -1,5 +1,5 @@
 -- A list of events with losses and damage after which the premises hold.
-use Rattle.std.specs.Prelude.{◌≡◌, List, [], ◌∷◌, Some}
+use Rattle.std.specs.Prelude.{◌≡◌, ℕ, List, [], ◌∷◌, Some, replicate}
 use Rattle.path_tree.specs.Paths.{Bytes, PathNames}
 use Rattle.path_tree.specs.declared.tree.Edit.{Edit}
 use Rattle.path_tree.specs.declared.tree.Edit.TheVariants as edits
@@ -9,9 +9,13 @@ use Rattle.generation_catalogue.specs.History.{trees_of}
 use Rattle.path_resolver.specs.declared.answer.Answer.TheVariants as answers
 use Rattle.carousel_world.specs.Premises.{IsWhole}
 use Rattle.carousel_world.specs.Events.{Step, Commit, Draw, Open}
-use Rattle.carousel_world.specs.World.{candidates_in, opening, replies_to}
+use Rattle.carousel_world.specs.World.{candidates_in, initial_world, replies_to}
 use Rattle.carousel_world.specs.Promises.{broadcast_of, IsUndamaged, world_after}
 use Rattle.carousel_world.specs.declared.event.Reply.TheVariants as replies
+
+-- the weight 1 for every module
+abbrev pub ones : List ℕ
+ones = replicate 2224 1
 
 -- `/a`
 abbrev pub the_path : PathNames
@@ -29,10 +33,10 @@ lossy_run =
     ∷ Draw 1048576 (Keep ∷ Flip 800 ∷ Keep ∷ []) ∷ Open 1 the_path ∷ Draw 1048576 [] ∷ Open 2 the_path ∷ []
 
 pub record RunIsPremised : Type 0 where
-  pub published : ArePublishable 1 (trees_of (world_after 1 lossy_run).catalogue)
-  pub undamaged : IsUndamaged (world_after 1 lossy_run)
-  pub whole : IsWhole 1 (broadcast_of (world_after 1 lossy_run)).layouts 2 (candidates_in (world_after 1 lossy_run))
+  pub published : ArePublishable 1 (trees_of (world_after 1 ones lossy_run).catalogue)
+  pub undamaged : IsUndamaged (world_after 1 ones lossy_run)
+  pub whole : IsWhole 1 (broadcast_of (world_after 1 ones lossy_run)).layouts 2 (candidates_in (world_after 1 ones lossy_run))
   -- without the DSI there is no carousel; the damaged block is missing after generation 2's DII turned; then the file opens
-  pub replies : replies_to (opening 1) lossy_run
+  pub replies : replies_to (initial_world 1 ones) lossy_run
       ≡ replies.Committed 1 ∷ replies.Drawn 1 0 3 ∷ replies.Opened (Some 1) answers.NoCarousel ∷ replies.Committed 2 ∷ replies.Drawn 2 0 3
       ∷ replies.Opened (Some 2) (answers.NotYet 1) ∷ replies.Drawn 2 0 3 ∷ replies.Opened (Some 2) (answers.File (4 ∷ 5 ∷ 6 ∷ [])) ∷ []

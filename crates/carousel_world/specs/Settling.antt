@@ -2,6 +2,7 @@
 use Rattle.std.specs.Prelude.{ℕ, ◌+◌, ◌≤◌, List, [], ◌∷◌, ◌++◌, length}
 use Rattle.path_tree.specs.Paths.{PathNames}
 use Rattle.path_tree.specs.Trees.{Node, node_at}
+use Rattle.cycle_planner.specs.Weights.{AreWeights}
 use Rattle.generation.specs.Lawful.{ArePublishable, tree_at}
 use Rattle.generation_catalogue.specs.History.{trees_of, draws_of}
 use Rattle.carousel_world.specs.Events.{Step, Commit, Draw, Open}
@@ -18,16 +19,18 @@ abbrev pub whole_draw : Step
 whole_draw = Draw 1048576 []
 
 -- Two of them after these events: the first goes on with the cycle, and brings a receiver in step; the second is a whole cycle.
-abbrev pub settled : List Step → List Step
-settled events = events ++ whole_draw ∷ whole_draw ∷ []
+abbrev pub with_settling : List Step → List Step
+with_settling events = events ++ whole_draw ∷ whole_draw ∷ []
 
--- The last generation's number is that of the accepted commits. Whatever was lost, damaged or repeated before, and at whatever item of
--- the cycle the next draw begins: after two whole draws, for which the history has room, a whole cycle of that generation was heard.
+-- The last generation's number is that of the accepted commits. Whatever the weights, each 1 to 8, whatever was lost, damaged or repeated
+-- before, and at whatever item of the cycle the next draw begins: after two whole draws, for which the history has room, a whole cycle of
+-- that generation was heard.
 abbrev pub EverySettledRunIsWhole : Type 0
 EverySettledRunIsWhole =
-    (carousel : ℕ) (events : List Step) → ArePublishable (world_after carousel events).catalogue.carousel (trees_of (world_after carousel events).catalogue)
-    → draws_of (world_after carousel events).catalogue + 2 ≤ 16777216
-    → let w = world_after carousel (settled events) in
+    (carousel : ℕ) (weights : List ℕ) (events : List Step) → AreWeights weights
+    → ArePublishable (world_after carousel weights events).catalogue.carousel (trees_of (world_after carousel weights events).catalogue)
+    → draws_of (world_after carousel weights events).catalogue + 2 ≤ 16777216
+    → let w = world_after carousel weights (with_settling events) in
     IsWhole carousel (broadcast_of w).layouts (length (trees_of w.catalogue)) (candidates_in w)
 
 -- an open's reply is a file's bytes, a folder's names, or that nothing is there, as the tree has it
@@ -38,9 +41,10 @@ Answers _ node = ⊥
 -- So, where no damage passed the CRC and each block was near its DII, each open then answers the lookup in the last generation's tree.
 abbrev pub EverySettledRunOpens : Type 0
 EverySettledRunOpens =
-    (carousel : ℕ) (events : List Step) → ArePublishable (world_after carousel events).catalogue.carousel (trees_of (world_after carousel events).catalogue)
-    → draws_of (world_after carousel events).catalogue + 2 ≤ 16777216
-    → let w = world_after carousel (settled events) in
+    (carousel : ℕ) (weights : List ℕ) (events : List Step) → AreWeights weights
+    → ArePublishable (world_after carousel weights events).catalogue.carousel (trees_of (world_after carousel weights events).catalogue)
+    → draws_of (world_after carousel weights events).catalogue + 2 ≤ 16777216
+    → let w = world_after carousel weights (with_settling events) in
     IsUndamaged w → (reader : ℕ) (p : PathNames) → Answers (reply_to w (Open reader p)) (node_at (tree_at (broadcast_of w).trees (length (trees_of w.catalogue))) p)
 
 -- ---- opens change nothing of this

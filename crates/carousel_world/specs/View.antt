@@ -1,7 +1,6 @@
 -- What the code keeps of a world.
 use Rattle.std.specs.Prelude.{◌≡◌, true, []}
 use Rattle.generation_catalogue.specs.History.{CatalogueState}
-use Rattle.generation_catalogue.specs.View.{state}
 use Rattle.carousel_world.specs.Events.{Step, Draw}
 use Rattle.carousel_world.specs.DownView.{DownlinkState, DownlinkStands}
 use Rattle.carousel_world.specs.World.{WorldState, received_in, groups_sent}
@@ -11,8 +10,8 @@ pub record Kept : Type 0 where
   pub catalogue : CatalogueState
   pub down : DownlinkState
 
-abbrev pub kept : World → Kept
-kept w = record { catalogue = state w.catalogue; down = w.downlink }
+abbrev pub kept_in : {X : _} {F : _} {g : _} → World X F g → Kept
+kept_in w = record { catalogue = w.journal; down = w.downlink }
 
 -- the world's parts stand for the state that the events left
 pub record StandsFor (k : Kept) (w : WorldState) : Type 0 where

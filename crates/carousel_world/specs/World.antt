@@ -5,7 +5,7 @@ use Rattle.path_tree.specs.Paths.{Bytes}
 use Rattle.ts_packet.specs.declared.Fate.{Fate}
 use Rattle.cycle_planner.specs.declared.Item.{Item}
 use Rattle.generation.specs.Layouts.{GenerationState, section_of}
-use Rattle.generation_catalogue.specs.History.{CatalogueState, outcome_of, committed, drawn, draws_of, current_of, cursor_of, count_drawn, items_drawn, is_entered}
+use Rattle.generation_catalogue.specs.History.{CatalogueState, outcome_of, with_commit, with_draw, draws_of, current_of, cursor_of, count_drawn, items_drawn, is_entered}
 use Rattle.generation_catalogue.specs.declared.entry.Refusal.{Refusal}
 use Rattle.section_stream.specs.Cuts.{candidates}
 use Rattle.section_stream.specs.Packing.{MuxState, idle}
@@ -28,8 +28,8 @@ pub record WorldState : Type 0 where
   pub catalogue : CatalogueState
   pub drawings : List Drawing
 
-abbrev pub opening : ℕ → WorldState
-opening carousel = record { catalogue = record { carousel = carousel; entries = [] }; drawings = [] }
+abbrev pub initial_world : ℕ → List ℕ → WorldState
+initial_world carousel weights = record { catalogue = record { carousel = carousel; weights = weights; entries = [] }; drawings = [] }
 
 abbrev pub sections_of : Drawing → List Bytes
 sections_of d = map (section_of d.generation) d.items
@@ -80,10 +80,10 @@ drawing_of c asked fates = record { generation = current_of c; items = items_dra
 
 -- and what it leaves
 abbrev pub happens : WorldState → Step → WorldState
-happens w (Commit editor edits) = record { catalogue = committed w.catalogue editor edits; drawings = w.drawings }
+happens w (Commit editor edits) = record { catalogue = with_commit w.catalogue editor edits; drawings = w.drawings }
 happens w (Draw asked fates) =
     if nat_le 16777216 (draws_of w.catalogue) then w
-    else record { catalogue = drawn w.catalogue asked; drawings = w.drawings ++ drawing_of w.catalogue asked fates ∷ [] }
+    else record { catalogue = with_draw w.catalogue asked; drawings = w.drawings ++ drawing_of w.catalogue asked fates ∷ [] }
 happens w (Open reader path) = w
 
 abbrev pub after_all : WorldState → List Step → WorldState

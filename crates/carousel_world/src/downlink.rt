@@ -4,7 +4,7 @@ ghost use Rattle.std.specs.List.{All, fold};
 ghost use Rattle.path_tree.specs.Paths.{Bytes};
 ghost use Rattle.path_resolver.specs.Shots as shots;
 ghost use Rattle.section_stream.specs.Kept.{view_bytes};
-ghost use Rattle.section_stream.specs.Packing.{IsSectionLike, finished, last_of};
+ghost use Rattle.section_stream.specs.Packing.{IsSectionLike, after_finish, last_of};
 ghost use Rattle.section_stream.specs.Cuts.{candidates};
 ghost use Rattle.tuner_core.specs.Stands as tuning;
 ghost use Rattle.tuner_core.specs.LookBack.{snapshot_after};
@@ -152,7 +152,7 @@ impl Downlink {
     ) -> Result<u64, NoMemory>
         requires { from < 2 ^ 63 }
         ensures number { IfOk result (λ n. n ≡ from + length (last_of self.old.mux)) }
-        ensures mux { OnOk result (self.new.mux ≡ finished self.old.mux) }
+        ensures mux { OnOk result (self.new.mux ≡ after_finish self.old.mux) }
         ensures hears { OnOk result (Hears self.old self.new (received_under fates.now from (last_of self.old.mux))) }
     {
         packets.clear();

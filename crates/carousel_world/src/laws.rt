@@ -38,7 +38,7 @@ pub fn every_publication_meets()
     generation::layouts_are_lawful();
 }
 
-/// The packets of one or more whole cycles, undamaged, give each path of the tree.
+/// The packets of one or more whole cycles, undamaged, give each path of the tree, whatever the weights, each 1 to 8.
 pub fn each_cycle_opens()
     ensures { EachCycleOpens }
 {
@@ -82,8 +82,8 @@ pub fn every_run_meets_the_headline()
 /// first draw ends the cycle that was under way, and its first sections alone may be heard in part. So each open then answers the
 /// lookup in the last generation's tree, under the premises of `every_run_meets_the_headline`.
 ///
-/// It holds of each list of events whose published trees are of bytes and within the limits, while the history has room for the two
-/// draws.
+/// It holds of all weights from 1 to 8, and of each list of events whose published trees are of bytes and within the limits, while
+/// the history has room for the two draws.
 pub fn settling_is_whole()
     ensures whole { EverySettledRunIsWhole }
     ensures opens { EverySettledRunOpens }

@@ -2,6 +2,7 @@ ghost use Rattle.std.specs.Prelude.{◌≡◌, ◌<◌, ◌≤◌, ◌*◌, ◌+
 ghost use Rattle.std.specs.Arc.{arc_value};
 ghost use Rattle.std.specs.List.{All, Contains, fold};
 ghost use Rattle.path_tree.specs.Paths.{Bytes};
+ghost use Rattle.cycle_planner.specs.Weights.{AreWeights};
 ghost use Rattle.generation.specs.Layouts.{items_of, section_of};
 ghost use Rattle.section_stream.specs.Kept.{view_bytes};
 ghost use Rattle.section_stream.specs.Packing.{IsSectionLike};
@@ -10,14 +11,14 @@ ghost use Rattle.carousel_world.specs.DownView.{DownlinkStands};
 ghost use Rattle.carousel_world.specs.Events.{view, Step, Commit, Draw, Open};
 ghost use Rattle.carousel_world.specs.Promises.{MeetsHeadline, world_after};
 ghost use Rattle.carousel_world.specs.Fates.{received_under};
-ghost use Rattle.carousel_world.specs.World.{WorldState, InRange, AsksForMemory, opening, reply_to, happens, replies_to, after_all};
+ghost use Rattle.carousel_world.specs.World.{WorldState, InRange, AsksForMemory, initial_world, reply_to, happens, replies_to, after_all};
 
 use crate::downlink::Downlink;
 use crate::event::{Event, Reply};
 use crate::laws::every_run_meets_the_headline;
-use cycle_planner::Item;
+use cycle_planner::{Item, Weigh};
 use generation::Generation;
-use generation_catalogue::{Batch, Catalogue, CommitFault, DrawFault};
+use generation_catalogue::{Batch, CommitFault, DrawFault, Journal};
 use oc_bytes::NoMemory;
 use path_resolver::resolve;
 use path_tree::{Edits, Path};
@@ -34,21 +35,26 @@ const PIECE: usize = 1024;
 #[derive(Drop)]
 pub struct World {
     alloc: Global,
-    catalogue: Catalogue,
+    journal: Journal,
+    weigh: Weigh,
     downlink: Downlink,
+    pub ghost same: { weigh.weights ≡ journal.weights },
 }
 
 impl World {
-    ghost use Rattle.carousel_world.specs.View.{kept, StandsFor, IsLeft};
+    ghost use Rattle.carousel_world.specs.View.{kept_in, StandsFor, IsLeft};
 
-    /// The world of a carousel, any 32-bit id, in which nothing has happened: generation 0 with the empty tree, and a receiver that
-    /// has heard nothing. Out of memory is the only refusal.
-    pub fn new(alloc: Global, carousel: u32) -> Result<World, NoMemory>
-        ensures { IfOk result (λ w. StandsFor (kept w) (opening carousel)) }
+    /// The world of a carousel, any 32-bit id, whose modules are sent as often as they weigh, and in which nothing has happened:
+    /// generation 0 with the empty tree, and a receiver that has heard nothing. The weights are 1 to 8, as those of each `Weigh` are.
+    /// Out of memory is the only refusal.
+    pub fn new(alloc: Global, carousel: u32, weigh: Weigh) -> Result<World, NoMemory>
+        requires { AreWeights weigh.weights }
+        ensures { IfOk result (λ w. StandsFor (kept_in w) (initial_world carousel weigh.weights)) }
     {
         Ok(World {
             alloc,
-            catalogue: Catalogue::new(alloc, carousel)?,
+            journal: Journal::new(alloc, carousel, weigh.kept())?,
+            weigh,
             downlink: Downlink::new(alloc, PID)?,
         })
     }
@@ -61,11 +67,11 @@ impl World {
     /// each later call answers it. In another event it changes nothing.
     pub fn step(&mut self, event: Event) -> Result<Reply, NoMemory>
         requires { InRange (view event) }
-        ensures reply { IfOk result (λ r. (w : WorldState) → StandsFor (kept self.old) w → r ≡ reply_to w (view event)) }
-        ensures stands { OnOk result ((w : WorldState) → StandsFor (kept self.old) w → StandsFor (kept self.new) (happens w (view event))) }
-        ensures left { OnErr result (IsLeft (view event) (kept self.old) (kept self.new)) }
-        ensures memory { OnErr result ((w : WorldState) → StandsFor (kept self.old) w → AsksForMemory w (view event)) }
-        ensures stays { (kept self.old).down.spent ≡ true → IsErr result × ((kept self.new).down.spent ≡ true) }
+        ensures reply { IfOk result (λ r. (w : WorldState) → StandsFor (kept_in self.old) w → r ≡ reply_to w (view event)) }
+        ensures stands { OnOk result ((w : WorldState) → StandsFor (kept_in self.old) w → StandsFor (kept_in self.new) (happens w (view event))) }
+        ensures left { OnErr result (IsLeft (view event) (kept_in self.old) (kept_in self.new)) }
+        ensures memory { OnErr result ((w : WorldState) → StandsFor (kept_in self.old) w → AsksForMemory w (view event)) }
+        ensures stays { (kept_in self.old).down.spent ≡ true → IsErr result × ((kept_in self.new).down.spent ≡ true) }
     {
         if self.downlink.is_spent() {
             return Err(AllocError);
@@ -79,12 +85,12 @@ impl World {
 
     /// A commit.
     fn commit(&mut self, editor: u32, edits: Edits) -> Result<Reply, NoMemory>
-        ensures reply { IfOk result (λ r. (w : WorldState) → StandsFor (kept self.old) w → r ≡ reply_to w (Commit editor edits)) }
-        ensures stands { OnOk result ((w : WorldState) → StandsFor (kept self.old) w → StandsFor (kept self.new) (happens w (Commit editor edits))) }
-        ensures left { OnErr result (kept self.new ≡ kept self.old) }
-        ensures memory { OnErr result ((w : WorldState) → StandsFor (kept self.old) w → AsksForMemory w (Commit editor edits)) }
+        ensures reply { IfOk result (λ r. (w : WorldState) → StandsFor (kept_in self.old) w → r ≡ reply_to w (Commit editor edits)) }
+        ensures stands { OnOk result ((w : WorldState) → StandsFor (kept_in self.old) w → StandsFor (kept_in self.new) (happens w (Commit editor edits))) }
+        ensures left { OnErr result (kept_in self.new ≡ kept_in self.old) }
+        ensures memory { OnErr result ((w : WorldState) → StandsFor (kept_in self.old) w → AsksForMemory w (Commit editor edits)) }
     {
-        match self.catalogue.commit_edits(editor, edits) {
+        match self.journal.commit_edits(editor, edits) {
             Ok(number) => Ok(Reply::Committed(number)),
             Err(CommitFault::Refused(refusal)) => Ok(Reply::Refused(refusal)),
             Err(CommitFault::NoMemory) => Err(AllocError),
@@ -94,10 +100,10 @@ impl World {
     /// A draw. Out of memory spends the world.
     fn draw(&mut self, asked: u32, fates: &[Fate]) -> Result<Reply, NoMemory>
         requires { (1 ≤ asked) × (asked ≤ 1048576) }
-        ensures reply { IfOk result (λ r. (w : WorldState) → StandsFor (kept self.old) w → r ≡ reply_to w (Draw asked fates.now)) }
-        ensures stands { OnOk result ((w : WorldState) → StandsFor (kept self.old) w → StandsFor (kept self.new) (happens w (Draw asked fates.now))) }
-        ensures left { OnErr result ((kept self.new).down.spent ≡ true) }
-        ensures memory { OnErr result ((w : WorldState) → StandsFor (kept self.old) w → AsksForMemory w (Draw asked fates.now)) }
+        ensures reply { IfOk result (λ r. (w : WorldState) → StandsFor (kept_in self.old) w → r ≡ reply_to w (Draw asked fates.now)) }
+        ensures stands { OnOk result ((w : WorldState) → StandsFor (kept_in self.old) w → StandsFor (kept_in self.new) (happens w (Draw asked fates.now))) }
+        ensures left { OnErr result ((kept_in self.new).down.spent ≡ true) }
+        ensures memory { OnErr result ((w : WorldState) → StandsFor (kept_in self.old) w → AsksForMemory w (Draw asked fates.now)) }
     {
         let drawn = self.draw_and_send(asked, fates);
         if drawn.is_err() {
@@ -109,11 +115,11 @@ impl World {
     /// The same of a world that works.
     fn draw_and_send(&mut self, asked: u32, fates: &[Fate]) -> Result<Reply, NoMemory>
         requires { (1 ≤ asked) × (asked ≤ 1048576) }
-        ensures reply { IfOk result (λ r. (w : WorldState) → StandsFor (kept self.old) w → r ≡ reply_to w (Draw asked fates.now)) }
-        ensures stands { OnOk result ((w : WorldState) → StandsFor (kept self.old) w → StandsFor (kept self.new) (happens w (Draw asked fates.now))) }
-        ensures memory { OnErr result ((w : WorldState) → StandsFor (kept self.old) w → AsksForMemory w (Draw asked fates.now)) }
+        ensures reply { IfOk result (λ r. (w : WorldState) → StandsFor (kept_in self.old) w → r ≡ reply_to w (Draw asked fates.now)) }
+        ensures stands { OnOk result ((w : WorldState) → StandsFor (kept_in self.old) w → StandsFor (kept_in self.new) (happens w (Draw asked fates.now))) }
+        ensures memory { OnErr result ((w : WorldState) → StandsFor (kept_in self.old) w → AsksForMemory w (Draw asked fates.now)) }
     {
-        let batch = match self.catalogue.draw(asked) {
+        let batch = match self.journal.draw(&self.weigh, asked) {
             Ok(batch) => batch,
             Err(DrawFault::DrawsFull(draws)) => return Ok(Reply::DrawsFull(draws)),
             Err(DrawFault::NoMemory) => return Err(AllocError),
@@ -134,7 +140,7 @@ impl World {
 
     /// An open.
     fn open(&self, path: &Path) -> Result<Reply, NoMemory>
-        ensures { IfOk result (λ r. (w : WorldState) (reader : ℕ) → StandsFor (kept self.now) w → r ≡ reply_to w (Open reader path.now)) }
+        ensures { IfOk result (λ r. (w : WorldState) (reader : ℕ) → StandsFor (kept_in self.now) w → r ≡ reply_to w (Open reader path.now)) }
     {
         let shot = self.downlink.shot(0, 0)?;
         let answer = resolve(&shot, path)?;
@@ -147,8 +153,8 @@ impl World {
     /// Makes events happen in turn, and gives their replies, or out of memory at the first that finds none.
     fn run_all(&mut self, events: Vec<Event>) -> Result<Vec<Reply>, NoMemory>
         requires { All InRange (map view events.items) }
-        ensures replies { IfOk result (λ rs. (w : WorldState) → StandsFor (kept self.old) w → rs.items ≡ replies_to w (map view events.items)) }
-        ensures stands { OnOk result ((w : WorldState) → StandsFor (kept self.old) w → StandsFor (kept self.new) (after_all w (map view events.items))) }
+        ensures replies { IfOk result (λ rs. (w : WorldState) → StandsFor (kept_in self.old) w → rs.items ≡ replies_to w (map view events.items)) }
+        ensures stands { OnOk result ((w : WorldState) → StandsFor (kept_in self.old) w → StandsFor (kept_in self.new) (after_all w (map view events.items))) }
         ensures memory { OnErr result (0 < length events.items) }
     {
         let mut replies = Vec::with_capacity(self.alloc, events.len())?;
@@ -167,13 +173,13 @@ impl World {
     /// it, and each later call answers it.
     pub fn run(&mut self, events: Vec<Event>) -> Result<Vec<Reply>, NoMemory>
         requires { All InRange (map view events.items) }
-        ensures replies { IfOk result (λ rs. (w : WorldState) → StandsFor (kept self.old) w → rs.items ≡ replies_to w (map view events.items)) }
-        ensures stands { OnOk result ((w : WorldState) → StandsFor (kept self.old) w → StandsFor (kept self.new) (after_all w (map view events.items))) }
-        ensures headline { IfOk result (λ _. (carousel : ℕ) (before : List Step) → StandsFor (kept self.old) (world_after carousel before)
-            → MeetsHeadline carousel (before ++ map view events.items)) }
-        ensures spent { OnErr result ((kept self.new).down.spent ≡ true) }
-        ensures memory { OnErr result ((w : WorldState) → StandsFor (kept self.old) w → 0 < length events.items) }
-        ensures stays { (kept self.old).down.spent ≡ true → IsErr result }
+        ensures replies { IfOk result (λ rs. (w : WorldState) → StandsFor (kept_in self.old) w → rs.items ≡ replies_to w (map view events.items)) }
+        ensures stands { OnOk result ((w : WorldState) → StandsFor (kept_in self.old) w → StandsFor (kept_in self.new) (after_all w (map view events.items))) }
+        ensures headline { IfOk result (λ _. (carousel : ℕ) (weights : List ℕ) (before : List Step) → StandsFor (kept_in self.old) (world_after carousel weights before)
+            → MeetsHeadline carousel weights (before ++ map view events.items)) }
+        ensures spent { OnErr result ((kept_in self.new).down.spent ≡ true) }
+        ensures memory { OnErr result ((w : WorldState) → StandsFor (kept_in self.old) w → 0 < length events.items) }
+        ensures stays { (kept_in self.old).down.spent ≡ true → IsErr result }
     {
         if self.downlink.is_spent() {
             return Err(AllocError);
@@ -193,10 +199,10 @@ impl World {
     /// What is promised of every list of events holds of all that happened in this world, so of each list of events after which the
     /// world stands as it does. Nothing is done.
     pub fn keeps_the_headline(&self)
-        ensures { (carousel : ℕ) (events : List Step) → StandsFor (kept self.now) (world_after carousel events) → MeetsHeadline carousel events }
+        ensures { (carousel : ℕ) (weights : List ℕ) (events : List Step) → StandsFor (kept_in self.now) (world_after carousel weights events) → MeetsHeadline carousel weights events }
     {
         every_run_meets_the_headline();
-        self.catalogue.entries();
+        self.journal.entries();
     }
 }
 

@@ -5,9 +5,10 @@
 //! is printed is how many commits were accepted.
 #![tactic(auto)]
 
-use generation_catalogue::Catalogue;
+use cycle_planner::GREATEST_ID;
+use generation_catalogue::Journal;
 use oc_bytes::{Blob, NoMemory};
-use path_tree::{Edit, Path};
+use path_tree::{Edit, Edits, Path};
 use std::alloc::Global;
 use std::{env, io};
 
@@ -65,14 +66,14 @@ fn puts(alloc: Global, request: Request) -> Result<Vec<Edit>, NoMemory> {
 
 /// How many commits are accepted.
 fn accepted(alloc: Global, request: Request) -> Result<u64, NoMemory> {
-    let mut catalogue = Catalogue::new(alloc, 1)?;
+    let mut journal = Journal::new(alloc, 1, [1; GREATEST_ID])?;
     let mut edits = puts(alloc, request)?;
     for number in 1..request.commits.saturating_add(1) {
-        let _answer = catalogue.commit(0, edits);
+        let _answer = journal.commit_edits(0, Edits::new(edits));
         edits = Vec::new(alloc);
         change(alloc, &mut edits, number)?;
     }
-    Ok(catalogue.current().number())
+    Ok(journal.current().number())
 }
 
 fn main(rt: HostRuntime) -> io::Result<()> {

@@ -1,6 +1,7 @@
 -- The order in which a generation's items are sent.
-use Rattle.std.specs.Prelude.{◌≡◌, ℕ, ◌+◌, ◌<◌, ◌≤◌, Bool, true, false, ◌&&◌, ◌==◌, List, ◌∷◌, length, map, Contains}
-use Rattle.std.specs.List.{All, flat_map, range_with_len, AllPairs, sum_by, count_by}
+use Rattle.std.specs.Prelude.{◌≡◌, ⊤, ℕ, ◌+◌, ◌*◌, ◌<◌, ◌≤◌, max, Bool, true, false, ◌&&◌, ◌==◌, List, ◌∷◌, length, map, nat_lt, Contains}
+use Rattle.std.specs.List.{All, flat_map, filter, fold, range_with_len, AllPairs, sum_by, count_by}
+use Rattle.cycle_planner.specs.Weights.{weight}
 use Rattle.cycle_planner.specs.declared.Item.{Item}
 use Rattle.cycle_planner.specs.declared.Item.TheVariants.{Dsi, Dii, Block}
 
@@ -11,9 +12,17 @@ Line = ℕ × ℕ
 abbrev pub blocks_of : Line → List Item
 blocks_of line = map (λ b. Block line.0 b) (range_with_len 0 line.1)
 
--- the DSI, the DII, and the blocks of each module, as the lines and the numbers rise
-abbrev pub cycle_of : List Line → List Item
-cycle_of lines = Dsi ∷ Dii ∷ flat_map blocks_of lines
+-- how many rounds a cycle has
+abbrev pub greatest_weight : List ℕ → List Line → ℕ
+greatest_weight weights lines = fold (λ r line. max r (weight weights line.0)) 0 lines
+
+-- round r: the DII and the blocks of the modules whose weight is above r
+abbrev pub round : List ℕ → List Line → ℕ → List Item
+round weights lines r = Dii ∷ flat_map blocks_of (filter (λ line. nat_lt r (weight weights line.0)) lines)
+
+-- the DSI, and then the rounds
+abbrev pub cycle_of : List ℕ → List Line → List Item
+cycle_of weights lines = Dsi ∷ flat_map (round weights lines) (range_with_len 0 (greatest_weight weights lines))
 
 -- the lines of a generation: at least one module, ids that rise from 1 to 2,224, and block numbers of 16 bits
 pub record AreLines (lines : List Line) : Type 0 where
@@ -34,9 +43,16 @@ abbrev pub is_block : (module_id block : ℕ) → Item → Bool
 is_block m b (Block n c) = (m == n) && (b == c)
 is_block m b _ = false
 
--- the DSI once, the DII once, and each block of each module once, and nothing else
-pub record SendsEach (lines : List Line) : Type 0 where
-  pub size : length (cycle_of lines) ≡ 2 + sum_by (λ line. line.1) lines
-  pub dsi : count_by is_dsi (cycle_of lines) ≡ 1
-  pub dii : count_by is_dii (cycle_of lines) ≡ 1
-  pub blocks : (line : Line) (b : ℕ) → Contains lines line → b < line.1 → count_by (is_block line.0 b) (cycle_of lines) ≡ 1
+-- the item is the DSI, the DII, or a block of one of the lines
+abbrev pub IsOfLines : List Line → Item → Type 0
+IsOfLines lines Dsi = ⊤
+IsOfLines lines Dii = ⊤
+IsOfLines lines (Block m b) = (line : Line) × Contains lines line × (line.0 ≡ m) × (b < line.1)
+
+-- the DSI once, the DII once a round, each block of a module as often as the module weighs, and nothing else
+pub record SendsEach (weights : List ℕ) (lines : List Line) : Type 0 where
+  pub size : length (cycle_of weights lines) ≡ 1 + greatest_weight weights lines + sum_by (λ line. weight weights line.0 * line.1) lines
+  pub dsi : count_by is_dsi (cycle_of weights lines) ≡ 1
+  pub dii : count_by is_dii (cycle_of weights lines) ≡ greatest_weight weights lines
+  pub blocks : (line : Line) (b : ℕ) → Contains lines line → b < line.1 → count_by (is_block line.0 b) (cycle_of weights lines) ≡ weight weights line.0
+  pub only : All (IsOfLines lines) (cycle_of weights lines)

@@ -1,1 +1,3 @@
 pub mod Cycle
+pub mod Weights
+pub mod Rounds

@@ -1,13 +1,20 @@
 //! The order of the items of a cycle: what a broadcaster sends, section by section, before it begins again.
 //!
-//! A cycle sends the DSI, the DII, and then the blocks of every module, by rising module id and block number. ISO/IEC
-//! 13818-6 leaves the order and the repetition of a carousel's messages to the broadcaster; the order here is this
-//! project's own. A module is given as a line: its id, 1 to 2,224, and the number of its blocks, at most 65,536.
+//! Each module has a weight, 1 to 8. A cycle begins with the DSI and goes in rounds, as many as the greatest weight among
+//! its modules. A round is the DII and then the blocks, by rising module id and block number, of each module that weighs more than
+//! rounds went before. So the DII is sent in each round, and each block as often as its module weighs. ISO/IEC 13818-6 leaves the
+//! order and the repetition of a carousel's messages to the broadcaster; the order and the weights here are this project's own. A
+//! module is given as a line: its id, 1 to 2,224, and the number of its blocks, at most 65,536.
 #![tactic(auto)]
 
-ghost use Rattle.std.specs.Prelude.{◌≡◌, ◌≤◌, ◌<◌, Some, length, slice_get};
-ghost use Rattle.std.specs.List.{All, flat_map};
-ghost use Rattle.cycle_planner.specs.Cycle.{cycle_of, blocks_of, AreLines, SendsEach};
+ghost use Rattle.std.specs.Prelude.{◌≡◌, ◌≤◌, ◌<◌, max, Some, length, slice_get};
+ghost use Rattle.std.specs.List.{flat_map};
+ghost use Rattle.cycle_planner.specs.Cycle.{cycle_of, round, AreLines, SendsEach};
+ghost use Rattle.cycle_planner.specs.Rounds.{blocks_in_round};
+
+mod weigh;
+
+pub use weigh::{Call, GREATEST_ID, Weigh};
 
 /// What one section of a cycle carries.
 #[derive(Clone, Copy, Debug, PartialEq, Eq)]
@@ -20,43 +27,100 @@ pub enum Item {
     Block(u16, u16),
 }
 
-/// How many items a cycle of these lines has: two, and the number of all blocks. The lines aren't empty and their ids
-/// rise. Takes no memory.
-pub fn cycle_len(lines: &[(u16, u32)]) -> u64
+/// The greatest weight of a module.
+const GREATEST_WEIGHT: u8 = 8;
+
+/// How many items a cycle of these lines has: the DSI, the DII as often as the greatest weight says, and each module's
+/// blocks as often as it weighs. The lines aren't empty and their ids rise. Takes no memory.
+pub fn cycle_len(lines: &[(u16, u32)], weigh: &Weigh) -> u64
     requires { AreLines lines.now }
-    ensures len { result ≡ length (cycle_of lines.now) }
-    ensures each { SendsEach lines.now }
+    ensures len { result ≡ length (cycle_of weigh.now.weights lines.now) }
+    ensures each { SendsEach weigh.now.weights lines.now }
 {
-    let mut items = 2;
+    let mut rounds = 0;
+    let mut items = 1;
     for line in lines {
-        items += u64::from(line.1);
+        let weight = u64::from(weigh.of(line.0));
+        rounds = greater(rounds, weight);
+        items += weight * u64::from(line.1);
+    }
+    items + rounds
+}
+
+/// The item at a place of the cycle, counted from 0, which has to be below `cycle_len`. Takes no memory; the rounds and the
+/// modules before the place are passed over whole.
+pub fn item_at(lines: &[(u16, u32)], weigh: &Weigh, at: u64) -> Item
+    requires lines { AreLines lines.now }
+    requires below { at < length (cycle_of weigh.now.weights lines.now) }
+    ensures { slice_get (cycle_of weigh.now.weights lines.now) at ≡ Some result }
+{
+    if at == 0 {
+        return Item::Dsi;
+    }
+    let mut left = at - 1;
+    for number in 0..GREATEST_WEIGHT {
+        let items = round_len(lines, weigh, number);
+        if left < items {
+            return item_of_round(lines, weigh, number, left);
+        }
+        left -= items;
+    }
+    unreachable!()
+}
+
+/// The greater number.
+fn greater(first: u64, second: u64) -> u64
+    ensures { result ≡ max first second }
+{
+    if first < second { second } else { first }
+}
+
+/// How many blocks of a module are sent in a round: all, or none.
+fn blocks_in(line: &(u16, u32), weigh: &Weigh, number: u8) -> u64
+    requires { (1 ≤ line.now.0) × (line.now.0 ≤ 2224) }
+    ensures { result ≡ length (blocks_in_round weigh.now.weights number line.now) }
+{
+    if number < weigh.of(line.0) {
+        u64::from(line.1)
+    } else {
+        0
+    }
+}
+
+/// How many items a round has.
+fn round_len(lines: &[(u16, u32)], weigh: &Weigh, number: u8) -> u64
+    requires { AreLines lines.now }
+    ensures { result ≡ length (round weigh.now.weights lines.now number) }
+{
+    let mut items = 1;
+    for line in lines {
+        items += blocks_in(line, weigh, number);
     }
     items
 }
 
-/// The item at a place of the cycle, counted from 0, which has to be below `cycle_len`. Takes no memory; the items before
-/// the place aren't visited one by one.
-pub fn item_at(lines: &[(u16, u32)], at: u64) -> Item
+/// The item at a place of a round: the DII, or a block.
+fn item_of_round(lines: &[(u16, u32)], weigh: &Weigh, number: u8, at: u64) -> Item
     requires lines { AreLines lines.now }
-    requires below { at < length (cycle_of lines.now) }
-    ensures { slice_get (cycle_of lines.now) at ≡ Some result }
+    requires below { at < length (round weigh.now.weights lines.now number) }
+    ensures { slice_get (round weigh.now.weights lines.now number) at ≡ Some result }
 {
-    match at {
-        0 => Item::Dsi,
-        1 => Item::Dii,
-        _ => block_at(lines, at - 2),
+    if at == 0 {
+        Item::Dii
+    } else {
+        block_at(lines, weigh, number, at - 1)
     }
 }
 
-/// The block at a place among the blocks of all lines.
-fn block_at(lines: &[(u16, u32)], at: u64) -> Item
-    requires blocks { All (λ l. l.1 ≤ 65536) lines.now }
-    requires below { at < length (flat_map blocks_of lines.now) }
-    ensures { slice_get (flat_map blocks_of lines.now) at ≡ Some result }
+/// The block at a place among the blocks that a round sends.
+fn block_at(lines: &[(u16, u32)], weigh: &Weigh, number: u8, at: u64) -> Item
+    requires lines { AreLines lines.now }
+    requires below { at < length (flat_map (blocks_in_round weigh.now.weights number) lines.now) }
+    ensures { slice_get (flat_map (blocks_in_round weigh.now.weights number) lines.now) at ≡ Some result }
 {
     let mut left = at;
     for line in lines {
-        let blocks = u64::from(line.1);
+        let blocks = blocks_in(line, weigh, number);
         if left < blocks {
             return Item::Block(line.0, left as u16);
         }
@@ -66,24 +130,4 @@ fn block_at(lines: &[(u16, u32)], at: u64) -> Item
 }
 
 #[cfg(test)]
-mod tests {
-    use super::*;
-
-    #[test]
-    fn items_come_in_order(rt: HostRuntime) {
-        let lines = [(1, 1), (2, 0), (5, 2)];
-        let cycle = [
-            Item::Dsi,
-            Item::Dii,
-            Item::Block(1, 0),
-            Item::Block(5, 0),
-            Item::Block(5, 1),
-        ];
-        let length = cycle_len(&lines);
-        assert_eq!(rt; length, 5);
-        for (at, item) in (0..5u64).zip(cycle) {
-            assert!(rt; at < length);
-            assert_eq!(rt; item_at(&lines, at), item, "at {at}");
-        }
-    }
-}
+mod tests;

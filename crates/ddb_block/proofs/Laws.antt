@@ -4,8 +4,8 @@ use Rattle.std.specs.Prelude.{Result}
 use Rattle.std.proofs.lemmas.Bool.{le-leb, leb-true, cond-true, and_from, and_parts}
 use Rattle.std.proofs.lemmas.List.{take_at}
 use Rattle.oc_bytes.specs.Numbers.{two_bytes, four_bytes}
-use Rattle.oc_bytes.specs.Cursor.{Cursor, Reading, from_start, within, number_at, this_at, bytes_at, tested, value_only}
-use Rattle.ddb_block.specs.Message.{IsMessage, message, front_of, message_at}
+use Rattle.oc_bytes.specs.Cursor.{Cursor, Reading, from_start, within, number_at, this_at, bytes_at, if_holds, value_only}
+use Rattle.ddb_block.specs.Message.{IsMessage, message, prefix_of, message_at}
 use Rattle.ddb_block.specs.Blocks.{Block, Fits, Reads, read, block_at, spelling}
 use Rattle.ddb_block.proofs.Steps.{AreBytes, first_step, took, took_this, one_is_read, two_are_read, four_are_read, this_is_read, bytes_are_read, one_stands, two_stand, four_stand, when_tested, took_bytes, bytes_behind, bytes_before, same_value}
 
@@ -13,7 +13,7 @@ use Rattle.ddb_block.proofs.Steps.{AreBytes, first_step, took, took_this, one_is
 from_fields : (id t r al ml : ℕ) (adaptation : List ℕ) (c0 c1 c2 c3 c4 c5 c6 c7 c8 : Cursor)
     → this_at 1 0x11 c0 ≡ Ok (0x11, c1) → this_at 1 0x03 c1 ≡ Ok (0x03, c2) → this_at 2 id c2 ≡ Ok (id, c3) → number_at 4 c3 ≡ Ok (t, c4)
     → number_at 1 c4 ≡ Ok (r, c5) → number_at 1 c5 ≡ Ok (al, c6) → number_at 2 c6 ≡ Ok (ml, c7)
-    → tested c6 (leb al ml && leb ml (length c7.rest)) (ml, c7) ≡ Ok (ml, c7) → bytes_at al c7 ≡ Ok (adaptation, c8)
+    → if_holds c6 (leb al ml && leb ml (length c7.rest)) (ml, c7) ≡ Ok (ml, c7) → bytes_at al c7 ≡ Ok (adaptation, c8)
     → message_at id c0 ≡ Ok (t, within (ml - al) c8)
 unfolding message_at
 from_fields id t r al ml adaptation c0 c1 c2 c3 c4 c5 c6 c7 c8 e1 e2 e3 e4 e5 e6 e7 e8 e9 = rw (e1, e2, e3, e4, e5, e6, e7, e8, e9)
@@ -73,7 +73,7 @@ pub record HasFields (id : ℕ) (c0 : Cursor) (x : ℕ × Cursor) : Type 0 where
   pub reserved : number_at 1 d.1 ≡ Ok e
   pub adaptation_length : number_at 1 e.1 ≡ Ok f
   pub message_length : number_at 2 f.1 ≡ Ok g
-  pub fitting : tested f.1 (leb f.0 g.0 && leb g.0 (length g.1.rest)) g ≡ Ok h
+  pub fitting : if_holds f.1 (leb f.0 g.0 && leb g.0 (length g.1.rest)) g ≡ Ok h
   pub adaptation : bytes_at f.0 h.1 ≡ Ok i
   pub value : ◌≡◌ {A = Result (ℕ × Cursor) ℕ} (Ok (d.0, within (g.0 - f.0) i.1)) (Ok x)
 
@@ -256,7 +256,7 @@ spelling_is_message id t body hid ht hsize = record {
   trailing = [];
   reserved = 0xFF;
   ranges = (hid, ht, lit< tt, lit< tt, omega arith);
-  whole = ap (λ n. front_of id t n ++ body) (sym (zero-add (length body))) ∙ ap (λ xs. front_of id t (0 + length body) ++ xs) (sym (append-nil body));
+  whole = ap (λ n. prefix_of id t n ++ body) (sym (zero-add (length body))) ∙ ap (λ xs. prefix_of id t (0 + length body) ++ xs) (sym (append-nil body));
 }
 
 pub spelling_reads : (b : Block) → Fits b → length b.bytes ≤ 4066 → Reads (spelling b) b

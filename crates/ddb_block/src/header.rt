@@ -4,13 +4,13 @@ ghost use Rattle.std.specs.Prelude.{◌≡◌, ◌+◌, ◌-◌, ◌<◌, ◌≤
 ghost use Rattle.oc_bytes.specs.Cursor.{Cursor, from_start, past, within, number_at, this_at};
 ghost use Rattle.oc_bytes.specs.Outcome.{Gives, Steps};
 ghost use Rattle.ddb_block.specs.Message as spellings;
-ghost use Rattle.ddb_block.specs.Message.{IsMessage, front_of, message_at};
+ghost use Rattle.ddb_block.specs.Message.{IsMessage, prefix_of, message_at};
 
 use oc_bytes::{Fields, Short};
 
 /// The header before a body of `size` bytes: its one spelling, without an adaptation and with the reserved byte 0xFF.
 pub fn header_bytes(id: u16, transaction: u32, size: u16) -> [u8; 12]
-    ensures { result ≡ front_of id transaction size }
+    ensures { result ≡ prefix_of id transaction size }
 {
     [
         0x11,

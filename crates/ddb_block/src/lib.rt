@@ -1,7 +1,7 @@
 //! Block messages, DDB (ISO/IEC 13818-6, clause 7.3.7: DownloadDataBlock), and how a module is cut into blocks.
 #![tactic(auto)]
 
-ghost use Rattle.std.specs.Prelude.{◌≡◌, ◌≤◌, ◌<◌, ◌++◌, ◌∷◌, [], Some, Ok, length, ◌+◌, IfOk};
+ghost use Rattle.std.specs.Prelude.{◌≡◌, ◌≤◌, ◌<◌, ◌++◌, ◌∷◌, [], Some, Ok, length, ◌+◌, IfOk, IsErrOf, IsOkAnd, OnErr};
 ghost use Rattle.oc_bytes.specs.Cursor.{Cursor, value_only};
 ghost use Rattle.oc_bytes.specs.Numbers.{two_bytes};
 ghost use Rattle.oc_bytes.specs.Outcome.{Gives};
@@ -12,6 +12,7 @@ mod header;
 pub use header::{byte_of, four_bytes_of, header_bytes, message, messages_read, two_bytes_of};
 use oc_bytes::{Fields, NoMemory};
 use std::alloc::{AllocError, Global};
+use thiserror::Error;
 
 /// A block message: one block of a module.
 #[derive(Debug, Drop)]
@@ -29,11 +30,13 @@ pub struct Ddb {
 }
 
 /// Why reading gave no block message.
-#[derive(Clone, Copy, Debug, PartialEq, Eq)]
+#[derive(Clone, Copy, Debug, PartialEq, Eq, Error)]
 pub enum DdbFault {
     /// The bytes are no block message: the place, counted in bytes from 0, of the first field that is cut or breaks a rule.
+    #[error("no block message: the field at byte {0} is cut or breaks a rule")]
     NotDdb(usize),
     /// There is no memory.
+    #[error("out of memory")]
     NoMemory,
 }
 
@@ -171,11 +174,13 @@ pub fn parts_of(payload: &[u8]) -> Result<Parts<'_>, usize>
     })
 }
 
-/// The same block message with bytes of its own.
+/// The same block message with bytes of its own. Memory is asked for only where it has any.
 fn owned(alloc: Global, parts: &Parts<'_>) -> Result<Ddb, AllocError>
-    ensures { IfOk result (λ d. view d ≡ parts_view parts.now) }
+    ensures same { IfOk result (λ d. view d ≡ parts_view parts.now) }
+    ensures memory { OnErr result (0 < length parts.now.bytes.now) }
 {
-    let bytes = parts.bytes.to_vec(alloc)?;
+    let mut bytes = Vec::with_capacity(alloc, parts.bytes.len())?;
+    bytes.extend_from_slice(parts.bytes)?;
     Ok(Ddb {
         download: parts.download,
         module: parts.module,
@@ -189,11 +194,13 @@ fn owned(alloc: Global, parts: &Parts<'_>) -> Result<Ddb, AllocError>
 ///
 /// `NotDdb` comes exactly where the payload is no block message: at the place of the first field that is cut or breaks a rule.
 /// The rules are protocolDiscriminator 0x11, dsmccType 0x03, messageId 0x1003, and a messageLength, at place 10, that is at
-/// least adaptationLength and at most the number of bytes after it. `NoMemory` comes where the block's bytes find no memory.
+/// least adaptationLength and at most the number of bytes after it. `NoMemory` comes only of a block message whose block isn't
+/// empty, where its bytes find no memory.
 pub fn decode(alloc: Global, payload: &[u8]) -> Result<Ddb, DdbFault>
     ensures found { IfOk result (λ d. Reads payload.now (view d)) }
     ensures only { (b : Block) → Reads payload.now b → Gives view cause result (Ok b) }
     ensures exact { Gives view cause result (read payload.now) }
+    ensures memory { IsErrOf result DdbFault.NoMemory → IsOkAnd (read payload.now) (λ b. 0 < length b.bytes) }
 {
     let parts = parts_of(payload)?;
     Ok(owned(alloc, &parts)?)

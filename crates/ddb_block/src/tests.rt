@@ -64,3 +64,13 @@ fn modules_are_cut_into_blocks(rt: HostRuntime) {
     assert_eq!(rt; block_count(4067, 4066), 2);
     assert_eq!(rt; block_span(4067, 4066, 1), 1);
 }
+
+#[test]
+fn faults_as_text(rt: HostRuntime) -> Result<(), Fail> {
+    let text = format!(in rt.alloc(); "{}", DdbFault::NotDdb(12))?;
+    assert_eq!(rt;
+        text.as_str(),
+        "no block message: the field at byte 12 is cut or breaks a rule"
+    );
+    Ok(())
+}

@@ -2,7 +2,7 @@
 use Rattle.std.proofs.Common.{◌≡◌, ℕ, ◌+◌, ◌-◌, ◌≤◌, Bool, true, false, cond, eqb, leb, ◌&&◌, List, [], ◌∷◌, ◌++◌, length, take, drop, Ok, Err, refl, sym, ap, subst, ◌∙◌, append_assoc, arith, length-append}
 use Rattle.std.proofs.lemmas.Bool.{leb-true, le-leb, eqb-true, eq-eqb}
 use Rattle.std.proofs.lemmas.List.{take_at, take-append-drop, length-take}
-use Rattle.oc_bytes.specs.Cursor.{Cursor, Reading, ◌>>=◌, number_at, bytes_at, this_at, within, tested, from_start}
+use Rattle.oc_bytes.specs.Cursor.{Cursor, Reading, ◌>>=◌, number_at, bytes_at, this_at, within, if_holds, from_start}
 use Rattle.oc_bytes.specs.Numbers.{two_bytes, four_bytes}
 use Rattle.ddb_block.specs.Message.{IsMessage, message_at}
 use Rattle.dsi_dii.specs.ControlReading.{message_id_of}
@@ -71,7 +71,7 @@ follow {A = A} {B = B} {r = r} {f = f} {R = R} {S = S} p q = record { takes = ta
 -- ---- the length of a message, its adaptation and its body
 
 abbrev body_at : (transaction adaptation : ℕ) → Cursor → Reading ℕ
-body_at transaction adaptation c = number_at 2 c >>= λ size. tested c (leb adaptation size.0 && leb size.0 (length size.1.rest)) size >>= λ fitting.
+body_at transaction adaptation c = number_at 2 c >>= λ size. if_holds c (leb adaptation size.0 && leb size.0 (length size.1.rest)) size >>= λ fitting.
     bytes_at adaptation fitting.1 >>= λ passed. Ok (transaction, within (size.0 - adaptation) passed.1)
 
 record Body (transaction adaptation : ℕ) (bytes : List ℕ) (v : ℕ) (rest : List ℕ) : Type 0 where
@@ -114,10 +114,10 @@ body_takes transaction adaptation c x e =
           subst (λ (y : ℕ × Cursor). Body transaction adaptation c.rest y.0 y.1.rest) (ok_is (transaction, within (size.0 - adaptation) b.0.1) x b.2)
           (made size t b.0 le lt ((bytes_parse adaptation).takes size.1 b.0 b.1))
 
-      behind : (size : ℕ × Cursor) (t : Takes (Number 2) c size) → (tested c (leb adaptation size.0 && leb size.0 (length size.1.rest)) size >>= λ fitting. bytes_at adaptation fitting.1 >>= λ passed. Ok (transaction, within (size.0 - adaptation) passed.1)) ≡ Ok x
+      behind : (size : ℕ × Cursor) (t : Takes (Number 2) c size) → (if_holds c (leb adaptation size.0 && leb size.0 (length size.1.rest)) size >>= λ fitting. bytes_at adaptation fitting.1 >>= λ passed. Ok (transaction, within (size.0 - adaptation) passed.1)) ≡ Ok x
           → Body transaction adaptation c.rest x.0 x.1.rest
       behind size t h =
-          let b = bind_ok (tested c (leb adaptation size.0 && leb size.0 (length size.1.rest)) size) _ x h in
+          let b = bind_ok (if_holds c (leb adaptation size.0 && leb size.0 (length size.1.rest)) size) _ x h in
           let g = test_ok (leb adaptation size.0 && leb size.0 (length size.1.rest)) c.place size b.0 b.1 in
           let both = both_true (leb adaptation size.0) (leb size.0 (length size.1.rest)) g.0 in
           last size t (leb-true _ _ both.0) (leb-true _ _ both.1) (subst (λ (y : ℕ × Cursor). (bytes_at adaptation y.1 >>= λ passed. Ok (transaction, within (size.0 - adaptation) passed.1)) ≡ Ok x) (sym g.1) b.2)

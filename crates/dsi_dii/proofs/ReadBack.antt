@@ -120,7 +120,7 @@ reference_length kind l four key =
       four,
     )
 
-pub dsi_size : (transaction : ℕ) (kind : List ℕ) (l : Location) → iors.IsWritten (iors.written kind l) l → length (dsi_spelling transaction kind l) ≡ 103
+pub dsi_size : (transaction : ℕ) (kind : List ℕ) (l : Location) → iors.IsWritten (iors.written_form kind l) l → length (dsi_spelling transaction kind l) ≡ 103
 dsi_size transaction kind l h =
     let reference = iors.spelling kind l in
     omega (arith, length-append (header_bytes 0x1006 transaction (length (dsi_body reference))) (dsi_body reference), dsi_body_length reference, reference_length kind l h.four h.key)
@@ -128,15 +128,15 @@ dsi_size transaction kind l h =
 gateway_read : (place : ℕ) (private : List ℕ) (g : iors.Fields) (d after : Cursor) → ior_at (from_start private) ≡ Ok (g, d) → gateway_at place private after ≡ Ok (g, after)
 gateway_read place private g d after e = rw e refl
 
-pub dsi_read_back : (transaction : ℕ) (kind : List ℕ) (l : Location) → transaction < 4294967296 → iors.IsWritten (iors.written kind l) l
-    → ((rest : List ℕ) → ior_at (from_start (iors.spelling kind l ++ rest)) ≡ Ok (iors.written kind l, record { place = 63; rest = rest }))
-    → read (dsi_spelling transaction kind l) ≡ Ok (IsDsi (record { transaction = transaction; gateway = iors.written kind l }))
+pub dsi_read_back : (transaction : ℕ) (kind : List ℕ) (l : Location) → transaction < 4294967296 → iors.IsWritten (iors.written_form kind l) l
+    → ((rest : List ℕ) → ior_at (from_start (iors.spelling kind l ++ rest)) ≡ Ok (iors.written_form kind l, record { place = 63; rest = rest }))
+    → read (dsi_spelling transaction kind l) ≡ Ok (IsDsi (record { transaction = transaction; gateway = iors.written_form kind l }))
 dsi_read_back transaction kind l lt h again =
     let bytes = dsi_spelling transaction kind l in
     let reference = iors.spelling kind l in
     let private = written_private reference in
     let frame = dsi_frame transaction reference bytes refl (reference_length kind l h.four h.key) lt in
     let read_so = frame_again bytes transaction private frame in
-    let value = dsi_value (from_start bytes) transaction read_so.0 private (iors.written kind l) read_so.1
-    (λ after. gateway_read read_so.0 private (iors.written kind l) (record { place = 63; rest = 0 ∷ 0 ∷ two_bytes 0 }) after (again (0 ∷ 0 ∷ two_bytes 0))) in
+    let value = dsi_value (from_start bytes) transaction read_so.0 private (iors.written_form kind l) read_so.1
+    (λ after. gateway_read read_so.0 private (iors.written_form kind l) (record { place = 63; rest = 0 ∷ 0 ∷ two_bytes 0 }) after (again (0 ∷ 0 ∷ two_bytes 0))) in
     chosen_dsi (message_id_of bytes) (dsi_at (from_start bytes)) (dii_at (from_start bytes)) (message_id_is 0x1006 bytes transaction _ frame.message) ∙ value

@@ -21,8 +21,8 @@ abbrev pub DiiSpellingsHaveSize : Type 0
 DiiSpellingsHaveSize = (d : DiiFields) → length (dii_spelling d) ≡ 34 + 29 * length d.modules
 
 abbrev pub DsiSpellingsReadBack : Type 0
-DsiSpellingsReadBack = (transaction : ℕ) (kind : List ℕ) (l : Location) → transaction < 4294967296 → iors.IsWritten (iors.written kind l) l → iors.IsLocation l
-    → read (dsi_spelling transaction kind l) ≡ Ok (IsDsi (record { transaction = transaction; gateway = iors.written kind l }))
+DsiSpellingsReadBack = (transaction : ℕ) (kind : List ℕ) (l : Location) → transaction < 4294967296 → iors.IsWritten (iors.written_form kind l) l → iors.IsLocation l
+    → read (dsi_spelling transaction kind l) ≡ Ok (IsDsi (record { transaction = transaction; gateway = iors.written_form kind l }))
 
 abbrev pub DsiSpellingsHaveSize : Type 0
-DsiSpellingsHaveSize = (transaction : ℕ) (kind : List ℕ) (l : Location) → iors.IsWritten (iors.written kind l) l → length (dsi_spelling transaction kind l) ≡ 103
+DsiSpellingsHaveSize = (transaction : ℕ) (kind : List ℕ) (l : Location) → iors.IsWritten (iors.written_form kind l) l → length (dsi_spelling transaction kind l) ≡ 103

@@ -16,6 +16,7 @@ mod writing;
 use ior_tap::Ior;
 pub use reading::decode;
 use std::alloc::{AllocError, AllocFailed};
+use thiserror::Error;
 pub use writing::{encode_dii, encode_dsi, spellings_read_back};
 
 /// The transactionId of a control message, 32 bits: who made it (bits 31 and 30), its version (29 to 16), its
@@ -100,20 +101,24 @@ pub enum Control {
 }
 
 /// Why a control message wasn't read.
-#[derive(Clone, Copy, Debug, PartialEq, Eq)]
+#[derive(Clone, Copy, Debug, PartialEq, Eq, Error)]
 pub enum ControlFault {
     /// The place, in bytes from the front of the payload, of the first field that breaks its rule or is cut.
+    #[error("no control message: the field at byte {0} is cut or breaks a rule")]
     NotControl(usize),
     /// There is no memory.
+    #[error("out of memory")]
     NoMemory,
 }
 
 /// Why a DII wasn't written.
-#[derive(Clone, Copy, Debug, PartialEq, Eq)]
+#[derive(Clone, Copy, Debug, PartialEq, Eq, Error)]
 pub enum DiiFault {
     /// It has more than 139 modules: one section has no room for more.
+    #[error("the DII has more than 139 modules")]
     TooMany,
     /// There is no memory.
+    #[error("out of memory")]
     NoMemory,
 }
 

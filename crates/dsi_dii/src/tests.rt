@@ -241,3 +241,15 @@ fn a_dii(rt: HostRuntime) -> Result<(), Fail> {
     );
     Ok(())
 }
+
+#[test]
+fn faults_as_text(rt: HostRuntime) -> Result<(), Fail> {
+    let text = format!(in rt.alloc(); "{}", ControlFault::NotControl(8))?;
+    assert_eq!(rt;
+        text.as_str(),
+        "no control message: the field at byte 8 is cut or breaks a rule"
+    );
+    let text = format!(in rt.alloc(); "{}", DiiFault::TooMany)?;
+    assert_eq!(rt; text.as_str(), "the DII has more than 139 modules");
+    Ok(())
+}

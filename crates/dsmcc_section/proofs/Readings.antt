@@ -9,7 +9,7 @@ use Rattle.section_crc.specs.Crc.{crc_of}
 use Rattle.dsmcc_section.specs.declared.Table.{Table}
 use Rattle.dsmcc_section.specs.declared.Table.TheVariants.{Control, Blocks}
 use Rattle.dsmcc_section.specs.declared.Skip.{Skip}
-use Rattle.dsmcc_section.specs.Sections.{Fields, Fits, Reads, read, fields_of, front_with, length_of, length_field, table_id, spelling, IsFramed}
+use Rattle.dsmcc_section.specs.Sections.{Fields, Fits, Reads, read, fields_of, prefix_with, length_of, length_field, table_id, spelling, IsFramed}
 use Rattle.dsmcc_section.proofs.Checks.{its_own_crc}
 
 -- a list of at least this many elements, with the first ones written out
@@ -192,22 +192,22 @@ syntax_set p q n = omega arith
 odd : (v w : ℕ) → (64 * v + 2 * w + 1) % 2 ≡ 0 → ⊥
 odd v w e = omega arith
 
-written_length : (p q v crc : ℕ) (s : Fields) → length (front_with p q v s ++ four_bytes crc) ≡ length s.payload + 12
+written_length : (p q v crc : ℕ) (s : Fields) → length (prefix_with p q v s ++ four_bytes crc) ≡ length s.payload + 12
 written_length p q v crc s = omega (arith, lit<, length-append s.payload (four_bytes crc))
 
-written_field : (p q v crc : ℕ) (s : Fields) → p < 2 → q < 4 → length s.payload ≤ 4084 → length_field (front_with p q v s ++ four_bytes crc) ≡ length s.payload + 9
+written_field : (p q v crc : ℕ) (s : Fields) → p < 2 → q < 4 → length s.payload ≤ 4084 → length_field (prefix_with p q v s ++ four_bytes crc) ≡ length s.payload + 9
 written_field p q v crc s hp hq room = omega arith
 
-written_fields : (p q v crc : ℕ) (s : Fields) → v < 4 → Fits s → fields_of (cond (eqb (table_id s.table) 0x3B) Control Blocks) (front_with p q v s ++ four_bytes crc) ≡ s
+written_fields : (p q v crc : ℕ) (s : Fields) → v < 4 → Fits s → fields_of (cond (eqb (table_id s.table) 0x3B) Control Blocks) (prefix_with p q v s ++ four_bytes crc) ≡ s
 written_fields p q v crc s hv f = same_fields _ _ _ _ _ _ _ _ _ _ _ _ (same_table s.table) (omega (arith, f.extension)) (omega (arith, f.version)) refl refl
-    (let e : length (front_with p q v s ++ four_bytes crc) - 12 ≡ length s.payload = omega (arith, written_length p q v crc s) in
+    (let e : length (prefix_with p q v s ++ four_bytes crc) - 12 ≡ length s.payload = omega (arith, written_length p q v crc s) in
     ap (λ n. take n (s.payload ++ four_bytes crc)) e ∙ take_at s.payload (four_bytes crc) (length s.payload) refl)
 
-pub written_is_read : (p q v crc : ℕ) (s : Fields) → p < 2 → q < 4 → v < 4 → Fits s → crc_of (front_with p q v s ++ four_bytes crc) ≡ 0 → read (front_with p q v s ++ four_bytes crc) ≡ Ok s
+pub written_is_read : (p q v crc : ℕ) (s : Fields) → p < 2 → q < 4 → v < 4 → Fits s → crc_of (prefix_with p q v s ++ four_bytes crc) ≡ 0 → read (prefix_with p q v s ++ four_bytes crc) ≡ Ok s
 written_is_read p q v crc s hp hq hv f right =
     let size = written_length p q v crc s in
     let field = written_field p q v crc s hp hq f.payload in
-    let whole = front_with p q v s ++ four_bytes crc in
+    let whole = prefix_with p q v s ++ four_bytes crc in
     let least : 12 ≤ length whole = omega arith in
     let most : length_field whole ≤ 4093 = omega (arith, f.payload) in
     let counted : length whole ≡ length_field whole + 3 = omega arith in
@@ -228,11 +228,11 @@ spelling_reads s f = record {
   private = 0;
   reserved = 3;
   version_reserved = 3;
-  crc = crc_of (front_with 0 3 3 s);
+  crc = crc_of (prefix_with 0 3 3 s);
   bits = (omega arith, omega arith, omega arith);
   fits = f;
   whole = refl;
-  right = its_own_crc (front_with 0 3 3 s);
+  right = its_own_crc (prefix_with 0 3 3 s);
 }
 
 other_number : (a b : ℕ) → a < b → a ≢ b
@@ -244,7 +244,7 @@ not_stuffing Blocks = other_number 0x3C 0xFF (lit< tt)
 
 pub spelling_framed : (s : Fields) → Fits s → IsFramed (spelling s)
 spelling_framed s f =
-    let crc = crc_of (front_with 0 3 3 s) in
+    let crc = crc_of (prefix_with 0 3 3 s) in
     let size = written_length 0 3 3 crc s in
     let field = written_field 0 3 3 crc s (omega arith) (omega arith) f.payload in
     record {

@@ -31,13 +31,17 @@ abbrev pub table_id : Table → ℕ
 table_id Control = 0x3B
 table_id Blocks = 0x3C
 
+-- the table that has this table_id
+abbrev pub table_with : ℕ → Result Table Skip
+table_with id = if id == 0x3B then Ok Control else (if id == 0x3C then Ok Blocks else Err skips.OtherTable)
+
 -- the bytes after the length field
 abbrev pub length_of : Fields → ℕ
 length_of s = length s.payload + 9
 
 -- the bytes of a section before its CRC, with these bits in the fields that reading passes over
-abbrev pub front_with : ℕ → ℕ → ℕ → Fields → List ℕ
-front_with private reserved version_reserved s =
+abbrev pub prefix_with : ℕ → ℕ → ℕ → Fields → List ℕ
+prefix_with private reserved version_reserved s =
     (table_id s.table ∷ (128 + 64 * private + 16 * reserved + length_of s / 256) ∷ (length_of s % 256) ∷ [])
     ++ two_bytes s.extension
     ++ ((64 * version_reserved + 2 * s.version + 1) ∷ s.number ∷ s.last ∷ []) ++ s.payload
@@ -58,12 +62,12 @@ pub record Reads (bytes : List ℕ) (s : Fields) : Type 0 where
   pub crc : ℕ
   pub bits : (private < 2) × (reserved < 4) × (version_reserved < 4)
   pub fits : Fits s
-  pub whole : bytes ≡ front_with private reserved version_reserved s ++ four_bytes crc
+  pub whole : bytes ≡ prefix_with private reserved version_reserved s ++ four_bytes crc
   pub right : crc_of bytes ≡ 0
 
 -- the one spelling
 abbrev pub spelling : Fields → List ℕ
-spelling s = let front = front_with 0 3 3 s in front ++ four_bytes (crc_of front)
+spelling s = let front = prefix_with 0 3 3 s in front ++ four_bytes (crc_of front)
 
 -- the length field
 abbrev pub length_field : List ℕ → ℕ

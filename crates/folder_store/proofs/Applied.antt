@@ -11,7 +11,7 @@ use Rattle.std.proofs.lemmas.Cmp.{lists_total, nat_list_cmp_total, tied_itself}
 use Rattle.std.proofs.lemmas.List.{take_all}
 use Rattle.std.proofs.lemmas.List.Elements.{recursion_from_All}
 use Rattle.path_tree.specs.Paths.{Bytes, PathNames, path_cmp, same_name, same_path}
-use Rattle.path_tree.specs.Edits.{apply_all, apply_from, edited, fault_of, unless}
+use Rattle.path_tree.specs.Edits.{apply_all, apply_from, after_edit, fault_of, unless}
 use Rattle.path_tree.specs.Trees.{Tree, is_folder, is_through_file}
 use Rattle.path_tree.specs.declared.tree.Edit.{Edit}
 use Rattle.path_tree.specs.declared.tree.Edit.TheVariants.{Put, Remove}
@@ -96,7 +96,7 @@ applied at t [] tree puts up before h = (sym same ∙ sym (append-nil t), tt) wh
   same = cc
 applied at t (Remove p ∷ es) tree puts up before h = absurd puts.0
 applied at t (Put p b ∷ es) tree puts up before h =
-    let r = no_fault at (fault_of t (Put p b)) (apply_from (suc at) (edited t (Put p b)) es) tree h in
+    let r = no_fault at (fault_of t (Put p b)) (apply_from (suc at) (after_edit t (Put p b)) es) tree h in
     let last : insert_entry path_cmp t p b ≡ t ++ (p, b) ∷ [] = insert_last t p b before.0 in
     let further : apply_from (suc at) (t ++ (p, b) ∷ []) es ≡ Ok tree = ap (λ (u : Tree). apply_from (suc at) u es) (sym last) ∙ r.1 in
     let q = applied (suc at) (t ++ (p, b) ∷ []) es tree puts.1 up.1 (before_more t p b es before.1 up.0) further in

@@ -14,8 +14,8 @@ use Rattle.path_tree.specs.Paths.{Bytes, PathNames, IsName, IsPath, name_cmp, pa
 use Rattle.path_tree.specs.Texts.{is_name, is_zero_or_slash}
 use Rattle.path_tree.specs.declared.tree.Edit.{Edit}
 use Rattle.path_tree.specs.declared.tree.Edit.TheVariants.{Put}
-use Rattle.folder_store.specs.Folders.{Entry, AFile, AFolder, AnOther, FolderTree, IsFolderTree, behind, content_of, entries_below, entry_at, is_folder_at, is_name_text, named_by}
-use Rattle.folder_store.specs.Walk.{Met, Walked, IsBadName, PutsFile, PutsFiles, edits_of, met_at, met_below, met_past, onto, path_in, size, sorted, text_below, walked}
+use Rattle.folder_store.specs.Folders.{Entry, AFile, AFolder, AnOther, FolderTree, IsFolderTree, after_prefix, content_of, entries_below, entry_at, is_folder_at, is_name_text, named_by}
+use Rattle.folder_store.specs.Walk.{Met, Walked, IsBadName, PutsFile, PutsFiles, edits_of, met_at, met_below, met_past, onto, path_in, size, sort_entries, text_below, walk_edits}
 use Rattle.folder_store.proofs.Naming.{In, AreDistinct, all_in, contains_from, distinct_from_pairs, each_in, in_map, names, named_at, named_is, same_name-is, same_name-refl, stands, true_or_false}
 use Rattle.folder_store.proofs.Sorting.{Climbs, name_total, sorted_all, sorted_climbs, sorted_only}
 
@@ -35,38 +35,38 @@ onto_ok e (Ok rest) es h = (rest, (refl, cc))
 onto_ok e (Err fault) es h = cc
 
 -- each edit was met, in this order
-pub walked_front : (n : ℕ) (met : List Met) (es : List Edit) → walked n met ≡ Ok es → (more : List Met) × (met ≡ map Ok es ++ more)
+pub walked_front : (n : ℕ) (met : List Met) (es : List Edit) → walk_edits n met ≡ Ok es → (more : List Met) × (met ≡ map Ok es ++ more)
 walked_front n [] es h = let none : es ≡ [] = cc in ([], rw none refl)
 walked_front n (Err fault ∷ met) es h = go (true_or_false (nat_lt 536870912 n)) h where
   go : (nat_lt 536870912 n ≡ true) ⊎ (nat_lt 536870912 n ≡ false) → cond (nat_lt 536870912 n) (Ok []) (Err fault) ≡ Ok es → (more : List Met) × ((Err fault ∷ met) ≡ map Ok es ++ more)
   go (inl full) k = let j : Ok [] ≡ Ok es = rw full at k in let none : es ≡ [] = cc in (Err fault ∷ met, rw none refl)
   go (inr room) k = let j : Err fault ≡ Ok es = rw room at k in cc
 walked_front n (Ok e ∷ met) es h = go (true_or_false (nat_lt 536870912 n)) h (λ fs k. walked_front (n + size e) met fs k) where
-  go : (nat_lt 536870912 n ≡ true) ⊎ (nat_lt 536870912 n ≡ false) → cond (nat_lt 536870912 n) (Ok []) (onto e (walked (n + size e) met)) ≡ Ok es
-      → ((fs : List Edit) → walked (n + size e) met ≡ Ok fs → (more : List Met) × (met ≡ map Ok fs ++ more)) → (more : List Met) × ((Ok e ∷ met) ≡ map Ok es ++ more)
+  go : (nat_lt 536870912 n ≡ true) ⊎ (nat_lt 536870912 n ≡ false) → cond (nat_lt 536870912 n) (Ok []) (onto e (walk_edits (n + size e) met)) ≡ Ok es
+      → ((fs : List Edit) → walk_edits (n + size e) met ≡ Ok fs → (more : List Met) × (met ≡ map Ok fs ++ more)) → (more : List Met) × ((Ok e ∷ met) ≡ map Ok es ++ more)
   go (inl full) k rest = let j : Ok [] ≡ Ok es = rw full at k in let none : es ≡ [] = cc in (Ok e ∷ met, rw none refl)
   go (inr room) k rest =
-      let j : onto e (walked (n + size e) met) ≡ Ok es = rw room at k in
-      let r = onto_ok e (walked (n + size e) met) es j in
+      let j : onto e (walk_edits (n + size e) met) ≡ Ok es = rw room at k in
+      let r = onto_ok e (walk_edits (n + size e) met) es j in
       let q = rest r.0 r.1.0 in
       (q.0, ap (λ (ms : List Met). Ok e ∷ ms) q.1 ∙ ap (λ (fs : List Edit). map Ok fs ++ q.0) (sym r.1.1))
 
 over : (n k : ℕ) → nat_lt 536870912 n ≡ true → n + k ≤ 536870912 → ⊥
 over n k full le = let lt : 536870912 < n = ltb-true 536870912 n full in omega (arith, lt, le)
 
-pub walked_whole : (n : ℕ) (met : List Met) (es : List Edit) → walked n met ≡ Ok es → n + total es ≤ 536870912 → met ≡ map Ok es
+pub walked_whole : (n : ℕ) (met : List Met) (es : List Edit) → walk_edits n met ≡ Ok es → n + total es ≤ 536870912 → met ≡ map Ok es
 walked_whole n [] es h few = let none : es ≡ [] = cc in rw none refl
 walked_whole n (Err fault ∷ met) es h few = go (true_or_false (nat_lt 536870912 n)) h where
   go : (nat_lt 536870912 n ≡ true) ⊎ (nat_lt 536870912 n ≡ false) → cond (nat_lt 536870912 n) (Ok []) (Err fault) ≡ Ok es → (Err fault ∷ met) ≡ map Ok es
   go (inl full) k = absurd (over n (total es) full few)
   go (inr room) k = let j : Err fault ≡ Ok es = rw room at k in cc
 walked_whole n (Ok e ∷ met) es h few = go (true_or_false (nat_lt 536870912 n)) h (λ fs k le. walked_whole (n + size e) met fs k le) where
-  go : (nat_lt 536870912 n ≡ true) ⊎ (nat_lt 536870912 n ≡ false) → cond (nat_lt 536870912 n) (Ok []) (onto e (walked (n + size e) met)) ≡ Ok es
-      → ((fs : List Edit) → walked (n + size e) met ≡ Ok fs → (n + size e) + total fs ≤ 536870912 → met ≡ map Ok fs) → (Ok e ∷ met) ≡ map Ok es
+  go : (nat_lt 536870912 n ≡ true) ⊎ (nat_lt 536870912 n ≡ false) → cond (nat_lt 536870912 n) (Ok []) (onto e (walk_edits (n + size e) met)) ≡ Ok es
+      → ((fs : List Edit) → walk_edits (n + size e) met ≡ Ok fs → (n + size e) + total fs ≤ 536870912 → met ≡ map Ok fs) → (Ok e ∷ met) ≡ map Ok es
   go (inl full) k rest = absurd (over n (total es) full few)
   go (inr room) k rest =
-      let j : onto e (walked (n + size e) met) ≡ Ok es = rw room at k in
-      let r = onto_ok e (walked (n + size e) met) es j in
+      let j : onto e (walk_edits (n + size e) met) ≡ Ok es = rw room at k in
+      let r = onto_ok e (walk_edits (n + size e) met) es j in
       let sum : n + (size e + total r.0) ≤ 536870912 = subst (λ (fs : List Edit). n + total fs ≤ 536870912) r.1.1 few in
       ap (λ (ms : List Met). Ok e ∷ ms) (rest r.0 r.1.0 (omega (arith, sum))) ∙ ap (map Ok) (sym r.1.1)
 
@@ -207,9 +207,9 @@ none_past (name, AFolder) e (inr none) = none
 
 under_below : (t : FolderTree) (room : ℕ) (path : PathNames) (text : Bytes) (e : Edit) → In (Ok e) (met_below t room path text) → Under path e
 unfolding met_below
-under_below t zero path text e h = let r = from_flat_map met_past (sorted (entries_below t text)) (Ok e) h in absurd (none_past r.0 e r.1.1)
+under_below t zero path text e h = let r = from_flat_map met_past (sort_entries (entries_below t text)) (Ok e) h in absurd (none_past r.0 e r.1.1)
 under_below t (suc room) path text e h =
-    let r = from_flat_map (met_at (met_below t room) path text) (sorted (entries_below t text)) (Ok e) h in
+    let r = from_flat_map (met_at (met_below t room) path text) (sort_entries (entries_below t text)) (Ok e) h in
     let u = under_at (met_below t room) (λ p x f i. under_below t room p x f i) path text r.0 e r.1.1 in
     (r.0.0 ∷ u.0, u.1 ∙ append_assoc path (r.0.0 ∷ []) u.0)
 
@@ -231,9 +231,9 @@ ascends_past (name, AFolder) = tt
 
 ascends_below : (t : FolderTree) (room : ℕ) (path : PathNames) (text : Bytes) → Ascends (edits_in (met_below t room path text))
 unfolding met_below
-ascends_below t zero path text = in_order_all path met_past (sorted (entries_below t text)) (sorted_climbs (entries_below t text)) (λ x e i. absurd (none_past x e i)) ascends_past
+ascends_below t zero path text = in_order_all path met_past (sort_entries (entries_below t text)) (sorted_climbs (entries_below t text)) (λ x e i. absurd (none_past x e i)) ascends_past
 ascends_below t (suc room) path text =
-    in_order_all path (met_at (met_below t room) path text) (sorted (entries_below t text)) (sorted_climbs (entries_below t text))
+    in_order_all path (met_at (met_below t room) path text) (sort_entries (entries_below t text)) (sorted_climbs (entries_below t text))
     (under_at (met_below t room) (under_below t room) path text) (ascends_at (met_below t room) (λ p x. ascends_below t room p x) path text)
 
 -- ---- what stands below a folder of a tree
@@ -241,14 +241,14 @@ ascends_below t (suc room) path text =
 -- an entry of a listing is one of the tree
 below_from : (t : FolderTree) (path : Bytes) (e : Bytes × Entry) → In e (entries_below t path) → In (path ++ 47 ∷ e.0, e.1) t
 below_from [] path e h = absurd h
-below_from (f ∷ t) path e h = go (named_by f.1 (behind (path ++ 47 ∷ []) f.0)) refl h (λ i. below_from t path e i) where
+below_from (f ∷ t) path e h = go (named_by f.1 (after_prefix (path ++ 47 ∷ []) f.0)) refl h (λ i. below_from t path e i) where
   here : (g : Bytes × Entry) → g ≡ e → (f.0 ≡ path ++ 47 ∷ g.0) × (is_name_text g.0 ≡ true) × (g.1 ≡ f.1) → f ≡ (path ++ 47 ∷ e.0, e.1)
   here g same is =
       let text : f.0 ≡ path ++ 47 ∷ e.0 = is.0 ∙ ap (λ (x : Bytes × Entry). path ++ 47 ∷ x.0) same in
       let entry : f.1 ≡ e.1 = sym is.2 ∙ ap (λ (x : Bytes × Entry). x.1) same in
       ap (λ (n : Bytes). (n, f.1)) text ∙ ap (λ (x : Entry). (path ++ 47 ∷ e.0, x)) entry
 
-  go : (o : Option (Bytes × Entry)) → named_by f.1 (behind (path ++ 47 ∷ []) f.0) ≡ o → In e (cons_option o (entries_below t path)) → (In e (entries_below t path) → In (path ++ 47 ∷ e.0, e.1) t) → In (path ++ 47 ∷ e.0, e.1) (f ∷ t)
+  go : (o : Option (Bytes × Entry)) → named_by f.1 (after_prefix (path ++ 47 ∷ []) f.0) ≡ o → In e (cons_option o (entries_below t path)) → (In e (entries_below t path) → In (path ++ 47 ∷ e.0, e.1) t) → In (path ++ 47 ∷ e.0, e.1) (f ∷ t)
   go None is h rest = inr (rest h)
   go (Some g) is (inl same) rest = inl (here g same (named_is path f.0 f.1 g is))
   go (Some g) is (inr h) rest = inr (rest h)
@@ -257,10 +257,10 @@ below_from (f ∷ t) path e h = go (named_by f.1 (behind (path ++ 47 ∷ []) f.0
 below_into : (t : FolderTree) (path name : Bytes) (entry : Entry) → is_name_text name ≡ true → In (path ++ 47 ∷ name, entry) t → In (name, entry) (entries_below t path)
 below_into [] path name entry plain h = absurd h
 below_into (f ∷ t) path name entry plain (inl is) =
-    let first : named_by f.1 (behind (path ++ 47 ∷ []) f.0) ≡ Some (name, entry) =
-    ap (λ (x : Bytes × Entry). named_by x.1 (behind (path ++ 47 ∷ []) x.0)) is ∙ named_at path name entry plain in
+    let first : named_by f.1 (after_prefix (path ++ 47 ∷ []) f.0) ≡ Some (name, entry) =
+    ap (λ (x : Bytes × Entry). named_by x.1 (after_prefix (path ++ 47 ∷ []) x.0)) is ∙ named_at path name entry plain in
     rw first (inl refl)
-below_into (f ∷ t) path name entry plain (inr h) = behind_one (named_by f.1 (behind (path ++ 47 ∷ []) f.0)) (entries_below t path) (name, entry) (below_into t path name entry plain h) where
+below_into (f ∷ t) path name entry plain (inr h) = behind_one (named_by f.1 (after_prefix (path ++ 47 ∷ []) f.0)) (entries_below t path) (name, entry) (below_into t path name entry plain h) where
   behind_one : (o : Option (Bytes × Entry)) (es : List (Bytes × Entry)) (x : Bytes × Entry) → In x es → In x (cons_option o es)
   behind_one None es x i = i
   behind_one (Some y) es x i = inr i
@@ -268,7 +268,7 @@ below_into (f ∷ t) path name entry plain (inr h) = behind_one (named_by f.1 (b
 distinct_below : (t : FolderTree) (path : Bytes) → AreDistinct t → AreDistinct (entries_below t path)
 unfolding IsDistinct
 distinct_below [] path h = tt
-distinct_below (f ∷ t) path h = go (named_by f.1 (behind (path ++ 47 ∷ []) f.0)) refl (distinct_below t path h.1) where
+distinct_below (f ∷ t) path h = go (named_by f.1 (after_prefix (path ++ 47 ∷ []) f.0)) refl (distinct_below t path h.1) where
   apart : (g : Bytes × Entry) → f.0 ≡ path ++ 47 ∷ g.0 → (e : Bytes × Entry) → In e (entries_below t path) → same_name g.0 e.0 ≡ false
   apart g text e i = by (true_or_false (same_name g.0 e.0)) where
     by : (same_name g.0 e.0 ≡ true) ⊎ (same_name g.0 e.0 ≡ false) → same_name g.0 e.0 ≡ false
@@ -279,7 +279,7 @@ distinct_below (f ∷ t) path h = go (named_by f.1 (behind (path ++ 47 ∷ []) f
         let same : same_name f.0 (path ++ 47 ∷ e.0) ≡ true = ap (same_name f.0) (sym alike) ∙ same_name-refl f.0 in
         let z : true ≡ false = sym same ∙ other in cc
 
-  go : (o : Option (Bytes × Entry)) → named_by f.1 (behind (path ++ 47 ∷ []) f.0) ≡ o → AreDistinct (entries_below t path) → AreDistinct (cons_option o (entries_below t path))
+  go : (o : Option (Bytes × Entry)) → named_by f.1 (after_prefix (path ++ 47 ∷ []) f.0) ≡ o → AreDistinct (entries_below t path) → AreDistinct (cons_option o (entries_below t path))
   go None is rest = rest
   go (Some g) is rest = (by_names g.0 (entries_below t path) (apart g (named_is path f.0 f.1 g is).0), rest) where
     by_names : (n : Bytes) (es : List (Bytes × Entry)) → ((e : Bytes × Entry) → In e es → same_name n e.0 ≡ false) → AllByRecursion (λ m. same_name n m ≡ false) (names es)
@@ -324,9 +324,9 @@ file_at t root deeper below path text (name, AFolder) e is there h = go (is_name
 
 file_below : (t : FolderTree) (root : Bytes) → AreDistinct t → (room : ℕ) (path : PathNames) (text : Bytes) (e : Edit) → text ≡ text_below root path → In (Ok e) (met_below t room path text) → PutsFile t root e
 unfolding met_below
-file_below t root apart zero path text e is h = let r = from_flat_map met_past (sorted (entries_below t text)) (Ok e) h in absurd (none_past r.0 e r.1.1)
+file_below t root apart zero path text e is h = let r = from_flat_map met_past (sort_entries (entries_below t text)) (Ok e) h in absurd (none_past r.0 e r.1.1)
 file_below t root apart (suc room) path text e is h =
-    let r = from_flat_map (met_at (met_below t room) path text) (sorted (entries_below t text)) (Ok e) h in
+    let r = from_flat_map (met_at (met_below t room) path text) (sort_entries (entries_below t text)) (Ok e) h in
     let differ : AreDistinct (entries_below t text) = distinct_below t text apart in
     file_at t root (met_below t room) (λ p x f same i. file_below t root apart room p x f same i) path text r.0 e is (stands t text r.0 differ (sorted_only (entries_below t text) r.0 differ r.1.0)) r.1.1
 
@@ -384,7 +384,7 @@ reach t tree apart (suc room) done text name [] content few good all h =
     let there : entry_at t (text ++ 47 ∷ name) ≡ Some (AFile content) = ap (entry_at t) (sym one) ∙ file_is (entry_at t (text_below text (name ∷ []))) content h in
     let listed : In (name, AFile content) below = below_into t text name (AFile content) (name_plain name good) (entry_in t (text ++ 47 ∷ name) (AFile content) there) in
     let met : In (Ok (Put (done ++ name ∷ []) (take 16777217 content))) (met_at (met_below t room) done text (name, AFile content)) = rw (name_good name good) (inl refl) in
-    into_flat_map (met_at (met_below t room) done text) (sorted below) (name, AFile content) (Ok (Put (done ++ name ∷ []) (take 16777217 content))) (sorted_all below (name, AFile content) (distinct_below t text apart) listed) met
+    into_flat_map (met_at (met_below t room) done text) (sort_entries below) (name, AFile content) (Ok (Put (done ++ name ∷ []) (take 16777217 content))) (sorted_all below (name, AFile content) (distinct_below t text apart) listed) met
 reach t tree apart (suc room) done text name (next ∷ rest) content few good all h =
     let below : List (Bytes × Entry) = entries_below t text in
     let inner : Bytes = text ++ 47 ∷ name in
@@ -396,7 +396,7 @@ reach t tree apart (suc room) done text name (next ∷ rest) content few good al
     let whole : In (Ok (Put (done ++ name ∷ next ∷ rest) (take 16777217 content))) (met_below t room (done ++ name ∷ []) inner) =
     subst (λ (p : PathNames). In (Ok (Put p (take 16777217 content))) (met_below t room (done ++ name ∷ []) inner)) (append_assoc done (name ∷ []) (next ∷ rest)) found in
     let met : In (Ok (Put (done ++ name ∷ next ∷ rest) (take 16777217 content))) (met_at (met_below t room) done text (name, AFolder)) = rw (name_good name good) whole in
-    into_flat_map (met_at (met_below t room) done text) (sorted below) (name, AFolder) (Ok (Put (done ++ name ∷ next ∷ rest) (take 16777217 content))) (sorted_all below (name, AFolder) (distinct_below t text apart) listed) met
+    into_flat_map (met_at (met_below t room) done text) (sort_entries below) (name, AFolder) (Ok (Put (done ++ name ∷ next ∷ rest) (take 16777217 content))) (sorted_all below (name, AFolder) (distinct_below t text apart) listed) met
 
 -- ---- the whole
 

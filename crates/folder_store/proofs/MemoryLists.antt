@@ -11,7 +11,7 @@ use Rattle.path_tree.specs.Paths.{Bytes, same_name}
 use Rattle.folder_store.specs.declared.folders.EntryKind.{EntryKind}
 use Rattle.folder_store.specs.declared.folders.EntryKind.TheVariants as kinds
 use Rattle.folder_store.specs.declared.folders.FolderEntry.{FolderEntry}
-use Rattle.folder_store.specs.Folders.{view_entry, Entry, AFile, AFolder, behind, is_name_text, named_by, kind_of, entries_below}
+use Rattle.folder_store.specs.Folders.{view_entry, Entry, AFile, AFolder, after_prefix, is_name_text, named_by, kind_of, entries_below}
 use Rattle.folder_store.specs.Memory.{entries_in, folders_above, file_name, folder_name, ends_in_slash, has_text, with_text, each_once, tree_of, files_below, folders_below, with_folder, with_folder_of}
 use Rattle.folder_store.proofs.MemoryTexts.{true_or_false, same-is, same-refl, same-pointwise, behind_is, name_behind, folder_right_below}
 
@@ -22,13 +22,13 @@ fold-append f a (x ∷ xs) ys = fold-append f (f a x) xs ys
 -- ---- texts after a prefix, each once
 
 -- a name after the prefix is the text without it
-pub named : (q s n : Bytes) → name_behind q s ≡ Some n → behind q s ≡ Some n
-named q s n e = go (behind q s) refl where
-  pick : (rest : Bytes) (b : Bool) → behind q s ≡ Some rest → cond b (Some rest) None ≡ Some n → behind q s ≡ Some n
+pub named : (q s n : Bytes) → name_behind q s ≡ Some n → after_prefix q s ≡ Some n
+named q s n e = go (after_prefix q s) refl where
+  pick : (rest : Bytes) (b : Bool) → after_prefix q s ≡ Some rest → cond b (Some rest) None ≡ Some n → after_prefix q s ≡ Some n
   pick rest true f g = f ∙ g
   pick rest false f g = cc
 
-  go : (o : Option Bytes) → behind q s ≡ o → behind q s ≡ Some n
+  go : (o : Option Bytes) → after_prefix q s ≡ o → after_prefix q s ≡ Some n
   go None f = let none : None ≡ Some n = sym (ap file_name f) ∙ e in cc
   go (Some rest) f = pick rest (is_name_text rest) f (sym (ap file_name f) ∙ e)
 
@@ -98,7 +98,7 @@ abbrev pub Entries : Type 0
 Entries = List (Bytes × Bytes)
 
 abbrev names_step : Bytes → List Bytes → Bytes × Bytes → List Bytes
-names_step q names e = with_name names (folder_name (behind q e.0))
+names_step q names e = with_name names (folder_name (after_prefix q e.0))
 
 once-step : (names : List Bytes) (o : Option Bytes) → fold with_text names (option_to_list o) ≡ with_name names o
 once-step names None = refl
@@ -109,7 +109,7 @@ names-of-entries q names [] = refl
 names-of-entries q names (e ∷ es) =
     ap (λ ns. fold with_text names ns) (filter_map-append (name_behind q) (folders_above e.0) (folder_texts es))
     ∙ fold-append with_text names (filter_map (name_behind q) (folders_above e.0)) (filter_map (name_behind q) (folder_texts es))
-    ∙ ap (λ ns. fold with_text ns (filter_map (name_behind q) (folder_texts es))) (ap (λ ns. fold with_text names ns) (folder_right_below q e.0) ∙ once-step names (folder_name (behind q e.0)))
+    ∙ ap (λ ns. fold with_text ns (filter_map (name_behind q) (folder_texts es))) (ap (λ ns. fold with_text names ns) (folder_right_below q e.0) ∙ once-step names (folder_name (after_prefix q e.0)))
     ∙ names-of-entries q (names_step q names e) es
 
 -- a name more among the folders that are listed
@@ -130,10 +130,10 @@ listed-step : (names : List Bytes) (o : Option Bytes) → with_folder_of (map li
 listed-step names None = refl
 listed-step names (Some n) = listed-one names n
 
-listed-all : (q : Bytes) (names : List Bytes) (es : Entries) → fold (λ out e. with_folder_of out (folder_name (behind q e.0))) (map listed names) es ≡ map listed (fold (names_step q) names es)
+listed-all : (q : Bytes) (names : List Bytes) (es : Entries) → fold (λ out e. with_folder_of out (folder_name (after_prefix q e.0))) (map listed names) es ≡ map listed (fold (names_step q) names es)
 listed-all q names [] = refl
 listed-all q names (e ∷ es) =
-    ap (λ out. fold (λ out e. with_folder_of out (folder_name (behind q e.0))) out es) (listed-step names (folder_name (behind q e.0)))
+    ap (λ out. fold (λ out e. with_folder_of out (folder_name (after_prefix q e.0))) out es) (listed-step names (folder_name (after_prefix q e.0)))
     ∙ listed-all q (names_step q names e) es
 
 abbrev pub view : Bytes × Entry → Bytes × EntryKind
@@ -146,7 +146,7 @@ abbrev pub a_folder : Bytes → Bytes × Entry
 a_folder text = (text, AFolder)
 
 abbrev pub below : Bytes → Bytes × Entry → Option (Bytes × Entry)
-below q e = named_by e.1 (behind q e.0)
+below q e = named_by e.1 (after_prefix q e.0)
 
 abbrev pub is_file : Bytes × Bytes → Bool
 is_file e = not (ends_in_slash e.0)
@@ -167,11 +167,11 @@ view-files path (e ∷ es) = go (view-files path es) (ends_in_slash e.0) refl wh
   go : map view (filter_map (below (path ++ 47 ∷ [])) (map a_file (filter is_file es))) ≡ files_below path es → (b : Bool) → ends_in_slash e.0 ≡ b
       → map view (filter_map (below (path ++ 47 ∷ [])) (map a_file (filter is_file (e ∷ es)))) ≡ files_below path (e ∷ es)
   go h true f = rw f h
-  go h false f = rw f (pick (behind (path ++ 47 ∷ []) e.0) (filter_map (below (path ++ 47 ∷ [])) (map a_file (filter is_file es))) (files_below path es) h)
+  go h false f = rw f (pick (after_prefix (path ++ 47 ∷ []) e.0) (filter_map (below (path ++ 47 ∷ [])) (map a_file (filter is_file es))) (files_below path es) h)
 
 view-folders : (q : Bytes) (texts : List Bytes) → map view (filter_map (below q) (map a_folder texts)) ≡ map listed (filter_map (name_behind q) texts)
 view-folders q [] = refl
-view-folders q (t ∷ ts) = pick (behind q t) (filter_map (below q) (map a_folder ts)) (filter_map (name_behind q) ts) (view-folders q ts) where
+view-folders q (t ∷ ts) = pick (after_prefix q t) (filter_map (below q) (map a_folder ts)) (filter_map (name_behind q) ts) (view-folders q ts) where
   name : (b : Bool) (text : Bytes) (more : List (Bytes × Entry)) (out : List Bytes) → is_name_text text ≡ b → map view more ≡ map listed out
       → map view (cons_option (named_by AFolder (Some text)) more) ≡ map listed (cons_option (file_name (Some text)) out)
   name true text more out f h = rw (f, h) refl
@@ -200,7 +200,7 @@ abbrev pub Kept : Type 0 → Type 0
 Kept Z = List (String Z × Bytes)
 
 abbrev pub file_here : Bytes → Bytes → Option Bytes
-file_here path text = cond (ends_in_slash text) None (file_name (behind (path ++ 47 ∷ []) text))
+file_here path text = cond (ends_in_slash text) None (file_name (after_prefix (path ++ 47 ∷ []) text))
 
 entries-more : {Z : Type 0} (xs : Kept Z) (i : ℕ) (x : String Z × Bytes) → i < length xs → x ≡ get_or xs i x → entries_in (take (i + 1) xs) ≡ entries_in (take i xs) ++ (string_bytes x.0, x.1) ∷ []
 entries-more {Z = Z} xs i x within is = rw (take_more xs i x within, ← is) (map-append (λ (e : String Z × Bytes). (string_bytes e.0, e.1)) (take i xs) (x ∷ []))

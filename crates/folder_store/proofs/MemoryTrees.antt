@@ -13,7 +13,7 @@ use Rattle.std.proofs.lemmas.List.Sorted.{IsPermutation-refl}
 use Rattle.std.proofs.lemmas.List.Folds.{list_any-append, list_any_at}
 use Rattle.path_tree.specs.Paths.{Bytes, same_name}
 use Rattle.folder_store.specs.declared.folders.EntryKind.{EntryKind}
-use Rattle.folder_store.specs.Folders.{view_entry, Entry, FolderTree, entry_at, behind, is_name_text, named_by, entries_below, is_folder_at, content_of, IsListed, IsRead, IsFolderTree}
+use Rattle.folder_store.specs.Folders.{view_entry, Entry, FolderTree, entry_at, after_prefix, is_name_text, named_by, entries_below, is_folder_at, content_of, IsListed, IsRead, IsFolderTree}
 use Rattle.folder_store.specs.Memory.{entries_in, folders_above, ends_in_slash, has_text, with_text, each_once, tree_of, all_apart, AreEntries, files_below, folders_below}
 use Rattle.folder_store.proofs.MemoryTexts.{true_or_false, same-is, same-refl, same-pointwise, same-sym, behind_is, behind_some, stands_in, stands_higher}
 use Rattle.folder_store.proofs.MemoryLists.{Kept, Entries, view, a_file, a_folder, below, is_file, folder_texts, below-is}
@@ -53,13 +53,13 @@ apart-pairs (x ∷ xs) e zero (suc j) d up within =
 apart-pairs (x ∷ xs) e (suc i) (suc j) d up within = apart-pairs xs (and_second (not (list_any (λ f. same_name f.0 x.0) xs)) (all_apart xs) e) i j d (omega arith) (omega arith)
 
 -- an entry right below a folder has the folder's text, a slash and its name
-below_some : (q : Bytes) (e x : Bytes × Entry) → below q e ≡ Some x → behind q e.0 ≡ Some x.0
-below_some q e x f = go (behind q e.0) refl where
-  pick : (rest : Bytes) (b : Bool) → behind q e.0 ≡ Some rest → cond {A = Option (Bytes × Entry)} b (Some (rest, e.1)) None ≡ Some x → behind q e.0 ≡ Some x.0
+below_some : (q : Bytes) (e x : Bytes × Entry) → below q e ≡ Some x → after_prefix q e.0 ≡ Some x.0
+below_some q e x f = go (after_prefix q e.0) refl where
+  pick : (rest : Bytes) (b : Bool) → after_prefix q e.0 ≡ Some rest → cond {A = Option (Bytes × Entry)} b (Some (rest, e.1)) None ≡ Some x → after_prefix q e.0 ≡ Some x.0
   pick rest true g h = let same : (rest, e.1) ≡ x = cc in g ∙ ap (λ (y : Bytes × Entry). Some y.0) same
   pick rest false g h = cc
 
-  go : (o : Option Bytes) → behind q e.0 ≡ o → behind q e.0 ≡ Some x.0
+  go : (o : Option Bytes) → after_prefix q e.0 ≡ o → after_prefix q e.0 ≡ Some x.0
   go None g = let none : None ≡ Some x = sym (ap (named_by e.1) g) ∙ f in cc
   go (Some rest) g = pick rest (is_name_text rest) g (sym (ap (named_by e.1) g) ∙ f)
 
@@ -154,13 +154,13 @@ has_text-once texts (x ∷ xs) p = has_text-once (with_text texts x) xs p ∙ ap
 
 -- whether an entry is a folder or stands in it
 abbrev pub holds : Bytes → Entries → Bool
-holds p entries = list_any (λ e. is_some (behind (p ++ 47 ∷ []) e.0)) entries
+holds p entries = list_any (λ e. is_some (after_prefix (p ++ 47 ∷ []) e.0)) entries
 
 has_text-entries : (es : Entries) (p : Bytes) → has_text (folder_texts es) p ≡ holds p es
 has_text-entries [] p = refl
 has_text-entries (e ∷ es) p =
     has_text-append (folders_above e.0) (folder_texts es) p
-    ∙ ap (λ b. b || has_text (folder_texts es) p) (stands_in p e.0) ∙ ap (λ b. is_some (behind (p ++ 47 ∷ []) e.0) || b) (has_text-entries es p)
+    ∙ ap (λ b. b || has_text (folder_texts es) p) (stands_in p e.0) ∙ ap (λ b. is_some (after_prefix (p ++ 47 ∷ []) e.0) || b) (has_text-entries es p)
 
 pub folder-is : (es : Entries) (p : Bytes) → all_apart (tree_of es) ≡ true → is_folder_at (tree_of es) p ≡ holds p es
 folder-is es p apart = go (list_any (λ e. same_name e.0 p) (filter is_file es)) refl ∙ has_text-once [] (folder_texts es) p ∙ has_text-entries es p where
@@ -210,18 +210,18 @@ or_any p q f (x ∷ xs) h = go (p x) (q x) refl refl (or_any p q f xs) h where
   go true false e g deeper h = let both = f x e in cc
   go false false e g deeper h = rw g (deeper h)
 
-in_folder : (folder name s : Bytes) → same_name s (folder ++ 47 ∷ name) ≡ true → is_some (behind (folder ++ 47 ∷ []) s) ≡ true
+in_folder : (folder name s : Bytes) → same_name s (folder ++ 47 ∷ name) ≡ true → is_some (after_prefix (folder ++ 47 ∷ []) s) ≡ true
 in_folder folder name s e = ap is_some (behind_some (folder ++ 47 ∷ []) s name (same-is s (folder ++ 47 ∷ name) e ∙ simp append_assoc))
 
 pub inside : (es : Entries) (folder name : Bytes) → list_any (λ e. same_name e.0 (folder ++ 47 ∷ name)) (tree_of es) ≡ true → holds folder es ≡ true
 inside es folder name h = go (true_or_false (list_any (λ e. same_name e.0 (folder ++ 47 ∷ name)) (map a_file (filter is_file es)))) where
   go : (list_any (λ e. same_name e.0 (folder ++ 47 ∷ name)) (map a_file (filter is_file es)) ≡ true) ⊎ (list_any (λ e. same_name e.0 (folder ++ 47 ∷ name)) (map a_file (filter is_file es)) ≡ false) → holds folder es ≡ true
-  go (inl is) = or_any (λ (e : Bytes × Bytes). same_name e.0 (folder ++ 47 ∷ name)) (λ e. is_some (behind (folder ++ 47 ∷ []) e.0)) (λ e. in_folder folder name e.0) es (files_there es (folder ++ 47 ∷ name) is)
+  go (inl is) = or_any (λ (e : Bytes × Bytes). same_name e.0 (folder ++ 47 ∷ name)) (λ e. is_some (after_prefix (folder ++ 47 ∷ []) e.0)) (λ e. in_folder folder name e.0) es (files_there es (folder ++ 47 ∷ name) is)
   go (inr isnt) =
       let split = list_any-append (λ (e : Bytes × Entry). same_name e.0 (folder ++ 47 ∷ name)) (map a_file (filter is_file es)) (map a_folder (each_once (folder_texts es))) in
       let among : list_any (λ e. same_name e.0 (folder ++ 47 ∷ name)) (map a_folder (each_once (folder_texts es))) ≡ true = sym (ap (λ b. b || list_any (λ e. same_name e.0 (folder ++ 47 ∷ name)) (map a_folder (each_once (folder_texts es)))) isnt) ∙ sym split ∙ h in
       let folders : holds (folder ++ 47 ∷ name) es ≡ true = sym (has_text-entries es (folder ++ 47 ∷ name)) ∙ sym (has_text-once [] (folder_texts es) (folder ++ 47 ∷ name)) ∙ sym (among_folders (each_once (folder_texts es)) (folder ++ 47 ∷ name)) ∙ among in
-      or_any (λ (e : Bytes × Bytes). is_some (behind ((folder ++ 47 ∷ name) ++ 47 ∷ []) e.0)) (λ e. is_some (behind (folder ++ 47 ∷ []) e.0)) (λ e. stands_higher folder name e.0) es folders
+      or_any (λ (e : Bytes × Bytes). is_some (after_prefix ((folder ++ 47 ∷ name) ++ 47 ∷ []) e.0)) (λ e. is_some (after_prefix (folder ++ 47 ∷ []) e.0)) (λ e. stands_higher folder name e.0) es folders
 
 -- the tree of entries is one in which everything stands in a folder
 pub is-tree : (es : Entries) → AreEntries es → IsFolderTree (tree_of es)

@@ -7,7 +7,7 @@ use Rattle.std.proofs.lemmas.List.Elements.{recursion_from_All}
 use Rattle.std.proofs.lemmas.Bool.Decides.{nat_tests}
 use Rattle.std.proofs.lemmas.Map.Keys.{IsDistinct-head, IsDistinct-tail}
 use Rattle.path_tree.specs.Paths.{Bytes, same_name}
-use Rattle.folder_store.specs.Folders.{Entry, FolderTree, behind, entries_below, entry_at, is_name_text, named_by}
+use Rattle.folder_store.specs.Folders.{Entry, FolderTree, after_prefix, entries_below, entry_at, is_name_text, named_by}
 
 -- ---- names
 
@@ -94,18 +94,18 @@ distinct_from_pairs {A} (e ∷ es) h =
 
 -- ---- texts
 
-behind_is : (front text rest : Bytes) → behind front text ≡ Some rest → text ≡ front ++ rest
+behind_is : (front text rest : Bytes) → after_prefix front text ≡ Some rest → text ≡ front ++ rest
 behind_is [] text rest e = cc
 behind_is (b ∷ bs) [] rest e = cc
 behind_is (b ∷ bs) (c ∷ cs) rest e = go (λ k. behind_is bs cs rest k) (true_or_false (b == c)) e where
-  go : (behind bs cs ≡ Some rest → cs ≡ bs ++ rest) → ((b == c) ≡ true) ⊎ ((b == c) ≡ false) → cond (b == c) (behind bs cs) None ≡ Some rest → (c ∷ cs) ≡ ((b ∷ bs) ++ rest)
+  go : (after_prefix bs cs ≡ Some rest → cs ≡ bs ++ rest) → ((b == c) ≡ true) ⊎ ((b == c) ≡ false) → cond (b == c) (after_prefix bs cs) None ≡ Some rest → (c ∷ cs) ≡ ((b ∷ bs) ++ rest)
   go deeper (inl is) h =
-      let further : behind bs cs ≡ Some rest = rw is at h in
+      let further : after_prefix bs cs ≡ Some rest = rw is at h in
       let same : b ≡ c = grind (arith, nat_tests, is) in
       ap (λ (d : ℕ). d ∷ cs) (sym same) ∙ ap (λ (ds : Bytes). b ∷ ds) (deeper further)
   go deeper (inr isnt) h = let none : None ≡ Some rest = rw isnt at h in cc
 
-behind_front : (front rest : Bytes) → behind front (front ++ rest) ≡ Some rest
+behind_front : (front rest : Bytes) → after_prefix front (front ++ rest) ≡ Some rest
 behind_front [] rest = refl
 behind_front (b ∷ bs) rest = grind (arith, nat_tests, behind_front bs rest)
 
@@ -116,9 +116,9 @@ append_one [] rest = refl
 append_one (b ∷ bs) rest = ap (λ (cs : Bytes). b ∷ cs) (append_one bs rest)
 
 -- the entry is one of the folder's, by its name
-pub named_is : (path text : Bytes) (entry : Entry) (e : Bytes × Entry) → named_by entry (behind (path ++ 47 ∷ []) text) ≡ Some e → (text ≡ path ++ 47 ∷ e.0) × (is_name_text e.0 ≡ true) × (e.1 ≡ entry)
-named_is path text entry e h = go (behind (path ++ 47 ∷ []) text) refl h where
-  go : (o : Option Bytes) → behind (path ++ 47 ∷ []) text ≡ o → named_by entry o ≡ Some e → (text ≡ path ++ 47 ∷ e.0) × (is_name_text e.0 ≡ true) × (e.1 ≡ entry)
+pub named_is : (path text : Bytes) (entry : Entry) (e : Bytes × Entry) → named_by entry (after_prefix (path ++ 47 ∷ []) text) ≡ Some e → (text ≡ path ++ 47 ∷ e.0) × (is_name_text e.0 ≡ true) × (e.1 ≡ entry)
+named_is path text entry e h = go (after_prefix (path ++ 47 ∷ []) text) refl h where
+  go : (o : Option Bytes) → after_prefix (path ++ 47 ∷ []) text ≡ o → named_by entry o ≡ Some e → (text ≡ path ++ 47 ∷ e.0) × (is_name_text e.0 ≡ true) × (e.1 ≡ entry)
   go None is k = absurd (none k) where
     none : None ≡ Some e → ⊥
     none z = cc
@@ -133,16 +133,16 @@ named_is path text entry e h = go (behind (path ++ 47 ∷ []) text) refl h where
       none : None ≡ Some e → ⊥
       none y = cc
 
-pub named_at : (path name : Bytes) (entry : Entry) → is_name_text name ≡ true → named_by entry (behind (path ++ 47 ∷ []) (path ++ 47 ∷ name)) ≡ Some (name, entry)
+pub named_at : (path name : Bytes) (entry : Entry) → is_name_text name ≡ true → named_by entry (after_prefix (path ++ 47 ∷ []) (path ++ 47 ∷ name)) ≡ Some (name, entry)
 named_at path name entry plain =
-    ap (λ (text : Bytes). named_by entry (behind (path ++ 47 ∷ []) text)) (sym (append_one path name))
+    ap (λ (text : Bytes). named_by entry (after_prefix (path ++ 47 ∷ []) text)) (sym (append_one path name))
     ∙ ap (named_by entry) (behind_front (path ++ 47 ∷ []) name) ∙ rw plain refl
 
 -- each entry below a folder is a name's
 pub below_named : (t : FolderTree) (path : Bytes) (e : Bytes × Entry) → In e (entries_below t path) → is_name_text e.0 ≡ true
 below_named [] path e h = absurd h
-below_named (f ∷ t) path e h = go (named_by f.1 (behind (path ++ 47 ∷ []) f.0)) refl h (λ i. below_named t path e i) where
-  go : (o : Option (Bytes × Entry)) → named_by f.1 (behind (path ++ 47 ∷ []) f.0) ≡ o → In e (cons_option o (entries_below t path)) → (In e (entries_below t path) → is_name_text e.0 ≡ true) → is_name_text e.0 ≡ true
+below_named (f ∷ t) path e h = go (named_by f.1 (after_prefix (path ++ 47 ∷ []) f.0)) refl h (λ i. below_named t path e i) where
+  go : (o : Option (Bytes × Entry)) → named_by f.1 (after_prefix (path ++ 47 ∷ []) f.0) ≡ o → In e (cons_option o (entries_below t path)) → (In e (entries_below t path) → is_name_text e.0 ≡ true) → is_name_text e.0 ≡ true
   go None is h rest = rest h
   go (Some g) is (inl same) rest = subst (λ (x : Bytes × Entry). is_name_text x.0 ≡ true) same (named_is path f.0 f.1 g is).1
   go (Some g) is (inr h) rest = rest h
@@ -150,7 +150,7 @@ below_named (f ∷ t) path e h = go (named_by f.1 (behind (path ++ 47 ∷ []) f.
 -- a name of a folder stands once in its listing: so what is listed is what stands at its text
 pub stands : (t : FolderTree) (path : Bytes) (e : Bytes × Entry) → AreDistinct (entries_below t path) → In e (entries_below t path) → entry_at t (path ++ 47 ∷ e.0) ≡ Some e.1
 stands [] path e apart h = absurd h
-stands (f ∷ t) path e apart h = go (named_by f.1 (behind (path ++ 47 ∷ []) f.0)) refl apart h (λ a i. stands t path e a i) where
+stands (f ∷ t) path e apart h = go (named_by f.1 (after_prefix (path ++ 47 ∷ []) f.0)) refl apart h (λ a i. stands t path e a i) where
   later : same_name f.0 (path ++ 47 ∷ e.0) ≡ false → entry_at t (path ++ 47 ∷ e.0) ≡ Some e.1 → entry_at (f ∷ t) (path ++ 47 ∷ e.0) ≡ Some e.1
   later isnt rest = rw isnt rest
 
@@ -162,15 +162,15 @@ stands (f ∷ t) path e apart h = go (named_by f.1 (behind (path ++ 47 ∷ []) f
       rw yes (ap Some entry)
 
   -- the first of the tree is another: else it would be listed
-  other : (o : Option (Bytes × Entry)) → named_by f.1 (behind (path ++ 47 ∷ []) f.0) ≡ o → (o ≡ Some (e.0, f.1) → ⊥) → is_name_text e.0 ≡ true → same_name f.0 (path ++ 47 ∷ e.0) ≡ false
+  other : (o : Option (Bytes × Entry)) → named_by f.1 (after_prefix (path ++ 47 ∷ []) f.0) ≡ o → (o ≡ Some (e.0, f.1) → ⊥) → is_name_text e.0 ≡ true → same_name f.0 (path ++ 47 ∷ e.0) ≡ false
   other o is differs plain = by (true_or_false (same_name f.0 (path ++ 47 ∷ e.0))) where
     by : (same_name f.0 (path ++ 47 ∷ e.0) ≡ true) ⊎ (same_name f.0 (path ++ 47 ∷ e.0) ≡ false) → same_name f.0 (path ++ 47 ∷ e.0) ≡ false
     by (inr isnt) = isnt
     by (inl found) =
         let text : f.0 ≡ path ++ 47 ∷ e.0 = same_name-is f.0 (path ++ 47 ∷ e.0) found in
-        absurd (differs (sym is ∙ ap (λ (x : Bytes). named_by f.1 (behind (path ++ 47 ∷ []) x)) text ∙ named_at path e.0 f.1 plain))
+        absurd (differs (sym is ∙ ap (λ (x : Bytes). named_by f.1 (after_prefix (path ++ 47 ∷ []) x)) text ∙ named_at path e.0 f.1 plain))
 
-  go : (o : Option (Bytes × Entry)) → named_by f.1 (behind (path ++ 47 ∷ []) f.0) ≡ o → AreDistinct (cons_option o (entries_below t path)) → In e (cons_option o (entries_below t path))
+  go : (o : Option (Bytes × Entry)) → named_by f.1 (after_prefix (path ++ 47 ∷ []) f.0) ≡ o → AreDistinct (cons_option o (entries_below t path)) → In e (cons_option o (entries_below t path))
       → (AreDistinct (entries_below t path) → In e (entries_below t path) → entry_at t (path ++ 47 ∷ e.0) ≡ Some e.1) → entry_at (f ∷ t) (path ++ 47 ∷ e.0) ≡ Some e.1
   go None is apart h rest = later (other None is (λ z. none (e.0, f.1) z) (below_named t path e h)) (rest apart h) where
     none : (g : Bytes × Entry) → None ≡ Some g → ⊥

@@ -3,7 +3,7 @@ use Rattle.std.proofs.Common.{◌≡◌, ℕ, ◌≤◌, [], ◌++◌, length, t
 use Rattle.std.proofs.Math.Seq.{take-append_seam}
 use Rattle.std.proofs.lemmas.Option.{same_Some}
 use Rattle.std.proofs.lemmas.List.{take_all, take-append-le}
-use Rattle.oc_bytes.specs.Outcome.{Told}
+use Rattle.oc_bytes.specs.Outcome.{Known}
 use Rattle.oc_bytes.specs.Streams.{Takes}
 use Rattle.path_tree.specs.Paths.{Bytes}
 
@@ -15,15 +15,15 @@ abbrev pub Left : Type 0
 Left = Option Bytes
 
 -- nothing is read yet
-pub told_begun : (left : Left) → Told left left (λ before after. before ≡ [] ++ after)
+pub told_begun : (left : Left) → Known left left (λ before after. before ≡ [] ++ after)
 told_begun left = record {
   kept = refl;
   each = λ x y e f. same_Some x y (sym e ∙ f);
 }
 
 -- a read more
-pub told_more : (first middle last : Left) (bytes more new : Bytes) (n : ℕ) → Told first middle (λ before after. before ≡ bytes ++ after) → Told middle last (λ before after. Takes before after new n) → more ≡ bytes ++ take n new
-    → Told first last (λ before after. before ≡ more ++ after)
+pub told_more : (first middle last : Left) (bytes more new : Bytes) (n : ℕ) → Known first middle (λ before after. before ≡ bytes ++ after) → Known middle last (λ before after. Takes before after new n) → more ≡ bytes ++ take n new
+    → Known first last (λ before after. before ≡ more ++ after)
 told_more first middle last bytes more new n p q e = record {
   kept = q.kept ∙ p.kept;
   each = λ x z f g.
@@ -34,8 +34,8 @@ told_more first middle last bytes more new n p q e = record {
 }
 
 -- nothing is left
-pub told_ended : (first middle last : Left) (bytes new : Bytes) (most n : ℕ) → Told first middle (λ before after. before ≡ bytes ++ after) → Told middle last (λ before after. Takes before after new n) → n ≡ 0 → length bytes ≤ most
-    → Told first last (λ before _. bytes ≡ take most before)
+pub told_ended : (first middle last : Left) (bytes new : Bytes) (most n : ℕ) → Known first middle (λ before after. before ≡ bytes ++ after) → Known middle last (λ before after. Takes before after new n) → n ≡ 0 → length bytes ≤ most
+    → Known first last (λ before _. bytes ≡ take most before)
 told_ended first middle last bytes new most n p q e within = record {
   kept = q.kept ∙ p.kept;
   each = λ x z f g.
@@ -46,14 +46,14 @@ told_ended first middle last bytes new most n p q e within = record {
 }
 
 -- as many bytes are read as were asked for
-pub told_full : (first last : Left) (bytes : Bytes) (most : ℕ) → Told first last (λ before after. before ≡ bytes ++ after) → length bytes ≤ most → most ≤ length bytes → Told first last (λ before _. bytes ≡ take most before)
+pub told_full : (first last : Left) (bytes : Bytes) (most : ℕ) → Known first last (λ before after. before ≡ bytes ++ after) → length bytes ≤ most → most ≤ length bytes → Known first last (λ before _. bytes ≡ take most before)
 told_full first last bytes most p at_most at_least = record {
   kept = p.kept;
   each = λ x z f g. let n : most ≡ length bytes = omega arith in sym (ap (λ (xs : Bytes). take most xs) (p.each x z f g) ∙ ap (λ n. take n (bytes ++ z)) n ∙ take-append_seam bytes z);
 }
 
 -- what a read put into the front of a piece stands in the piece
-pub told_front : (first last : Left) (new rest : Bytes) (n : ℕ) → Told first last (λ before after. Takes before after new n) → n ≤ length new → Told first last (λ before after. Takes before after (new ++ rest) n)
+pub told_front : (first last : Left) (new rest : Bytes) (n : ℕ) → Known first last (λ before after. Takes before after new n) → n ≤ length new → Known first last (λ before after. Takes before after (new ++ rest) n)
 told_front first last new rest n p within = record {
   kept = p.kept;
   each = λ x y e f. let took = p.each x y e f in record { within = took.within; front = take-append-le n new rest within ∙ took.front; left = took.left; ended = took.ended };

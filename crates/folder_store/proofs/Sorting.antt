@@ -19,7 +19,7 @@ use Rattle.path_tree.specs.Paths.{Bytes, name_cmp, same_name}
 use Rattle.folder_store.specs.declared.folders.EntryKind.{EntryKind}
 use Rattle.folder_store.specs.declared.folders.FolderEntry.{FolderEntry}
 use Rattle.folder_store.specs.Folders.{Entry, FolderTree, IsListed, entries_below, entry_at, kind_of, view_entry}
-use Rattle.folder_store.specs.Walk.{sorted}
+use Rattle.folder_store.specs.Walk.{sort_entries}
 use Rattle.folder_store.specs.Gathering.{IsSortedListing}
 use Rattle.folder_store.proofs.Naming.{In, in_from, contains_from, all_in, each_in, in_map, from_map, names, AreDistinct, distinct_from_pairs, same_name-refl, same_name-flips, stands}
 
@@ -150,16 +150,16 @@ all_in_all {A} sofar (e ∷ es) x new apart h = all_in_all (insert_entry name_cm
   go (inr (inl same)) = inl (subst (λ (y : Bytes × A). In y (insert_entry name_cmp sofar e.0 e.1)) same (insert_new e.0 e.1 sofar (new e.0 (inl refl))))
   go (inr (inr i)) = inr i
 
-pub sorted_climbs : (es : List (Bytes × Entry)) → Climbs (sorted es)
+pub sorted_climbs : (es : List (Bytes × Entry)) → Climbs (sort_entries es)
 sorted_climbs es = all_climb [] es tt
 
-pub sorted_only : (es : List (Bytes × Entry)) (x : Bytes × Entry) → AreDistinct es → In x (sorted es) → In x es
+pub sorted_only : (es : List (Bytes × Entry)) (x : Bytes × Entry) → AreDistinct es → In x (sort_entries es) → In x es
 sorted_only es x apart h = go (all_only [] es x (λ k i j. j) apart h) where
   go : In x [] ⊎ In x es → In x es
   go (inl i) = absurd i
   go (inr i) = i
 
-pub sorted_all : (es : List (Bytes × Entry)) (x : Bytes × Entry) → AreDistinct es → In x es → In x (sorted es)
+pub sorted_all : (es : List (Bytes × Entry)) (x : Bytes × Entry) → AreDistinct es → In x es → In x (sort_entries es)
 sorted_all es x apart h = all_in_all [] es x (λ k i j. j) apart (inr h)
 
 -- ---- a list that climbs is told by its elements
@@ -255,18 +255,18 @@ sorted_listing t path listed es h moved up =
     let apart_below : AreDistinct below = subst (λ (ns : List Bytes). IsDistinct same_name ns) (names_kept below) apart_kinds in
     record {
       folder = h.folder;
-      entries = unique (map view_entry es) (kinds_of (sorted below)) (sort_climbs es up apart_after) (kinds_climb (sorted below) (sorted_climbs below))
+      entries = unique (map view_entry es) (kinds_of (sort_entries below)) (sort_climbs es up apart_after) (kinds_climb (sort_entries below) (sorted_climbs below))
           (λ x i. to_sorted below x apart_below (moved_in views (kinds_of below) x h.entries (moved_in (map view_entry es) views x (IsPermutation-sym views (map view_entry es) viewed) i)))
           (λ x i. moved_in views (map view_entry es) x viewed (moved_in (kinds_of below) views x (IsPermutation-sym views (kinds_of below) h.entries) (from_sorted below x apart_below i)));
-      stand = All-from_recursion (λ e. entry_at t (path ++ 47 ∷ e.0) ≡ Some e.1) (sorted below) (all_in (λ e. entry_at t (path ++ 47 ∷ e.0) ≡ Some e.1) (sorted below) (λ x i. stands t path x apart_below (sorted_only below x apart_below i)));
+      stand = All-from_recursion (λ e. entry_at t (path ++ 47 ∷ e.0) ≡ Some e.1) (sort_entries below) (all_in (λ e. entry_at t (path ++ 47 ∷ e.0) ≡ Some e.1) (sort_entries below) (λ x i. stands t path x apart_below (sorted_only below x apart_below i)));
     }
   where
-    to_sorted : (below : List (Bytes × Entry)) (x : Bytes × EntryKind) → AreDistinct below → In x (kinds_of below) → In x (kinds_of (sorted below))
+    to_sorted : (below : List (Bytes × Entry)) (x : Bytes × EntryKind) → AreDistinct below → In x (kinds_of below) → In x (kinds_of (sort_entries below))
     to_sorted below x apart i =
         let r = from_map (λ (e : Bytes × Entry). (e.0, kind_of e.1)) below x i in
-        subst (λ (y : Bytes × EntryKind). In y (kinds_of (sorted below))) r.1.1 (in_map (λ (e : Bytes × Entry). (e.0, kind_of e.1)) (sorted below) r.0 (sorted_all below r.0 apart r.1.0))
+        subst (λ (y : Bytes × EntryKind). In y (kinds_of (sort_entries below))) r.1.1 (in_map (λ (e : Bytes × Entry). (e.0, kind_of e.1)) (sort_entries below) r.0 (sorted_all below r.0 apart r.1.0))
 
-    from_sorted : (below : List (Bytes × Entry)) (x : Bytes × EntryKind) → AreDistinct below → In x (kinds_of (sorted below)) → In x (kinds_of below)
+    from_sorted : (below : List (Bytes × Entry)) (x : Bytes × EntryKind) → AreDistinct below → In x (kinds_of (sort_entries below)) → In x (kinds_of below)
     from_sorted below x apart i =
-        let r = from_map (λ (e : Bytes × Entry). (e.0, kind_of e.1)) (sorted below) x i in
+        let r = from_map (λ (e : Bytes × Entry). (e.0, kind_of e.1)) (sort_entries below) x i in
         subst (λ (y : Bytes × EntryKind). In y (kinds_of below)) r.1.1 (in_map (λ (e : Bytes × Entry). (e.0, kind_of e.1)) below r.0 (sorted_only below r.0 apart r.1.0))

@@ -18,8 +18,8 @@ use Rattle.folder_store.specs.declared.folders.FolderEntry.{FolderEntry}
 use Rattle.folder_store.specs.declared.reading.ReadTree.{ReadTree}
 use Rattle.folder_store.specs.declared.reading.ReadTree.TheVariants as refusals
 use Rattle.folder_store.specs.Folders.{Entry, AFile, AFolder, AnOther, FolderTree, IsRead, MayFail, content_of, entries_below, entry_at, kind_of, view_entry}
-use Rattle.folder_store.specs.Walk.{Met, Walked, WalkFault, IsTooDeep, IsBadName, met_at, met_past, met_below, edits_of, onto, walked, size, sorted}
-use Rattle.folder_store.specs.Gathering.{IsSortedListing, Walks, after, broken, going_on, kind_at, met_one}
+use Rattle.folder_store.specs.Walk.{Met, Walked, WalkFault, IsTooDeep, IsBadName, met_at, met_past, met_below, edits_of, onto, walk_edits, size, sort_entries}
+use Rattle.folder_store.specs.Gathering.{IsSortedListing, Walks, after, broken_rule, going_on, kind_at, met_one}
 
 -- all this was met, and no rule was broken
 abbrev pub Goes : List Met → List Edit → ℕ → List Edit → ℕ → Type 0
@@ -37,15 +37,15 @@ after_fault : (edits : List Edit) (fault : WalkFault) → after edits (Err fault
 after_fault [] fault = refl
 after_fault (e ∷ edits) fault = ap (onto e) (after_fault edits fault)
 
-walked_full : (n : ℕ) (met : List Met) → nat_lt 536870912 n ≡ true → walked n met ≡ Ok []
+walked_full : (n : ℕ) (met : List Met) → nat_lt 536870912 n ≡ true → walk_edits n met ≡ Ok []
 walked_full n [] full = refl
 walked_full n (Ok e ∷ met) full = rw full refl
 walked_full n (Err fault ∷ met) full = rw full refl
 
-walked_file : (n : ℕ) (e : Edit) (met : List Met) → nat_lt 536870912 n ≡ false → walked n (Ok e ∷ met) ≡ onto e (walked (n + size e) met)
+walked_file : (n : ℕ) (e : Edit) (met : List Met) → nat_lt 536870912 n ≡ false → walk_edits n (Ok e ∷ met) ≡ onto e (walk_edits (n + size e) met)
 walked_file n e met room = rw room refl
 
-walked_fault : (n : ℕ) (fault : WalkFault) (met : List Met) → nat_lt 536870912 n ≡ false → walked n (Err fault ∷ met) ≡ Err fault
+walked_fault : (n : ℕ) (fault : WalkFault) (met : List Met) → nat_lt 536870912 n ≡ false → walk_edits n (Err fault ∷ met) ≡ Err fault
 walked_fault n fault met room = rw room refl
 
 -- once more bytes than the limit are read, nothing that is met counts
@@ -70,7 +70,7 @@ pub fault_ends : (fault : WalkFault) (edits : List Edit) (n : ℕ) → nat_lt 53
 fault_ends fault edits n room rest = ap (after edits) (walked_fault n fault rest room) ∙ after_fault edits fault
 
 file_goes : (e : Edit) (edits : List Edit) (n : ℕ) → nat_lt 536870912 n ≡ false → Goes (Ok e ∷ []) edits n (edits ++ e ∷ []) (n + size e)
-file_goes e edits n room rest = ap (after edits) (walked_file n e rest room) ∙ sym (after_more edits e (walked (n + size e) rest))
+file_goes e edits n room rest = ap (after edits) (walked_file n e rest room) ∙ sym (after_more edits e (walk_edits (n + size e) rest))
 
 content_is : (o : Option Entry) (content found : Bytes) → o ≡ Some (AFile content) → content_of o ≡ Some found → found ≡ content
 content_is o content found e f = let g : content_of o ≡ Some content = ap content_of e in cc
@@ -128,7 +128,7 @@ folder_walks t path below text name full AnOther before edits n m result kind fe
 -- a file or a folder that breaks a rule
 pub place_ends : (t : FolderTree) (path : PathNames) (text name : Bytes) (e : Entry) (edits : List Edit) (n : ℕ) (error : ReadTree) → (kind_of e ≡ kinds.Other → ⊥) → nat_lt 536870912 n ≡ false
     → (error ≡ refusals.TooDeep → length path ≡ 16) → (error ≡ refusals.BadName → (length path < 16) × (is_name name ≡ false))
-    → (rest : List Met) → MatchOption (broken error) ⊤ (λ fault. going_on edits n (met_one t (16 - length path) path text (name, e) ++ rest) ≡ Err fault)
+    → (rest : List Met) → MatchOption (broken_rule error) ⊤ (λ fault. going_on edits n (met_one t (16 - length path) path text (name, e) ++ rest) ≡ Err fault)
 place_ends t path text name e edits n refusals.FolderFault kind room deep bad rest = tt
 place_ends t path text name e edits n refusals.NoMemory kind room deep bad rest = tt
 place_ends t path text name e edits n refusals.TooDeep kind room deep bad rest =
@@ -151,7 +151,7 @@ place_ends t path text name e edits n refusals.BadName kind room deep bad rest =
 
 -- ---- one entry of a folder after another
 
-pub met_is : (t : FolderTree) (room : ℕ) (path : PathNames) (text : Bytes) → met_below t room path text ≡ flat_map (met_one t room path text) (sorted (entries_below t text))
+pub met_is : (t : FolderTree) (room : ℕ) (path : PathNames) (text : Bytes) → met_below t room path text ≡ flat_map (met_one t room path text) (sort_entries (entries_below t text))
 unfolding met_below
 met_is t zero path text = refl
 met_is t (suc room) path text = refl
@@ -159,8 +159,8 @@ met_is t (suc room) path text = refl
 -- what stands where an entry is listed
 pub record Found (t : FolderTree) (path : Bytes) (i : ℕ) (x : FolderEntry) : Type 0 where
   pub entry : Entry
-  pub within : i < length (sorted (entries_below t path))
-  pub at : get_or (sorted (entries_below t path)) i (string_bytes x.name, entry) ≡ (string_bytes x.name, entry)
+  pub within : i < length (sort_entries (entries_below t path))
+  pub at : get_or (sort_entries (entries_below t path)) i (string_bytes x.name, entry) ≡ (string_bytes x.name, entry)
   pub there : entry_at t (path ++ 47 ∷ string_bytes x.name) ≡ Some entry
   pub kind : kind_of entry ≡ x.kind
 
@@ -182,7 +182,7 @@ listed_at (e ∷ es) (f ∷ fs) (suc i) x same within is =
 
 pub found : (t : FolderTree) (path : Bytes) (fs : List FolderEntry) (i : ℕ) (x : FolderEntry) → IsSortedListing t path (map view_entry fs) → i < length fs → x ≡ get_or fs i x → Found t path i x
 found t path fs i x h within is =
-    let r = listed_at (sorted (entries_below t path)) fs i x h.entries within is in
+    let r = listed_at (sort_entries (entries_below t path)) fs i x h.entries within is in
     let d : Bytes × Entry = (string_bytes x.name, r.0) in
     let s = h.stand i d r.1.0 in
     record {
@@ -201,23 +201,23 @@ whole : {X Y : Type 0} (f : X → List Y) (xs : List X) (i : ℕ) → flat_map f
 whole f xs i = ap (flat_map f) (sym (take-append-drop i xs)) ∙ flat_map-append f (take i xs) (drop i xs)
 
 pub entry_goes : (t : FolderTree) (room : ℕ) (path : PathNames) (text : Bytes) (i : ℕ) (x : FolderEntry) (first second third : List Edit) (k m n : ℕ) → (h : Found t text i x)
-    → Goes (flat_map (met_one t room path text) (take i (sorted (entries_below t text)))) first k second m
+    → Goes (flat_map (met_one t room path text) (take i (sort_entries (entries_below t text)))) first k second m
     → Goes (met_one t room path text (string_bytes x.name, h.entry)) second m third n
-    → Goes (flat_map (met_one t room path text) (take (i + 1) (sorted (entries_below t text)))) first k third n
+    → Goes (flat_map (met_one t room path text) (take (i + 1) (sort_entries (entries_below t text)))) first k third n
 entry_goes t room path text i x first second third k m n h f g =
-    subst (λ (ms : List Met). Goes ms first k third n) (sym (one_more (met_one t room path text) (sorted (entries_below t text)) i (string_bytes x.name, h.entry) h.within h.at))
-    (goes_then (flat_map (met_one t room path text) (take i (sorted (entries_below t text)))) (met_one t room path text (string_bytes x.name, h.entry)) first second third k m n f g)
+    subst (λ (ms : List Met). Goes ms first k third n) (sym (one_more (met_one t room path text) (sort_entries (entries_below t text)) i (string_bytes x.name, h.entry) h.within h.at))
+    (goes_then (flat_map (met_one t room path text) (take i (sort_entries (entries_below t text)))) (met_one t room path text (string_bytes x.name, h.entry)) first second third k m n f g)
 
 pub entry_ends : (t : FolderTree) (room : ℕ) (path : PathNames) (text : Bytes) (i : ℕ) (x : FolderEntry) (first second : List Edit) (k m : ℕ) (error : ReadTree) → (h : Found t text i x)
-    → Goes (flat_map (met_one t room path text) (take i (sorted (entries_below t text)))) first k second m
-    → ((rest : List Met) → MatchOption (broken error) ⊤ (λ fault. going_on second m (met_one t room path text (string_bytes x.name, h.entry) ++ rest) ≡ Err fault))
-    → (rest : List Met) → MatchOption (broken error) ⊤ (λ fault. going_on first k (met_below t room path text ++ rest) ≡ Err fault)
-entry_ends t room path text i x first second k m error h f g = by (broken error) g where
+    → Goes (flat_map (met_one t room path text) (take i (sort_entries (entries_below t text)))) first k second m
+    → ((rest : List Met) → MatchOption (broken_rule error) ⊤ (λ fault. going_on second m (met_one t room path text (string_bytes x.name, h.entry) ++ rest) ≡ Err fault))
+    → (rest : List Met) → MatchOption (broken_rule error) ⊤ (λ fault. going_on first k (met_below t room path text ++ rest) ≡ Err fault)
+entry_ends t room path text i x first second k m error h f g = by (broken_rule error) g where
   by : (o : Option WalkFault) → ((rest : List Met) → MatchOption o ⊤ (λ fault. going_on second m (met_one t room path text (string_bytes x.name, h.entry) ++ rest) ≡ Err fault))
       → (rest : List Met) → MatchOption o ⊤ (λ fault. going_on first k (met_below t room path text ++ rest) ≡ Err fault)
   by None g rest = tt
   by (Some fault) g rest =
-      let es : List (Bytes × Entry) = sorted (entries_below t text) in
+      let es : List (Bytes × Entry) = sort_entries (entries_below t text) in
       let e : Bytes × Entry = (string_bytes x.name, h.entry) in
       let met : List Met = flat_map (met_one t room path text) (take i es) in
       let split : met_below t room path text ≡ (met ++ met_one t room path text e) ++ flat_map (met_one t room path text) (drop (i + 1) es) =
@@ -227,9 +227,9 @@ entry_ends t room path text i x first second k m error h f g = by (broken error)
       (ends_then met (met_one t room path text e) first second k m fault f g) rest)
 
 pub folder_goes : (t : FolderTree) (room : ℕ) (path : PathNames) (text : Bytes) (fs : List FolderEntry) (i : ℕ) (first second : List Edit) (k m : ℕ) → IsSortedListing t text (map view_entry fs) → length fs ≤ i
-    → Goes (flat_map (met_one t room path text) (take i (sorted (entries_below t text)))) first k second m → Goes (met_below t room path text) first k second m
+    → Goes (flat_map (met_one t room path text) (take i (sort_entries (entries_below t text)))) first k second m → Goes (met_below t room path text) first k second m
 folder_goes t room path text fs i first second k m h all f =
-    let es : List (Bytes × Entry) = sorted (entries_below t text) in
+    let es : List (Bytes × Entry) = sort_entries (entries_below t text) in
     let same : length fs ≡ length es = sym (length-map fs view_entry) ∙ ap length h.entries ∙ length-map es (λ (e : Bytes × Entry). (e.0, kind_of e.1)) in
     let enough : length es ≤ i = omega (arith, same, all) in
     let met : met_below t room path text ≡ flat_map (met_one t room path text) (take i es) = met_is t room path text ∙ ap (flat_map (met_one t room path text)) (sym (take_all i es enough)) in
@@ -268,13 +268,13 @@ after_all (e ∷ edits) = ap (onto e) (after_all edits)
 pub whole_goes : (t : FolderTree) (root : Bytes) (path : PathNames) (text : Bytes) (edits : List Edit) (n : ℕ) → path ≡ [] → text ≡ root
     → Goes (met_below t (16 - length path) path text) [] 0 edits n → edits_of t root ≡ Ok edits
 whole_goes t root path text edits n path_is text_is h =
-    let all : walked 0 (met_below t (16 - length path) path text) ≡ Ok edits = ap (walked 0) (sym (append-nil (met_below t (16 - length path) path text))) ∙ h [] ∙ after_all edits in
+    let all : walk_edits 0 (met_below t (16 - length path) path text) ≡ Ok edits = ap (walk_edits 0) (sym (append-nil (met_below t (16 - length path) path text))) ∙ h [] ∙ after_all edits in
     rw (path_is, text_is) at all
 
 pub whole_ends : (t : FolderTree) (root : Bytes) (path : PathNames) (text : Bytes) (fault : WalkFault) → path ≡ [] → text ≡ root
     → Ends (met_below t (16 - length path) path text) [] 0 fault → edits_of t root ≡ Err fault
 whole_ends t root path text fault path_is text_is h =
-    let all : walked 0 (met_below t (16 - length path) path text) ≡ Err fault = ap (walked 0) (sym (append-nil (met_below t (16 - length path) path text))) ∙ h [] in
+    let all : walk_edits 0 (met_below t (16 - length path) path text) ≡ Err fault = ap (walk_edits 0) (sym (append-nil (met_below t (16 - length path) path text))) ∙ h [] in
     rw (path_is, text_is) at all
 
 pub refused_is : {T : Type 0} (error inner answer : ReadTree) (r : Result T ReadTree) → r ≡ Err error → error ≡ inner → r ≡ Err answer → inner ≡ answer

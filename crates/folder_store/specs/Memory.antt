@@ -5,7 +5,7 @@ use Rattle.std.specs.Option.{option_map}
 use Rattle.std.specs.String.{string_bytes}
 use Rattle.std.specs.declared.string.String.{String}
 use Rattle.path_tree.specs.Paths.{Bytes, same_name}
-use Rattle.folder_store.specs.Folders.{FolderTree, AFile, AFolder, behind, is_name_text}
+use Rattle.folder_store.specs.Folders.{FolderTree, AFile, AFolder, after_prefix, is_name_text}
 use Rattle.folder_store.specs.declared.folders.EntryKind.{EntryKind}
 use Rattle.folder_store.specs.declared.folders.EntryKind.TheVariants as kinds
 
@@ -62,7 +62,7 @@ folder_name (Some rest) = if is_name_text rest then None else Some (before_first
 
 -- the files right below a folder, as a listing shows them
 abbrev pub files_below : Bytes → List (Bytes × Bytes) → List (Bytes × EntryKind)
-files_below path entries = filter_map (λ e. option_map (λ name. (name, kinds.File)) (if ends_in_slash e.0 then None else file_name (behind (path ++ 47 ∷ []) e.0))) entries
+files_below path entries = filter_map (λ e. option_map (λ name. (name, kinds.File)) (if ends_in_slash e.0 then None else file_name (after_prefix (path ++ 47 ∷ []) e.0))) entries
 
 abbrev pub with_folder : List (Bytes × EntryKind) → Bytes → List (Bytes × EntryKind)
 with_folder listed name = if list_any (λ e. same_name e.0 name) listed then listed else listed ++ (name, kinds.Folder) ∷ []
@@ -73,4 +73,4 @@ with_folder_of listed (Some name) = with_folder listed name
 
 -- the folders right below a folder, each once
 abbrev pub folders_below : Bytes → List (Bytes × Bytes) → List (Bytes × EntryKind)
-folders_below path entries = fold (λ listed e. with_folder_of listed (folder_name (behind (path ++ 47 ∷ []) e.0))) [] entries
+folders_below path entries = fold (λ listed e. with_folder_of listed (folder_name (after_prefix (path ++ 47 ∷ []) e.0))) [] entries

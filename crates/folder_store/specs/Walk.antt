@@ -15,8 +15,8 @@ pub data WalkFault : Type 0 where
   IsTooDeep : WalkFault
   IsBadName : WalkFault
 
-abbrev pub sorted : List (Bytes × Entry) → List (Bytes × Entry)
-sorted entries = fold (λ es e. insert_entry name_cmp es e.0 e.1) [] entries
+abbrev pub sort_entries : List (Bytes × Entry) → List (Bytes × Entry)
+sort_entries entries = fold (λ es e. insert_entry name_cmp es e.0 e.1) [] entries
 
 -- what the walk meets: a file, as its edit, or an entry that breaks a rule
 abbrev pub Met : Type 0
@@ -39,8 +39,8 @@ met_at deeper path text (name, AFolder) =
 -- all that the walk can meet below a folder whose path leaves room for so many names more: by name order, a folder's
 -- content at its place
 unfoldable pub met_below : FolderTree → ℕ → PathNames → Bytes → List Met
-met_below t zero path text = flat_map met_past (sorted (entries_below t text))
-met_below t (suc room) path text = flat_map (met_at (met_below t room) path text) (sorted (entries_below t text))
+met_below t zero path text = flat_map met_past (sort_entries (entries_below t text))
+met_below t (suc room) path text = flat_map (met_at (met_below t room) path text) (sort_entries (entries_below t text))
 
 abbrev pub size : Edit → ℕ
 size (Put path content) = length content
@@ -55,14 +55,14 @@ onto e (Err fault) = Err fault
 
 -- The edits of the files that are met, n bytes being read before. The walk ends where more bytes than the limit are
 -- read, or at the first entry that breaks a rule.
-abbrev pub walked : ℕ → List Met → Walked
-walked n [] = Ok []
-walked n (Err fault ∷ met) = if nat_lt 536870912 n then Ok [] else Err fault
-walked n (Ok e ∷ met) = if nat_lt 536870912 n then Ok [] else onto e (walked (n + size e) met)
+abbrev pub walk_edits : ℕ → List Met → Walked
+walk_edits n [] = Ok []
+walk_edits n (Err fault ∷ met) = if nat_lt 536870912 n then Ok [] else Err fault
+walk_edits n (Ok e ∷ met) = if nat_lt 536870912 n then Ok [] else onto e (walk_edits (n + size e) met)
 
 -- the edits of a folder, or the first entry in walk order that breaks a rule
 abbrev pub edits_of : FolderTree → Bytes → Walked
-edits_of t root = walked 0 (met_below t 16 [] root)
+edits_of t root = walk_edits 0 (met_below t 16 [] root)
 
 -- ---- the edits as the folder's files
 

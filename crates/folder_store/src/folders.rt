@@ -3,6 +3,7 @@ ghost use Rattle.oc_bytes.specs.Outcome.{Rose};
 
 use oc_bytes::NoMemory;
 use std::alloc::{AllocError, AllocFailed, Global};
+use thiserror::Error;
 
 /// What an entry of a folder is.
 #[derive(Clone, Copy, Debug, PartialEq, Eq)]
@@ -25,13 +26,15 @@ pub struct FolderEntry {
 }
 
 /// Why a folder wasn't listed, or a file not read.
-#[derive(Clone, Copy, Debug, PartialEq, Eq)]
+#[derive(Clone, Copy, Debug, PartialEq, Eq, Error)]
 pub enum FolderFault {
     /// The system answered with an error, or the path is wrong. It comes only where the count of faults
     /// rose in this call, or stands at its type's end, or where the tree is known and the path is no
     /// folder (`list`) or no file (`read`) of it.
+    #[error("the folder could not be listed, or the file not read")]
     Failed,
     /// There is no memory.
+    #[error("out of memory")]
     NoMemory,
 }
 

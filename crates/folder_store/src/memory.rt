@@ -2,9 +2,9 @@ ghost use Rattle.std.specs.Prelude.{◌≡◌, ◌<◌, ◌≤◌, ◌+◌, ◌�
 ghost use Rattle.std.specs.List.{list_any, fold, filter_map};
 ghost use Rattle.std.specs.Option.{option_copied};
 ghost use Rattle.std.specs.String.{string_bytes};
-ghost use Rattle.oc_bytes.specs.Outcome.{Rose, capped};
+ghost use Rattle.oc_bytes.specs.Outcome.{Rose, cap_at_u64};
 ghost use Rattle.path_tree.specs.Paths.{same_name};
-ghost use Rattle.folder_store.specs.Folders.{FolderTree, behind, content_of, entry_at, is_folder_at, view_entry, IsFolderTree, IsListed, IsRead, MayFail};
+ghost use Rattle.folder_store.specs.Folders.{FolderTree, after_prefix, content_of, entry_at, is_folder_at, view_entry, IsFolderTree, IsListed, IsRead, MayFail};
 ghost use Rattle.folder_store.specs.Memory.{AreEntries, entries_in, tree_of, ends_in_slash, file_name, folder_name, files_below, folders_below, with_folder};
 
 use crate::folders::{EntryKind, FolderEntry, FolderFault, Folders};
@@ -56,9 +56,9 @@ impl MemFolders {
         ensures entries { self.new.entries ≡ self.old.entries }
         ensures plan { self.new.fail_at ≡ self.old.fail_at }
         ensures strayed { self.new.strayed ≡ self.old.strayed }
-        ensures made { self.new.calls ≡ capped (self.old.calls + 1) }
+        ensures made { self.new.calls ≡ cap_at_u64 (self.old.calls + 1) }
         ensures later { self.old.failures ≤ self.new.failures }
-        ensures err { IfErr result (λ e. (e ≡ FolderFault.Failed) × Contains self.old.fail_at.items self.old.calls × (self.new.failures ≡ capped (self.old.failures + 1))) }
+        ensures err { IfErr result (λ e. (e ≡ FolderFault.Failed) × Contains self.old.fail_at.items self.old.calls × (self.new.failures ≡ cap_at_u64 (self.old.failures + 1))) }
         ensures ok { OnOk result ((Contains self.old.fail_at.items self.old.calls → ⊥) × (self.new.failures ≡ self.old.failures)) }
     {
         let call = self.calls;
@@ -89,9 +89,9 @@ impl Folders for MemFolders {
         ensures strays { (t : FolderTree) → Some (tree_in self.old) ≡ Some t → is_folder_at t path.now ≡ false → self.new.strayed ≡ true }
         // The plan of failures.
         ensures planned { IsErrOf result FolderFault.Failed ↔ (Contains (failing_calls self.old) (calls_made self.old) ⊎ (is_folder_at (tree_in self.old) path.now ≡ false)) }
-        ensures counted { Contains (failing_calls self.old) (calls_made self.old) → calls_failed self.new ≡ capped (calls_failed self.old + 1) }
+        ensures counted { Contains (failing_calls self.old) (calls_made self.old) → calls_failed self.new ≡ cap_at_u64 (calls_failed self.old + 1) }
         ensures alone { (Contains (failing_calls self.old) (calls_made self.old) → ⊥) → calls_failed self.new ≡ calls_failed self.old }
-        ensures made { calls_made self.new ≡ capped (calls_made self.old + 1) }
+        ensures made { calls_made self.new ≡ cap_at_u64 (calls_made self.old + 1) }
         ensures plan { failing_calls self.new ≡ failing_calls self.old }
     {
         let is_there = is_folder(&self.entries, path);
@@ -112,9 +112,9 @@ impl Folders for MemFolders {
         ensures strays { (t : FolderTree) → Some (tree_in self.old) ≡ Some t → content_of (entry_at t path.now) ≡ None → self.new.strayed ≡ true }
         // The plan of failures.
         ensures planned { IsErrOf result FolderFault.Failed ↔ (Contains (failing_calls self.old) (calls_made self.old) ⊎ (content_of (entry_at (tree_in self.old) path.now) ≡ None)) }
-        ensures counted { Contains (failing_calls self.old) (calls_made self.old) → calls_failed self.new ≡ capped (calls_failed self.old + 1) }
+        ensures counted { Contains (failing_calls self.old) (calls_made self.old) → calls_failed self.new ≡ cap_at_u64 (calls_failed self.old + 1) }
         ensures alone { (Contains (failing_calls self.old) (calls_made self.old) → ⊥) → calls_failed self.new ≡ calls_failed self.old }
-        ensures made { calls_made self.new ≡ capped (calls_made self.old + 1) }
+        ensures made { calls_made self.new ≡ cap_at_u64 (calls_made self.old + 1) }
         ensures plan { failing_calls self.new ≡ failing_calls self.old }
     {
         let is_there = content_at(&self.entries, path).is_some();
@@ -133,14 +133,14 @@ impl Folders for MemFolders {
 
 /// What follows a folder's text and a slash.
 fn below<'a>(path: &str, text: &'a str) -> Option<&'a str>
-    ensures { option_copied result ≡ behind (path.now ++ 47 ∷ []) text.now }
+    ensures { option_copied result ≡ after_prefix (path.now ++ 47 ∷ []) text.now }
 {
     text.strip_prefix(path)?.strip_prefix('/')
 }
 
 /// The name of the entry `text`, where it is a file right below the folder.
 fn file_below<'a>(path: &str, text: &'a str) -> Option<&'a str>
-    ensures { option_copied result ≡ (if ends_in_slash text.now then None else file_name (behind (path.now ++ 47 ∷ []) text.now)) }
+    ensures { option_copied result ≡ (if ends_in_slash text.now then None else file_name (after_prefix (path.now ++ 47 ∷ []) text.now)) }
 {
     if text.ends_with('/') {
         return None;
@@ -154,7 +154,7 @@ fn file_below<'a>(path: &str, text: &'a str) -> Option<&'a str>
 
 /// The name of the folder right below the folder in which the entry `text` stands, or which it is.
 fn folder_below<'a>(path: &str, text: &'a str) -> Option<&'a str>
-    ensures { option_copied result ≡ folder_name (behind (path.now ++ 47 ∷ []) text.now) }
+    ensures { option_copied result ≡ folder_name (after_prefix (path.now ++ 47 ∷ []) text.now) }
 {
     let (name, _) = below(path, text)?.split_once('/')?;
     Some(name)

@@ -12,6 +12,7 @@ use generation_catalogue::Refusal;
 use oc_bytes::{Blob, NoMemory};
 use path_tree::{Edit, Path};
 use std::alloc::{AllocError, AllocFailed, Global};
+use thiserror::Error;
 
 /// The most bytes that are read of one file: one more than a file of a carousel has, so that a longer one is refused later.
 const MOST_CONTENT: usize = 16_777_217;
@@ -23,26 +24,33 @@ const MOST_READ: u64 = 536_870_912;
 const MOST_NAMES: usize = 16;
 
 /// Why a folder isn't published: its tree can't be read as edits, or the edits are refused.
-#[derive(Drop)]
+#[derive(Debug, Drop, Error)]
 pub enum TreeFault {
     /// A file or a folder stands below sixteen folders of the one that is published.
+    #[error("a file or a folder stands below more than 16 folders")]
     TooDeep,
     /// The name of a file or a folder is no name of a path: it has no byte or more than 254, or a zero byte or a `/` in it.
+    #[error("a file or a folder has a name that no path has")]
     BadName,
     /// The commit of the edits is refused.
+    #[error("the commit is refused: {0}")]
     Commit(Refusal),
 }
 
 /// Why a folder isn't read.
-#[derive(Clone, Copy, Debug, PartialEq, Eq)]
+#[derive(Clone, Copy, Debug, PartialEq, Eq, Error)]
 pub enum ReadTree {
     /// A fault of the outside, or the path is no folder of it.
+    #[error("the folder could not be read")]
     FolderFault,
     /// A file or a folder stands below sixteen folders of the one that is read.
+    #[error("a file or a folder stands below more than 16 folders")]
     TooDeep,
     /// The name of a file or a folder has no byte or more than 254, or a zero byte or a `/` in it.
+    #[error("a file or a folder has a name that no path has")]
     BadName,
     /// There is no memory.
+    #[error("out of memory")]
     NoMemory,
 }
 

@@ -1,5 +1,5 @@
 ghost use Rattle.std.specs.Prelude.{◌≡◌, ◌≤◌, ◌+◌, ◌-◌, ◌^◌, ◌<◌, [], length, take, min, None, false, IfOk, OnOk, IsErrOf};
-ghost use Rattle.oc_bytes.specs.Outcome.{Rose, Told};
+ghost use Rattle.oc_bytes.specs.Outcome.{Rose, Known};
 ghost use Rattle.oc_bytes.specs.Streams.{Takes};
 
 use crate::folders::{EntryKind, FolderEntry, FolderFault, Folders};
@@ -140,7 +140,7 @@ fn read_front<S: Source>(
     most: usize,
     len: u64,
 ) -> Result<Vec<u8>, FolderFault>
-    ensures front { IfOk result (λ bytes. Told (S.left source.old) (S.left source.new) (λ before _. bytes.items ≡ take most before)) }
+    ensures front { IfOk result (λ bytes. Known (S.left source.old) (S.left source.new) (λ before _. bytes.items ≡ take most before)) }
     ensures later { S.faults source.old ≤ S.faults source.new }
     ensures cause { IsErrOf result FolderFault.Failed → Rose (S.faults source.old) (S.faults source.new) }
 {
@@ -159,7 +159,7 @@ fn read_pieces<S: Source>(
 ) -> Result<Vec<u8>, FolderFault>
     requires room { 0 < length piece.old }
     requires empty { bytes.items ≡ [] }
-    ensures front { IfOk result (λ bytes. Told (S.left source.old) (S.left source.new) (λ before _. bytes.items ≡ take most before)) }
+    ensures front { IfOk result (λ bytes. Known (S.left source.old) (S.left source.new) (λ before _. bytes.items ≡ take most before)) }
     ensures later { S.faults source.old ≤ S.faults source.new }
     ensures cause { IsErrOf result FolderFault.Failed → Rose (S.faults source.old) (S.faults source.new) }
 {
@@ -182,7 +182,7 @@ fn read_piece<S: Source>(
     requires room { 0 < length piece.old }
     requires most { 0 < most }
     ensures within { IfOk result (λ n. (n ≤ most) × (n ≤ length piece.old)) }
-    ensures read { IfOk result (λ n. Told (S.left source.old) (S.left source.new) (λ before after. Takes before after piece.new n)) }
+    ensures read { IfOk result (λ n. Known (S.left source.old) (S.left source.new) (λ before after. Takes before after piece.new n)) }
     ensures later { S.faults source.old ≤ S.faults source.new }
     ensures cause { IsErrOf result FolderFault.Failed → Rose (S.faults source.old) (S.faults source.new) }
 {

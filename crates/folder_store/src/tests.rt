@@ -111,3 +111,13 @@ fn reads_real_folders(rt: HostRuntime) -> Result<(), Fail> {
     assert_eq!(rt; folders.faults(), 1);
     Ok(())
 }
+
+#[test]
+fn faults_as_text(rt: HostRuntime) -> Result<(), Fail> {
+    let text = format!(in rt.alloc(); "{}", FolderFault::Failed)?;
+    assert_eq!(rt;
+        text.as_str(),
+        "the folder could not be listed, or the file not read"
+    );
+    Ok(())
+}

@@ -13,7 +13,7 @@ use Rattle.biop_object.specs.Names.{Layout, module_in}
 use Rattle.biop_object.specs.Spelled.{SpellingsReadBack}
 use Rattle.module_packer.specs.Kept.{KeptIsAPlacement}
 use Rattle.generation.specs.Publication.{gateway_spot}
-use Rattle.generation.specs.Layouts.{GenerationState, Placed, object_bytes, is_in, module_bytes, listed, layout_of, greatest, first_of, next_of, gateway_before}
+use Rattle.generation.specs.Layouts.{GenerationState, Placed, object_bytes, is_in, module_bytes, module_if_used, layout_of, greatest, first_of, next_of, gateway_before}
 use Rattle.generation.specs.Lawful.{IsLayout, Carries, HasBytes, IsPublishable, layout_at, tree_at}
 use Rattle.generation.specs.Kept.{states_from, layouts_of, LayoutsAreLawful}
 use Rattle.generation.proofs.Placing.{total_length, listed_length, greatest_most, all_unmap}
@@ -56,13 +56,13 @@ piece_high g a (o ∷ os) = go (is_in a o) (nat_le (a + 1) o.module_id) (nat_le 
   go false false true es et eu h = absurd (grind (arith, nat_tests, es, et, eu))
   go false false false es et eu h = omega (arith, h)
 
-total_high : (c : ℕ) (objects : List Placed) (a n : ℕ) → sum_by (λ m. length m.1) (filter_map (listed c objects) (range_with_len a n)) ≤ high (λ o. length (object_bytes c objects o)) a objects
+total_high : (c : ℕ) (objects : List Placed) (a n : ℕ) → sum_by (λ m. length m.1) (filter_map (module_if_used c objects) (range_with_len a n)) ≤ high (λ o. length (object_bytes c objects o)) a objects
 total_high c objects a zero = omega arith
 total_high c objects a (suc n) = go (list_any (is_in a) objects) refl (total_high c objects (a + 1) n) (piece_high (object_bytes c objects) a objects) where
-  go : (t : Bool) → list_any (is_in a) objects ≡ t → sum_by (λ m. length m.1) (filter_map (listed c objects) (range_with_len (a + 1) n)) ≤ high (λ o. length (object_bytes c objects o)) (a + 1) objects
+  go : (t : Bool) → list_any (is_in a) objects ≡ t → sum_by (λ m. length m.1) (filter_map (module_if_used c objects) (range_with_len (a + 1) n)) ≤ high (λ o. length (object_bytes c objects o)) (a + 1) objects
       → length (flat_map (object_bytes c objects) (filter (is_in a) objects)) + high (λ o. length (object_bytes c objects o)) (a + 1) objects ≡ high (λ o. length (object_bytes c objects o)) a objects
-      → sum_by (λ m. length m.1) (filter_map (listed c objects) (range_with_len a (suc n))) ≤ high (λ o. length (object_bytes c objects o)) a objects
-  go true e h piece = rw e (omega (arith, h, piece, sum_by-cons (λ m. length m.1) (a, module_bytes c objects a) (filter_map (listed c objects) (range_with_len (a + 1) n))))
+      → sum_by (λ m. length m.1) (filter_map (module_if_used c objects) (range_with_len a (suc n))) ≤ high (λ o. length (object_bytes c objects o)) a objects
+  go true e h piece = rw e (omega (arith, h, piece, sum_by-cons (λ m. length m.1) (a, module_bytes c objects a) (filter_map (module_if_used c objects) (range_with_len (a + 1) n))))
   go false e h piece = rw e (omega (arith, h, piece))
 
 -- ---- one generation's layout

@@ -12,7 +12,7 @@ use Rattle.biop_object.specs.Objects.{Object, binding_of, file_spelling}
 use Rattle.biop_object.specs.ObjectReading.{index_of}
 use Rattle.biop_object.specs.Spelled.{Spelled, AFile as SpelledFile, AFolder as SpelledFolder, spelled_bytes, spelled_object, spelled_objects, IsSpellable, SpellingsReadBack}
 use Rattle.generation.specs.Publication.{spots_of, gateway_spot}
-use Rattle.generation.specs.Layouts.{Placed, key_bytes, location_of, entries_of, folder_kind_of, object_bytes, is_in, module_bytes, listed, layout_of, greatest}
+use Rattle.generation.specs.Layouts.{Placed, key_bytes, location_of, entries_of, folder_kind_of, object_bytes, is_in, module_bytes, module_if_used, layout_of, greatest}
 use Rattle.generation.proofs.Keyed.{Distinct, same_keys}
 
 -- ---- what an object is to a reader
@@ -156,11 +156,11 @@ used (x ∷ xs) o (inr has) = or_right (is_in o.module_id x) (list_any (is_in o.
 -- ---- modules
 
 pub in_range : (c : ℕ) (objects : List Placed) (a n m : ℕ) → a ≤ m → m < a + n → list_any (is_in m) objects ≡ true
-    → module_in (filter_map (listed c objects) (range_with_len a n)) m ≡ Some (module_bytes c objects m)
+    → module_in (filter_map (module_if_used c objects) (range_with_len a n)) m ≡ Some (module_bytes c objects m)
 in_range c objects a zero m low high has = absurd (omega (arith, low, high))
 in_range c objects a (suc n) m low high has = go (a == m) refl (λ l. in_range c objects (a + 1) n m l (omega (arith, high)) has) where
-  go : (t : Bool) → (a == m) ≡ t → (a + 1 ≤ m → module_in (filter_map (listed c objects) (range_with_len (a + 1) n)) m ≡ Some (module_bytes c objects m))
-      → module_in (filter_map (listed c objects) (range_with_len a (suc n))) m ≡ Some (module_bytes c objects m)
+  go : (t : Bool) → (a == m) ≡ t → (a + 1 ≤ m → module_in (filter_map (module_if_used c objects) (range_with_len (a + 1) n)) m ≡ Some (module_bytes c objects m))
+      → module_in (filter_map (module_if_used c objects) (range_with_len a (suc n))) m ≡ Some (module_bytes c objects m)
   go true e rest =
       let is : a ≡ m = grind (arith, nat_tests, e) in
       let here : list_any (is_in a) objects ≡ true = subst (λ z. list_any (is_in z) objects ≡ true) (sym is) has in
@@ -169,7 +169,7 @@ in_range c objects a (suc n) m low high has = go (a == m) refl (λ l. in_range c
     above : a + 1 ≤ m
     above = grind (arith, nat_tests, e, low)
 
-    step : (b : Bool) → list_any (is_in a) objects ≡ b → module_in (filter_map (listed c objects) (range_with_len a (suc n))) m ≡ Some (module_bytes c objects m)
+    step : (b : Bool) → list_any (is_in a) objects ≡ b → module_in (filter_map (module_if_used c objects) (range_with_len a (suc n))) m ≡ Some (module_bytes c objects m)
     step true h = rw (h, e) (rest above)
     step false h = rw h (rest above)
 

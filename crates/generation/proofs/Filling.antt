@@ -16,7 +16,7 @@ use Rattle.ddb_block.specs.Blocks.{block_count_of}
 use Rattle.cycle_planner.specs.Cycle.{AreLines}
 use Rattle.generation.specs.declared.objects.Placed.{Placed as CodePlaced}
 use Rattle.generation.specs.Publication.{spots_of, sizes_of, size_of, is_large_folder, limit_of}
-use Rattle.generation.specs.Layouts.{Placed, object_bytes, is_in, module_bytes, listed, layout_of, lines_in, greatest, placed_all, keys_of}
+use Rattle.generation.specs.Layouts.{Placed, object_bytes, is_in, module_bytes, module_if_used, layout_of, lines_in, greatest, placed_all, keys_of}
 use Rattle.generation.specs.View.{view_placed}
 use Rattle.generation.proofs.Limiting.{len_map}
 use Rattle.generation.proofs.Placing.{Within, within_limits, length-keys_of, placed_spots, placed_modules, length-object_bytes, all_unmap, folder_small, find_none, greatest_most}
@@ -32,19 +32,19 @@ pub record Filled (t : Tree) (objects : List Placed) : Type 0 where
 
 -- ---- ids
 
-pub rising : (c : ℕ) (objects : List Placed) (a n : ℕ) → AllPairs (λ m n. m.0 < n.0) (filter_map (listed c objects) (range_with_len a n))
+pub rising : (c : ℕ) (objects : List Placed) (a n : ℕ) → AllPairs (λ m n. m.0 < n.0) (filter_map (module_if_used c objects) (range_with_len a n))
 rising c objects a zero = λ i j d lt l. absurd (omega (arith, l))
 rising c objects a (suc n) = go (list_any (is_in a) objects) refl (rising c objects (a + 1) n) (ids_from c objects (a + 1) n) where
-  go : (t : Bool) → list_any (is_in a) objects ≡ t → AllPairs (λ m n. m.0 < n.0) (filter_map (listed c objects) (range_with_len (a + 1) n)) → All (λ m. a + 1 ≤ m.0) (filter_map (listed c objects) (range_with_len (a + 1) n))
-      → AllPairs (λ m n. m.0 < n.0) (filter_map (listed c objects) (range_with_len a (suc n)))
-  go true e rest above = rw e (AllPairs-cons (λ m n. m.0 < n.0) (a, module_bytes c objects a) (filter_map (listed c objects) (range_with_len (a + 1) n)) (λ k d lt. let h = above k d lt in omega (arith, h)) rest)
+  go : (t : Bool) → list_any (is_in a) objects ≡ t → AllPairs (λ m n. m.0 < n.0) (filter_map (module_if_used c objects) (range_with_len (a + 1) n)) → All (λ m. a + 1 ≤ m.0) (filter_map (module_if_used c objects) (range_with_len (a + 1) n))
+      → AllPairs (λ m n. m.0 < n.0) (filter_map (module_if_used c objects) (range_with_len a (suc n)))
+  go true e rest above = rw e (AllPairs-cons (λ m n. m.0 < n.0) (a, module_bytes c objects a) (filter_map (module_if_used c objects) (range_with_len (a + 1) n)) (λ k d lt. let h = above k d lt in omega (arith, h)) rest)
   go false e rest above = rw e rest
 
-pub each_listed : (P : ℕ × Bytes → Type 0) (c : ℕ) (objects : List Placed) (a n : ℕ) → ((m : ℕ) → m < a + n → list_any (is_in m) objects ≡ true → P (m, module_bytes c objects m)) → All P (filter_map (listed c objects) (range_with_len a n))
+pub each_listed : (P : ℕ × Bytes → Type 0) (c : ℕ) (objects : List Placed) (a n : ℕ) → ((m : ℕ) → m < a + n → list_any (is_in m) objects ≡ true → P (m, module_bytes c objects m)) → All P (filter_map (module_if_used c objects) (range_with_len a n))
 each_listed P c objects a zero h = λ k d lt. absurd (omega (arith, lt))
 each_listed P c objects a (suc n) h = go (list_any (is_in a) objects) refl (each_listed P c objects (a + 1) n (λ m lt used. h m (omega (arith, lt)) used)) where
-  go : (t : Bool) → list_any (is_in a) objects ≡ t → All P (filter_map (listed c objects) (range_with_len (a + 1) n)) → All P (filter_map (listed c objects) (range_with_len a (suc n)))
-  go true e rest = rw e (All-cons P (a, module_bytes c objects a) (filter_map (listed c objects) (range_with_len (a + 1) n)) (h a (omega arith) e) rest)
+  go : (t : Bool) → list_any (is_in a) objects ≡ t → All P (filter_map (module_if_used c objects) (range_with_len (a + 1) n)) → All P (filter_map (module_if_used c objects) (range_with_len a (suc n)))
+  go true e rest = rw e (All-cons P (a, module_bytes c objects a) (filter_map (module_if_used c objects) (range_with_len (a + 1) n)) (h a (omega arith) e) rest)
   go false e rest = rw e rest
 
 -- ---- sizes
@@ -132,7 +132,7 @@ first_in (o ∷ os) e =
     let test : is_in 1 o ≡ true = grind (arith, nat_tests, is) in
     (rw test refl, omega (arith, is, fold_least (map (λ o. o.module_id) os) (max 0 o.module_id)))
 
-some_listed : (c : ℕ) (objects : List Placed) (n : ℕ) → 1 ≤ n → list_any (is_in 1) objects ≡ true → 1 ≤ length (filter_map (listed c objects) (range_with_len 1 n))
+some_listed : (c : ℕ) (objects : List Placed) (n : ℕ) → 1 ≤ n → list_any (is_in 1) objects ≡ true → 1 ≤ length (filter_map (module_if_used c objects) (range_with_len 1 n))
 some_listed c objects zero le used = absurd (omega (arith, le))
 some_listed c objects (suc n) le used = rw used (omega arith)
 

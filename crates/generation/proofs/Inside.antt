@@ -16,18 +16,18 @@ use Rattle.biop_object.specs.Objects.{Object, IsFile, IsFolder, BindingFields, b
 use Rattle.biop_object.specs.ObjectReading.{objects_of, reads_to_end}
 use Rattle.biop_object.specs.Spelled.{spelled_object, spelled_objects, SpellingsReadBack}
 use Rattle.generation.specs.Publication.{child_name}
-use Rattle.generation.specs.Layouts.{Placed, location_of, bound_of, entries_of, is_in, module_bytes, listed, layout_of, greatest}
+use Rattle.generation.specs.Layouts.{Placed, location_of, bound_of, entries_of, is_in, module_bytes, module_if_used, layout_of, greatest}
 use Rattle.generation.specs.Lawful.{IsInside, identification_for, Carries}
 use Rattle.generation.proofs.Carrying.{spelled, In, Sound, module_found, module_index, in_all}
 use Rattle.generation.proofs.Walking.{paths_named}
 
-from_range : (c : ℕ) (objects : List Placed) (a n m : ℕ) (bytes : Bytes) → module_in (filter_map (listed c objects) (range_with_len a n)) m ≡ Some bytes → bytes ≡ module_bytes c objects m
+from_range : (c : ℕ) (objects : List Placed) (a n m : ℕ) (bytes : Bytes) → module_in (filter_map (module_if_used c objects) (range_with_len a n)) m ≡ Some bytes → bytes ≡ module_bytes c objects m
 from_range c objects a zero m bytes e = cc
 from_range c objects a (suc n) m bytes e = go (list_any (is_in a) objects) refl (λ h. from_range c objects (a + 1) n m bytes h) where
-  go : (t : Bool) → list_any (is_in a) objects ≡ t → (module_in (filter_map (listed c objects) (range_with_len (a + 1) n)) m ≡ Some bytes → bytes ≡ module_bytes c objects m) → bytes ≡ module_bytes c objects m
+  go : (t : Bool) → list_any (is_in a) objects ≡ t → (module_in (filter_map (module_if_used c objects) (range_with_len (a + 1) n)) m ≡ Some bytes → bytes ≡ module_bytes c objects m) → bytes ≡ module_bytes c objects m
   go false h rest = rest (rw h at e)
   go true h rest = step (a == m) refl (rw h at e) where
-    step : (u : Bool) → (a == m) ≡ u → cond (a == m) (Some (module_bytes c objects a)) (module_in (filter_map (listed c objects) (range_with_len (a + 1) n)) m) ≡ Some bytes → bytes ≡ module_bytes c objects m
+    step : (u : Bool) → (a == m) ≡ u → cond (a == m) (Some (module_bytes c objects a)) (module_in (filter_map (module_if_used c objects) (range_with_len (a + 1) n)) m) ≡ Some bytes → bytes ≡ module_bytes c objects m
     step true f g = let is : a ≡ m = grind (arith, nat_tests, f) in sym (same_Some (module_bytes c objects a) bytes (rw f at g)) ∙ ap (module_bytes c objects) is
     step false f g = rest (rw f at g)
 

@@ -7,7 +7,7 @@ use Rattle.std.proofs.lemmas.Option.{same_Some}
 use Rattle.std.proofs.lemmas.List.Elements.{All-cons}
 use Rattle.path_tree.specs.Paths.{path_cmp, same_name}
 use Rattle.generation.specs.Publication.{Spot, AreRising}
-use Rattle.generation.specs.Layouts.{Placed, placed_at, key_in, old_keys, taken_in, free_keys, filled, keys_of, is_same_spot, key_bytes}
+use Rattle.generation.specs.Layouts.{Placed, placed_at, key_in, old_keys, taken_in, free_keys, fill_keys, keys_of, is_same_spot, key_bytes}
 use Rattle.generation.proofs.Law.{same_name_is}
 use Rattle.generation.proofs.Treeing.{same_self, paths_self}
 use Rattle.generation.proofs.Rising.{same_paths}
@@ -30,7 +30,7 @@ turn a b e = grind (arith, nat_tests, e)
 
 -- ---- filling
 
-filled_any : (keys : List (Option ℕ)) (free : List ℕ) (k : ℕ) → list_any (λ j. j == k) (taken_in keys) ≡ false → list_any (λ j. j == k) free ≡ false → list_any (λ j. j == k) (filled keys free) ≡ false
+filled_any : (keys : List (Option ℕ)) (free : List ℕ) (k : ℕ) → list_any (λ j. j == k) (taken_in keys) ≡ false → list_any (λ j. j == k) free ≡ false → list_any (λ j. j == k) (fill_keys keys free) ≡ false
 filled_any [] free k et ef = refl
 filled_any (Some j ∷ keys) free k et ef = let h = or_parts (j == k) _ et in or_none (j == k) _ h.0 (filled_any keys free k h.1 ef)
 filled_any (None ∷ keys) [] k et ef = refl
@@ -42,7 +42,7 @@ not_among k rest (f ∷ free) all =
     let h = or_parts (k == f) _ (all 0 f (omega arith)) in
     or_none (f == k) _ (turn k f h.0) (not_among k rest free (λ i d lt. all (suc i) d (omega (arith, lt))))
 
-filled_distinct : (keys : List (Option ℕ)) (free : List ℕ) → Distinct (taken_in keys) → Distinct free → All (λ f. list_any (λ j. j == f) (taken_in keys) ≡ false) free → Distinct (filled keys free)
+filled_distinct : (keys : List (Option ℕ)) (free : List ℕ) → Distinct (taken_in keys) → Distinct free → All (λ f. list_any (λ j. j == f) (taken_in keys) ≡ false) free → Distinct (fill_keys keys free)
 filled_distinct [] free dk df apart = tt
 filled_distinct (Some k ∷ keys) free dk df apart = (
   filled_any keys free k dk.0 (not_among k (taken_in keys) free apart),
@@ -54,11 +54,11 @@ filled_distinct (None ∷ keys) (f ∷ free) dk df apart = (
   filled_distinct keys free dk df.1 (λ i d lt. apart (suc i) d (omega (arith, lt))),
 )
 
-filled_all : (P : ℕ → Type 0) (keys : List (Option ℕ)) (free : List ℕ) → All P (taken_in keys) → All P free → All P (filled keys free)
+filled_all : (P : ℕ → Type 0) (keys : List (Option ℕ)) (free : List ℕ) → All P (taken_in keys) → All P free → All P (fill_keys keys free)
 filled_all P [] free ak af = λ i d lt. absurd (omega (arith, lt))
-filled_all P (Some k ∷ keys) free ak af = All-cons P k (filled keys free) (ak 0 k (omega arith)) (filled_all P keys free (λ i d lt. ak (suc i) d (omega (arith, lt))) af)
+filled_all P (Some k ∷ keys) free ak af = All-cons P k (fill_keys keys free) (ak 0 k (omega arith)) (filled_all P keys free (λ i d lt. ak (suc i) d (omega (arith, lt))) af)
 filled_all P (None ∷ keys) [] ak af = λ i d lt. absurd (omega (arith, lt))
-filled_all P (None ∷ keys) (f ∷ free) ak af = All-cons P f (filled keys free) (af 0 f (omega arith)) (filled_all P keys free ak (λ i d lt. af (suc i) d (omega (arith, lt))))
+filled_all P (None ∷ keys) (f ∷ free) ak af = All-cons P f (fill_keys keys free) (af 0 f (omega arith)) (filled_all P keys free ak (λ i d lt. af (suc i) d (omega (arith, lt))))
 
 -- ---- free numbers
 

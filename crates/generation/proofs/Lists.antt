@@ -20,7 +20,7 @@ use Rattle.cycle_planner.specs.declared.Item.TheVariants.{Dsi, Dii, Block}
 use Rattle.ddb_block.specs.Blocks.{block_count_of}
 use Rattle.dsi_dii.specs.Controls.{DiiFields, dii_spelling, dsi_spelling, dii_transaction}
 use Rattle.dsmcc_section.specs.Sections.{spelling}
-use Rattle.generation.specs.Layouts.{GenerationState, Placed, first_of, next_of, counts_after, count_after, count_in, same_module, listed, layout_of, is_in, module_bytes, items_of, lines_of, section_of, dii_of, dii_lines, control_section, block_section, greatest, gateway_location}
+use Rattle.generation.specs.Layouts.{GenerationState, Placed, first_of, next_of, counts_after, count_after, count_in, same_module, module_if_used, layout_of, is_in, module_bytes, items_of, lines_of, section_of, dii_of, dii_lines, control_section, block_section, greatest, gateway_location}
 use Rattle.generation.specs.Lawful.{layout_at, tree_at, one_if_changed, count_of, version_in, dii_in, section_in, IsItem}
 use Rattle.generation.specs.Kept.{states_from, layouts_of, IsGenerationOf, GenerationsAreOfTheLists}
 
@@ -142,25 +142,25 @@ map_ext f g e (x ∷ xs) = ap (λ y. y ∷ map f xs) (e x) ∙ ap (λ ys. g x �
 
 -- ---- a layout lists each id once
 
-pub ids_from : (c : ℕ) (objects : List Placed) (a n : ℕ) → All (λ m. a ≤ m.0) (filter_map (listed c objects) (range_with_len a n))
+pub ids_from : (c : ℕ) (objects : List Placed) (a n : ℕ) → All (λ m. a ≤ m.0) (filter_map (module_if_used c objects) (range_with_len a n))
 ids_from c objects a zero = λ k d lt. absurd (omega (arith, lt))
 ids_from c objects a (suc n) = go (list_any (is_in a) objects) refl (ids_from c objects (a + 1) n) where
-  weaker : All (λ m. a + 1 ≤ m.0) (filter_map (listed c objects) (range_with_len (a + 1) n)) → All (λ m. a ≤ m.0) (filter_map (listed c objects) (range_with_len (a + 1) n))
+  weaker : All (λ m. a + 1 ≤ m.0) (filter_map (module_if_used c objects) (range_with_len (a + 1) n)) → All (λ m. a ≤ m.0) (filter_map (module_if_used c objects) (range_with_len (a + 1) n))
   weaker all = λ k d lt. let h = all k d lt in omega (arith, h)
 
-  go : (b : Bool) → list_any (is_in a) objects ≡ b → All (λ m. a + 1 ≤ m.0) (filter_map (listed c objects) (range_with_len (a + 1) n)) → All (λ m. a ≤ m.0) (filter_map (listed c objects) (range_with_len a (suc n)))
-  go true e all = rw e (All-cons (λ m. a ≤ m.0) (a, module_bytes c objects a) (filter_map (listed c objects) (range_with_len (a + 1) n)) (omega arith) (weaker all))
+  go : (b : Bool) → list_any (is_in a) objects ≡ b → All (λ m. a + 1 ≤ m.0) (filter_map (module_if_used c objects) (range_with_len (a + 1) n)) → All (λ m. a ≤ m.0) (filter_map (module_if_used c objects) (range_with_len a (suc n)))
+  go true e all = rw e (All-cons (λ m. a ≤ m.0) (a, module_bytes c objects a) (filter_map (module_if_used c objects) (range_with_len (a + 1) n)) (omega arith) (weaker all))
   go false e all = rw e (weaker all)
 
-once : (c : ℕ) (objects : List Placed) (a n : ℕ) (k : ℕ) (d : ℕ × Bytes) → k < length (filter_map (listed c objects) (range_with_len a n))
-    → module_in (filter_map (listed c objects) (range_with_len a n)) (get_or (filter_map (listed c objects) (range_with_len a n)) k d).0 ≡ Some (get_or (filter_map (listed c objects) (range_with_len a n)) k d).1
+once : (c : ℕ) (objects : List Placed) (a n : ℕ) (k : ℕ) (d : ℕ × Bytes) → k < length (filter_map (module_if_used c objects) (range_with_len a n))
+    → module_in (filter_map (module_if_used c objects) (range_with_len a n)) (get_or (filter_map (module_if_used c objects) (range_with_len a n)) k d).0 ≡ Some (get_or (filter_map (module_if_used c objects) (range_with_len a n)) k d).1
 once c objects a zero k d lt = absurd (omega (arith, lt))
 once c objects a (suc n) k d lt = go (list_any (is_in a) objects) refl k lt (λ i l. once c objects (a + 1) n i d l) (ids_from c objects (a + 1) n) where
   later : List (ℕ × Bytes)
-  later = filter_map (listed c objects) (range_with_len (a + 1) n)
+  later = filter_map (module_if_used c objects) (range_with_len (a + 1) n)
 
   all : List (ℕ × Bytes)
-  all = filter_map (listed c objects) (range_with_len a (suc n))
+  all = filter_map (module_if_used c objects) (range_with_len a (suc n))
 
   first : (i : ℕ) → ((i : ℕ) → i < length later → module_in later (get_or later i d).0 ≡ Some (get_or later i d).1) → All (λ m. a + 1 ≤ m.0) later → i < suc (length later)
       → module_in ((a, module_bytes c objects a) ∷ later) (get_or ((a, module_bytes c objects a) ∷ later) i d).0 ≡ Some (get_or ((a, module_bytes c objects a) ∷ later) i d).1

@@ -13,12 +13,12 @@ use Rattle.biop_object.specs.Objects.{folder_spelling, binding_spelling, bound_t
 use Rattle.biop_object.specs.declared.written.FolderKind.{FolderKind}
 use Rattle.biop_object.specs.declared.written.FolderKind.TheVariants.{Directory, Gateway}
 use Rattle.std.proofs.lemmas.List.FromFn.{length-range_with_len}
-use Rattle.oc_bytes.specs.Outcome.{capped, capped32}
-use Rattle.module_packer.specs.Placement.{needed, IsPlacement}
+use Rattle.oc_bytes.specs.Outcome.{cap_at_u64, cap_at_u32}
+use Rattle.module_packer.specs.Placement.{modules_needed, IsPlacement}
 use Rattle.generation.specs.declared.spots.Spot.{Spot as CodeSpot}
 use Rattle.generation.specs.declared.objects.Placed.{Placed as CodePlaced}
 use Rattle.generation.specs.Publication.{Spot, size_of, spots_of, sizes_of, binding_size, binding_rest, child_name, is_large_folder, large_folder, limit_of, or_else, over, Passed, Objects, Total, Modules}
-use Rattle.generation.specs.Layouts.{Placed, placed_all, filled, free_keys, taken_in, old_keys, keys_of, written_in, entries_of, object_bytes, key_bytes, location_of, bound_of, folder_kind_of, is_in, module_bytes, listed, layout_of, greatest}
+use Rattle.generation.specs.Layouts.{Placed, placed_all, fill_keys, free_keys, taken_in, old_keys, keys_of, written_in, entries_of, object_bytes, key_bytes, location_of, bound_of, folder_kind_of, is_in, module_bytes, module_if_used, layout_of, greatest}
 use Rattle.generation.specs.View.{view_spot, view_placed, placed_from, IsSpotIn, AreReady}
 use Rattle.generation.proofs.Limiting.{len_map}
 
@@ -93,7 +93,7 @@ nones_rest [] = refl
 nones_rest (Some k ∷ keys) = omega (arith, nones_rest keys)
 nones_rest (None ∷ keys) = omega (arith, nones_rest keys)
 
-length-filled : (keys : List (Option ℕ)) (free : List ℕ) → nones keys ≤ length free → length (filled keys free) ≡ length keys
+length-filled : (keys : List (Option ℕ)) (free : List ℕ) → nones keys ≤ length free → length (fill_keys keys free) ≡ length keys
 unfolding nones
 length-filled [] free le = refl
 length-filled (Some k ∷ keys) free le = ap suc (length-filled keys free le)
@@ -175,7 +175,7 @@ pub record Within (t : Tree) : Type 0 where
   pub few : length (spots_of t) ≤ 8192
   pub folders : find (is_large_folder (spots_of t)) (spots_of t) ≡ None
   pub total : sum (sizes_of t) ≤ 268435456
-  pub modules : needed (sizes_of t) ≤ 139
+  pub modules : modules_needed (sizes_of t) ≤ 139
 
 passed_none : (a b : Option Passed) → or_else a b ≡ None → (a ≡ None) × (b ≡ None)
 passed_none (Some p) b e = cc
@@ -195,14 +195,14 @@ at_most n x e = grind (arith, nat_tests, e)
 pub within_limits : (t : Tree) → limit_of t ≡ None → Within t
 within_limits t e =
     let all = spots_of t in
-    let a = passed_none (over (nat_lt 8192 (length all)) (Objects (capped32 (length all)))) _ e in
+    let a = passed_none (over (nat_lt 8192 (length all)) (Objects (cap_at_u32 (length all)))) _ e in
     let b = passed_none (large_folder (find (is_large_folder all) all)) _ a.1 in
-    let c = passed_none (over (nat_lt 268435456 (sum (sizes_of t))) (Total (capped (sum (sizes_of t))))) _ b.1 in
+    let c = passed_none (over (nat_lt 268435456 (sum (sizes_of t))) (Total (cap_at_u64 (sum (sizes_of t))))) _ b.1 in
     record {
-      few = at_most 8192 (length all) (over_none (nat_lt 8192 (length all)) (Objects (capped32 (length all))) a.0);
+      few = at_most 8192 (length all) (over_none (nat_lt 8192 (length all)) (Objects (cap_at_u32 (length all))) a.0);
       folders = no_folder (find (is_large_folder all) all) b.0;
-      total = at_most 268435456 (sum (sizes_of t)) (over_none _ (Total (capped (sum (sizes_of t)))) c.0);
-      modules = at_most 139 (needed (sizes_of t)) (over_none _ (Modules (capped (needed (sizes_of t)))) c.1);
+      total = at_most 268435456 (sum (sizes_of t)) (over_none _ (Total (cap_at_u64 (sum (sizes_of t)))) c.0);
+      modules = at_most 139 (modules_needed (sizes_of t)) (over_none _ (Modules (cap_at_u64 (modules_needed (sizes_of t)))) c.1);
     }
 
 pub find_none : {A : Type 0} (p : A → Bool) (xs : List A) → find p xs ≡ None → All (λ x. p x ≡ false) xs
@@ -230,10 +230,10 @@ greatest_most ms n all = go ms 0 n (omega arith) all where
   go [] a n le all = le
   go (m ∷ ms) a n le all = let h = all 0 m (omega arith) in go ms (max a m) n (omega (arith, le, h.1)) (λ k d lt. all (suc k) d (omega (arith, lt)))
 
-pub listed_length : (c : ℕ) (objects : List Placed) (ids : List ℕ) → length (filter_map (listed c objects) ids) ≤ length ids
+pub listed_length : (c : ℕ) (objects : List Placed) (ids : List ℕ) → length (filter_map (module_if_used c objects) ids) ≤ length ids
 listed_length c objects [] = omega arith
 listed_length c objects (m ∷ ms) = go (list_any (is_in m) objects) refl (listed_length c objects ms) where
-  go : (b : Bool) → list_any (is_in m) objects ≡ b → length (filter_map (listed c objects) ms) ≤ length ms → length (filter_map (listed c objects) (m ∷ ms)) ≤ suc (length ms)
+  go : (b : Bool) → list_any (is_in m) objects ≡ b → length (filter_map (module_if_used c objects) ms) ≤ length ms → length (filter_map (module_if_used c objects) (m ∷ ms)) ≤ suc (length ms)
   go true e h = rw e (omega (arith, h))
   go false e h = rw e (omega (arith, h))
 
@@ -249,11 +249,11 @@ pub total_length : (c : ℕ) (objects os : List Placed) → sum_by (λ o. length
 total_length c objects [] = refl
 total_length c objects (o ∷ os) = sum_by-cons _ o os ∙ (omega (arith, length-object_bytes c objects o, total_length c objects os, sum_by-cons {X = ℕ} (λ n. n) (size_of (map (λ o. o.spot) objects) o.spot) (map (size_of (map (λ o. o.spot) objects)) (map (λ o. o.spot) os))))
 
-pub listed_small : (c : ℕ) (objects : List Placed) (most : ℕ) → sum_by (λ o. length (object_bytes c objects o)) objects ≤ most → (ids : List ℕ) → All (λ m. length m.1 ≤ most) (filter_map (listed c objects) ids)
+pub listed_small : (c : ℕ) (objects : List Placed) (most : ℕ) → sum_by (λ o. length (object_bytes c objects o)) objects ≤ most → (ids : List ℕ) → All (λ m. length m.1 ≤ most) (filter_map (module_if_used c objects) ids)
 listed_small c objects most total [] = λ k d lt. absurd (omega (arith, lt))
 listed_small c objects most total (m ∷ ms) = go (list_any (is_in m) objects) refl (listed_small c objects most total ms) where
-  go : (b : Bool) → list_any (is_in m) objects ≡ b → All (λ m. length m.1 ≤ most) (filter_map (listed c objects) ms) → All (λ m. length m.1 ≤ most) (filter_map (listed c objects) (m ∷ ms))
-  go true e h = rw e (All-cons (λ m. length m.1 ≤ most) (m, module_bytes c objects m) (filter_map (listed c objects) ms) (omega (arith, piece_length (object_bytes c objects) (is_in m) objects, total)) h)
+  go : (b : Bool) → list_any (is_in m) objects ≡ b → All (λ m. length m.1 ≤ most) (filter_map (module_if_used c objects) ms) → All (λ m. length m.1 ≤ most) (filter_map (module_if_used c objects) (m ∷ ms))
+  go true e h = rw e (All-cons (λ m. length m.1 ≤ most) (m, module_bytes c objects m) (filter_map (module_if_used c objects) ms) (omega (arith, piece_length (object_bytes c objects) (is_in m) objects, total)) h)
   go false e h = rw e h
 
 -- ---- what `next` needs of its objects
@@ -325,14 +325,14 @@ ready_arm (Ok v) t old modules spots keys ms tree limit valid placement es ek em
     (subst (All (λ m. (1 ≤ m) × (m ≤ 139))) (sym (ap (map (λ o. o.module_id)) made ∙ placed_modules (spots_of t) (keys_of old (spots_of t)) modules nk nm)) placement.numbers)
 ready_arm (Err e) t old modules spots keys ms tree limit valid placement es ek em is = is
 
-pub listed_some : (c : ℕ) (objects : List Placed) (id : ℕ) (b : Bytes) → list_any (is_in id) objects ≡ true → b ≡ module_bytes c objects id → Some (id, b) ≡ listed c objects id
+pub listed_some : (c : ℕ) (objects : List Placed) (id : ℕ) (b : Bytes) → list_any (is_in id) objects ≡ true → b ≡ module_bytes c objects id → Some (id, b) ≡ module_if_used c objects id
 listed_some c objects id b used is = rw (used, is) refl
 
-pub listed_none : (c : ℕ) (objects : List Placed) (id : ℕ) → list_any (is_in id) objects ≡ false → None ≡ listed c objects id
+pub listed_none : (c : ℕ) (objects : List Placed) (id : ℕ) → list_any (is_in id) objects ≡ false → None ≡ module_if_used c objects id
 listed_none c objects id unused = rw unused refl
 
 pub all_ids : (c : ℕ) (t : Tree) (objects : List CodePlaced) (k last : ℕ) (layout : List (ℕ × Bytes)) → last ≡ greatest (map (λ o. o.«module») objects) → k ≡ last + 1
-    → layout ≡ filter_map (listed c (map (view_placed t) objects)) (range_with_len 1 (k - 1)) → layout ≡ layout_of c (map (view_placed t) objects)
+    → layout ≡ filter_map (module_if_used c (map (view_placed t) objects)) (range_with_len 1 (k - 1)) → layout ≡ layout_of c (map (view_placed t) objects)
 all_ids c t objects k last layout el ek is =
     let n : k - 1 ≡ greatest (map (λ o. o.module_id) (map (view_placed t) objects)) = rw ek (omega (arith, el, ap greatest (modules_seen t objects))) in
-    is ∙ ap (λ m. filter_map (listed c (map (view_placed t) objects)) (range_with_len 1 m)) n
+    is ∙ ap (λ m. filter_map (module_if_used c (map (view_placed t) objects)) (range_with_len 1 m)) n

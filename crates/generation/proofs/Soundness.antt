@@ -11,7 +11,7 @@ use Rattle.biop_object.specs.Spelled.{IsSpellable, IsSpellableEntry}
 use Rattle.module_packer.specs.Placement.{IsPlacement}
 use Rattle.module_packer.specs.Kept.{KeptIsAPlacement}
 use Rattle.generation.specs.Publication.{Spot, gateway_spot, spots_of, spots_after, sizes_of, size_of, child_name, folders_after, shared_folders, limit_of, is_large_folder}
-use Rattle.generation.specs.Layouts.{Placed, modules_for, placed_all, placed_at, key_in, old_keys, taken_in, free_keys, filled, keys_of, key_bytes, entries_of, folder_kind_of, object_bytes, is_same_spot}
+use Rattle.generation.specs.Layouts.{Placed, modules_for, placed_all, placed_at, key_in, old_keys, taken_in, free_keys, fill_keys, keys_of, key_bytes, entries_of, folder_kind_of, object_bytes, is_same_spot}
 use Rattle.generation.specs.View.{AreOld}
 use Rattle.generation.proofs.Limiting.{len_map}
 use Rattle.generation.proofs.Staying.{placement_for, old_after}
@@ -111,12 +111,12 @@ pub record Before (old : List Placed) : Type 0 where
   pub within : AreOld old
   pub is : (gateway.spot ≡ gateway_spot) × (gateway.key ≡ 1) × (gateway.module_id ≡ 1)
 
-gateway_key : (old : List Placed) → Before old → (spots : List Spot) (free : List ℕ) → (ks : List ℕ) × (filled (old_keys old (gateway_spot ∷ spots)) free ≡ 1 ∷ ks)
+gateway_key : (old : List Placed) → Before old → (spots : List Spot) (free : List ℕ) → (ks : List ℕ) × (fill_keys (old_keys old (gateway_spot ∷ spots)) free ≡ 1 ∷ ks)
 gateway_key old b spots free =
     let test : is_same_spot b.gateway.spot gateway_spot ≡ true = subst (λ s. is_same_spot s gateway_spot ≡ true) (sym b.is.0) refl in
     let found : placed_at old gateway_spot ≡ Some b.gateway = ap (λ os. placed_at os gateway_spot) b.first ∙ rw test refl in
     let key : key_in (placed_at old gateway_spot) ≡ Some 1 = ap key_in found ∙ ap Some b.is.1 in
-    (filled (old_keys old spots) free, ap (λ k. filled (k ∷ old_keys old spots) free) key)
+    (fill_keys (old_keys old spots) free, ap (λ k. fill_keys (k ∷ old_keys old spots) free) key)
 
 first_one : (ms : List ℕ) → slice_get ms 0 ≡ Some 1 → (rest : List ℕ) × (ms ≡ 1 ∷ rest)
 first_one [] e = cc

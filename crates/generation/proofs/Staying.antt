@@ -5,8 +5,8 @@ use Rattle.std.specs.List.{All, zip}
 use Rattle.std.proofs.lemmas.Option.{same_Some}
 use Rattle.std.proofs.lemmas.List.Elements.{All-nil, All-cons, All-head, All-tail, All-map}
 use Rattle.path_tree.specs.Trees.{Tree, IsTree}
-use Rattle.module_packer.specs.Placement.{needed, IsPlacement}
-use Rattle.module_packer.specs.Kept.{Placed as Sized, sizes_in, kept, AreObjects, KeptIsAPlacement}
+use Rattle.module_packer.specs.Placement.{modules_needed, IsPlacement}
+use Rattle.module_packer.specs.Kept.{Placed as Sized, sizes_in, kept_modules, AreObjects, KeptIsAPlacement}
 use Rattle.generation.specs.declared.objects.Placed.{Placed as CodePlaced}
 use Rattle.generation.specs.Publication.{Spot, gateway_spot, spots_of, spots_after, sizes_of, size_of, limit_of, AreRising}
 use Rattle.generation.specs.Layouts.{Placed, placed_all, placed_at, key_in, module_of, old_keys, old_modules, keys_of, modules_for, is_same_spot}
@@ -42,19 +42,19 @@ module_found P (o ∷ os) s all m e = go (is_same_spot o.spot s) e (λ f. module
   go true f rest = subst P (same_Some o.module_id m f) (All-head (λ q. P q.module_id) o os all)
   go false f rest = rest f
 
-pub are_objects : (old : List Placed) (t : Tree) → AreOld old → needed (sizes_of t) ≤ 139 → AreObjects 139 (zip (sizes_of t) (old_modules old (spots_of t)))
+pub are_objects : (old : List Placed) (t : Tree) → AreOld old → modules_needed (sizes_of t) ≤ 139 → AreObjects 139 (zip (sizes_of t) (old_modules old (spots_of t)))
 are_objects old t are few =
     let Was : Option ℕ → Type 0 = λ o. (m : ℕ) → o ≡ Some m → (1 ≤ m) × (m ≤ 139) in
     record {
       some = omega arith;
-      few = subst (λ sizes. needed sizes ≤ 139) (sym (sizes_are old t)) few;
+      few = subst (λ sizes. modules_needed sizes ≤ 139) (sym (sizes_are old t)) few;
       first = are.gateway;
       old = old_zip Was (sizes_of t) (old_modules old (spots_of t))
           (All-map Was (λ s. module_of (placed_at old s)) (spots_of t) (λ k d lt m e. module_found (λ n. (1 ≤ n) × (n ≤ 139)) old _ are.ids m e));
     }
 
 -- where the objects stay or go is a placement
-pub placement_for : KeptIsAPlacement → (old : List Placed) (t : Tree) → AreOld old → needed (sizes_of t) ≤ 139 → IsPlacement 139 (sizes_of t) (modules_for old t)
+pub placement_for : KeptIsAPlacement → (old : List Placed) (t : Tree) → AreOld old → modules_needed (sizes_of t) ≤ 139 → IsPlacement 139 (sizes_of t) (modules_for old t)
 placement_for law old t are few = subst (λ sizes. IsPlacement 139 sizes (modules_for old t)) (sizes_are old t) (law 139 (zip (sizes_of t) (old_modules old (spots_of t))) (are_objects old t are few))
 
 -- ---- after objects that are placed others can be placed
@@ -95,8 +95,8 @@ pub read_objects : (t : Tree) (old : List Placed) (spots others : List Spot) (si
     → zip sizes olds ≡ zip (sizes_of t) (old_modules old (spots_of t))
 read_objects t old spots others sizes olds es et ez eo = ap (λ n. zip n olds) (ez ∙ ap (λ s. map (size_of s) s) es) ∙ ap (λ o. zip (sizes_of t) o) (eo ∙ ap (old_modules old) et)
 
-pub placed_for : (t : Tree) (old : List Placed) (objects : List Sized) (ms : List ℕ) → objects ≡ zip (sizes_of t) (old_modules old (spots_of t)) → ms ≡ kept 139 objects → IsPlacement 139 (sizes_in objects) ms
+pub placed_for : (t : Tree) (old : List Placed) (objects : List Sized) (ms : List ℕ) → objects ≡ zip (sizes_of t) (old_modules old (spots_of t)) → ms ≡ kept_modules 139 objects → IsPlacement 139 (sizes_in objects) ms
     → (ms ≡ modules_for old t) × IsPlacement 139 (sizes_of t) (modules_for old t)
 placed_for t old objects ms er em placement =
-    let same : ms ≡ modules_for old t = em ∙ ap (kept 139) er in
+    let same : ms ≡ modules_for old t = em ∙ ap (kept_modules 139) er in
     (same, subst (IsPlacement 139 (sizes_of t)) same (subst (λ sizes. IsPlacement 139 sizes ms) (ap sizes_in er ∙ sizes_are old t) placement))

@@ -8,7 +8,7 @@ use Rattle.std.proofs.lemmas.List.Elements.{All-cons}
 use Rattle.path_tree.specs.Paths.{Bytes, PathNames, path_cmp, same_name, same_path, is_below, next_name}
 use Rattle.path_tree.specs.Trees.{Tree, IsTree, File, Folder, NoSuch, node_at, content_at, is_folder, names_below}
 use Rattle.ior_tap.specs.declared.Location.{Location}
-use Rattle.biop_object.specs.Names.{Layout, named, location_in, location_of as leads_to}
+use Rattle.biop_object.specs.Names.{Layout, thing_named, location_in, location_of as leads_to}
 use Rattle.biop_object.specs.Objects.{binding_of}
 use Rattle.biop_object.specs.Spelled.{SpellingsReadBack}
 use Rattle.generation.specs.Publication.{Spot, spots_of, spots_after, child_name, gateway_spot}
@@ -261,12 +261,12 @@ found_passes p (x ∷ xs) o e = go (p x) refl (λ h. found_passes p xs o h) wher
   go false h rest = rest (rw h at e)
 
 pub walk : SpellingsReadBack → (c : ℕ) (t : Tree) (objects : List Placed) → Sound c t objects → (ns : PathNames) (o : Placed) → In o objects
-    → IsNode (named (layout_of c objects) (Some (location_of c o)) ns) (node_at t (o.spot.path ++ ns))
+    → IsNode (thing_named (layout_of c objects) (Some (location_of c o)) ns) (node_at t (o.spot.path ++ ns))
 walk law c t objects sound [] o has =
     subst (λ x. IsNode x (node_at t (o.spot.path ++ []))) (sym (thing_found law c t objects sound o has))
     (subst (λ q. IsNode (Some (seen c objects o)) (node_at t q)) (sym (append-nil o.spot.path)) (here c t objects sound o has))
 walk law c t objects sound (n ∷ ns) o has =
-    subst (λ x. IsNode (named (layout_of c objects) (leads_to n x) ns) (node_at t (o.spot.path ++ n ∷ ns))) (sym (thing_found law c t objects sound o has))
+    subst (λ x. IsNode (thing_named (layout_of c objects) (leads_to n x) ns) (node_at t (o.spot.path ++ n ∷ ns))) (sym (thing_found law c t objects sound o has))
     (go o.spot.content refl (told c t objects sound o has) (λ q h. walk law c t objects sound ns q h)) where
       p : PathNames
       p = o.spot.path
@@ -275,27 +275,27 @@ walk law c t objects sound (n ∷ ns) o has =
       layout = layout_of c objects
 
       Goal : Option Location → Type 0
-      Goal l = IsNode (named layout l ns) (node_at t (p ++ n ∷ ns))
+      Goal l = IsNode (thing_named layout l ns) (node_at t (p ++ n ∷ ns))
 
-      child : (f : Option Placed) → find (λ q. is_named n (child_name p q.spot.path)) objects ≡ f → ((q : Placed) → In q objects → IsNode (named layout (Some (location_of c q)) ns) (node_at t (q.spot.path ++ ns)))
-          → IsNode (named layout (option_map (location_of c) f) ns) (node_at t (p ++ n ∷ ns))
+      child : (f : Option Placed) → find (λ q. is_named n (child_name p q.spot.path)) objects ≡ f → ((q : Placed) → In q objects → IsNode (thing_named layout (Some (location_of c q)) ns) (node_at t (q.spot.path ++ ns)))
+          → IsNode (thing_named layout (option_map (location_of c) f) ns) (node_at t (p ++ n ∷ ns))
       child None e next = subst (λ x. IsNode None x) (sym (absent c t objects sound p n ns e)) tt
       child (Some q) e next =
           let path : q.spot.path ≡ p ++ n ∷ [] = child_path p q.spot.path n (found_passes (λ q. is_named n (child_name p q.spot.path)) objects q e) in
           let whole : q.spot.path ++ ns ≡ p ++ n ∷ ns = ap (λ r. r ++ ns) path ∙ append_assoc p (n ∷ []) ns in
-          subst (λ r. IsNode (named layout (Some (location_of c q)) ns) (node_at t r)) whole (next q (find_in (λ q. is_named n (child_name p q.spot.path)) objects q e))
+          subst (λ r. IsNode (thing_named layout (Some (location_of c q)) ns) (node_at t r)) whole (next q (find_in (λ q. is_named n (child_name p q.spot.path)) objects q e))
 
-      go : (b : Option Bytes) → o.spot.content ≡ b → Told t o.spot → ((q : Placed) → In q objects → IsNode (named layout (Some (location_of c q)) ns) (node_at t (q.spot.path ++ ns)))
-          → IsNode (named layout (leads_to n (Some (seen c objects o))) ns) (node_at t (p ++ n ∷ ns))
+      go : (b : Option Bytes) → o.spot.content ≡ b → Told t o.spot → ((q : Placed) → In q objects → IsNode (thing_named layout (Some (location_of c q)) ns) (node_at t (q.spot.path ++ ns)))
+          → IsNode (thing_named layout (leads_to n (Some (seen c objects o))) ns) (node_at t (p ++ n ∷ ns))
       go (Some b) e tells next = rw e (subst (λ x. IsNode None x) (sym (below_file t p b n ns sound.tree (tells.content ∙ e))) tt)
-      go None e tells next = rw e (subst (λ l. IsNode (named layout l ns) (node_at t (p ++ n ∷ ns))) (sym (binding_leads c p n objects)) (child (find (λ q. is_named n (child_name p q.spot.path)) objects) refl next))
+      go None e tells next = rw e (subst (λ l. IsNode (thing_named layout l ns) (node_at t (p ++ n ∷ ns))) (sym (binding_leads c p n objects)) (child (find (λ q. is_named n (child_name p q.spot.path)) objects) refl next))
 
 -- from the gateway on
 pub paths_named : SpellingsReadBack → (c : ℕ) (t : Tree) (objects : List Placed) → Sound c t objects → (p : PathNames)
-    → IsNode (named (layout_of c objects) (Some (gateway_location c)) p) (node_at t p)
+    → IsNode (thing_named (layout_of c objects) (Some (gateway_location c)) p) (node_at t p)
 paths_named law c t objects sound p =
     let g = sound.gateway in
     let is = sound.is_gateway in
     let at : location_of c g ≡ gateway_location c = ap (λ k. let l : Location = record { carousel = c; «module» = g.module_id; key = key_bytes k } in l) is.1 ∙ ap (λ m. let l : Location = record { carousel = c; «module» = m; key = key_bytes 1 } in l) is.2 in
-    subst (λ l. IsNode (named (layout_of c objects) (Some l) p) (node_at t p)) at
-    (subst (λ q. IsNode (named (layout_of c objects) (Some (location_of c g)) p) (node_at t (q ++ p))) (ap (λ s. s.path) is.0) (walk law c t objects sound p g sound.has_gateway))
+    subst (λ l. IsNode (thing_named (layout_of c objects) (Some l) p) (node_at t p)) at
+    (subst (λ q. IsNode (thing_named (layout_of c objects) (Some (location_of c g)) p) (node_at t (q ++ p))) (ap (λ s. s.path) is.0) (walk law c t objects sound p g sound.has_gateway))

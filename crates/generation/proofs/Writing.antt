@@ -16,17 +16,17 @@ use Rattle.dsmcc_section.specs.Sections as sections
 use Rattle.dsmcc_section.specs.declared.Table.TheVariants as tables
 use Rattle.generation.specs.declared.made.Listed.{Listed}
 use Rattle.generation.specs.Publication.{Spot as SpotFields}
-use Rattle.generation.specs.Layouts.{Placed, key_in, placed_at, old_keys, taken_in, free_keys, filled, keys_of, count_in, dii_lines, gateway_location, control_section, block_section, GenerationState, section_of}
+use Rattle.generation.specs.Layouts.{Placed, key_in, placed_at, old_keys, taken_in, free_keys, fill_keys, keys_of, count_in, dii_lines, gateway_location, control_section, block_section, GenerationState, section_of}
 use Rattle.biop_object.specs.Names.{module_in}
 use Rattle.std.specs.Option.{unwrap_or}
 use Rattle.cycle_planner.specs.declared.Item.{Item}
 use Rattle.generation.specs.View.{view_listed}
 use Rattle.generation.proofs.Limiting.{len_map}
 
-pub keys_are : (old : List Placed) (spots : List SpotFields) (keys : List (Option ℕ)) → keys ≡ old_keys old spots → filled keys (free_keys (taken_in keys) (length keys)) ≡ keys_of old spots
+pub keys_are : (old : List Placed) (spots : List SpotFields) (keys : List (Option ℕ)) → keys ≡ old_keys old spots → fill_keys keys (free_keys (taken_in keys) (length keys)) ≡ keys_of old spots
 keys_are old spots keys e =
-    ap (λ k. filled k (free_keys (taken_in k) (length k))) e
-    ∙ ap (λ n. filled (old_keys old spots) (free_keys (taken_in (old_keys old spots)) n)) (len_map (λ s. key_in (placed_at old s)) spots)
+    ap (λ k. fill_keys k (free_keys (taken_in k) (length k))) e
+    ∙ ap (λ n. fill_keys (old_keys old spots) (free_keys (taken_in (old_keys old spots)) n)) (len_map (λ s. key_in (placed_at old s)) spots)
 
 -- ---- bindings
 
@@ -106,10 +106,10 @@ dii_short d few = let n : length (flat_map line_bytes d.modules ++ 0 ∷ 0 ∷ [
 pub plain_lines : (counts : List (ℕ × ℕ)) (layout : List (ℕ × Bytes)) → All (λ l. l.compressed ≡ false) (dii_lines counts layout)
 plain_lines counts layout = All-map (λ l. l.compressed ≡ false) (λ m. record { id = m.0; size = length m.1; version = count_in counts m.0 % 256; compressed = false }) layout (λ k d lt. refl)
 
-pub gateway_written : (c : ℕ) (ior : iors.Fields) → ior ≡ iors.written gateway_kind (gateway_location c) → iors.IsWritten ior (gateway_location c)
+pub gateway_written : (c : ℕ) (ior : iors.Fields) → ior ≡ iors.written_form gateway_kind (gateway_location c) → iors.IsWritten ior (gateway_location c)
 gateway_written c ior e = subst (λ v. iors.IsWritten v (gateway_location c)) (sym e) (record { form = refl; four = refl; key = refl })
 
-pub dsi_is : (c : ℕ) (payload : List ℕ) (ior : iors.Fields) (t : ℕ) → ior ≡ iors.written gateway_kind (gateway_location c) → t ≡ 0x80000000
+pub dsi_is : (c : ℕ) (payload : List ℕ) (ior : iors.Fields) (t : ℕ) → ior ≡ iors.written_form gateway_kind (gateway_location c) → t ≡ 0x80000000
     → payload ≡ dsi_spelling t ior.kind (gateway_location c) → payload ≡ dsi_spelling 0x80000000 gateway_kind (gateway_location c)
 dsi_is c payload ior t ei et e = e ∙ (ap (λ k. dsi_spelling t k (gateway_location c)) (ap (λ v. v.kind) ei) ∙ ap (λ u. dsi_spelling u gateway_kind (gateway_location c)) et)
 

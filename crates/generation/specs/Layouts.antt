@@ -18,7 +18,7 @@ use Rattle.dsi_dii.specs.Controls as controls
 use Rattle.dsi_dii.specs.declared.ModuleLine.{ModuleLine}
 use Rattle.dsmcc_section.specs.Sections as sections
 use Rattle.dsmcc_section.specs.declared.Table.TheVariants as tables
-use Rattle.module_packer.specs.Kept.{kept}
+use Rattle.module_packer.specs.Kept.{kept_modules}
 use Rattle.cycle_planner.specs.Cycle.{Line}
 use Rattle.cycle_planner.specs.declared.Item.{Item}
 use Rattle.cycle_planner.specs.declared.Item.TheVariants.{Dsi, Dii, Block}
@@ -64,10 +64,10 @@ abbrev pub free_keys : List ℕ → ℕ → List ℕ
 free_keys taken count = filter (λ k. not (list_any (λ j. j == k) taken)) (range_with_len 2 count)
 
 -- each key, with the free ones in order for those that have none
-abbrev pub filled : List (Option ℕ) → List ℕ → List ℕ
-filled (Some k ∷ keys) free = k ∷ filled keys free
-filled (None ∷ keys) (k ∷ free) = k ∷ filled keys free
-filled _ _ = []
+abbrev pub fill_keys : List (Option ℕ) → List ℕ → List ℕ
+fill_keys (Some k ∷ keys) free = k ∷ fill_keys keys free
+fill_keys (None ∷ keys) (k ∷ free) = k ∷ fill_keys keys free
+fill_keys _ _ = []
 
 abbrev pub taken_in : List (Option ℕ) → List ℕ
 taken_in keys = filter_map (λ k. k) keys
@@ -78,7 +78,7 @@ abbrev pub old_keys : List Placed → List Spot → List (Option ℕ)
 old_keys old spots = map (λ s. key_in (placed_at old s)) spots
 
 abbrev pub keys_of : List Placed → List Spot → List ℕ
-keys_of old spots = filled (old_keys old spots) (free_keys (taken_in (old_keys old spots)) (length spots))
+keys_of old spots = fill_keys (old_keys old spots) (free_keys (taken_in (old_keys old spots)) (length spots))
 
 abbrev pub placed_all : List Spot → List ℕ → List ℕ → List Placed
 placed_all (s ∷ spots) (k ∷ keys) (m ∷ ms) = record { spot = s; key = k; module_id = m } ∷ placed_all spots keys ms
@@ -127,12 +127,12 @@ abbrev pub module_bytes : ℕ → List Placed → ℕ → Bytes
 module_bytes carousel objects m = flat_map (object_bytes carousel objects) (filter (is_in m) objects)
 
 -- a module where it has an object
-abbrev pub listed : ℕ → List Placed → ℕ → Option (ℕ × Bytes)
-listed carousel objects m = if list_any (is_in m) objects then Some (m, module_bytes carousel objects m) else None
+abbrev pub module_if_used : ℕ → List Placed → ℕ → Option (ℕ × Bytes)
+module_if_used carousel objects m = if list_any (is_in m) objects then Some (m, module_bytes carousel objects m) else None
 
 -- the modules by rising id
 abbrev pub layout_of : ℕ → List Placed → Layout
-layout_of carousel objects = filter_map (listed carousel objects) (range_with_len 1 (greatest (map (λ o. o.module_id) objects)))
+layout_of carousel objects = filter_map (module_if_used carousel objects) (range_with_len 1 (greatest (map (λ o. o.module_id) objects)))
 
 abbrev pub count_in : List (ℕ × ℕ) → ℕ → ℕ
 count_in [] m = 0
@@ -156,10 +156,10 @@ old_modules old spots = map (λ s. module_of (placed_at old s)) spots
 
 -- the module of each object: the one where it was, as far as there is room
 abbrev pub modules_for : List Placed → Tree → List ℕ
-modules_for old t = kept most_modules (zip (sizes_of t) (old_modules old (spots_of t)))
+modules_for old t = kept_modules most_modules (zip (sizes_of t) (old_modules old (spots_of t)))
 
-abbrev pub made : ℕ → ℕ → Tree → List Placed → Layout → List (ℕ × ℕ) → GenerationState
-made carousel number t old before counts =
+abbrev pub make_generation : ℕ → ℕ → Tree → List Placed → Layout → List (ℕ × ℕ) → GenerationState
+make_generation carousel number t old before counts =
     let spots = spots_of t in
     let objects = placed_all spots (keys_of old spots) (modules_for old t) in
     let layout = layout_of carousel objects in
@@ -170,10 +170,10 @@ gateway_before = record { spot = gateway_spot; key = 1; module_id = 1 } ∷ []
 
 -- generation 0 has the empty tree, and its counts are 0
 abbrev pub first_of : ℕ → GenerationState
-first_of carousel = record (made carousel 0 [] gateway_before [] []) { counts = [] }
+first_of carousel = record (make_generation carousel 0 [] gateway_before [] []) { counts = [] }
 
 abbrev pub next_of : GenerationState → Tree → GenerationState
-next_of g t = made g.carousel (g.number + 1) t g.objects g.layout g.counts
+next_of g t = make_generation g.carousel (g.number + 1) t g.objects g.layout g.counts
 
 -- the generation after these trees
 abbrev pub generation_of : ℕ → List Tree → GenerationState

@@ -3,10 +3,10 @@
 use Rattle.std.specs.Prelude.{◌≡◌, ℕ, suc, ◌+◌, ◌-◌, Bool, true, false, List, [], ◌∷◌, ◌++◌, length, map, take, Option, Some, None, nat_lt, cond}
 use Rattle.std.specs.List.{All, sum, sum_by, find, range_with_len}
 use Rattle.std.specs.declared.cmp.Ordering.TheVariants.{Less}
-use Rattle.oc_bytes.specs.Outcome.{capped, capped32}
+use Rattle.oc_bytes.specs.Outcome.{cap_at_u64, cap_at_u32}
 use Rattle.path_tree.specs.Paths.{Bytes, PathNames, path_cmp, same_name}
 use Rattle.path_tree.specs.Trees.{Tree}
-use Rattle.module_packer.specs.Placement.{needed}
+use Rattle.module_packer.specs.Placement.{modules_needed}
 
 -- an object's path, and its bytes where it is a file
 pub record Spot : Type 0 where
@@ -101,7 +101,7 @@ most_modules = 139
 
 abbrev pub limit_of : Tree → Option Passed
 limit_of t =
-    or_else (over (nat_lt 8192 (length (spots_of t))) (Objects (capped32 (length (spots_of t)))))
+    or_else (over (nat_lt 8192 (length (spots_of t))) (Objects (cap_at_u32 (length (spots_of t)))))
     (or_else (large_folder (find (is_large_folder (spots_of t)) (spots_of t)))
-    (or_else (over (nat_lt 268435456 (sum (sizes_of t))) (Total (capped (sum (sizes_of t)))))
-    (over (nat_lt most_modules (needed (sizes_of t))) (Modules (capped (needed (sizes_of t)))))))
+    (or_else (over (nat_lt 268435456 (sum (sizes_of t))) (Total (cap_at_u64 (sum (sizes_of t)))))
+    (over (nat_lt most_modules (modules_needed (sizes_of t))) (Modules (cap_at_u64 (modules_needed (sizes_of t)))))))

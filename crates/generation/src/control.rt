@@ -7,7 +7,7 @@ ghost use Rattle.generation.specs.Layouts.{dii_lines, control_section, block_sec
 ghost use Rattle.generation.specs.View.{view_listed};
 ghost use Rattle.biop_object.specs.Objects.{gateway_kind};
 ghost use Rattle.dsmcc_section.specs.Sections.{IsFramed, fields_with, spelling};
-ghost use Rattle.ior_tap.specs.Iors.{view, written};
+ghost use Rattle.ior_tap.specs.Iors.{view, written_form};
 ghost use Rattle.ddb_block.specs.Blocks.{block_of};
 ghost use Rattle.dsi_dii.specs.Controls.{dsi_spelling, dii_spelling, dii_transaction, DiiFields};
 ghost use Rattle.dsi_dii.specs.declared.ModuleLine.{ModuleLine};
@@ -35,7 +35,7 @@ pub(crate) fn dsi_section(alloc: Global, carousel: u32) -> Result<Vec<u8>, NoMem
 
 /// The reference to the gateway.
 fn gateway(alloc: Global, carousel: u32) -> Result<Ior, NoMemory>
-    ensures { IfOk result (λ ior. view ior ≡ written gateway_kind (gateway_location carousel)) }
+    ensures { IfOk result (λ ior. view ior ≡ written_form gateway_kind (gateway_location carousel)) }
 {
     let key = Key::new(vec![in alloc; 0, 0, 0, 1]?);
     let selector = vec![in alloc; 0, 1, 0x80, 0, 0, 2, 0xFF, 0xFF, 0xFF, 0xFF]?;

@@ -8,7 +8,7 @@ ghost use Rattle.generation.specs.Layouts.{old_keys, old_modules};
 ghost use Rattle.generation.specs.Merging.{from_path, first_same};
 ghost use Rattle.generation.specs.View.{view_spot, view_placed, IsSpotIn};
 ghost use Rattle.module_packer.specs.Placement.{IsPlacement};
-ghost use Rattle.module_packer.specs.Kept.{AreObjects, kept, sizes_in};
+ghost use Rattle.module_packer.specs.Kept.{AreObjects, kept_modules, sizes_in};
 
 use crate::objects::Placed;
 use crate::spots::{Spot, compare};
@@ -110,7 +110,7 @@ pub(crate) fn modules(
     former: &[Option<u16>],
 ) -> Result<Vec<u16>, NoMemory>
     requires { AreObjects 139 (zip sizes.now former.now) }
-    ensures kept { IfOk result (λ ms. ms.items ≡ kept 139 (zip sizes.now former.now)) }
+    ensures kept { IfOk result (λ ms. ms.items ≡ kept_modules 139 (zip sizes.now former.now)) }
     ensures fits { IfOk result (λ ms. IsPlacement 139 (sizes_in (zip sizes.now former.now)) ms.items) }
 {
     let objects = with_former(alloc, sizes, former)?;

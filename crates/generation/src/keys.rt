@@ -2,7 +2,7 @@
 
 ghost use Rattle.std.specs.Prelude.{◌≡◌, ◌==◌, ◌≤◌, ◌<◌, ◌+◌, ◌^◌, List, ℕ, Option, true, false, length, map, slice_set, get_or, IfOk, OnOk};
 ghost use Rattle.std.specs.List.{list_any};
-ghost use Rattle.generation.specs.Layouts.{taken_in, free_keys, filled};
+ghost use Rattle.generation.specs.Layouts.{taken_in, free_keys, fill_keys};
 
 use oc_bytes::NoMemory;
 use std::alloc::Global;
@@ -10,7 +10,7 @@ use std::alloc::Global;
 /// The key of each object: its own where it had one, and else the least that is free.
 pub(crate) fn keys(alloc: Global, former: &[Option<u32>]) -> Result<Vec<u32>, NoMemory>
     requires { length former.now ≤ 8192 }
-    ensures { IfOk result (λ v. v.items ≡ filled former.now (free_keys (taken_in former.now) (length former.now))) }
+    ensures { IfOk result (λ v. v.items ≡ fill_keys former.now (free_keys (taken_in former.now) (length former.now))) }
 {
     let taken = taken(alloc, former)?;
     let free = free(alloc, &taken, former.len() as u32)?;
@@ -62,7 +62,7 @@ fn mark(marks: &mut [bool], number: usize)
 
 /// Each key, with the free ones in order where there is none.
 fn fill(alloc: Global, kept: &[Option<u32>], free: &[u32]) -> Result<Vec<u32>, NoMemory>
-    ensures { IfOk result (λ v. v.items ≡ filled kept.now free.now) }
+    ensures { IfOk result (λ v. v.items ≡ fill_keys kept.now free.now) }
 {
     let mut keys = Vec::new(alloc);
     let mut used = 0;

@@ -12,19 +12,25 @@ use module_packer::need;
 use oc_bytes::NoMemory;
 use path_tree::{Path, Tree};
 use std::alloc::{AllocError, Global};
+use thiserror::Error;
 
 /// The first limit that a tree passes. These limits are this project's own.
-#[derive(Drop)]
+#[derive(Debug, Drop, Error)]
 pub enum Limit {
     /// More than 8,192 objects (the gateway, folders and files): how many, or the greatest `u32`.
+    #[error("there are {0} objects, more than 8,192")]
     TooManyObjects(u32),
     /// A folder whose object has more than 1,048,576 bytes: the first such folder in the order of objects.
+    #[error("the object of folder {0} has more than 1,048,576 bytes")]
     FolderTooLarge(Path),
     /// More than 268,435,456 bytes in all objects: how many.
+    #[error("the objects have {0} bytes, more than 268,435,456")]
     TooManyBytes(u64),
     /// More than 139 modules: how many the fresh placement takes.
+    #[error("the objects take {0} modules, more than 139")]
     TooManyModules(usize),
     /// Out of memory.
+    #[error("out of memory")]
     NoMemory,
 }
 

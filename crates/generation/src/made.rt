@@ -7,7 +7,7 @@ ghost use Rattle.path_tree.specs.Trees.{Tree};
 ghost use Rattle.biop_object.specs.Names.{Layout, module_in};
 ghost use Rattle.cycle_planner.specs.Cycle.{AreLines};
 ghost use Rattle.dsmcc_section.specs.Sections.{IsFramed};
-ghost use Rattle.generation.specs.Layouts.{GenerationState, first_of, next_of, generation_of, lines_of, lines_in, items_of, section_of, count_in as count_at, layout_of, listed, greatest, placed_all, keys_of, modules_for};
+ghost use Rattle.generation.specs.Layouts.{GenerationState, first_of, next_of, generation_of, lines_of, lines_in, items_of, section_of, count_in as count_at, layout_of, module_if_used, greatest, placed_all, keys_of, modules_for};
 ghost use Rattle.generation.specs.Kept.{StandsFor, layouts_of};
 ghost use Rattle.generation.specs.Publication.{limit_of, spots_of};
 ghost use Rattle.generation.specs.Stays.{AreAsBefore, AreTheirs};
@@ -314,7 +314,7 @@ fn listed_at(
 ) -> Result<Option<Listed>, NoMemory>
     requires ready { AreReady carousel tree.now objects.now }
     requires staying { AreTheirs carousel (map (view_placed tree.now) objects.now) (map view_listed before.now) staying.now }
-    ensures listed { IfOk result (λ l. option_map view_listed l ≡ listed carousel (map (view_placed tree.now) objects.now) id) }
+    ensures listed { IfOk result (λ l. option_map view_listed l ≡ module_if_used carousel (map (view_placed tree.now) objects.now) id) }
     ensures stays { IfOk result (λ l. IfSome l (IsMarked (map view_listed before.now))) }
 {
     if !is_used(objects, id) {

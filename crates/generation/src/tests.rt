@@ -107,3 +107,19 @@ fn limits(rt: HostRuntime) -> Result<(), Fail> {
     }
     Ok(())
 }
+
+#[test]
+fn limits_as_text(rt: HostRuntime) -> Result<(), Fail> {
+    let path = Path::parse(rt.alloc(), b"/a")?;
+    let text = format!(in rt.alloc(); "{}", Limit::FolderTooLarge(path))?;
+    assert_eq!(rt;
+        text.as_str(),
+        "the object of folder /a has more than 1,048,576 bytes"
+    );
+    let text = format!(in rt.alloc(); "{}", Limit::TooManyModules(140))?;
+    assert_eq!(rt;
+        text.as_str(),
+        "the objects take 140 modules, more than 139"
+    );
+    Ok(())
+}

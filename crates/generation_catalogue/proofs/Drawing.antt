@@ -1,5 +1,5 @@
 -- The items of a draw.
-use Rattle.std.proofs.Common.{◌≡◌, ℕ, ◌+◌, ◌-◌, ◌<◌, ◌≤◌, Bool, true, false, cond, nat_le, List, [], ◌∷◌, ◌++◌, length, take, drop, Some, Result, Ok, Err, IfOk, slice_get, get_or, refl, ap, sym, ◌∙◌, subst, arith}
+use Rattle.std.proofs.Common.{◌≡◌, ℕ, ◌+◌, ◌-◌, ◌≤◌, min, Bool, true, false, cond, nat_le, List, [], ◌∷◌, ◌++◌, length, take, drop, Some, Result, Ok, Err, IfOk, slice_get, get_or, ap, sym, ◌∙◌, subst, arith}
 use Rattle.std.specs.Arc.{arc_value}
 use Rattle.std.specs.List.{All, Contains}
 use Rattle.std.proofs.lemmas.List.{take_more, get_or-drop, length-take, length-drop}
@@ -16,8 +16,8 @@ use Rattle.generation_catalogue.proofs.Growing.{items_are_its_own}
 use Rattle.generation_catalogue.proofs.Replay.{cursor_below}
 
 -- the lines at hand are those of the current generation
-pub same_cycle : (s c : CatalogueState) (now g : GenerationState) (lines : List Line) → lines ≡ lines_of g → g ≡ now → now ≡ current_of s → s ≡ c → cycle_of lines ≡ cycle_in c
-same_cycle s c now g lines l e f h = ap cycle_of (l ∙ ap lines_of (e ∙ f ∙ ap current_of h))
+pub same_cycle : (s c : CatalogueState) (now g : GenerationState) (weights : List ℕ) (lines : List Line) → weights ≡ c.weights → lines ≡ lines_of g → g ≡ now → now ≡ current_of s → s ≡ c → cycle_of weights lines ≡ cycle_in c
+same_cycle s c now g weights lines w l e f h = ap (λ (ws : List ℕ). cycle_of ws lines) w ∙ ap (cycle_of c.weights) (l ∙ ap lines_of (e ∙ f ∙ ap current_of h))
 
 pub one_more_item : (cycle items more : List Item) (first at : ℕ) (x : Item) → first ≤ at → more ≡ items ++ x ∷ [] → items ≡ take (at - first) (drop first cycle) → slice_get cycle at ≡ Some x
     → more ≡ take (at + 1 - first) (drop first cycle)
@@ -40,13 +40,26 @@ as_many cycle items first at count e le i =
     (taken, ap length taken ∙ size ∙ omega (arith, left, le))
 
 -- a draw ends within the cycle
-pub within_cycle : (s c : CatalogueState) (now g : GenerationState) (lines : List Line) (cursor count asked size : ℕ) → lines ≡ lines_of g → g ≡ now → now ≡ current_of s → s ≡ c → cursor ≡ cursor_of s
-    → count ≡ count_drawn c asked → size ≡ length (cycle_of lines) → cursor + count ≤ size
-within_cycle s c now g lines cursor count asked size l e f h k n m =
-    let cycle = ap length (same_cycle s c now g lines l e f h) in
+pub within_cycle : (s c : CatalogueState) (now g : GenerationState) (weights : List ℕ) (lines : List Line) (cursor count asked size : ℕ) → weights ≡ c.weights → lines ≡ lines_of g → g ≡ now → now ≡ current_of s → s ≡ c → cursor ≡ cursor_of s
+    → count ≡ count_drawn c asked → size ≡ length (cycle_of weights lines) → cursor + count ≤ size
+within_cycle s c now g weights lines cursor count asked size w l e f h k n m =
+    let cycle = ap length (same_cycle s c now g weights lines w l e f h) in
     let place : cursor ≡ cursor_of c = k ∙ ap cursor_of h in
     let below = cursor_below c in
     omega (arith, m, cycle, place, below, n)
+
+-- what was taken of the cycle are the items of the draw
+pub drawn_items : (s c : CatalogueState) (now g : GenerationState) (weights : List ℕ) (lines : List Line) (cursor asked size count at : ℕ) (items : List Item)
+    → weights ≡ c.weights → lines ≡ lines_of g → g ≡ now → now ≡ current_of s → s ≡ c → cursor ≡ cursor_of s → size ≡ length (cycle_of weights lines)
+    → count ≡ min asked (size - cursor) → at ≡ cursor + count → items ≡ take (at - cursor) (drop cursor (cycle_in c))
+    → (items ≡ items_drawn c asked) × (length items ≡ count_drawn c asked)
+drawn_items s c now g weights lines cursor asked size count at items w l e f h k m n a i =
+    let whole : size ≡ length (cycle_in c) = m ∙ ap length (same_cycle s c now g weights lines w l e f h) in
+    let place : cursor ≡ cursor_of c = k ∙ ap cursor_of h in
+    let counted : count ≡ count_drawn c asked = n ∙ (λ t. min asked (whole t - place t)) in
+    let within : count ≤ length (cycle_in c) - cursor = omega (arith, n, whole) in
+    let many = as_many (cycle_in c) items cursor at count a within i in
+    (many.0 ∙ (λ t. take (counted t) (drop (place t) (cycle_in c))), many.1 ∙ counted)
 
 given : (full : Bool) (n : ℕ) (given asked : BatchFields) → cond full (Err n) (Ok given) ≡ Ok asked → given ≡ asked
 given true n a b e = cc

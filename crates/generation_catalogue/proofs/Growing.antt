@@ -1,20 +1,21 @@
 -- What holds of every history: trees are added at the end, and items are drawn from the current generation.
-use Rattle.std.proofs.Common.{◌≡◌, ℕ, ◌+◌, Bool, true, false, cond, List, [], ◌∷◌, ◌++◌, Result, Ok, Err, refl, sym, ◌∙◌}
+use Rattle.std.proofs.Common.{◌≡◌, ℕ, suc, Bool, true, false, cond, List, [], ◌∷◌, ◌++◌, Result, Ok, Err, refl, sym, ◌∙◌}
 use Rattle.std.specs.List.{All, Contains}
 use Rattle.std.proofs.lemmas.List.{append-nil}
-use Rattle.std.proofs.lemmas.List.Elements.{All-take, All-drop, All-contains_itself}
+use Rattle.std.proofs.lemmas.List.Elements.{All-take, All-drop}
 use Rattle.path_tree.specs.Trees.{Tree}
 use Rattle.path_tree.specs.Edits.{apply_all}
 use Rattle.path_tree.specs.declared.tree.Edit.{Edit}
 use Rattle.cycle_planner.specs.declared.Item.{Item}
-use Rattle.generation.specs.Layouts.{items_of}
+use Rattle.cycle_planner.proofs.CallerLemmas.{cycle_only}
+use Rattle.generation.specs.Layouts.{items_of, lines_of}
 use Rattle.generation_catalogue.specs.declared.entry.Refusal.{Refusal}
 use Rattle.generation_catalogue.specs.declared.entry.Entry.TheVariants as entries
-use Rattle.generation_catalogue.specs.History.{CatalogueState, current_of, cursor_of, count_drawn, cycle_in, trees_of, items_drawn, committed, or_same, last_tree, outcome_of, is_entered, with_entry}
+use Rattle.generation_catalogue.specs.History.{CatalogueState, current_of, cursor_of, count_drawn, cycle_in, trees_of, items_drawn, with_commit, or_same, last_tree, outcome_of, is_entered, with_entry}
 use Rattle.generation_catalogue.specs.Laws.{HistoriesGrow}
 use Rattle.generation_catalogue.proofs.Replay.{trees_accepted, trees_refused, trees_drawn, number_is}
 
-by_commit : (c : CatalogueState) (editor : ℕ) (edits : List Edit) → (rest : List Tree) × (trees_of (committed c editor edits) ≡ trees_of c ++ rest)
+by_commit : (c : CatalogueState) (editor : ℕ) (edits : List Edit) → (rest : List Tree) × (trees_of (with_commit c editor edits) ≡ trees_of c ++ rest)
 by_commit c editor edits = by (is_entered (outcome_of c edits)) (outcome_of c edits) where
   by : (entered : Bool) (o : Result ℕ Refusal) → (rest : List Tree) × (trees_of (cond entered (with_entry c (entries.Commit editor edits o)) c) ≡ trees_of c ++ rest)
   by false o = ([], sym (append-nil (trees_of c)))
@@ -23,7 +24,8 @@ by_commit c editor edits = by (is_entered (outcome_of c edits)) (outcome_of c ed
 
 pub items_are_its_own : (c : CatalogueState) (asked : ℕ) → All (Contains (items_of (current_of c))) (items_drawn c asked)
 items_are_its_own c asked =
-    All-take (Contains (cycle_in c)) (count_drawn c asked) _ (All-drop (Contains (cycle_in c)) (cursor_of c) (cycle_in c) (All-contains_itself (cycle_in c)))
+    let Own : Item → Type 0 = Contains (items_of (current_of c)) in
+    All-take Own (count_drawn c asked) _ (All-drop Own (cursor_of c) (cycle_in c) (cycle_only c.weights (lines_of (current_of c))))
 
 pub histories_grow : HistoriesGrow
 histories_grow = record {

@@ -1,8 +1,8 @@
 -- One more entry, and what the catalogue keeps beside the entries.
-use Rattle.std.proofs.Common.{◌≡◌, ◌≢◌, ℕ, zero, suc, ◌+◌, ◌<◌, ◌≤◌, Bool, true, false, List, [], ◌∷◌, ◌++◌, length, take, drop, min, ◌-◌, ◌%◌, Option, Some, None, Result, Ok, Err, MatchOption, slice_get, refl, ap, sym, ◌∙◌, subst, arith, eqb, ltb, ◌⊎◌, inl, inr, if◌then◌else◌, ◌==◌, cond}
+use Rattle.std.proofs.Common.{◌≡◌, ◌≢◌, ℕ, zero, suc, ◌+◌, ◌<◌, ◌≤◌, Bool, true, false, List, [], ◌∷◌, ◌++◌, length, take, ◌%◌, Option, Some, None, Result, Ok, Err, MatchOption, slice_get, refl, ap, sym, ◌∙◌, subst, arith, eqb, ltb, ◌⊎◌, inl, inr, if◌then◌else◌, ◌==◌, cond}
 use Rattle.std.specs.Bool.{⊤}
 use Rattle.std.specs.Option.{unwrap_or}
-use Rattle.std.specs.List.{All, Contains, fold, last_or, count_by}
+use Rattle.std.specs.List.{fold, last_or}
 use Rattle.std.proofs.lemmas.List.{take-append-le, take_at}
 use Rattle.std.proofs.lemmas.List.Sums.{fold_push, sum_by_push}
 use Rattle.std.proofs.lemmas.List.Elements.{All-push}
@@ -10,7 +10,7 @@ use Rattle.std.proofs.lemmas.List.{length-append}
 use Rattle.std.proofs.Math.Nat.{zero-mod, mod-add-mod, mod_self, mod-eq_of_lt, add-zero}
 use Rattle.std.proofs.lemmas.Option.{same_Some}
 use Rattle.std.proofs.lemmas.Bool.{ne_eqb, le-ltb, eqb-false, eqb-true, ltb-false}
-use Rattle.oc_bytes.specs.Outcome.{capped}
+use Rattle.oc_bytes.specs.Outcome.{cap_at_u64}
 use Rattle.path_tree.specs.Trees.{Tree}
 use Rattle.path_tree.specs.Edits.{apply_all}
 use Rattle.path_tree.specs.declared.tree.Edit.{Edit}
@@ -32,7 +32,7 @@ use Rattle.generation_catalogue.specs.declared.entry.Refusal.TheVariants as refu
 use Rattle.generation_catalogue.specs.declared.entry.Entry.{Entry}
 use Rattle.generation_catalogue.specs.declared.entry.Entry.TheVariants as entries
 use Rattle.generation_catalogue.specs.declared.entry.CommitFault.{CommitFault}
-use Rattle.generation_catalogue.specs.History.{CatalogueState, put_bytes, put_bytes_of, is_draw, draws_of, drawn_since, cycle_in, cursor_of, count_drawn, items_drawn, drawn, or_same, last_tree, with_tree, trees_after, trees_of, current_of, journal_of, refusal_of, unless_limit, unless_edit, outcome_of, is_entered, with_entry, entry_after, IsEntered, IsHistory}
+use Rattle.generation_catalogue.specs.History.{CatalogueState, put_bytes, put_bytes_of, is_draw, draws_of, drawn_since, cycle_in, cursor_of, count_drawn, with_draw, or_same, last_tree, with_tree, trees_after, trees_of, current_of, journal_of, refusal_of, unless_limit, unless_edit, outcome_of, is_entered, with_entry, entry_after, IsEntered, IsHistory}
 use Rattle.generation_catalogue.specs.Requests.{commit_cause, of_edits, of_limit, generation_after}
 
 -- ---- the trees
@@ -88,8 +88,8 @@ number_is c = let h = number_from (trees_of c) (first_of c.carousel) in omega (a
 
 -- ---- the draws, and the cursor
 
-abbrev pub cycle_for : GenerationState → List Item
-cycle_for g = cycle_of (lines_of g)
+abbrev pub cycle_for : List ℕ → GenerationState → List Item
+cycle_for weights g = cycle_of weights (lines_of g)
 
 draws_more : (c : CatalogueState) (e : Entry) → draws_of (with_entry c e) ≡ draws_of c + cond (is_draw e) 1 0
 draws_more c e = fold_push (λ (n : ℕ) (x : Entry). n + cond (is_draw x) 1 0) 0 c.entries e
@@ -120,7 +120,7 @@ cursor_accepted c editor edits n =
 cursor_refused : (c : CatalogueState) (editor : ℕ) (edits : List Edit) (r : Refusal) → cursor_of (with_entry c (entries.Commit editor edits (Err r))) ≡ cursor_of c
 cursor_refused c editor edits r =
     ap (λ (x : ℕ). x % length (cycle_in (with_entry c (entries.Commit editor edits (Err r))))) (since_refused c.entries 0 editor edits r)
-    ∙ ap (λ (g : GenerationState). drawn_since 0 c.entries % length (cycle_for g)) (current_refused c editor edits r)
+    ∙ ap (λ (g : GenerationState). drawn_since 0 c.entries % length (cycle_for c.weights g)) (current_refused c editor edits r)
 
 -- the cursor is below the cycle's length
 pub cursor_below : (c : CatalogueState) → cursor_of c < length (cycle_in c)
@@ -137,7 +137,7 @@ pub cursor_drawn : (c : CatalogueState) (asked generation first count : ℕ) →
     → cursor_of (with_entry c (entries.Draw asked generation first count)) ≡ (if cursor_of c + count == length (cycle_in c) then 0 else cursor_of c + count)
 cursor_drawn c asked generation first count within =
     ap (λ (x : ℕ). x % length (cycle_in (with_entry c (entries.Draw asked generation first count)))) (since_drawn c.entries 0 asked generation first count)
-    ∙ ap (λ (g : GenerationState). (drawn_since 0 c.entries + count) % length (cycle_for g)) (current_drawn c asked generation first count)
+    ∙ ap (λ (g : GenerationState). (drawn_since 0 c.entries + count) % length (cycle_for c.weights g)) (current_drawn c asked generation first count)
     ∙ modulo_next (drawn_since 0 c.entries) count (length (cycle_in c)) (omega arith) within
 
 -- ---- what is admitted
@@ -151,7 +151,7 @@ by_tests false false n rest e = (refl, refl)
 
 pub admitted : (c : CatalogueState) (edits : List Edit) → is_entered (outcome_of c edits) ≡ true → ((current_of c).number ≢ 16383) × (journal_of c + put_bytes edits ≤ 536870912)
 admitted c edits e =
-    let tests = by_tests (eqb (current_of c).number 16383) (ltb 536870912 (journal_of c + put_bytes edits)) (capped (journal_of c + put_bytes edits)) (unless_edit ((current_of c).number + 1) (apply_all (last_tree (trees_of c)) edits)) e in
+    let tests = by_tests (eqb (current_of c).number 16383) (ltb 536870912 (journal_of c + put_bytes edits)) (cap_at_u64 (journal_of c + put_bytes edits)) (unless_edit ((current_of c).number + 1) (apply_all (last_tree (trees_of c)) edits)) e in
     (eqb-false (current_of c).number 16383 tests.0, ltb-false 536870912 (journal_of c + put_bytes edits) tests.1)
 
 pub outcome_is : (c : CatalogueState) (edits : List Edit) → (current_of c).number ≢ 16383 → journal_of c + put_bytes edits ≤ 536870912
@@ -181,7 +181,7 @@ pub seen : (s c : CatalogueState) (now g : GenerationState) → g ≡ now → no
 seen s c now g e f h = e ∙ f ∙ ap (λ (x : CatalogueState). current_of x) h
 
 pub looked_at : (c : CatalogueState) (edits : List Edit) (g h : GenerationState) (n total : ℕ) (tree : Tree) → g ≡ current_of c → n ≡ g.number → n ≢ 16383
-    → total ≡ capped (journal_of c + put_bytes edits) → total ≤ 536870912 → h ≡ current_of c → tree ≡ h.tree → IsLookedAt c edits tree
+    → total ≡ cap_at_u64 (journal_of c + put_bytes edits) → total ≤ 536870912 → h ≡ current_of c → tree ≡ h.tree → IsLookedAt c edits tree
 looked_at c edits g h n total tree e m ne t l f k = record {
   number = λ q. ne (m ∙ ap (λ (x : GenerationState). x.number) e ∙ q);
   total = omega (arith, t, l);
@@ -262,6 +262,7 @@ get_push (z ∷ xs) x y (suc k) e = later (get_push xs x y k e) where
 pub history_more : (c : CatalogueState) (new : Entry) → new ≡ entry_after c new → IsEntered new → draws_of (with_entry c new) ≤ 16777216
     → ArePublishable c.carousel (trees_of (with_entry c new)) → IsHistory c → IsHistory (with_entry c new)
 history_more c new itself e few published h = record {
+  weights = h.weights;
   entered = All-push IsEntered c.entries new h.entered e;
   each = λ k x g. by_place k x (get_push c.entries new x k g);
   draws = few;
@@ -297,7 +298,7 @@ pub record Follows (c : CatalogueState) (now : GenerationState) (bytes many plac
   pub history : IsHistory c
 
 pub follows_accepted : (c : CatalogueState) (editor : ℕ) (edits : List Edit) (n total : ℕ) (now next : GenerationState) (bytes draws cursor : ℕ)
-    → outcome_of c edits ≡ Ok n → next ≡ generation_after c edits → total ≡ capped (journal_of c + put_bytes edits) → IsPublishable next.tree → Follows c now bytes draws cursor
+    → outcome_of c edits ≡ Ok n → next ≡ generation_after c edits → total ≡ cap_at_u64 (journal_of c + put_bytes edits) → IsPublishable next.tree → Follows c now bytes draws cursor
     → Follows (with_entry c (entries.Commit editor edits (Ok n))) next total draws 0
 follows_accepted c editor edits n total now next bytes draws cursor o g t whole_tree f =
     let new = entries.Commit editor edits (Ok n) in
@@ -322,7 +323,7 @@ follows_accepted c editor edits n total now next bytes draws cursor o g t whole_
     }
 
 pub follows_refused : (c : CatalogueState) (editor : ℕ) (edits : List Edit) (r : Refusal) (total : ℕ) (now : GenerationState) (bytes draws cursor : ℕ)
-    → outcome_of c edits ≡ Err r → is_entered (Err r) ≡ true → total ≡ capped (journal_of c + put_bytes edits) → Follows c now bytes draws cursor
+    → outcome_of c edits ≡ Err r → is_entered (Err r) ≡ true → total ≡ cap_at_u64 (journal_of c + put_bytes edits) → Follows c now bytes draws cursor
     → Follows (with_entry c (entries.Commit editor edits (Err r))) now total draws cursor
 follows_refused c editor edits r total now bytes draws cursor o e t f =
     let new = entries.Commit editor edits (Err r) in
@@ -343,7 +344,7 @@ follows_refused c editor edits r total now bytes draws cursor o e t f =
 
 pub follows_drawn : (c : CatalogueState) (asked : ℕ) (now : GenerationState) (bytes draws cursor : ℕ)
     → 1 ≤ asked → asked ≤ 1048576 → draws_of c < 16777216 → Follows c now bytes draws cursor
-    → Follows (drawn c asked) now bytes (draws + 1) (if cursor + count_drawn c asked == length (cycle_in c) then 0 else cursor + count_drawn c asked)
+    → Follows (with_draw c asked) now bytes (draws + 1) (if cursor + count_drawn c asked == length (cycle_in c) then 0 else cursor + count_drawn c asked)
 follows_drawn c asked now bytes draws cursor some most room f =
     let new = entries.Draw asked (current_of c).number (cursor_of c) (count_drawn c asked) in
     let same = current_drawn c asked (current_of c).number (cursor_of c) (count_drawn c asked) in
@@ -364,49 +365,49 @@ follows_drawn c asked now bytes draws cursor some most room f =
 
 -- ---- the same, as the code keeps it
 
-abbrev pub with_entries : ℕ → List Entry → CatalogueState
-with_entries carousel es = record { carousel = carousel; entries = es }
+abbrev pub with_entries : ℕ → List ℕ → List Entry → CatalogueState
+with_entries carousel weights es = record { carousel = carousel; weights = weights; entries = es }
 
-pub follows_same : (carousel : ℕ) (es more : List Entry) (now : GenerationState) (bytes draws cursor : ℕ) → more ≡ es → Follows (with_entries carousel es) now bytes draws cursor
-    → Follows (with_entries carousel more) now bytes draws cursor
-follows_same carousel es more now bytes draws cursor e f = subst (λ (xs : List Entry). Follows (with_entries carousel xs) now bytes draws cursor) (sym e) f
+pub follows_same : (carousel : ℕ) (weights : List ℕ) (es more : List Entry) (now : GenerationState) (bytes draws cursor : ℕ) → more ≡ es → Follows (with_entries carousel weights es) now bytes draws cursor
+    → Follows (with_entries carousel weights more) now bytes draws cursor
+follows_same carousel weights es more now bytes draws cursor e f = subst (λ (xs : List Entry). Follows (with_entries carousel weights xs) now bytes draws cursor) (sym e) f
 
-pub follows_next : (carousel : ℕ) (es more : List Entry) (v : CatalogueState) (editor : ℕ) (edits listed : List Edit) (n m total : ℕ) (now next made : GenerationState) (bytes draws cursor : ℕ)
-    → with_entries carousel es ≡ v → more ≡ es ++ entries.Commit editor edits (Ok n) ∷ [] → outcome_of v edits ≡ Ok m → n ≡ m → made ≡ generation_after v edits → IsPublishable made.tree → next ≡ made
-    → listed ≡ edits → total ≡ capped (journal_of v + put_bytes listed) → Follows (with_entries carousel es) now bytes draws cursor
-    → Follows (with_entries carousel more) next total draws 0
-follows_next carousel es more v editor edits listed n m total now next made bytes draws cursor e p o k g w h l t f =
-    let c = with_entries carousel es in
+pub follows_next : (carousel : ℕ) (weights : List ℕ) (es more : List Entry) (v : CatalogueState) (editor : ℕ) (edits listed : List Edit) (n m total : ℕ) (now next made : GenerationState) (bytes draws cursor : ℕ)
+    → with_entries carousel weights es ≡ v → more ≡ es ++ entries.Commit editor edits (Ok n) ∷ [] → outcome_of v edits ≡ Ok m → n ≡ m → made ≡ generation_after v edits → IsPublishable made.tree → next ≡ made
+    → listed ≡ edits → total ≡ cap_at_u64 (journal_of v + put_bytes listed) → Follows (with_entries carousel weights es) now bytes draws cursor
+    → Follows (with_entries carousel weights more) next total draws 0
+follows_next carousel weights es more v editor edits listed n m total now next made bytes draws cursor e p o k g w h l t f =
+    let c = with_entries carousel weights es in
     let outcome : outcome_of c edits ≡ Ok n = ap (λ (x : CatalogueState). outcome_of x edits) e ∙ o ∙ ap (λ (x : ℕ). Ok x) (sym k) in
     let generation : next ≡ generation_after c edits = h ∙ g ∙ ap (λ (x : CatalogueState). generation_after x edits) (sym e) in
-    let sum : total ≡ capped (journal_of c + put_bytes edits) = t ∙ ap (λ (x : List Edit). capped (journal_of v + put_bytes x)) l ∙ ap (λ (x : CatalogueState). capped (journal_of x + put_bytes edits)) (sym e) in
+    let sum : total ≡ cap_at_u64 (journal_of c + put_bytes edits) = t ∙ ap (λ (x : List Edit). cap_at_u64 (journal_of v + put_bytes x)) l ∙ ap (λ (x : CatalogueState). cap_at_u64 (journal_of x + put_bytes edits)) (sym e) in
     let tree : IsPublishable next.tree = subst (λ (x : GenerationState). IsPublishable x.tree) (sym h) w in
-    follows_same carousel (es ++ entries.Commit editor edits (Ok n) ∷ []) more next total draws 0 p (follows_accepted c editor edits n total now next bytes draws cursor outcome generation sum tree f)
+    follows_same carousel weights (es ++ entries.Commit editor edits (Ok n) ∷ []) more next total draws 0 p (follows_accepted c editor edits n total now next bytes draws cursor outcome generation sum tree f)
 
-pub follows_entered : (carousel : ℕ) (es more : List Entry) (v : CatalogueState) (editor : ℕ) (edits listed : List Edit) (r : Refusal) (total : ℕ) (now : GenerationState) (bytes draws cursor : ℕ)
-    → with_entries carousel es ≡ v → more ≡ es ++ entries.Commit editor edits (Err r) ∷ [] → outcome_of v edits ≡ Err r → is_entered (Err r) ≡ true
-    → listed ≡ edits → total ≡ capped (journal_of v + put_bytes listed) → Follows (with_entries carousel es) now bytes draws cursor
-    → Follows (with_entries carousel more) now total draws cursor
-follows_entered carousel es more v editor edits listed r total now bytes draws cursor e p o q l t f =
-    let c = with_entries carousel es in
+pub follows_entered : (carousel : ℕ) (weights : List ℕ) (es more : List Entry) (v : CatalogueState) (editor : ℕ) (edits listed : List Edit) (r : Refusal) (total : ℕ) (now : GenerationState) (bytes draws cursor : ℕ)
+    → with_entries carousel weights es ≡ v → more ≡ es ++ entries.Commit editor edits (Err r) ∷ [] → outcome_of v edits ≡ Err r → is_entered (Err r) ≡ true
+    → listed ≡ edits → total ≡ cap_at_u64 (journal_of v + put_bytes listed) → Follows (with_entries carousel weights es) now bytes draws cursor
+    → Follows (with_entries carousel weights more) now total draws cursor
+follows_entered carousel weights es more v editor edits listed r total now bytes draws cursor e p o q l t f =
+    let c = with_entries carousel weights es in
     let outcome : outcome_of c edits ≡ Err r = ap (λ (x : CatalogueState). outcome_of x edits) e ∙ o in
-    let sum : total ≡ capped (journal_of c + put_bytes edits) = t ∙ ap (λ (x : List Edit). capped (journal_of v + put_bytes x)) l ∙ ap (λ (x : CatalogueState). capped (journal_of x + put_bytes edits)) (sym e) in
-    follows_same carousel (es ++ entries.Commit editor edits (Err r) ∷ []) more now total draws cursor p (follows_refused c editor edits r total now bytes draws cursor outcome q sum f)
+    let sum : total ≡ cap_at_u64 (journal_of c + put_bytes edits) = t ∙ ap (λ (x : List Edit). cap_at_u64 (journal_of v + put_bytes x)) l ∙ ap (λ (x : CatalogueState). cap_at_u64 (journal_of x + put_bytes edits)) (sym e) in
+    follows_same carousel weights (es ++ entries.Commit editor edits (Err r) ∷ []) more now total draws cursor p (follows_refused c editor edits r total now bytes draws cursor outcome q sum f)
 
-pub follows_draw : (carousel : ℕ) (es more : List Entry) (v : CatalogueState) (asked number first count next : ℕ) (now : GenerationState) (bytes draws cursor : ℕ)
-    → with_entries carousel es ≡ v → more ≡ es ++ entries.Draw asked number first count ∷ [] → number ≡ now.number → first ≡ cursor → count ≡ count_drawn v asked
-    → next ≡ (if cursor + count == length (cycle_for now) then 0 else cursor + count) → 1 ≤ asked → asked ≤ 1048576 → draws_of v < 16777216 → Follows (with_entries carousel es) now bytes draws cursor
-    → Follows (with_entries carousel more) now bytes (draws + 1) next
-follows_draw carousel es more v asked number first count next now bytes draws cursor e p n g k x some most room f =
-    let c = with_entries carousel es in
+pub follows_draw : (carousel : ℕ) (weights : List ℕ) (es more : List Entry) (v : CatalogueState) (asked number first count next : ℕ) (now : GenerationState) (bytes draws cursor : ℕ)
+    → with_entries carousel weights es ≡ v → more ≡ es ++ entries.Draw asked number first count ∷ [] → number ≡ now.number → first ≡ cursor → count ≡ count_drawn v asked
+    → next ≡ (if cursor + count == length (cycle_for weights now) then 0 else cursor + count) → 1 ≤ asked → asked ≤ 1048576 → draws_of v < 16777216 → Follows (with_entries carousel weights es) now bytes draws cursor
+    → Follows (with_entries carousel weights more) now bytes (draws + 1) next
+follows_draw carousel weights es more v asked number first count next now bytes draws cursor e p n g k x some most room f =
+    let c = with_entries carousel weights es in
     let same_count : count ≡ count_drawn c asked = k ∙ ap (λ (x : CatalogueState). count_drawn x asked) (sym e) in
     let entry : entries.Draw asked number first count ≡ entries.Draw asked (current_of c).number (cursor_of c) (count_drawn c asked) =
     ap (λ (x : ℕ). entries.Draw asked x first count) (n ∙ ap (λ (s : GenerationState). s.number) f.current)
     ∙ ap (λ (x : ℕ). entries.Draw asked (current_of c).number x count) (g ∙ f.cursor)
     ∙ ap (λ (x : ℕ). entries.Draw asked (current_of c).number (cursor_of c) x) same_count in
     let place : next ≡ (if cursor + count_drawn c asked == length (cycle_in c) then 0 else cursor + count_drawn c asked) =
-    x ∙ ap (λ (s : GenerationState). if cursor + count == length (cycle_for s) then 0 else cursor + count) f.current
+    x ∙ ap (λ (s : GenerationState). if cursor + count == length (cycle_for weights s) then 0 else cursor + count) f.current
     ∙ ap (λ (k : ℕ). if cursor + k == length (cycle_in c) then 0 else cursor + k) same_count in
     let free : draws_of c < 16777216 = subst (λ (s : CatalogueState). draws_of s < 16777216) (sym e) room in
-    follows_same carousel (drawn c asked).entries more now bytes (draws + 1) next (p ∙ ap (λ (x : Entry). es ++ x ∷ []) entry)
-    (subst (λ (x : ℕ). Follows (drawn c asked) now bytes (draws + 1) x) (sym place) (follows_drawn c asked now bytes draws cursor some most free f))
+    follows_same carousel weights (with_draw c asked).entries more now bytes (draws + 1) next (p ∙ ap (λ (x : Entry). es ++ x ∷ []) entry)
+    (subst (λ (x : ℕ). Follows (with_draw c asked) now bytes (draws + 1) x) (sym place) (follows_drawn c asked now bytes draws cursor some most free f))

@@ -5,7 +5,7 @@ use Rattle.oc_bytes.specs.Outcome.{Gives}
 use Rattle.path_tree.specs.declared.tree.Edit.{Edit}
 use Rattle.cycle_planner.specs.declared.Item.{Item}
 use Rattle.generation.specs.Layouts.{GenerationState}
-use Rattle.generation_catalogue.specs.History.{CatalogueState, current_of, cursor_of, items_drawn, draws_of, drawn, outcome_of, committed, is_entered}
+use Rattle.generation_catalogue.specs.History.{CatalogueState, current_of, cursor_of, items_drawn, draws_of, with_draw, outcome_of, with_commit, is_entered}
 use Rattle.generation_catalogue.specs.Requests.{commit_cause}
 use Rattle.generation_catalogue.specs.declared.entry.CommitFault.{CommitFault}
 use Rattle.generation_catalogue.specs.declared.entry.CommitFault.TheVariants as commits
@@ -17,7 +17,7 @@ use Rattle.generation_catalogue.specs.declared.entry.Batch.{Batch}
 -- nothing where the season or the journal is full, or out of memory, which comes only where neither is full.
 pub record IsCommitted (c : CatalogueState) (editor : ℕ) (edits : List Edit) (result : Result ℕ CommitFault) (d : CatalogueState) : Type 0 where
   pub answer : Gives (λ n. n) commit_cause result (outcome_of c edits)
-  pub entry : MatchResult result (λ _. d ≡ committed c editor edits) (λ e. d ≡ (if is_some (commit_cause e) then committed c editor edits else c))
+  pub entry : MatchResult result (λ _. d ≡ with_commit c editor edits) (λ e. d ≡ (if is_some (commit_cause e) then with_commit c editor edits else c))
   pub memory : IsErrOf result commits.NoMemory → is_entered (outcome_of c edits) ≡ true
 
 -- ---- draws
@@ -45,5 +45,5 @@ batch_of c asked =
 -- only where there is room for the entry.
 pub record IsDrawn (c : CatalogueState) (asked : ℕ) (result : Result Batch DrawFault) (d : CatalogueState) : Type 0 where
   pub answer : Gives view_batch draw_cause result (batch_of c asked)
-  pub entry : MatchResult result (λ _. d ≡ drawn c asked) (λ _. d ≡ c)
+  pub entry : MatchResult result (λ _. d ≡ with_draw c asked) (λ _. d ≡ c)
   pub memory : IsErrOf result draws.NoMemory → draws_of c < 16777216

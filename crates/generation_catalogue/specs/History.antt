@@ -3,7 +3,7 @@
 use Rattle.std.specs.Prelude.{◌≡◌, ℕ, ◌+◌, ◌-◌, ◌%◌, ◌≤◌, min, drop, Bool, true, false, List, [], ◌∷◌, ◌++◌, length, take, Option, Some, None, Result, Ok, Err, slice_get, nat_lt, ◌==◌, if◌then◌else◌}
 use Rattle.std.specs.Option.{unwrap_or}
 use Rattle.std.specs.List.{All, last_or, sum_by, count_by}
-use Rattle.oc_bytes.specs.Outcome.{capped}
+use Rattle.oc_bytes.specs.Outcome.{cap_at_u64}
 use Rattle.path_tree.specs.Trees.{Tree}
 use Rattle.path_tree.specs.Edits.{apply_all}
 use Rattle.path_tree.specs.declared.tree.Edit.{Edit}
@@ -11,6 +11,7 @@ use Rattle.path_tree.specs.declared.tree.Edit.TheVariants.{Put, Remove}
 use Rattle.path_tree.specs.declared.tree.EditFault.{EditFault}
 use Rattle.generation.specs.Publication as limits
 use Rattle.cycle_planner.specs.Cycle.{cycle_of}
+use Rattle.cycle_planner.specs.Weights.{AreWeights}
 use Rattle.cycle_planner.specs.declared.Item.{Item}
 use Rattle.generation.specs.Lawful.{ArePublishable}
 use Rattle.generation.specs.Layouts.{GenerationState, generation_of, lines_of}
@@ -19,9 +20,10 @@ use Rattle.generation_catalogue.specs.declared.entry.Refusal.TheVariants as refu
 use Rattle.generation_catalogue.specs.declared.entry.Entry.{Entry}
 use Rattle.generation_catalogue.specs.declared.entry.Entry.TheVariants as entries
 
--- a catalogue is its carousel and its entries; all else follows from them
+-- a catalogue is its carousel, the weights of its modules and its entries; all else follows from them
 pub record CatalogueState : Type 0 where
   pub carousel : ℕ
+  pub weights : List ℕ
   pub entries : List Entry
 
 -- the bytes that an edit puts
@@ -83,7 +85,7 @@ drawn_since n (entries.Draw asked generation first count ∷ es) = drawn_since (
 
 -- the cycle of the current generation
 abbrev pub cycle_in : CatalogueState → List Item
-cycle_in c = cycle_of (lines_of (current_of c))
+cycle_in c = cycle_of c.weights (lines_of (current_of c))
 
 -- the place in the cycle at which the next draw begins
 abbrev pub cursor_of : CatalogueState → ℕ
@@ -114,7 +116,7 @@ unless_edit number (Ok t) = unless_limit number (limits.limit_of t)
 abbrev pub outcome_of : CatalogueState → List Edit → Result ℕ Refusal
 outcome_of c edits =
     if (current_of c).number == 16383 then Err (refusals.SeasonFull 16383)
-    else (if nat_lt 536870912 (journal_of c + put_bytes edits) then Err (refusals.JournalFull (capped (journal_of c + put_bytes edits)))
+    else (if nat_lt 536870912 (journal_of c + put_bytes edits) then Err (refusals.JournalFull (cap_at_u64 (journal_of c + put_bytes edits)))
     else unless_edit ((current_of c).number + 1) (apply_all (last_tree (trees_of c)) edits))
 
 -- whether an outcome makes an entry: that a season or a journal is full makes none
@@ -127,13 +129,13 @@ abbrev pub with_entry : CatalogueState → Entry → CatalogueState
 with_entry c e = record c { entries = c.entries ++ e ∷ [] }
 
 -- the catalogue after a commit
-abbrev pub committed : CatalogueState → ℕ → List Edit → CatalogueState
-committed c editor edits =
+abbrev pub with_commit : CatalogueState → ℕ → List Edit → CatalogueState
+with_commit c editor edits =
     if is_entered (outcome_of c edits) then with_entry c (entries.Commit editor edits (outcome_of c edits)) else c
 
 -- the catalogue after a draw
-abbrev pub drawn : CatalogueState → ℕ → CatalogueState
-drawn c asked = with_entry c (entries.Draw asked (current_of c).number (cursor_of c) (count_drawn c asked))
+abbrev pub with_draw : CatalogueState → ℕ → CatalogueState
+with_draw c asked = with_entry c (entries.Draw asked (current_of c).number (cursor_of c) (count_drawn c asked))
 
 -- the entry that the rules give after these entries, for the same request
 abbrev pub entry_after : CatalogueState → Entry → Entry
@@ -144,9 +146,10 @@ abbrev pub IsEntered : Entry → Type 0
 IsEntered (entries.Commit editor edits outcome) = is_entered outcome ≡ true
 IsEntered (entries.Draw asked generation first count) = (1 ≤ asked) × (asked ≤ 1048576)
 
--- each entry is what the rules give after those before it, no entry is of an outcome that makes none, there are at most so many
--- draws, and the tree of each accepted commit is one of bytes that passes the limits
+-- the weights are in their range, each entry is what the rules give after those before it, no entry is of an outcome that makes
+-- none, there are at most so many draws, and the tree of each accepted commit is one of bytes that passes the limits
 pub record IsHistory (c : CatalogueState) : Type 0 where
+  pub weights : AreWeights c.weights
   pub entered : All IsEntered c.entries
   pub each : (k : ℕ) (e : Entry) → slice_get c.entries k ≡ Some e → e ≡ entry_after (record c { entries = take k c.entries }) e
   pub draws : draws_of c ≤ 16777216

@@ -5,7 +5,7 @@ use Rattle.generation_catalogue.specs.History.{CatalogueState, IsHistory, curren
 use Rattle.generation_catalogue.specs.declared.journal.Journal.TheInside.{Inside}
 
 abbrev pub view_journal : Inside → CatalogueState
-view_journal j = record { carousel = j.carousel; entries = j.entries.items }
+view_journal j = record { carousel = j.carousel; weights = j.weights; entries = j.entries.items }
 
 pub record IsJournal (j : Inside) : Type 0 where
   pub current : arc_value j.current ≡ current_of (view_journal j)

@@ -1,38 +1,56 @@
-ghost use Rattle.std.specs.Prelude.{◌≡◌, ◌≤◌, ◌∷◌, [], ◌⊎◌, Err, length, is_some, IfOk, true, if◌then◌else◌};
+ghost use Rattle.std.specs.Prelude.{◌≡◌, ◌≤◌, ◌∷◌, [], length, IfOk};
 ghost use Rattle.std.specs.Arc.{arc_value};
 ghost use Rattle.std.specs.List.{All, Contains};
 ghost use Rattle.generation.specs.Kept.{layouts_of};
 ghost use Rattle.generation.specs.Lawful.{Lawful};
 ghost use Rattle.generation.specs.Layouts.{items_of};
-ghost use Rattle.generation_catalogue.specs.History.{IsHistory, outcome_of, is_entered, committed, current_of, trees_of};
-ghost use Rattle.generation_catalogue.specs.Requests.{commit_cause};
+ghost use Rattle.generation_catalogue.specs.History.{IsHistory, current_of, trees_of};
 ghost use Rattle.generation_catalogue.specs.Calls.{IsCommitted, IsDrawn};
 
-use crate::entry::{Batch, CommitFault, DrawFault, Entry, Refusal};
+use crate::entry::{Batch, CommitFault, DrawFault, Entry};
 use crate::journal::Journal;
+use cycle_planner::Weigh;
 use generation::{Generation, layouts_are_lawful};
 use oc_bytes::NoMemory;
 use path_tree::{Edit, Edits};
 use std::alloc::Global;
 use std::sync::Arc;
 
-/// The history of one carousel, with its current generation.
+/// The history of one carousel, with its current generation and the weights of its modules.
 #[derive(Drop)]
 pub struct Catalogue {
-    alloc: Global,
     journal: Journal,
+    weigh: Weigh,
+    pub ghost same: { weigh.weights ≡ journal.weights },
 }
 
 impl Catalogue {
     ghost use Rattle.generation_catalogue.specs.View.{state};
 
-    /// The catalogue of a carousel, any 32-bit id: without an entry, at generation 0, whose tree is empty. Out of memory
-    /// is the only refusal.
-    pub fn new(alloc: Global, carousel: u32) -> Result<Catalogue, NoMemory>
-        ensures { IfOk result (λ c. state c ≡ record { carousel = carousel; entries = [] }) }
+    /// The catalogue of a carousel, any 32-bit id, whose modules are sent as often as they weigh: without an entry, at generation 0,
+    /// whose tree is empty. Out of memory is the only refusal.
+    pub fn new(alloc: Global, carousel: u32, weigh: Weigh) -> Result<Catalogue, NoMemory>
+        ensures { IfOk result (λ c. state c ≡ record { carousel = carousel; weights = weigh.weights; entries = [] }) }
     {
-        let journal = Journal::new(alloc, carousel)?;
-        Ok(Catalogue { alloc, journal })
+        let journal = Journal::new(alloc, carousel, weigh.kept())?;
+        Ok(Catalogue { journal, weigh })
+    }
+
+    /// The catalogue of a history and of what answers its weights. Takes no memory.
+    pub fn of(journal: Journal, weigh: Weigh) -> Catalogue
+        requires { weigh.weights ≡ journal.weights }
+        ensures { state result ≡ journal }
+    {
+        Catalogue { journal, weigh }
+    }
+
+    /// The history, and what answers its weights. Takes no memory.
+    pub fn into_parts(self) -> (Journal, Weigh)
+        ensures journal { result.0 ≡ state self }
+        ensures weigh { result.1.weights ≡ (state self).weights }
+    {
+        let Catalogue { journal, weigh } = self;
+        (journal, weigh)
     }
 
     /// Makes the next generation by edits of the current one's tree, in order, and answers its number, 1 to 16,383. No
@@ -52,33 +70,10 @@ impl Catalogue {
     pub fn commit_edits(&mut self, editor: u32, edits: Edits) -> Result<u64, CommitFault>
         ensures { IsCommitted (state self.old) editor edits result (state self.new) }
     {
-        match self.journal.judge(self.alloc, edits.list()) {
-            Ok(next) => Ok(self.journal.accept(self.alloc, editor, edits, next)?),
-            Err(CommitFault::NoMemory) => Err(CommitFault::NoMemory),
-            Err(CommitFault::Refused(refusal)) => Err(self.refused(editor, edits, refusal)),
-        }
+        self.journal.commit_edits(editor, edits)
     }
 
-    /// Enters a commit that is refused, where that makes an entry, and gives its answer.
-    fn refused(&mut self, editor: u32, edits: Edits, refusal: Refusal) -> CommitFault
-        requires { outcome_of (state self.old) edits ≡ Err refusal }
-        ensures answer { (result ≡ CommitFault.Refused refusal) ⊎ (result ≡ CommitFault.NoMemory) }
-        ensures entry { state self.new ≡ (if is_some (commit_cause result) then committed (state self.old) editor edits else state self.old) }
-        ensures memory { result ≡ CommitFault.NoMemory → is_entered (Err refusal) ≡ true }
-    {
-        if refusal.is_entered() {
-            let entered = match refusal.share() {
-                Ok(copy) => self.journal.refuse(editor, edits, copy),
-                Err(fault) => Err(fault),
-            };
-            if entered.is_err() {
-                return CommitFault::NoMemory;
-            }
-        }
-        CommitFault::Refused(refusal)
-    }
-
-    /// Draws the items that are to be sent next: those of the current generation's cycle from the end of the last draw on, or
+    /// Draws the items that are to be sent next: those of the current generation's weighted cycle from the end of the last draw on, or
     /// from the first on where that was the cycle's end, or where the generation is new. They are `n`, 1 to 1,048,576, or as
     /// many as are left in the cycle, at least one.
     ///
@@ -90,7 +85,7 @@ impl Catalogue {
         ensures some { IfOk result (λ b. (1 ≤ length b.items.items) × (length b.items.items ≤ n)) }
         ensures items { IfOk result (λ b. All (λ item. Contains (items_of (arc_value b.generation)) item) b.items.items) }
     {
-        self.journal.draw(self.alloc, n)
+        self.journal.draw(&self.weigh, n)
     }
 
     /// The entries, the oldest first. Each is what the rules give after the entries before it. The trees of the accepted

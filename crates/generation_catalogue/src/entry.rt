@@ -10,23 +10,31 @@ use oc_bytes::NoMemory;
 use path_tree::{ApplyFault, EditFault, Edits, Path};
 use std::alloc::{AllocError, AllocFailed};
 use std::sync::Arc;
+use thiserror::Error;
 
 /// Why a commit is refused: the first of these that holds.
-#[derive(Drop)]
+#[derive(Debug, Drop, Error)]
 pub enum Refusal {
     /// The current generation has this number, 16,383, the greatest.
+    #[error("the generation number is {0}, the greatest")]
     SeasonFull(u64),
     /// The bytes put by all entries and by this commit, which are these, are more than 536,870,912.
+    #[error("all entries put {0} bytes, more than 536,870,912")]
     JournalFull(u64),
     /// The edit at this place, counted from 0, has this fault.
+    #[error("edit {0}: {1}")]
     Edit(usize, EditFault),
     /// The tree would have so many objects, more than 8,192.
+    #[error("there would be {0} objects, more than 8,192")]
     TooManyObjects(u32),
     /// The object of this folder would have more than 1,048,576 bytes.
+    #[error("the object of folder {0} would have more than 1,048,576 bytes")]
     FolderTooLarge(Path),
     /// The objects would have so many bytes, more than 268,435,456.
+    #[error("the objects would have {0} bytes, more than 268,435,456")]
     TooManyBytes(u64),
     /// The objects would take so many modules, more than 139.
+    #[error("the objects would take {0} modules, more than 139")]
     TooManyModules(usize),
 }
 
@@ -55,11 +63,13 @@ impl Refusal {
 }
 
 /// Why a commit gives no generation.
-#[derive(Drop)]
+#[derive(Debug, Drop, Error)]
 pub enum CommitFault {
     /// The commit is refused.
+    #[error("the commit is refused: {0}")]
     Refused(Refusal),
     /// Out of memory.
+    #[error("out of memory")]
     NoMemory,
 }
 
@@ -121,11 +131,13 @@ pub enum Entry {
 }
 
 /// Why a draw gives no items.
-#[derive(Debug, Drop)]
+#[derive(Debug, Drop, Error)]
 pub enum DrawFault {
     /// So many draws are entered already, 16,777,216, the most.
+    #[error("{0} draws are entered, the most")]
     DrawsFull(u64),
     /// Out of memory.
+    #[error("out of memory")]
     NoMemory,
 }
 

@@ -1,14 +1,17 @@
-ghost use Rattle.std.specs.Prelude.{◌≡◌, ◌+◌, ◌<◌, ◌≤◌, ◌∷◌, [], length, ◌==◌, if◌then◌else◌, true, Ok, Err, IfOk, OnOk, OnErr, IsErrOf};
+ghost use Rattle.std.specs.Prelude.{◌≡◌, ◌+◌, ◌<◌, ◌≤◌, ◌∷◌, [], ◌⊎◌, length, is_some, ◌==◌, if◌then◌else◌, true, Ok, Err, IfOk, OnOk, OnErr, IsErrOf};
 ghost use Rattle.std.specs.Arc.{arc_value};
-ghost use Rattle.oc_bytes.specs.Outcome.{Gives, capped};
+ghost use Rattle.std.specs.List.{All, Contains};
+ghost use Rattle.oc_bytes.specs.Outcome.{Gives, cap_at_u64};
+ghost use Rattle.cycle_planner.specs.Weights.{AreWeights};
 ghost use Rattle.generation.specs.Lawful.{IsPublishable};
-ghost use Rattle.generation_catalogue.specs.History.{IsHistory, current_of, journal_of, put_bytes, put_size, outcome_of, is_entered, committed, draws_of, items_drawn, count_drawn, drawn};
+ghost use Rattle.generation.specs.Layouts.{items_of};
+ghost use Rattle.generation_catalogue.specs.History.{IsHistory, current_of, journal_of, put_bytes, put_size, outcome_of, is_entered, with_commit, draws_of, items_drawn, count_drawn, with_draw};
 ghost use Rattle.generation_catalogue.specs.Requests.{commit_cause, generation_after};
-ghost use Rattle.generation_catalogue.specs.Calls.{IsDrawn};
+ghost use Rattle.generation_catalogue.specs.Calls.{IsCommitted, IsDrawn};
 
 use crate::bytes::tree_is_of_bytes;
 use crate::entry::{Batch, CommitFault, DrawFault, Entry, Refusal};
-use cycle_planner::{Item, cycle_len, item_at};
+use cycle_planner::{GREATEST_ID, Item, Weigh, cycle_len, item_at};
 use generation::{Generation, check};
 use oc_bytes::NoMemory;
 use path_tree::{Edit, Edits, apply};
@@ -25,10 +28,13 @@ const MOST_PUT_BYTES: u64 = 536_870_912;
 /// The most draws that are entered.
 const MOST_DRAWS: u64 = 16_777_216;
 
-/// The entries, and what follows from them.
+/// The history of one carousel, with its current generation, and the list of the weights of its modules, without the closure that
+/// answers them: what a `Catalogue` keeps beside its `Weigh`. It can be kept where no closure can, as under a lock.
 #[derive(Drop)]
 pub struct Journal {
+    alloc: Global,
     carousel: u32,
+    weights: [u8; GREATEST_ID],
     entries: Vec<Entry>,
     current: Arc<Generation>,
     put_bytes: u64,
@@ -49,14 +55,22 @@ impl Model for Journal {
 }
 
 impl Journal {
-    /// No entry, and generation 0.
-    pub fn new(alloc: Global, carousel: u32) -> Result<Journal, NoMemory>
-        ensures { IfOk result (λ j. j ≡ record { carousel = carousel; entries = [] }) }
+    /// The history of a carousel, any 32-bit id, whose modules have these weights, each 1 to 8, from module 1 on: without an entry,
+    /// at generation 0, whose tree is empty. Out of memory is the only refusal.
+    pub fn new(
+        alloc: Global,
+        carousel: u32,
+        weights: [u8; GREATEST_ID],
+    ) -> Result<Journal, NoMemory>
+        requires { AreWeights weights }
+        ensures { IfOk result (λ j. j ≡ record { carousel = carousel; weights = weights; entries = [] }) }
     {
         let first = Generation::first(alloc, carousel)?;
         let current = Arc::new(alloc, first)?;
         Ok(Journal {
+            alloc,
             carousel,
+            weights,
             entries: Vec::new(alloc),
             current,
             put_bytes: 0,
@@ -65,6 +79,7 @@ impl Journal {
         })
     }
 
+    /// The entries, the oldest first. Each is what the rules give after the entries before it.
     pub fn entries(&self) -> &[Entry]
         ensures entries { result.now ≡ self.now.entries }
         ensures history { IsHistory self.now }
@@ -72,14 +87,26 @@ impl Journal {
         &self.entries
     }
 
+    /// The current generation: the one that the entries replay to.
     pub fn current(&self) -> &Arc<Generation>
         ensures { arc_value result.now ≡ current_of self.now }
     {
         &self.current
     }
 
+    /// Makes the next generation by edits of the current one's tree, and answers its number: what `Catalogue::commit` says.
+    pub fn commit_edits(&mut self, editor: u32, edits: Edits) -> Result<u64, CommitFault>
+        ensures { IsCommitted self.old editor edits result self.new }
+    {
+        match self.judge(edits.list()) {
+            Ok(next) => Ok(self.accept(editor, edits, next)?),
+            Err(CommitFault::NoMemory) => Err(CommitFault::NoMemory),
+            Err(CommitFault::Refused(refusal)) => Err(self.refused(editor, edits, refusal)),
+        }
+    }
+
     /// The generation that these edits make of the current one, if nothing refuses them.
-    pub fn judge(&self, alloc: Global, edits: &[Edit]) -> Result<Generation, CommitFault>
+    fn judge(&self, edits: &[Edit]) -> Result<Generation, CommitFault>
         ensures answer { Gives (λ g. g.number) commit_cause result (outcome_of self.now edits.now) }
         ensures next { IfOk result (λ g. g ≡ generation_after self.now edits.now) }
         ensures tree { IfOk result (λ g. IsPublishable g.tree) }
@@ -92,15 +119,15 @@ impl Journal {
         if total > MOST_PUT_BYTES {
             return Err(CommitFault::Refused(Refusal::JournalFull(total)));
         }
-        let tree = apply(alloc, self.current.tree(), edits)?;
-        check(alloc, &tree)?;
+        let tree = apply(self.alloc, self.current.tree(), edits)?;
+        check(self.alloc, &tree)?;
         tree_is_of_bytes(&tree);
         Ok(self.current.next_after(tree, edits)?)
     }
 
     /// The bytes that the entries and these edits put, or the greatest `u64`.
     fn total_with(&self, edits: &[Edit]) -> u64
-        ensures { result ≡ capped (journal_of self.now + put_bytes edits.now) }
+        ensures { result ≡ cap_at_u64 (journal_of self.now + put_bytes edits.now) }
     {
         let mut total = self.put_bytes;
         for edit in edits {
@@ -110,22 +137,16 @@ impl Journal {
     }
 
     /// Enters a commit that makes the next generation, and answers its number. Out of memory changes nothing.
-    pub fn accept(
-        &mut self,
-        alloc: Global,
-        editor: u32,
-        edits: Edits,
-        next: Generation,
-    ) -> Result<u64, NoMemory>
+    fn accept(&mut self, editor: u32, edits: Edits, next: Generation) -> Result<u64, NoMemory>
         requires accepted { outcome_of self.old edits ≡ Ok next.number }
         requires next { next ≡ generation_after self.old edits }
         requires tree { IsPublishable next.tree }
         ensures number { IfOk result (λ n. n ≡ next.number) }
-        ensures entered { OnOk result (self.new ≡ committed self.old editor edits) }
+        ensures entered { OnOk result (self.new ≡ with_commit self.old editor edits) }
         ensures unchanged { OnErr result (self.new ≡ self.old) }
     {
         let number = next.number();
-        let next = Arc::new(alloc, next)?;
+        let next = Arc::new(self.alloc, next)?;
         let total = self.total_with(edits.list());
         self.entries.push(Entry::Commit {
             editor,
@@ -138,11 +159,30 @@ impl Journal {
         Ok(number)
     }
 
+    /// Enters a commit that is refused, where that makes an entry, and gives its answer.
+    fn refused(&mut self, editor: u32, edits: Edits, refusal: Refusal) -> CommitFault
+        requires { outcome_of self.old edits ≡ Err refusal }
+        ensures answer { (result ≡ CommitFault.Refused refusal) ⊎ (result ≡ CommitFault.NoMemory) }
+        ensures entry { self.new ≡ (if is_some (commit_cause result) then with_commit self.old editor edits else self.old) }
+        ensures memory { result ≡ CommitFault.NoMemory → is_entered (Err refusal) ≡ true }
+    {
+        if refusal.is_entered() {
+            let entered = match refusal.share() {
+                Ok(copy) => self.refuse(editor, edits, copy),
+                Err(fault) => Err(fault),
+            };
+            if entered.is_err() {
+                return CommitFault::NoMemory;
+            }
+        }
+        CommitFault::Refused(refusal)
+    }
+
     /// Enters a commit that is refused. Out of memory changes nothing.
-    pub fn refuse(&mut self, editor: u32, edits: Edits, refusal: Refusal) -> Result<(), NoMemory>
+    fn refuse(&mut self, editor: u32, edits: Edits, refusal: Refusal) -> Result<(), NoMemory>
         requires refused { outcome_of self.old edits ≡ Err refusal }
         requires entered { is_entered (Err refusal) ≡ true }
-        ensures entered { OnOk result (self.new ≡ committed self.old editor edits) }
+        ensures entered { OnOk result (self.new ≡ with_commit self.old editor edits) }
         ensures unchanged { OnErr result (self.new ≡ self.old) }
     {
         let total = self.total_with(edits.list());
@@ -155,18 +195,31 @@ impl Journal {
         Ok(())
     }
 
-    /// Enters a draw of at most so many items, and gives them.
-    pub fn draw(&mut self, alloc: Global, asked: u32) -> Result<Batch, DrawFault>
-        requires { (1 ≤ asked) × (asked ≤ 1048576) }
+    /// Draws at most so many items of the cycle, 1 to 1,048,576: what `Catalogue::draw` says. The weights have to be those of this
+    /// history.
+    pub fn draw(&mut self, weigh: &Weigh, asked: u32) -> Result<Batch, DrawFault>
+        requires asked { (1 ≤ asked) × (asked ≤ 1048576) }
+        requires weights { weigh.now.weights ≡ self.old.weights }
+        ensures drawn { IsDrawn self.old asked result self.new }
+        ensures some { IfOk result (λ b. (1 ≤ length b.items.items) × (length b.items.items ≤ asked)) }
+        ensures items { IfOk result (λ b. All (λ item. Contains (items_of (arc_value b.generation)) item) b.items.items) }
+    {
+        self.draw_next(weigh, asked)
+    }
+
+    /// The same, without what follows of the items.
+    fn draw_next(&mut self, weigh: &Weigh, asked: u32) -> Result<Batch, DrawFault>
+        requires asked { (1 ≤ asked) × (asked ≤ 1048576) }
+        requires weights { weigh.now.weights ≡ self.old.weights }
         ensures { IsDrawn self.old asked result self.new }
     {
         if self.draws == MOST_DRAWS {
             return Err(DrawFault::DrawsFull(MOST_DRAWS));
         }
-        let items = self.next_items(alloc, asked)?;
+        let items = self.next_items(weigh, asked)?;
         let generation = Arc::try_clone(&self.current)?;
         let first = self.cursor;
-        self.enter_draw(asked, items.len() as u64)?;
+        self.enter_draw(weigh, asked, items.len() as u64)?;
         Ok(Batch {
             generation,
             first,
@@ -175,31 +228,33 @@ impl Journal {
     }
 
     /// The items of the cycle from the cursor on, at most so many.
-    fn next_items(&self, alloc: Global, asked: u32) -> Result<Vec<Item>, NoMemory>
+    fn next_items(&self, weigh: &Weigh, asked: u32) -> Result<Vec<Item>, NoMemory>
+        requires { weigh.now.weights ≡ self.now.weights }
         ensures items { IfOk result (λ items. items.items ≡ items_drawn self.now asked) }
         ensures count { IfOk result (λ items. length items.items ≡ count_drawn self.now asked) }
     {
         let lines = self.current.lines();
         let first = self.cursor;
-        let count = u64::from(asked).min(cycle_len(lines) - first);
-        let mut items = Vec::with_capacity(alloc, count as usize)?;
+        let count = u64::from(asked).min(cycle_len(lines, weigh) - first);
+        let mut items = Vec::with_capacity(self.alloc, count as usize)?;
         for at in first..first + count {
-            items.push(item_at(lines, at))?;
+            items.push(item_at(lines, weigh, at))?;
         }
         Ok(items)
     }
 
     /// Enters a draw of so many items from the cursor on. Out of memory changes nothing.
-    fn enter_draw(&mut self, asked: u32, count: u64) -> Result<(), NoMemory>
+    fn enter_draw(&mut self, weigh: &Weigh, asked: u32, count: u64) -> Result<(), NoMemory>
+        requires weights { weigh.now.weights ≡ self.old.weights }
         requires asked { (1 ≤ asked) × (asked ≤ 1048576) }
         requires count { count ≡ count_drawn self.old asked }
         requires room { draws_of self.old < 16777216 }
-        ensures entered { OnOk result (self.new ≡ drawn self.old asked) }
+        ensures entered { OnOk result (self.new ≡ with_draw self.old asked) }
         ensures unchanged { OnErr result (self.new ≡ self.old) }
     {
         let generation = self.current.number();
         let first = self.cursor;
-        let cursor = place_after(first, count, cycle_len(self.current.lines()));
+        let cursor = place_after(first, count, cycle_len(self.current.lines(), weigh));
         self.entries.push(Entry::Draw {
             asked,
             generation,

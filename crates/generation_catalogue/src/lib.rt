@@ -2,8 +2,9 @@
 //!
 //! Each commit edits the tree of the generation before it. The catalogue keeps an entry of every commit that it accepts,
 //! and of every one that its edits or the limits of a generation refuse, so that the entries replay to the current
-//! generation. Each draw gives the items that are to be sent next of the current generation's cycle, and makes an entry
-//! too, so that the entries also replay to the place in the cycle. The limits are this project's own rules.
+//! generation. Each draw gives the items that are to be sent next of the current generation's cycle, in which a module is
+//! sent as often as it weighs, and makes an entry too, so that the entries also replay to the place in the cycle. The limits
+//! are this project's own rules.
 #![tactic(auto)]
 
 mod bytes;
@@ -15,6 +16,7 @@ mod threads;
 
 pub use catalogue::Catalogue;
 pub use entry::{Batch, CommitFault, DrawFault, Entry, Refusal};
+pub use journal::Journal;
 pub use laws::histories_grow;
 pub use threads::cross_threads;
 

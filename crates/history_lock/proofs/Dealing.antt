@@ -8,7 +8,7 @@ use Rattle.atomic_table.specs.declared.shared.Seat.{Seat}
 use Rattle.history_lock.specs.declared.rule.View.{View}
 use Rattle.history_lock.specs.declared.pass.Pass.{Pass}
 use Rattle.history_lock.specs.declared.lock.HistoryLock.{HistoryLock}
-use Rattle.history_lock.specs.History.{Begins, times, total, Each, newcomer, kept_part, given_part, joined, once_within, Chronicle}
+use Rattle.history_lock.specs.History.{Begins, times, total, Each, newcomer, kept_part, given_part, join_views, once_within, Chronicle}
 use Rattle.history_lock.specs.Passes.{IsPassOf, AreFresh, HasAll, seats_of, opening_of, owners, seen_of, own_of, number_of}
 use Rattle.history_lock.proofs.Lists.{times_append, total_push, each_both}
 use Rattle.history_lock.proofs.Steps.{closes}
@@ -74,7 +74,7 @@ module _ {V E : Type 0} where
           λ place. sym (total_push (λ (p : Pass V E). times place (own_of p)) rest p) ∙ sym (ap (total (λ (p : Pass V E). times place (own_of p))) is),
         )
 
-    pub part_more : (rest before all : List (Pass V E)) (p : Pass V E) (s s' : Seat (Option V) (View E)) → before ≡ rest ++ p ∷ [] → s'.table_id ≡ s.table_id → s'.me ≡ (joined s.me.0 p.seat.me.0, s.me.1) → HasPart l before all s → HasPart l rest all s'
+    pub part_more : (rest before all : List (Pass V E)) (p : Pass V E) (s s' : Seat (Option V) (View E)) → before ≡ rest ++ p ∷ [] → s'.table_id ≡ s.table_id → s'.me ≡ (join_views s.me.0 p.seat.me.0, s.me.1) → HasPart l before all s → HasPart l rest all s'
     part_more rest before all p s s' is same got h =
         let k = each_last (IsPassOf l) rest p (subst (Each (IsPassOf l)) is h.0) in
         let own = k.1 in

@@ -10,7 +10,7 @@ use prog.Atomic.{either}
 use Rattle.atomic_table.specs.Table.{State, Me, step, keeps, takes, gives, stepped, Allows, Splits, Joins, opening, Final, Seen, rest}
 use Rattle.atomic_table.proofs.Lists.{at_set, set_again, at_snoc, at_longer, set_else}
 use Rattle.history_lock.specs.declared.rule.View.{View}
-use Rattle.history_lock.specs.History.{Begins, times, places, once_within, total, Each, newcomer, spent, kept_part, given_part, joined, holding, released, Fits, Chronicle, took, freed}
+use Rattle.history_lock.specs.History.{Begins, times, places, once_within, total, Each, newcomer, spent_view, kept_part, given_part, join_views, while_held, after_release, Fits, Chronicle, HasTaken, HasFreed}
 use Rattle.history_lock.proofs.Lists.{begins_self, begins_on, begins_le, each_on, each_both, times_append, once_more, once_nowhere, here_set, total_set, total_same, total_push, total_two, total_alone}
 
 off : false ≡ true → ⊥
@@ -53,9 +53,9 @@ module _ {V E : Type 0} (list : V → List E) (seats : ℕ) (opened : List E) wh
       none_owned : (p : ℕ) → total (λ (v : View E). times p v.own) (newcomer seats opened ∷ []) ≡ once_within (length opened) (length opened) p
       none_owned p = sym (once_nowhere (length opened) p)
 
-  pub take_keeps : (slots id : ℕ) (me : Me (Option V) (View E)) → 0 < me.0.parts → Allows Rule slots id me 0 (λ x. either (eqb x 0) 1 x) (took list (step slots 0 0 1 none) me)
+  pub take_keeps : (slots id : ℕ) (me : Me (Option V) (View E)) → 0 < me.0.parts → Allows Rule slots id me 0 (λ x. either (eqb x 0) 1 x) (HasTaken list (step slots 0 0 1 none) me)
   take_keeps slots id me some_part s r deep at small = dite (ℕ_discrete (word s) 0)
-      (λ hit. let h = r.home hit in let v = h.0 in let w = holding me.0 (list v) in let mine = r.each_seat id me.0 at in let wide = r.wide in
+      (λ hit. let h = r.home hit in let v = h.0 in let w = while_held me.0 (list v) in let mine = r.each_seat id me.0 at in let wide = r.wide in
       let now_is : get_or (set s.words 0 1) 0 0 ≡ 1 = get_or-set_same s.words 0 1 0 (omega arith) in (
         w,
         takes 0 (Some v),
@@ -93,12 +93,12 @@ module _ {V E : Type 0} (list : V → List E) (seats : ℕ) (opened : List E) wh
 
   -- the seat that holds gives the value back, which stands for a list that begins with the one that it got
   free_at : (slots id : ℕ) (m : View E) (v : V) → 0 < slots → 0 < m.parts → m.holds ≡ true → Begins m.seen (list v)
-      → Allows Rule slots id (m, (0, Some v) ∷ []) 0 (λ _. 0) (λ _. freed list (step slots 0 0 0 none) (m, (0, Some v) ∷ []) 0)
+      → Allows Rule slots id (m, (0, Some v) ∷ []) 0 (λ _. 0) (λ _. HasFreed list (step slots 0 0 0 none) (m, (0, Some v) ∷ []) 0)
   free_at slots id m v room some_part holds more s r deep at small =
       let mine = r.each_seat id m at in
       let h = mine.0 holds in
       let more' : Begins r.now (list v) = subst (λ l. Begins l (list v)) h.2 more in
-      let w = released m (list v) in
+      let w = after_release m (list v) in
       let wide = r.wide in
       let now_is : get_or (set s.words 0 0) 0 0 ≡ 0 = get_or-set_same s.words 0 0 0 (omega arith) in (
         w,
@@ -121,7 +121,7 @@ module _ {V E : Type 0} (list : V → List E) (seats : ℕ) (opened : List E) wh
               let c = r.owned p ∙ sym (ap (λ (l : List E). once_within (length opened) (length l) p) h.2) in let e = ap length h.2 in
               let d = once_more (length opened) (length m.seen) (length (list v)) p (let f = begins_le opened r.now r.begins in omega arith) (begins_le m.seen (list v) more) in omega arith;
         },
-        (λ v' same. (refl, ap (λ (x : V). released m (list x)) (ap (picked v) same))),
+        (λ v' same. (refl, ap (λ (x : V). after_release m (list x)) (ap (picked v) same))),
       )
     where
       at_set_here : (hs : List (maybe.Option (Option V))) (x : maybe.Option (Option V)) → 0 < length hs → get_elem? (set hs 0 x) 0 ≡ some x
@@ -129,9 +129,9 @@ module _ {V E : Type 0} (list : V → List E) (seats : ℕ) (opened : List E) wh
       at_set_here (y ∷ ys) x h = refl
 
   pub free_keeps : (slots id : ℕ) (me : Me (Option V) (View E)) (v : V) → 0 < slots → 0 < me.0.parts → me.0.holds ≡ true → me.1 ≡ (0, Some v) ∷ [] → Begins me.0.seen (list v)
-      → Allows Rule slots id me 0 (λ _. 0) (λ _. freed list (step slots 0 0 0 none) me 0)
+      → Allows Rule slots id me 0 (λ _. 0) (λ _. HasFreed list (step slots 0 0 0 none) me 0)
   free_keeps slots id me v room some_part holds has more =
-      subst (λ (cs : List (ℕ × Option V)). Allows Rule slots id (me.0, cs) 0 (λ _. 0) (λ _. freed list (step slots 0 0 0 none) (me.0, cs) 0)) (sym has) (free_at slots id me.0 v room some_part holds more)
+      subst (λ (cs : List (ℕ × Option V)). Allows Rule slots id (me.0, cs) 0 (λ _. 0) (λ _. HasFreed list (step slots 0 0 0 none) (me.0, cs) 0)) (sym has) (free_at slots id me.0 v room some_part holds more)
 
   held_set : (views : List (View E)) (id holder : ℕ) (v w : View E) → get_elem? views id ≡ some v → w.holds ≡ v.holds → (u : View E) × (get_elem? views holder ≡ some u) × (u.holds ≡ true)
       → (u : View E) × (get_elem? (set views id w) holder ≡ some u) × (u.holds ≡ true)
@@ -159,9 +159,9 @@ module _ {V E : Type 0} (list : V → List E) (seats : ℕ) (opened : List E) wh
         owned = λ p. let a = total_same (λ (x : View E). times p x.own) s.views id v k at refl in let b = total_push (λ (x : View E). times p x.own) (set s.views id k) g in let c = r.owned p in omega arith;
       }
 
-  pub join_keeps : (id : ℕ) (v : View E) (other : ℕ) (w : View E) → 0 < v.parts → w.holds ≡ false → Joins Rule id v other w (joined v w) spent
+  pub join_keeps : (id : ℕ) (v : View E) (other : ℕ) (w : View E) → 0 < v.parts → w.holds ≡ false → Joins Rule id v other w (join_views v w) spent_view
   join_keeps id v other w parts idle s r at apart there =
-      let both = joined v w in
+      let both = join_views v w in
       let views = set s.views id both in
       let there' : get_elem? s.views other ≡ some w = sym (set_else s.views id other both apart) ∙ there in
       let mine = r.each_seat id v at in
@@ -171,12 +171,12 @@ module _ {V E : Type 0} (list : V → List E) (seats : ℕ) (opened : List E) wh
         wide = r.wide;
         turn = r.turn;
         home = r.home;
-        held = λ z. held_set views other r.holder w spent there (sym idle) (held_set s.views id r.holder v both at refl (r.held z));
-        each_seat = fits_set (Fits (word s) r.now r.holder) views other spent ((λ h. absurd (off h)), (r.now, refl), tt, (λ _. (refl, refl)))
+        held = λ z. held_set views other r.holder w spent_view there (sym idle) (held_set s.views id r.holder v both at refl (r.held z));
+        each_seat = fits_set (Fits (word s) r.now r.holder) views other spent_view ((λ h. absurd (off h)), (r.now, refl), tt, (λ _. (refl, refl)))
             (λ j u _ e. fits_set (Fits (word s) r.now r.holder) s.views id both (mine.0, mine.1, (theirs.1, each_both _ w.heard v.heard theirs.2 mine.2), (λ z. absurd (omega arith))) (λ j u _ e. r.each_seat j u e) j u e);
         begins = r.begins;
-        shared = let a = total_set (λ (x : View E). x.parts) s.views id v both at in let b = total_set (λ (x : View E). x.parts) views other w spent there in let c = r.shared in omega arith;
-        owned = λ p. let a = total_set (λ (x : View E). times p x.own) s.views id v both at in let b = total_set (λ (x : View E). times p x.own) views other w spent there in let c = r.owned p in let d = times_append p v.own w.own in omega arith;
+        shared = let a = total_set (λ (x : View E). x.parts) s.views id v both at in let b = total_set (λ (x : View E). x.parts) views other w spent_view there in let c = r.shared in omega arith;
+        owned = λ p. let a = total_set (λ (x : View E). times p x.own) s.views id v both at in let b = total_set (λ (x : View E). times p x.own) views other w spent_view there in let c = r.owned p in let d = times_append p v.own w.own in omega arith;
       }
 
   -- once one seat has every part, the value is at home, and all own places are that seat's
@@ -207,9 +207,9 @@ module _ {V E : Type 0} (list : V → List E) (seats : ℕ) (opened : List E) wh
     seat_filled = filled ∙ ap (λ (cs : List (ℕ × Option V)). (m.0, (0, Some x) ∷ rest cs)) empty
 
     -- the steps of `put_back`, at the seat that has just been given the value x
-    pub free_after : 0 < slots → m.0.parts ≡ 1 → m.0.holds ≡ true → Begins m.0.seen (list x) → Allows Rule slots id m' 0 (λ _. 0) (λ _. freed list (step slots 0 0 0 none) m' 0)
-    free_after room one holds more = subst (λ (k : Me (Option V) (View E)). Allows Rule slots id k 0 (λ _. 0) (λ _. freed list (step slots 0 0 0 none) k 0)) (sym seat_filled)
+    pub free_after : 0 < slots → m.0.parts ≡ 1 → m.0.holds ≡ true → Begins m.0.seen (list x) → Allows Rule slots id m' 0 (λ _. 0) (λ _. HasFreed list (step slots 0 0 0 none) m' 0)
+    free_after room one holds more = subst (λ (k : Me (Option V) (View E)). Allows Rule slots id k 0 (λ _. 0) (λ _. HasFreed list (step slots 0 0 0 none) k 0)) (sym seat_filled)
         (free_at slots id m.0 x room (omega arith) holds more)
 
-    pub freed_after : (m'' : Me (Option V) (View E)) → freed list (step slots 0 0 0 none) m' 0 m'' → (m''.0 ≡ released m.0 (list x)) × (m''.1 ≡ [])
-    freed_after m'' f = let g = subst (λ (k : Me (Option V) (View E)). freed list (step slots 0 0 0 none) k 0 m'') seat_filled f in let h = g x refl in (h.1, h.0)
+    pub freed_after : (m'' : Me (Option V) (View E)) → HasFreed list (step slots 0 0 0 none) m' 0 m'' → (m''.0 ≡ after_release m.0 (list x)) × (m''.1 ≡ [])
+    freed_after m'' f = let g = subst (λ (k : Me (Option V) (View E)). HasFreed list (step slots 0 0 0 none) k 0 m'') seat_filled f in let h = g x refl in (h.1, h.0)

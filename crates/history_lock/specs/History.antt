@@ -47,8 +47,8 @@ module _ {E : Type 0} where
   newcomer parts seen = seat_of parts false seen [] []
 
   -- the view of a seat that was joined to another
-  abbrev pub spent : View E
-  spent = seat_of 0 false [] [] []
+  abbrev pub spent_view : View E
+  spent_view = seat_of 0 false [] [] []
 
   -- one part is split off, for a seat that has seen as much and has no places of its own
   abbrev pub kept_part : View E → View E
@@ -58,16 +58,16 @@ module _ {E : Type 0} where
   given_part v = seat_of 1 false v.seen [] []
 
   -- both have one seat's parts and places, and it keeps the list that the other had seen beside its own
-  abbrev pub joined : View E → View E → View E
-  joined v w = seat_of (v.parts + w.parts) v.holds v.seen (w.seen ∷ w.heard ++ v.heard) (v.own ++ w.own)
+  abbrev pub join_views : View E → View E → View E
+  join_views v w = seat_of (v.parts + w.parts) v.holds v.seen (w.seen ∷ w.heard ++ v.heard) (v.own ++ w.own)
 
   -- the view while the lock is held: the list at the take was seen
-  abbrev pub holding : View E → List E → View E
-  holding v list = seat_of v.parts true list v.heard v.own
+  abbrev pub while_held : View E → List E → View E
+  while_held v list = seat_of v.parts true list v.heard v.own
 
   -- the view after the release: the list was seen, and its new places are the seat's own
-  abbrev pub released : View E → List E → View E
-  released v list = seat_of v.parts false list v.heard (v.own ++ new_places v.seen list)
+  abbrev pub after_release : View E → List E → View E
+  after_release v list = seat_of v.parts false list v.heard (v.own ++ new_places v.seen list)
 
   -- What the rule says of one seat, of the word, the list and the holder: where it holds, it is the holder, the word is taken, and it has seen just this list. All that it has seen and heard begins the list.
   -- A spent seat has no place and doesn't hold.
@@ -93,11 +93,11 @@ module _ {V E : Type 0} where
     pub owned : (p : ℕ) → total (λ (v : View E). times p v.own) s.views ≡ once_within (length opening) (length now) p
 
   -- a take, where the word was found 0: the value is out with the seat, which has seen its list
-  abbrev pub took : (V → List E) → Step (Option V) → Me (Option V) (View E) → ℕ → Me (Option V) (View E) → Type 0
-  took list st m found m' =
-      (found ≡ 0 → (v : V) × (m'.1 ≡ (0, Some v) ∷ m.1) × (m'.0 ≡ holding m.0 (list v)) × Begins m.0.seen (list v))
+  abbrev pub HasTaken : (V → List E) → Step (Option V) → Me (Option V) (View E) → ℕ → Me (Option V) (View E) → Type 0
+  HasTaken list st m found m' =
+      (found ≡ 0 → (v : V) × (m'.1 ≡ (0, Some v) ∷ m.1) × (m'.0 ≡ while_held m.0 (list v)) × Begins m.0.seen (list v))
       × (found ≢ 0 → m' ≡ m)
 
   -- a release of the value v that the seat has in the slot
-  abbrev pub freed : (V → List E) → Step (Option V) → Me (Option V) (View E) → ℕ → Me (Option V) (View E) → Type 0
-  freed list st m found m' = (v : V) → m.1 ≡ (0, Some v) ∷ [] → (m'.1 ≡ []) × (m'.0 ≡ released m.0 (list v))
+  abbrev pub HasFreed : (V → List E) → Step (Option V) → Me (Option V) (View E) → ℕ → Me (Option V) (View E) → Type 0
+  HasFreed list st m found m' = (v : V) → m.1 ≡ (0, Some v) ∷ [] → (m'.1 ≡ []) × (m'.0 ≡ after_release m.0 (list v))

@@ -20,7 +20,7 @@ pub struct HistoryLock<V: Chronicled> {
 
 impl<V: Chronicled> HistoryLock<V> {
     ghost use Rattle.std.specs.Vec.{vec_capacity};
-    ghost use Rattle.history_lock.specs.History.{holding, newcomer, once_within, Each};
+    ghost use Rattle.history_lock.specs.History.{while_held, newcomer, once_within, Each};
     ghost use Rattle.history_lock.specs.Holds.{IsHoldOf, LendsPass, holder_of, value_of, taken_of};
     ghost use Rattle.history_lock.specs.Passes.{IsPassOf, AreAllPassesOf, AreFresh, HasAll, seats_of, opening_of, seen_of, own_of, number_of, owners};
 
@@ -101,7 +101,7 @@ impl<V: Chronicled> HistoryLock<V> {
     fn take<R: Wait>(&self, rt: &R, seat: &mut Seat<Option<V>, View<V::Entry>>)
         requires { (seat.old.table_id ≡ self.now.table.shared.table_id) × (seat.old.me.1 ≡ []) × (seat.old.me.0.parts ≡ 1) × (seat.old.me.0.holds ≡ false) }
         ensures same { (seat.new.table_id ≡ seat.old.table_id) × (seat.new.id ≡ seat.old.id) }
-        ensures taken { (v : V) × (seat.new.me.1 ≡ (0, Some v) ∷ []) × (seat.new.me.0 ≡ holding seat.old.me.0 (V.list v)) × Begins seat.old.me.0.seen (V.list v) }
+        ensures taken { (v : V) × (seat.new.me.1 ≡ (0, Some v) ∷ []) × (seat.new.me.0 ≡ while_held seat.old.me.0 (V.list v)) × Begins seat.old.me.0.seen (V.list v) }
     {
         for _ in rt.forever() {
             if self.table.shared.compare_exchange::<Take<V>>(seat, 0, 0, 1) == 0 {

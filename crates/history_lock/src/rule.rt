@@ -49,9 +49,9 @@ pub struct Take<V> {
 }
 
 impl<V: Chronicled> Play<Option<V>, View<V::Entry>> for Take<V> {
-    ghost use Rattle.history_lock.specs.History.{took};
+    ghost use Rattle.history_lock.specs.History.{HasTaken};
 
-    ghost then = { took V.list };
+    ghost then = { HasTaken V.list };
 }
 
 // The word is released, and the value is at home again.
@@ -60,9 +60,9 @@ pub struct Free<V> {
 }
 
 impl<V: Chronicled> Play<Option<V>, View<V::Entry>> for Free<V> {
-    ghost use Rattle.history_lock.specs.History.{freed};
+    ghost use Rattle.history_lock.specs.History.{HasFreed};
 
-    ghost then = { freed V.list };
+    ghost then = { HasFreed V.list };
 }
 
 // A pass gets one part of the right to close, and a join puts parts together.
@@ -77,9 +77,9 @@ impl<E> Split<View<E>> for Parts {
 }
 
 impl<E> Join<View<E>> for Parts {
-    ghost use Rattle.history_lock.specs.History.{joined, spent};
+    ghost use Rattle.history_lock.specs.History.{join_views, spent_view};
 
-    ghost both = { joined };
+    ghost both = { join_views };
 
-    ghost spent = { spent };
+    ghost spent = { spent_view };
 }

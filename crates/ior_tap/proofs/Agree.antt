@@ -9,7 +9,7 @@ use Rattle.oc_bytes.specs.Numbers.{IsBytes, byte, two_bytes, four_bytes, number_
 use Rattle.oc_bytes.specs.Cursor.{Cursor, Reading, ◌>>=◌, past, number_at, bytes_at, this_at, from_start, value_read}
 use Rattle.ior_tap.specs.Iors.{ReadsEach}
 use Rattle.ior_tap.specs.IorReading.{each_at}
-use Rattle.ior_tap.specs.Agreement.{at, moved, shifted, Taken, Agrees}
+use Rattle.ior_tap.specs.Agreement.{at, move_by, shift_by, Taken, Agrees}
 
 -- ---- bytes
 
@@ -107,7 +107,7 @@ then_agrees {A} {B} {r} {R} {s} {S} first second = record {
   okay : B × Cursor → Reading B
   okay x = Ok x
 
-  later : ((a : A) → Agrees (s a) (S a)) → (p : ℕ) (m : Reading A) → (shifted p m >>= λ x. s x.0 x.1) ≡ shifted p (m >>= λ x. s x.0 x.1)
+  later : ((a : A) → Agrees (s a) (S a)) → (p : ℕ) (m : Reading A) → (shift_by p m >>= λ x. s x.0 x.1) ≡ shift_by p (m >>= λ x. s x.0 x.1)
   later second p (Ok x) = (second x.0).moves p x.1
   later second p (Err place) = refl
 
@@ -230,7 +230,7 @@ number_agrees {n} {limit} {be} wide = record {
   moves = λ p c. moved_number p c (nat_lt (length c.rest) n);
   stops = λ c p fits e. omega (arith, guard_err (nat_lt (length c.rest) n) c.place p (number_of (take n c.rest), past n c) e);
 } where
-  moved_number : (p : ℕ) (c : Cursor) (b : Bool) → cond {A = Reading ℕ} b (Err (c.place + p)) (Ok (number_of (take n c.rest), past n (moved p c))) ≡ shifted p (cond {A = Reading ℕ} b (Err c.place) (Ok (number_of (take n c.rest), past n c)))
+  moved_number : (p : ℕ) (c : Cursor) (b : Bool) → cond {A = Reading ℕ} b (Err (c.place + p)) (Ok (number_of (take n c.rest), past n (move_by p c))) ≡ shift_by p (cond {A = Reading ℕ} b (Err c.place) (Ok (number_of (take n c.rest), past n c)))
   moved_number p c true = refl
   moved_number p c false = let e : c.place + p + n ≡ c.place + n + p = omega arith in rw e refl
 
@@ -258,7 +258,7 @@ bytes_agrees n = record {
   moves = λ p c. moved_bytes p c (nat_lt (length c.rest) n);
   stops = λ c p fits e. omega (arith, guard_err (nat_lt (length c.rest) n) c.place p (take n c.rest, past n c) e);
 } where
-  moved_bytes : (p : ℕ) (c : Cursor) (b : Bool) → cond {A = Reading (List ℕ)} b (Err (c.place + p)) (Ok (take n c.rest, past n (moved p c))) ≡ shifted p (cond {A = Reading (List ℕ)} b (Err c.place) (Ok (take n c.rest, past n c)))
+  moved_bytes : (p : ℕ) (c : Cursor) (b : Bool) → cond {A = Reading (List ℕ)} b (Err (c.place + p)) (Ok (take n c.rest, past n (move_by p c))) ≡ shift_by p (cond {A = Reading (List ℕ)} b (Err c.place) (Ok (take n c.rest, past n c)))
   moved_bytes p c true = refl
   moved_bytes p c false = let e : c.place + p + n ≡ c.place + n + p = omega arith in rw e refl
 
@@ -286,11 +286,11 @@ this_agrees {n} {limit} {be} wide value small = record {
         | inr there ↦ omega (arith, held_err (there.0.0 == value) c.place p there.0 there.2)
       ];
 } where
-  by_test : (p : ℕ) (c : Cursor) (x : ℕ × Cursor) (b : Bool) → cond {A = Reading ℕ} b (Ok (x.0, moved p x.1)) (Err (c.place + p)) ≡ shifted p (cond {A = Reading ℕ} b (Ok x) (Err c.place))
+  by_test : (p : ℕ) (c : Cursor) (x : ℕ × Cursor) (b : Bool) → cond {A = Reading ℕ} b (Ok (x.0, move_by p x.1)) (Err (c.place + p)) ≡ shift_by p (cond {A = Reading ℕ} b (Ok x) (Err c.place))
   by_test p c x true = refl
   by_test p c x false = refl
 
-  moved_this : (p : ℕ) (c : Cursor) (m : Reading ℕ) → (shifted p m >>= λ y. cond (y.0 == value) (Ok y) (Err (c.place + p))) ≡ shifted p (m >>= λ y. cond (y.0 == value) (Ok y) (Err c.place))
+  moved_this : (p : ℕ) (c : Cursor) (m : Reading ℕ) → (shift_by p m >>= λ y. cond (y.0 == value) (Ok y) (Err (c.place + p))) ≡ shift_by p (m >>= λ y. cond (y.0 == value) (Ok y) (Err c.place))
   moved_this p c (Ok x) = by_test p c x (x.0 == value)
   moved_this p c (Err place) = refl
 

@@ -9,7 +9,7 @@ use Rattle.oc_bytes.specs.Cursor.{Cursor, Reading, from_start, read_from_start}
 use Rattle.ior_tap.specs.declared.Ior.{Ior}
 use Rattle.ior_tap.specs.declared.IorFault.{IorFault}
 use Rattle.ior_tap.specs.declared.Location.{Location}
-use Rattle.ior_tap.specs.Iors.{Biop, Fields, view, cause, ReadsTap, ReadsLocation, ReadsBinder, ReadsBiop, Reads, biop_tag, location_tag, binder_tag, written_tap, written, IsWritten, IsLocation, tap_bytes, component_bytes, location_bytes, biop_bytes, spelling}
+use Rattle.ior_tap.specs.Iors.{Biop, Fields, view, cause, ReadsTap, ReadsLocation, ReadsBinder, ReadsBiop, Reads, biop_tag, location_tag, binder_tag, written_tap, written_form, IsWritten, IsLocation, tap_bytes, component_bytes, location_bytes, biop_bytes, spelling}
 use Rattle.ior_tap.specs.IorReading.{ior_at}
 use Rattle.ior_tap.proofs.Agree.{fits_front}
 use Rattle.ior_tap.specs.Agreement.{at}
@@ -68,7 +68,7 @@ spelling_whole kind l =
 pub content_length : (l : Location) → length l.key ≡ 4 → length (content_of l) ≡ 43
 content_length l key = omega (arith, key, length-append l.key (component_bytes binder_tag binder_bytes))
 
-pub spelling_reads : (kind : List ℕ) (l : Location) → length kind ≡ 4 → length l.key ≡ 4 → IsLocation l → Reads (spelling kind l) (written kind l)
+pub spelling_reads : (kind : List ℕ) (l : Location) → length kind ≡ 4 → length l.key ≡ 4 → IsLocation l → Reads (spelling kind l) (written_form kind l)
 spelling_reads kind l four key fits = record {
   rest = profile_bytes l;
   four = four;
@@ -133,17 +133,17 @@ read_taken bytes n ior fits le h =
       answered : Fields → ℕ → Result (Fields × ℕ) ℕ
       answered ior k = Ok (ior, k)
 
-pub read_spelling : (bytes kind rest : List ℕ) (l : Location) → IsBytes bytes → IsWritten (written kind l) l → IsLocation l → bytes ≡ spelling kind l ++ rest
-    → read_from_start (ior_at (from_start bytes)) ≡ Ok (written kind l, length (spelling kind l))
+pub read_spelling : (bytes kind rest : List ℕ) (l : Location) → IsBytes bytes → IsWritten (written_form kind l) l → IsLocation l → bytes ≡ spelling kind l ++ rest
+    → read_from_start (ior_at (from_start bytes)) ≡ Ok (written_form kind l, length (spelling kind l))
 read_spelling bytes kind rest l fits form room e =
     let front_fits : IsBytes (spelling kind l) = fits_front (spelling kind l) rest (subst IsBytes e fits) in
-    ap (λ (b : List ℕ). read_from_start (ior_at (from_start b))) e ∙ read_again (spelling kind l) rest (written kind l) front_fits (spelling_reads kind l form.four form.key room)
+    ap (λ (b : List ℕ). read_from_start (ior_at (from_start b))) e ∙ read_again (spelling kind l) rest (written_form kind l) front_fits (spelling_reads kind l form.four form.key room)
 
-pub written_reads : (kind : List ℕ) (l : Location) → IsWritten (written kind l) l → IsLocation l → Reads (spelling kind l) (written kind l)
+pub written_reads : (kind : List ℕ) (l : Location) → IsWritten (written_form kind l) l → IsLocation l → Reads (spelling kind l) (written_form kind l)
 written_reads kind l form room = spelling_reads kind l form.four form.key room
 
-spelling_parts : (kind : List ℕ) (l : Location) → length kind ≡ 4 → length l.key ≡ 4 → IsLocation l → IorParts (spelling kind l) (written kind l)
-spelling_parts kind l four key room = ior_put (spelling kind l) (written kind l) (profile_bytes l) four (omega arith) (spelling_whole kind l) (
+spelling_parts : (kind : List ℕ) (l : Location) → length kind ≡ 4 → length l.key ≡ 4 → IsLocation l → IorParts (spelling kind l) (written_form kind l)
+spelling_parts kind l four key room = ior_put (spelling kind l) (written_form kind l) (profile_bytes l) four (omega arith) (spelling_whole kind l) (
   profile_bytes l,
   [],
   sym (append-nil (profile_bytes l)),
@@ -152,10 +152,10 @@ spelling_parts kind l four key room = ior_put (spelling kind l) (written kind l)
 )
 
 -- what is written is read at any place, whatever stands after it
-pub written_again : (kind : List ℕ) (l : Location) → IsWritten (written kind l) l → IsLocation l → (place : ℕ) (rest : List ℕ) → ior_at (at place (spelling kind l ++ rest)) ≡ Ok (written kind l, at (place + 63) rest)
-written_again kind l form room place rest = parts_agree.again (spelling kind l) rest place (written kind l) (spelling_parts kind l form.four form.key room) ∙ ap (λ (n : ℕ). done (place + n)) (spelling_length kind l form.four form.key) where
+pub written_again : (kind : List ℕ) (l : Location) → IsWritten (written_form kind l) l → IsLocation l → (place : ℕ) (rest : List ℕ) → ior_at (at place (spelling kind l ++ rest)) ≡ Ok (written_form kind l, at (place + 63) rest)
+written_again kind l form room place rest = parts_agree.again (spelling kind l) rest place (written_form kind l) (spelling_parts kind l form.four form.key room) ∙ ap (λ (n : ℕ). done (place + n)) (spelling_length kind l form.four form.key) where
   done : ℕ → Reading Fields
-  done n = Ok (written kind l, at n rest)
+  done n = Ok (written_form kind l, at n rest)
 
 read_stops : (m : Reading Fields) (p : ℕ) → read_from_start m ≡ Err p → m ≡ Err p
 read_stops (Ok x) p e = absurd cc

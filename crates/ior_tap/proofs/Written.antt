@@ -2,7 +2,7 @@
 use Rattle.std.proofs.Common.{◌≡◌, List, [], ◌∷◌, ℕ, length, Option, Some, sym, ap, subst, ◌∙◌, ◌++◌, append_assoc}
 use Rattle.oc_bytes.specs.Numbers.{four_bytes}
 use Rattle.ior_tap.specs.declared.Location.{Location}
-use Rattle.ior_tap.specs.Iors.{TapFields, Fields, Reads, IsWritten, IsLocation, biop_tag, written, written_tap, biop_of_profiles, spelling}
+use Rattle.ior_tap.specs.Iors.{TapFields, Fields, Reads, IsWritten, IsLocation, biop_tag, written_form, written_tap, biop_of_profiles, spelling}
 use Rattle.ior_tap.proofs.Spelled.{content_of, content_length, spelling_reads, spelling_length}
 
 abbrev pub some : Location × List TapFields → Option (Location × List TapFields)
@@ -28,7 +28,7 @@ spells_all ior m taps bytes e h l form = h.whole ∙ ap (spelling ior.kind) (loc
 pub spelled_reads : (ior : Fields) (l m : Location) (taps : List TapFields) (bytes : List ℕ) → IsWritten ior l → some (m, taps) ≡ biop_of_profiles ior.profiles → IsSpelled ior m bytes → Reads bytes ior
 spelled_reads ior l m taps bytes form e h =
     let same : m ≡ l = location_is ior l m taps form e in
-    let is : Reads (spelling ior.kind l) (written ior.kind l) = spelling_reads ior.kind l form.four form.key (subst IsLocation same h.room) in
+    let is : Reads (spelling ior.kind l) (written_form ior.kind l) = spelling_reads ior.kind l form.four form.key (subst IsLocation same h.room) in
     subst (λ (x : List ℕ). Reads x ior) (sym (spells_all ior m taps bytes e h l form)) (subst (λ (i : Fields). Reads (spelling ior.kind l) i) (sym form.form) is)
 
 pub spelled_size : (ior : Fields) (l m : Location) (taps : List TapFields) (bytes : List ℕ) → IsWritten ior l → some (m, taps) ≡ biop_of_profiles ior.profiles → IsSpelled ior m bytes → length bytes ≡ 63

@@ -7,12 +7,12 @@ abbrev pub at : ℕ → List ℕ → Cursor
 at place rest = record { place = place; rest = rest }
 
 -- a cursor, and a reading, with all places greater by p
-abbrev pub moved : ℕ → Cursor → Cursor
-moved p c = at (c.place + p) c.rest
+abbrev pub move_by : ℕ → Cursor → Cursor
+move_by p c = at (c.place + p) c.rest
 
-abbrev pub shifted : {A : Type 0} → ℕ → Reading A → Reading A
-shifted p (Ok x) = Ok (x.0, moved p x.1)
-shifted p (Err place) = Err (place + p)
+abbrev pub shift_by : {A : Type 0} → ℕ → Reading A → Reading A
+shift_by p (Ok x) = Ok (x.0, move_by p x.1)
+shift_by p (Err place) = Err (place + p)
 
 -- what was read stands in front
 pub record Taken {A : Type 0} (R : List ℕ → A → Type 0) (c : Cursor) (x : A × Cursor) : Type 0 where
@@ -26,7 +26,7 @@ pub record Taken {A : Type 0} (R : List ℕ → A → Type 0) (c : Cursor) (x : 
 pub record Agrees {A : Type 0} (read : Cursor → Reading A) (R : List ℕ → A → Type 0) : Type 0 where
   pub takes : (c : Cursor) (x : A × Cursor) → IsBytes c.rest → read c ≡ Ok x → Taken R c x
   pub again : (front rest : List ℕ) (place : ℕ) (a : A) → R front a → read (at place (front ++ rest)) ≡ Ok (a, at (place + length front) rest)
-  pub moves : (p : ℕ) (c : Cursor) → read (moved p c) ≡ shifted p (read c)
+  pub moves : (p : ℕ) (c : Cursor) → read (move_by p c) ≡ shift_by p (read c)
   pub stops : (c : Cursor) (p : ℕ) → IsBytes c.rest → read c ≡ Err p → p ≤ c.place + length c.rest
 
 -- bytes, in this form

@@ -118,11 +118,11 @@ abbrev pub written_tap : TapFields
 written_tap = record { id = 0; use_code = 0x0016; assoc = 0x0001; selector = two_bytes 0x0001 ++ four_bytes 0x80000002 ++ four_bytes 0xFFFFFFFF }
 
 -- the one form that is written: a profile with a location and that tap
-abbrev pub written : List ℕ → Location → Fields
-written kind l = record { kind = kind; profiles = Biop l (written_tap ∷ []) ∷ [] }
+abbrev pub written_form : List ℕ → Location → Fields
+written_form kind l = record { kind = kind; profiles = Biop l (written_tap ∷ []) ∷ [] }
 
 pub record IsWritten (ior : Fields) (l : Location) : Type 0 where
-  pub form : ior ≡ written ior.kind l
+  pub form : ior ≡ written_form ior.kind l
   pub four : length ior.kind ≡ 4
   pub key : length l.key ≡ 4
 

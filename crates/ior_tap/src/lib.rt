@@ -15,6 +15,7 @@ pub use key::Key;
 pub use lookup::{biop_of, delivery_of};
 pub use reading::{decode, one_reading};
 use std::alloc::{AllocError, AllocFailed};
+use thiserror::Error;
 pub use writing::{encode, put_reference};
 
 /// A tap: how a stream of the network is reached (ISO/IEC 13818-6, clause 5.6).
@@ -68,12 +69,14 @@ pub struct Ior {
 }
 
 /// Why an IOR wasn't read.
-#[derive(Clone, Copy, Debug, PartialEq, Eq)]
+#[derive(Clone, Copy, Debug, PartialEq, Eq, Error)]
 pub enum IorFault {
     /// The place, in bytes from the front, of the first field outside the profiles' bytes that is cut, or of a
     /// type_id_length other than 4.
+    #[error("no IOR: the field at byte {0} is cut or breaks a rule")]
     BadIor(usize),
     /// There is no memory.
+    #[error("out of memory")]
     NoMemory,
 }
 

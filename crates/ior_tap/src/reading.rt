@@ -2,7 +2,7 @@ ghost use Rattle.std.specs.Prelude.{◌≡◌, ◌≤◌, ◌+◌, ◌++◌, ◌
 ghost use Rattle.std.specs.Option.{option_map, option_copied, option_or};
 ghost use Rattle.oc_bytes.specs.Outcome.{Gives};
 ghost use Rattle.oc_bytes.specs.Cursor.{from_start, number_at, bytes_at, this_at, read_from_start, value_read};
-ghost use Rattle.ior_tap.specs.Iors.{Fields as IorFields, view, view_tap, view_profile, Reads, IsWritten, IsLocation, written, spelling, cause};
+ghost use Rattle.ior_tap.specs.Iors.{Fields as IorFields, view, view_tap, view_profile, Reads, IsWritten, IsLocation, written_form, spelling, cause};
 ghost use Rattle.ior_tap.specs.IorReading.{ior_at, tap_at, taps_at, location_at, component_at, components_at, chosen_at, parts_at, biop_in, profile_at, profile_of, each_at};
 ghost use Rattle.ior_tap.specs.Agreement.{Agrees, InBytes, at};
 ghost use Rattle.ior_tap.specs.declared.Location.{Location};
@@ -317,8 +317,8 @@ pub fn decode(alloc: Global, bytes: &[u8]) -> Result<(Ior, usize), IorFault>
     ensures found { IfOk result (λ x. (x.1 ≤ length bytes.now) × Reads (take x.1 bytes.now) (view x.0)) }
     ensures only { (ior : IorFields) (n : ℕ) → n ≤ length bytes.now → Reads (take n bytes.now) ior → Gives {Y = IorFields × ℕ} (λ x. (view x.0, x.1)) cause result (Ok (ior, n)) }
     // A spelling with any bytes after it is read as its value.
-    ensures again { (kind rest : List ℕ) (l : Location) → IsWritten (written kind l) l → IsLocation l → bytes.now ≡ spelling kind l ++ rest
-        → Gives {Y = IorFields × ℕ} (λ x. (view x.0, x.1)) cause result (Ok (written kind l, length (spelling kind l))) }
+    ensures again { (kind rest : List ℕ) (l : Location) → IsWritten (written_form kind l) l → IsLocation l → bytes.now ≡ spelling kind l ++ rest
+        → Gives {Y = IorFields × ℕ} (λ x. (view x.0, x.1)) cause result (Ok (written_form kind l, length (spelling kind l))) }
     ensures exact { Gives (λ x. (view x.0, x.1)) cause result (read_from_start (ior_at (from_start bytes.now))) }
     ensures inside { IfErr result (λ e. IfSome (cause e) (λ place. place ≤ length bytes.now)) }
 {
@@ -330,6 +330,6 @@ pub fn decode(alloc: Global, bytes: &[u8]) -> Result<(Ior, usize), IorFault>
 /// which the crates above call where an IOR stands inside a message of theirs.
 pub fn one_reading()
     ensures agree { Agrees ior_at (InBytes Reads) }
-    ensures written { (kind : List ℕ) (l : Location) → IsWritten (written kind l) l → IsLocation l → Reads (spelling kind l) (written kind l) }
-    ensures again { (kind : List ℕ) (l : Location) → IsWritten (written kind l) l → IsLocation l → (place : ℕ) (rest : List ℕ) → ior_at (at place (spelling kind l ++ rest)) ≡ Ok (written kind l, at (place + 63) rest) }
+    ensures written { (kind : List ℕ) (l : Location) → IsWritten (written_form kind l) l → IsLocation l → Reads (spelling kind l) (written_form kind l) }
+    ensures again { (kind : List ℕ) (l : Location) → IsWritten (written_form kind l) l → IsLocation l → (place : ℕ) (rest : List ℕ) → ior_at (at place (spelling kind l ++ rest)) ≡ Ok (written_form kind l, at (place + 63) rest) }
 {}

@@ -129,3 +129,13 @@ fn writes_the_gateway(rt: HostRuntime) -> Result<(), Fail> {
     assert_eq!(rt; bytes.as_slice(), GATEWAY.as_slice());
     Ok(())
 }
+
+#[test]
+fn faults_as_text(rt: HostRuntime) -> Result<(), Fail> {
+    let text = format!(in rt.alloc(); "{}", IorFault::BadIor(4))?;
+    assert_eq!(rt;
+        text.as_str(),
+        "no IOR: the field at byte 4 is cut or breaks a rule"
+    );
+    Ok(())
+}

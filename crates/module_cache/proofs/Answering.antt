@@ -4,7 +4,7 @@ use Rattle.std.specs.List.{find}
 use Rattle.std.specs.Option.{option_map, is_some}
 use Rattle.std.proofs.lemmas.Bool.{ltb-true}
 use Rattle.ddb_block.specs.Blocks as ddb
-use Rattle.block_assembler.specs.Blocks.{Bytes, joined}
+use Rattle.block_assembler.specs.Blocks.{Bytes, join_all}
 use Rattle.block_assembler.specs.declared.Offer.TheVariants as offers
 use Rattle.dsi_dii.specs.Controls.{DiiFields}
 use Rattle.dsi_dii.specs.declared.ModuleLine.{ModuleLine}
@@ -37,7 +37,7 @@ again_so true true None f = absurd (f refl refl)
 again_so true false o f = refl
 again_so false b o f = refl
 
-taken_whole : (size block_size : ℕ) (blocks : List (Option Bytes)) → length blocks ≡ ddb.block_count_of size block_size → (w : Option Bytes) → joined blocks ≡ w → (n : ℕ) (bytes : Bytes)
+taken_whole : (size block_size : ℕ) (blocks : List (Option Bytes)) → length blocks ≡ ddb.block_count_of size block_size → (w : Option Bytes) → join_all blocks ≡ w → (n : ℕ) (bytes : Bytes)
     → taken_at size block_size (whole_or blocks w) n bytes
     ≡ by_place (ltb n (ddb.block_count_of size block_size)) (eqb (length bytes) (ddb.block_span_of size block_size n)) (is_some (get_or blocks n None))
 taken_whole size block_size blocks places None e n bytes = offers_so _ _ _
@@ -57,7 +57,7 @@ taken_content : {H : Type 0} (says : H → Option ddb.Block) (since : List H) (d
     ≡ cond c taken.Compressed (by_place (ltb b.number (ddb.block_count_of l.size d.block_size)) (eqb (length b.bytes) (ddb.block_span_of l.size d.block_size b.number)) (is_some (block_among says since d l b.number)))
 taken_content says since d l b true = refl
 taken_content says since d l b false =
-    taken_whole l.size d.block_size (blocks_among says since d l) (range_length (block_among says since d l) 0 (ddb.block_count_of l.size d.block_size)) (joined (blocks_among says since d l)) refl b.number b.bytes
+    taken_whole l.size d.block_size (blocks_among says since d l) (range_length (block_among says since d l) 0 (ddb.block_count_of l.size d.block_size)) (join_all (blocks_among says since d l)) refl b.number b.bytes
     ∙ below_only b.number (ddb.block_count_of l.size d.block_size) (eqb (length b.bytes) (ddb.block_span_of l.size d.block_size b.number))
     (get_or (blocks_among says since d l) b.number None) (block_among says since d l b.number) (λ below. range_at (block_among says since d l) None b.number (ddb.block_count_of l.size d.block_size) below)
 
@@ -85,9 +85,9 @@ slot_whole blocks (Some bytes) = refl
 slot_whole blocks None = refl
 
 slot_content : {H : Type 0} (says : H → Option ddb.Block) (since : List H) (d : DiiFields) (l : ModuleLine) (c : Bool)
-    → slot_of (content_among says since d l c) ≡ cond c Compressed (whole_or_part (cond c None (joined (blocks_among says since d l))))
+    → slot_of (content_among says since d l c) ≡ cond c Compressed (whole_or_part (cond c None (join_all (blocks_among says since d l))))
 slot_content says since d l true = refl
-slot_content says since d l false = slot_whole (blocks_among says since d l) (joined (blocks_among says since d l))
+slot_content says since d l false = slot_whole (blocks_among says since d l) (join_all (blocks_among says since d l))
 
 slot_line : {H : Type 0} (says : H → Option ddb.Block) (s : Span H) (ss : List (Span H)) (o : Option ModuleLine)
     → slot_in_line (option_map (λ l. line_among says (stretch s ss l) s.dii l) o) ≡ slot_listed says s ss o
@@ -107,6 +107,6 @@ bytes_are bl None = refl
 
 pub bytes_among : {H : Type 0} (says : H → Option ddb.Block) (since : List H) (d : DiiFields) (l : ModuleLine) → bytes_of (line_among says since d l).stored.content ≡ module_among says since d l
 bytes_among says since d l = go l.compressed where
-  go : (c : Bool) → bytes_of (content_among says since d l c) ≡ cond c None (joined (blocks_among says since d l))
+  go : (c : Bool) → bytes_of (content_among says since d l c) ≡ cond c None (join_all (blocks_among says since d l))
   go true = refl
-  go false = bytes_are (blocks_among says since d l) (joined (blocks_among says since d l))
+  go false = bytes_are (blocks_among says since d l) (join_all (blocks_among says since d l))

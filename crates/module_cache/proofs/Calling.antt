@@ -4,7 +4,7 @@ use Rattle.std.proofs.lemmas.List.Sums.{fold-append}
 use Rattle.ddb_block.specs.Blocks as ddb
 use Rattle.dsi_dii.specs.Controls.{DiiFields}
 use Rattle.module_cache.specs.Calls.{Call, Turned, Offered, span_after, spans_of, StandsFor, taken_among}
-use Rattle.module_cache.specs.Held.{TunedState, HasOnce, fresh_tuned, offered_to, taken_of, turned, tuned_in}
+use Rattle.module_cache.specs.Held.{TunedState, HasOnce, fresh_tuned, offered_to, taken_of, after_turn, tuned_in}
 use Rattle.module_cache.specs.declared.taken.Taken.{Taken}
 use Rattle.module_cache.specs.declared.taken.Taken.TheVariants as taken
 use Rattle.module_cache.proofs.Answering.{taken_is}
@@ -17,9 +17,9 @@ spans_more calls c = fold-append span_after [] calls (c ∷ [])
 abbrev itself : ddb.Block → Option ddb.Block
 itself b = Some b
 
-pub turn_stands : (old new : Option TunedState) (d : DiiFields) (keep : Bool) → new ≡ Some (turned old d keep) → (calls : List Call) → StandsFor old calls → StandsFor new (calls ++ Turned d keep ∷ [])
+pub turn_stands : (old new : Option TunedState) (d : DiiFields) (keep : Bool) → new ≡ Some (after_turn old d keep) → (calls : List Call) → StandsFor old calls → StandsFor new (calls ++ Turned d keep ∷ [])
 turn_stands old new d keep e calls s =
-    e ∙ ap (λ o. Some (turned o d keep)) s ∙ sym (tuned_turns itself (spans_of calls) d keep) ∙ ap (tuned_in itself) (sym (spans_more calls (Turned d keep)))
+    e ∙ ap (λ o. Some (after_turn o d keep)) s ∙ sym (tuned_turns itself (spans_of calls) d keep) ∙ ap (tuned_in itself) (sym (spans_more calls (Turned d keep)))
 
 offered_stands : (old new : Option TunedState) (b : ddb.Block) → HasOnce old → new ≡ offered_to old b → (calls : List Call) → StandsFor old calls → StandsFor new (calls ++ Offered b ∷ [])
 offered_stands old new b once e calls s =
@@ -41,7 +41,7 @@ pub offer_looks_back : {E : Type 0} (r : Result Taken E) (old : Option TunedStat
 offer_looks_back (Ok t) old b answer = λ calls s. answer ∙ ap (λ o. taken_of o b) s ∙ taken_is itself (spans_of calls) b
 offer_looks_back (Err x) old b answer = tt
 
-pub not_kept : (old : Option TunedState) (d : DiiFields) → fresh_tuned d ≡ turned old d false
+pub not_kept : (old : Option TunedState) (d : DiiFields) → fresh_tuned d ≡ after_turn old d false
 not_kept None d = refl
 not_kept (Some t) d = refl
 

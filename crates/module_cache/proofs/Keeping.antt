@@ -6,7 +6,7 @@ use Rattle.dsi_dii.specs.Controls.{DiiFields, version_of}
 use Rattle.dsi_dii.specs.declared.ModuleLine.{ModuleLine}
 use Rattle.ddb_block.specs.Blocks as ddb
 use Rattle.module_cache.specs.Contents.{StoredState, fresh_content, stored_after}
-use Rattle.module_cache.specs.Held.{TunedState, with_first, kept_line, line_fresh, line_after, lines_after, fresh_tuned, tuned_with, turned}
+use Rattle.module_cache.specs.Held.{TunedState, with_first, kept_line, line_fresh, line_after, lines_after, fresh_tuned, tuned_with, after_turn}
 use Rattle.module_cache.specs.Keeping.{line_keeping, lines_keeping, tuned_keeping}
 use Rattle.module_cache.specs.Limits.{no_id_twice, is_within}
 use Rattle.module_cache.specs.Spans.{same_line}
@@ -128,7 +128,7 @@ is_kept_line block_size l (Some x) = sym (inside l (same_line x.line l) x.stored
 
 -- ---- a turn that keeps
 
-pub keeping_turns : (t : TunedState) (d : DiiFields) → no_id_twice d.modules ≡ true → no_id_twice (map (λ x. x.line) t.lines) ≡ true → tuned_keeping (fresh_tuned d) t ≡ turned (Some t) d true
+pub keeping_turns : (t : TunedState) (d : DiiFields) → no_id_twice d.modules ≡ true → no_id_twice (map (λ x. x.line) t.lines) ≡ true → tuned_keeping (fresh_tuned d) t ≡ after_turn (Some t) d true
 unfolding line_of stored_or fresh_stored of_id
 keeping_turns t d once o = go (eqb t.download d.download && eqb t.block_size d.block_size) refl where
   go : (c : Bool) → (eqb t.download d.download && eqb t.block_size d.block_size) ≡ c

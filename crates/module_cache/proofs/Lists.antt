@@ -2,7 +2,7 @@
 use Rattle.std.proofs.Common.{ℕ, zero, suc, ◌≡◌, ◌≢◌, ◌+◌, ◌<◌, ◌≤◌, List, [], ◌∷◌, ◌++◌, length, get_or, map, replicate, Option, Some, None, refl, sym, ap, subst, ◌∙◌, arith, add-zero}
 use Rattle.std.proofs.Math.ListN.{set}
 use Rattle.std.specs.List.{filter_map, range_with_len, cons_option}
-use Rattle.block_assembler.specs.Blocks.{Bytes, first_of, joined, onto_all}
+use Rattle.block_assembler.specs.Blocks.{Bytes, first_of, join_all, onto_all}
 
 pub map_same : {X Y : Type 0} (f g : X → Y) (xs : List X) → ((x : X) → f x ≡ g x) → map f xs ≡ map g xs
 map_same f g [] h = refl
@@ -74,14 +74,14 @@ first_more f (x ∷ xs) h = ahead (f x) (first_more f xs h) where
 
 -- ---- blocks that are all there
 
-pub all_there : (xs : List (Option Bytes)) (bytes : Bytes) (i : ℕ) → joined xs ≡ Some bytes → i < length xs → get_or xs i None ≡ None → ⊥
+pub all_there : (xs : List (Option Bytes)) (bytes : Bytes) (i : ℕ) → join_all xs ≡ Some bytes → i < length xs → get_or xs i None ≡ None → ⊥
 all_there [] bytes i e h n = omega arith
 all_there (None ∷ xs) bytes i e h n = cc
 all_there (Some x ∷ xs) bytes zero e h n = cc
-all_there (Some x ∷ xs) bytes (suc i) e h n = rest (joined xs) refl (λ b f. all_there xs b i f (omega arith) n) where
-  rest : (o : Option Bytes) → joined xs ≡ o → ((b : Bytes) → joined xs ≡ Some b → ⊥) → ⊥
+all_there (Some x ∷ xs) bytes (suc i) e h n = rest (join_all xs) refl (λ b f. all_there xs b i f (omega arith) n) where
+  rest : (o : Option Bytes) → join_all xs ≡ o → ((b : Bytes) → join_all xs ≡ Some b → ⊥) → ⊥
   rest (Some b) f g = g b f
-  rest None f g = nothing (joined xs) f e where
+  rest None f g = nothing (join_all xs) f e where
     nothing : (o : Option Bytes) → o ≡ None → onto_all (Some x) o ≡ Some bytes → ⊥
     nothing None f e = cc
     nothing (Some b) f e = cc

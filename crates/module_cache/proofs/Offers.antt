@@ -4,7 +4,7 @@ use Rattle.std.specs.Option.{is_some}
 use Rattle.std.proofs.Math.ListN.{set}
 use Rattle.std.proofs.lemmas.List.{set-set, set-get_or, length-set, length-replicate, get_or-set_same}
 use Rattle.std.proofs.lemmas.Bool.{ltb-true}
-use Rattle.block_assembler.specs.Blocks.{AssemblerState, Bytes, offered, after_offer, after_forget, block_in, empty_of, is_new, joined}
+use Rattle.block_assembler.specs.Blocks.{AssemblerState, Bytes, offer_of, after_offer, after_forget, block_in, empty_of, is_new, join_all}
 use Rattle.module_cache.specs.StoredView.{IsShaped}
 use Rattle.module_cache.specs.Contents.{Blocks, Whole, content_of, whole_or}
 use Rattle.block_assembler.specs.declared.Offer.TheVariants.{WrongPlace, WrongLength, Again, New}
@@ -22,13 +22,13 @@ nothing_there : (o : Option Bytes) → is_some o ≡ false → o ≡ None
 nothing_there None e = refl
 nothing_there (Some x) e = cc
 
-pub missing : (a : AssemblerState) (b : ℕ) (bytes : Bytes) → offered a b bytes ≡ New → block_in a.blocks b ≡ None
+pub missing : (a : AssemblerState) (b : ℕ) (bytes : Bytes) → offer_of a b bytes ≡ New → block_in a.blocks b ≡ None
 missing a b bytes e = nothing_there _ (third _ _ _ e)
 
 same_blocks : (a : AssemblerState) (xs : List (Option Bytes)) → xs ≡ a.blocks → ◌≡◌ {A = AssemblerState} (record { size = a.size; block_size = a.block_size; blocks = xs }) a
 same_blocks a xs e = ap (λ ys. record { size = a.size; block_size = a.block_size; blocks = ys }) e
 
-pub forgotten : (a : AssemblerState) (b : ℕ) (bytes : Bytes) → offered a b bytes ≡ New → after_forget (after_offer a b bytes) b ≡ a
+pub forgotten : (a : AssemblerState) (b : ℕ) (bytes : Bytes) → offer_of a b bytes ≡ New → after_forget (after_offer a b bytes) b ≡ a
 forgotten a b bytes e =
     rw e (same_blocks a _ (set-set a.blocks b (Some bytes) None ∙ ap (λ o. set a.blocks b o) (sym (missing a b bytes e)) ∙ set-get_or a.blocks b None))
 
@@ -43,7 +43,7 @@ after_either true size block_size b bytes a s = record { same_size = s.same_size
 after_either false size block_size b bytes a s = s
 
 pub shaped_after : (size block_size b : ℕ) (bytes : Bytes) (a : AssemblerState) → IsShaped size block_size a → IsShaped size block_size (after_offer a b bytes)
-shaped_after size block_size b bytes a s = after_either (is_new (offered a b bytes)) size block_size b bytes a s
+shaped_after size block_size b bytes a s = after_either (is_new (offer_of a b bytes)) size block_size b bytes a s
 
 -- ---- nothing yet
 
@@ -70,13 +70,13 @@ changed_blocks : (bs : List (Option Bytes)) (b : ℕ) (bytes : Bytes) → b < le
 changed_blocks bs b bytes h none e =
     other_content (set bs b (Some bytes)) bs
     (λ same. some_not_none (get_or bs b None) bytes (ap (λ xs. get_or xs b None) (sym same) ∙ get_or-set_same bs b (Some bytes) None h) none)
-    (joined (set bs b (Some bytes))) e
+    (join_all (set bs b (Some bytes))) e
 
 first : (a b c : Bool) → cond (not a) WrongPlace (cond (not b) WrongLength (cond c Again New)) ≡ New → a ≡ true
 first true b c e = refl
 first false b c e = cc
 
-pub new_changes : (a : AssemblerState) (b : ℕ) (bytes : Bytes) (size block_size : ℕ) → IsShaped size block_size a → offered a b bytes ≡ New
+pub new_changes : (a : AssemblerState) (b : ℕ) (bytes : Bytes) (size block_size : ℕ) → IsShaped size block_size a → offer_of a b bytes ≡ New
     → content_of (after_offer a b bytes).blocks ≡ Blocks a.blocks → ⊥
 new_changes a b bytes size block_size s e =
     let inside : b < block_count_of a.size a.block_size = ltb-true _ _ (first _ _ _ e) in

@@ -10,7 +10,7 @@ use Rattle.dsi_dii.specs.Controls.{DiiFields}
 use Rattle.dsi_dii.specs.declared.ModuleLine.{ModuleLine}
 use Rattle.module_cache.specs.Contents.{content_of}
 use Rattle.module_cache.specs.Held.{content_among}
-use Rattle.module_cache.specs.LookBack.{fitting, block_among, blocks_among}
+use Rattle.module_cache.specs.LookBack.{bytes_if_fits, block_among, blocks_among}
 use Rattle.module_cache.specs.Spans.{Span, agrees, earlier, same_flag, same_line}
 use Rattle.module_cache.proofs.Lists.{map_same}
 
@@ -29,7 +29,7 @@ pub earlier_same : {H : Type 0} (d e : DiiFields) (l k : ModuleLine) → SameLin
 earlier_same d e l k same kept [] = refl
 earlier_same d e l k same kept (s ∷ ss) = rw (agrees_same d e l k s.dii same, earlier_same d e l k same s.kept ss) refl
 
-fitting_same : (d e : DiiFields) (l k : ModuleLine) (b : ℕ) → SameLine d e l k → (o : Option ddb.Block) → fitting d l b o ≡ fitting e k b o
+fitting_same : (d e : DiiFields) (l k : ModuleLine) (b : ℕ) → SameLine d e l k → (o : Option ddb.Block) → bytes_if_fits d l b o ≡ bytes_if_fits e k b o
 fitting_same d e l k b s (Some x) = rw (s.download, s.block_size, s.id, s.size, s.version) refl
 fitting_same d e l k b s None = refl
 
@@ -40,7 +40,7 @@ filter_same f g (x ∷ xs) h = ap (λ o. cons_option o (filter_map f xs)) (h x) 
 blocks_same : {H : Type 0} (says : H → Option ddb.Block) (since : List H) (d e : DiiFields) (l k : ModuleLine) → SameLine d e l k → blocks_among says since d l ≡ blocks_among says since e k
 blocks_same says since d e l k s =
     map_same (block_among says since d l) (block_among says since e k) (range_with_len 0 (ddb.block_count_of l.size d.block_size))
-    (λ b. ap first_of (filter_same (λ h. fitting d l b (says h)) (λ h. fitting e k b (says h)) since (λ h. fitting_same d e l k b s (says h))))
+    (λ b. ap first_of (filter_same (λ h. bytes_if_fits d l b (says h)) (λ h. bytes_if_fits e k b (says h)) since (λ h. fitting_same d e l k b s (says h))))
     ∙ rw (s.size, s.block_size) refl
 
 pub content_same : {H : Type 0} (says : H → Option ddb.Block) (since : List H) (d e : DiiFields) (l k : ModuleLine) → SameLine d e l k → (c : Bool) → content_among says since d l c ≡ content_among says since e k c

@@ -7,9 +7,9 @@ use Rattle.ddb_block.specs.Blocks as ddb
 use Rattle.dsi_dii.specs.Controls.{DiiFields}
 use Rattle.dsi_dii.specs.declared.ModuleLine.{ModuleLine}
 use Rattle.module_cache.specs.Contents.{Content}
-use Rattle.module_cache.specs.Held.{TunedState, HasOnce, line_among, line_fresh, tuned_with, tuned_after, offered_to, fresh_tuned, kept_line, turned_line, turned, tuned_in, content_among}
+use Rattle.module_cache.specs.Held.{TunedState, HasOnce, line_among, line_fresh, tuned_with, tuned_after, offered_to, fresh_tuned, kept_line, turned_line, after_turn, tuned_in, content_among}
 use Rattle.module_cache.specs.Limits.{no_id_twice}
-use Rattle.module_cache.specs.LookBack.{fitting}
+use Rattle.module_cache.specs.LookBack.{bytes_if_fits}
 use Rattle.module_cache.specs.Spans.{Span, within, earlier, stretch, same_line, same_line_in}
 use Rattle.module_cache.specs.declared.stored.Line.{Line}
 use Rattle.module_cache.proofs.Contents.{lines_move, unfit_line, passed_line, fresh_line, turned_round}
@@ -51,7 +51,7 @@ pub tuned_stays : {H : Type 0} (says : H → Option ddb.Block) (ss : List (Span 
 unfolding line_in heard_in
 tuned_stays says [] h e = refl
 tuned_stays says (s ∷ ss) h e =
-    ap (λ ls. Some (tuned_with s.dii ls)) (lines_more says s ss h ∙ map_same _ _ s.dii.modules (λ l. unfit_line says (stretch s ss l) s.dii l h (λ b. ap (fitting s.dii l b) e)))
+    ap (λ ls. Some (tuned_with s.dii ls)) (lines_more says s ss h ∙ map_same _ _ s.dii.modules (λ l. unfit_line says (stretch s ss l) s.dii l h (λ b. ap (bytes_if_fits s.dii l b) e)))
 
 -- a block
 pub tuned_moves : {H : Type 0} (says : H → Option ddb.Block) (ss : List (Span H)) (h : H) (b : ddb.Block) → says h ≡ Some b → IsOnce ss → tuned_in says (within ss h) ≡ offered_to (tuned_in says ss) b
@@ -120,7 +120,7 @@ fresh_dii : {H : Type 0} (says : H → Option ddb.Block) (d : DiiFields) (keep :
 unfolding opened
 fresh_dii says d keep = ap (λ ls. Some (tuned_with d ls)) (map_same _ _ d.modules (λ l. sym (fresh_line says d l)))
 
-pub tuned_turns : {H : Type 0} (says : H → Option ddb.Block) (ss : List (Span H)) (d : DiiFields) (keep : Bool) → tuned_in says (record { dii = d; kept = keep; since = [] } ∷ ss) ≡ Some (turned (tuned_in says ss) d keep)
+pub tuned_turns : {H : Type 0} (says : H → Option ddb.Block) (ss : List (Span H)) (d : DiiFields) (keep : Bool) → tuned_in says (record { dii = d; kept = keep; since = [] } ∷ ss) ≡ Some (after_turn (tuned_in says ss) d keep)
 unfolding line_in tuned_of opened
 tuned_turns says [] d keep = fresh_dii says d keep
 tuned_turns says (s ∷ ss) d keep = ap (λ ls. Some (tuned_with d ls)) (map_same _ _ d.modules each) where

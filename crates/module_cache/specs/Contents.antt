@@ -2,7 +2,7 @@
 use Rattle.std.specs.Prelude.{ℕ, Bool, true, false, not, List, length, Option, Some, None, nat_lt, ◌==◌, slice_set, replicate, if◌then◌else◌}
 use Rattle.path_tree.specs.Paths.{Bytes}
 use Rattle.ddb_block.specs.Blocks as ddb
-use Rattle.block_assembler.specs.Blocks.{offered, joined}
+use Rattle.block_assembler.specs.Blocks.{offer_of, join_all}
 use Rattle.block_assembler.specs.declared.Offer.{Offer}
 use Rattle.block_assembler.specs.declared.Offer.TheVariants as offers
 use Rattle.module_cache.specs.declared.taken.Taken.{Taken}
@@ -26,7 +26,7 @@ whole_or blocks None = Blocks blocks
 
 -- blocks of which none is missing are the whole module
 abbrev pub content_of : List (Option Bytes) → Content
-content_of blocks = whole_or blocks (joined blocks)
+content_of blocks = whole_or blocks (join_all blocks)
 
 abbrev pub by_offer : Offer → Taken
 by_offer offers.WrongPlace = taken.WrongPlace
@@ -43,7 +43,7 @@ taken_again size block_size b bytes =
 -- what an offered block answers
 abbrev pub taken_at : ℕ → ℕ → Content → ℕ → Bytes → Taken
 taken_at size block_size Packed b bytes = taken.Compressed
-taken_at size block_size (Blocks blocks) b bytes = by_offer (offered (record { size = size; block_size = block_size; blocks = blocks }) b bytes)
+taken_at size block_size (Blocks blocks) b bytes = by_offer (offer_of (record { size = size; block_size = block_size; blocks = blocks }) b bytes)
 taken_at size block_size (Whole module_bytes) b bytes = taken_again size block_size b bytes
 
 abbrev pub taken_in : StoredState → ℕ → Bytes → Taken

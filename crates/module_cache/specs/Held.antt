@@ -97,9 +97,9 @@ turned_line t d keep l =
     then kept_line d.block_size l (find (λ x. x.line.id == l.id) t.lines) else line_fresh d.block_size l
 
 -- What is there of a module stays, whole or in part, exactly where it is kept and both DIIs describe the module in the same way.
-abbrev pub turned : Option TunedState → DiiFields → Bool → TunedState
-turned None d keep = fresh_tuned d
-turned (Some t) d keep = tuned_with d (map (turned_line t d keep) d.modules)
+abbrev pub after_turn : Option TunedState → DiiFields → Bool → TunedState
+after_turn None d keep = fresh_tuned d
+after_turn (Some t) d keep = tuned_with d (map (turned_line t d keep) d.modules)
 
 -- ---- looking back
 

@@ -4,7 +4,7 @@ ghost use Rattle.ddb_block.specs.Blocks.{parts_view, view};
 ghost use Rattle.dsi_dii.specs.Controls.{DiiFields, view_dii};
 ghost use Rattle.module_cache.specs.Limits as limits;
 ghost use Rattle.module_cache.specs.Limits.{no_id_twice};
-ghost use Rattle.module_cache.specs.Held.{fresh_tuned, turned, taken_of, offered_to, slot_at, HasOnce};
+ghost use Rattle.module_cache.specs.Held.{fresh_tuned, after_turn, taken_of, offered_to, slot_at, HasOnce};
 ghost use Rattle.module_cache.specs.Calls.{Call, Turned, Offered, StandsFor, spans_of, taken_among, slot_among};
 ghost use Rattle.module_cache.specs.Slots.{view_slot};
 
@@ -38,7 +38,7 @@ impl Model for Cache {
 
 /// A new DII in the place of the old one.
 fn next_of(old: Option<Tuned>, fresh: Tuned, keep: bool) -> Tuned
-    ensures { (d : DiiFields) → fresh ≡ fresh_tuned d → no_id_twice d.modules ≡ true → result ≡ turned old d keep }
+    ensures { (d : DiiFields) → fresh ≡ fresh_tuned d → no_id_twice d.modules ≡ true → result ≡ after_turn old d keep }
 {
     if !keep {
         return fresh;
@@ -97,7 +97,7 @@ impl Cache {
     /// leaves the cache as it was. (What stays, and the limits, are this project's own rules.)
     pub fn turn(&mut self, dii: &Dii, keep: bool) -> Result<(), NoMemory>
         requires { IsTrue (limits.is_within (view_dii dii.now)) }
-        ensures ok { OnOk result (self.new ≡ Some (turned self.old (view_dii dii.now) keep)) }
+        ensures ok { OnOk result (self.new ≡ Some (after_turn self.old (view_dii dii.now) keep)) }
         ensures stands { OnOk result ((calls : List Call) → StandsFor self.old calls → StandsFor self.new (calls ++ Turned (view_dii dii.now) keep ∷ [])) }
         ensures err { OnErr result (self.new ≡ self.old) }
         ensures memory { OnErr result ((view_dii dii.now).modules ≢ []) }

@@ -4,7 +4,7 @@ ghost use Rattle.std.specs.Prelude.{◌≡◌, ◌≢◌, ◌≤◌, ◌<◌, Li
 ghost use Rattle.std.specs.Arc.{arc_value};
 ghost use Rattle.std.specs.Option.{option_map};
 ghost use Rattle.ddb_block.specs.Blocks.{block_count_of};
-ghost use Rattle.block_assembler.specs.Blocks.{IsAssembled, offered, after_offer, joined};
+ghost use Rattle.block_assembler.specs.Blocks.{IsAssembled, offer_of, after_offer, join_all};
 ghost use Rattle.module_cache.specs.Contents.{by_offer, taken_again, taken_at, taken_in, stored_after, content_after, fresh_content, whole_or, Blocks};
 ghost use Rattle.module_cache.specs.StoredView.{view_state, IsShaped, IsState};
 ghost use Rattle.module_cache.specs.Contents as contents;
@@ -71,7 +71,7 @@ fn module_of(alloc: Global, bytes: &[u8]) -> Result<Arc<Module>, NoMemory>
 
 /// The module of an assembler in which no block is missing.
 fn completed(alloc: Global, assembler: &Assembler) -> Result<Option<Arc<Module>>, NoMemory>
-    ensures { IfOk result (λ m. option_map (λ a. arc_value a) m ≡ joined assembler.now.blocks) }
+    ensures { IfOk result (λ m. option_map (λ a. arc_value a) m ≡ join_all assembler.now.blocks) }
 {
     match assembler.whole() {
         Some(bytes) => Ok(Some(module_of(alloc, bytes)?)),
@@ -101,14 +101,14 @@ fn offer_to(
     block: u16,
     bytes: &[u8],
 ) -> Result<(Taken, Option<Arc<Module>>), NoMemory>
-    ensures answer { IfOk result (λ r. r.0 ≡ by_offer (offered assembler.old block bytes.now)) }
+    ensures answer { IfOk result (λ r. r.0 ≡ by_offer (offer_of assembler.old block bytes.now)) }
     ensures after { OnOk result (assembler.new ≡ after_offer assembler.old block bytes.now) }
     ensures shape { (size block_size : ℕ) → IsShaped size block_size assembler.old → IsShaped size block_size assembler.new }
-    ensures whole { IfOk result (λ r. r.0 ≡ Taken.New → option_map (λ a. arc_value a) r.1 ≡ joined assembler.new.blocks) }
+    ensures whole { IfOk result (λ r. r.0 ≡ Taken.New → option_map (λ a. arc_value a) r.1 ≡ join_all assembler.new.blocks) }
     ensures part { IfOk result (λ r. r.0 ≢ Taken.New → r.1 ≡ None) }
     ensures changed { IfOk result (λ r. r.0 ≡ Taken.New → (size block_size : ℕ) → IsShaped size block_size assembler.old → contents.content_of assembler.new.blocks ≢ Blocks assembler.old.blocks) }
     ensures err { OnErr result (assembler.new ≡ assembler.old) }
-    ensures memory { OnErr result (by_offer (offered assembler.old block bytes.now) ≡ Taken.New) }
+    ensures memory { OnErr result (by_offer (offer_of assembler.old block bytes.now) ≡ Taken.New) }
 {
     match assembler.offer(block, bytes) {
         Offer::WrongPlace => return Ok((Taken::WrongPlace, None)),

@@ -1,4 +1,5 @@
 use biop_object::Module;
+use std::fmt;
 use std::sync::Arc;
 
 /// What became of a block that was offered: the first of these that holds.
@@ -22,6 +23,22 @@ pub enum Taken {
     Again,
     /// The block was taken.
     New,
+}
+
+impl fmt::Display for Taken {
+    fn fmt<W: fmt::Write>(&self, f: &mut fmt::Formatter<W>) -> fmt::Result {
+        match self {
+            Taken::NoDii => write!(f, "no DII is held"),
+            Taken::OtherDownload => write!(f, "it has another downloadId"),
+            Taken::Unlisted => write!(f, "its module isn't listed"),
+            Taken::OtherVersion => write!(f, "its module is listed in another version"),
+            Taken::Compressed => write!(f, "its module is compressed"),
+            Taken::WrongPlace => write!(f, "its module has no block of this number"),
+            Taken::WrongLength => write!(f, "it hasn't the length of its place"),
+            Taken::Again => write!(f, "it is there already"),
+            Taken::New => write!(f, "it is new"),
+        }
+    }
 }
 
 /// What is there of a module.

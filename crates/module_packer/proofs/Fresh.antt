@@ -8,7 +8,7 @@ use Rattle.std.proofs.lemmas.List.Elements.{All-nil, All-cons}
 use Rattle.std.proofs.lemmas.Bool.{cases_eq, eq-eqb, ne_eqb, ltb-true, ltb-false, leb-true}
 use Rattle.module_packer.specs.declared.packing.Shared.{Shared}
 use Rattle.module_packer.specs.declared.packing.Packing.{Packing}
-use Rattle.module_packer.specs.Placement.{room, none_opened, placed, fits_shared, shared_number, shared_sum, fresh_from, fresh, needed, IsSound, sum_in, FreshIsAPlacement}
+use Rattle.module_packer.specs.Placement.{room, none_opened, place_next, fits_shared, shared_number, shared_sum, fresh_from, fresh, modules_needed, IsSound, sum_in, FreshIsAPlacement}
 
 -- ---- one object more: the three ways that it may go
 
@@ -43,7 +43,7 @@ joining : (o : Option Shared) (count size : ℕ) → MatchOption o ⊤ (λ x. (1
 joining None count size h f = cc
 joining (Some x) count size h f = (leb-true (x.sum + size) room f, h.0)
 
-is_way : (s : Packing) (size : ℕ) → IsSound s → IsWay s size (way s size) × (placed s size ≡ by_way s size (way s size))
+is_way : (s : Packing) (size : ℕ) → IsSound s → IsWay s size (way s size) × (place_next s size ≡ by_way s size (way s size))
 unfolding way by_way
 is_way s size sound = by_size (ltb room size) refl (fits_shared s.shared size) refl where
   by_size : (large : Bool) → ltb room size ≡ large → (fitting : Bool) → fits_shared s.shared size ≡ fitting
@@ -139,9 +139,9 @@ held (size ∷ sizes) s m sound =
 
 length_fresh : (sizes : List ℕ) (s : Packing) → length (fresh_from s sizes) ≡ length sizes
 length_fresh [] s = refl
-length_fresh (size ∷ sizes) s = ap suc (length_fresh sizes (placed s size).1)
+length_fresh (size ∷ sizes) s = ap suc (length_fresh sizes (place_next s size).1)
 
-pub sound_next : (s : Packing) (size : ℕ) → IsSound s → IsSound (placed s size).1
+pub sound_next : (s : Packing) (size : ℕ) → IsSound s → IsSound (place_next s size).1
 sound_next s size sound =
     let w = is_way s size sound in
     let P : ℕ × Packing → Type 0 = λ p. IsSound p.1 in
@@ -153,7 +153,7 @@ number_by_way s size Alone sound h = (omega arith, omega arith)
 number_by_way s size Joins sound h = (h.1, omega (arith, (sound_parts s sound).0))
 number_by_way s size Opens sound h = (omega arith, omega arith)
 
-number_next : (s : Packing) (size : ℕ) → IsSound s → (1 ≤ (placed s size).0) × (max s.count (placed s size).0 ≡ (placed s size).1.count)
+number_next : (s : Packing) (size : ℕ) → IsSound s → (1 ≤ (place_next s size).0) × (max s.count (place_next s size).0 ≡ (place_next s size).1.count)
 number_next s size sound =
     let w = is_way s size sound in
     let P : ℕ × Packing → Type 0 = λ p. (1 ≤ p.0) × (max s.count p.0 ≡ p.1.count) in
@@ -162,7 +162,7 @@ number_next s size sound =
 numbers_from_one : (sizes : List ℕ) (s : Packing) → IsSound s → All (λ m. 1 ≤ m) (fresh_from s sizes)
 numbers_from_one [] s sound = All-nil (λ m. 1 ≤ m)
 numbers_from_one (size ∷ sizes) s sound =
-    All-cons (λ m. 1 ≤ m) (placed s size).0 (fresh_from (placed s size).1 sizes) (number_next s size sound).0 (numbers_from_one sizes (placed s size).1 (sound_next s size sound))
+    All-cons (λ m. 1 ≤ m) (place_next s size).0 (fresh_from (place_next s size).1 sizes) (number_next s size sound).0 (numbers_from_one sizes (place_next s size).1 (sound_next s size sound))
 
 greatest_from : (xs : List ℕ) (a : ℕ) → a ≤ fold max a xs
 greatest_from [] a = omega arith
@@ -172,9 +172,9 @@ numbers_within : (xs : List ℕ) (a : ℕ) → All (λ m. m ≤ fold max a xs) x
 numbers_within [] a = All-nil (λ m. m ≤ a)
 numbers_within (x ∷ xs) a = All-cons (λ m. m ≤ fold max (max a x) xs) x xs (omega (arith, greatest_from xs (max a x))) (numbers_within xs (max a x))
 
-first_number : (size : ℕ) → (placed none_opened size).0 ≡ 1
+first_number : (size : ℕ) → (place_next none_opened size).0 ≡ 1
 first_number size = by_size (ltb room size) refl where
-  by_size : (large : Bool) → ltb room size ≡ large → (placed none_opened size).0 ≡ 1
+  by_size : (large : Bool) → ltb room size ≡ large → (place_next none_opened size).0 ≡ 1
   by_size true e = rw e refl
   by_size false e = rw e refl
 
@@ -201,24 +201,24 @@ fresh_is limit sizes some few =
 pub record IsUnderway (s : Packing) (sizes : List ℕ) (i : ℕ) : Type 0 where
   pub sound : IsSound s
   pub few : s.count ≤ i
-  pub rest : fold max s.count (fresh_from s (drop i sizes)) ≡ needed sizes
+  pub rest : fold max s.count (fresh_from s (drop i sizes)) ≡ modules_needed sizes
 
 pub underway_first : (sizes : List ℕ) (s : Packing) → s ≡ none_opened → IsUnderway s sizes 0
 underway_first sizes s e = rw e (record { sound = tt; few = omega arith; rest = refl })
 
-pub underway_next : (s v : Packing) (sizes : List ℕ) (i : ℕ) → i < length sizes → v ≡ (placed s (get_or sizes i 0)).1 → v.count ≤ s.count + 1 → IsUnderway s sizes i → IsUnderway v sizes (i + 1)
+pub underway_next : (s v : Packing) (sizes : List ℕ) (i : ℕ) → i < length sizes → v ≡ (place_next s (get_or sizes i 0)).1 → v.count ≤ s.count + 1 → IsUnderway s sizes i → IsUnderway v sizes (i + 1)
 underway_next s v sizes i h e f u =
-    let now : fold max (max s.count (placed s (get_or sizes i 0)).0) (fresh_from (placed s (get_or sizes i 0)).1 (drop (i + 1) sizes)) ≡ needed sizes =
+    let now : fold max (max s.count (place_next s (get_or sizes i 0)).0) (fresh_from (place_next s (get_or sizes i 0)).1 (drop (i + 1) sizes)) ≡ modules_needed sizes =
     sym (ap (λ (xs : List ℕ). fold max s.count (fresh_from s xs)) (drop_more sizes i 0 h)) ∙ u.rest in
-    let counted : fold max (placed s (get_or sizes i 0)).1.count (fresh_from (placed s (get_or sizes i 0)).1 (drop (i + 1) sizes)) ≡ needed sizes =
-    ap (λ (a : ℕ). fold max a (fresh_from (placed s (get_or sizes i 0)).1 (drop (i + 1) sizes))) (sym (number_next s (get_or sizes i 0) u.sound).1) ∙ now in
+    let counted : fold max (place_next s (get_or sizes i 0)).1.count (fresh_from (place_next s (get_or sizes i 0)).1 (drop (i + 1) sizes)) ≡ modules_needed sizes =
+    ap (λ (a : ℕ). fold max a (fresh_from (place_next s (get_or sizes i 0)).1 (drop (i + 1) sizes))) (sym (number_next s (get_or sizes i 0) u.sound).1) ∙ now in
     record {
       sound = rw e (sound_next s (get_or sizes i 0) u.sound);
       few = omega (arith, u.few);
       rest = rw e counted;
     }
 
-pub underway_all : (s : Packing) (sizes : List ℕ) (i : ℕ) → length sizes ≤ i → IsUnderway s sizes i → s.count ≡ needed sizes
+pub underway_all : (s : Packing) (sizes : List ℕ) (i : ℕ) → length sizes ≤ i → IsUnderway s sizes i → s.count ≡ modules_needed sizes
 underway_all s sizes i h u = ap (λ (xs : List ℕ). fold max s.count (fresh_from s xs)) (sym (drop_all i sizes h)) ∙ u.rest
 
 pub record IsPlaced (front : List ℕ) (s : Packing) (sizes : List ℕ) (i : ℕ) : Type 0 where
@@ -230,10 +230,10 @@ pub placed_first : (sizes front : List ℕ) (s : Packing) → s ≡ none_opened 
 placed_first sizes front s e g = rw (e, g) (record { sound = tt; few = omega arith; rest = refl })
 
 unrolled : (front : List ℕ) (s : Packing) (sizes : List ℕ) (i : ℕ) → i < length sizes → IsPlaced front s sizes i
-    → front ++ ((placed s (get_or sizes i 0)).0 ∷ fresh_from (placed s (get_or sizes i 0)).1 (drop (i + 1) sizes)) ≡ fresh sizes
+    → front ++ ((place_next s (get_or sizes i 0)).0 ∷ fresh_from (place_next s (get_or sizes i 0)).1 (drop (i + 1) sizes)) ≡ fresh sizes
 unrolled front s sizes i h u = sym (ap (λ (xs : List ℕ). front ++ fresh_from s xs) (drop_more sizes i 0 h)) ∙ u.rest
 
-pub placed_next : (front more : List ℕ) (s v : Packing) (sizes : List ℕ) (i n : ℕ) → i < length sizes → n ≡ (placed s (get_or sizes i 0)).0 → v ≡ (placed s (get_or sizes i 0)).1 → v.count ≤ s.count + 1
+pub placed_next : (front more : List ℕ) (s v : Packing) (sizes : List ℕ) (i n : ℕ) → i < length sizes → n ≡ (place_next s (get_or sizes i 0)).0 → v ≡ (place_next s (get_or sizes i 0)).1 → v.count ≤ s.count + 1
     → more ≡ front ++ n ∷ [] → IsPlaced front s sizes i → IsPlaced more v sizes (i + 1)
 placed_next front more s v sizes i n h g e f m u = record {
   sound = rw e (sound_next s (get_or sizes i 0) u.sound);
@@ -241,12 +241,12 @@ placed_next front more s v sizes i n h g e f m u = record {
   rest = rw (m, e, g, append_assoc) (unrolled front s sizes i h u);
 }
 
-pub placed_number : (front : List ℕ) (s : Packing) (sizes : List ℕ) (i n : ℕ) → i < length sizes → n ≡ (placed s (get_or sizes i 0)).0 → IsPlaced front s sizes i → n ≤ needed sizes
+pub placed_number : (front : List ℕ) (s : Packing) (sizes : List ℕ) (i n : ℕ) → i < length sizes → n ≡ (place_next s (get_or sizes i 0)).0 → IsPlaced front s sizes i → n ≤ modules_needed sizes
 placed_number front s sizes i n h g u =
     let whole = unrolled front s sizes i h u in
-    let last = fresh_from (placed s (get_or sizes i 0)).1 (drop (i + 1) sizes) in
-    let all : needed sizes ≡ fold max (max (fold max 0 front) n) last =
-    ap (fold max 0) (sym whole) ∙ fold-append max 0 front ((placed s (get_or sizes i 0)).0 ∷ last) ∙ ap (λ (x : ℕ). fold max (max (fold max 0 front) x) last) (sym g) in
+    let last = fresh_from (place_next s (get_or sizes i 0)).1 (drop (i + 1) sizes) in
+    let all : modules_needed sizes ≡ fold max (max (fold max 0 front) n) last =
+    ap (fold max 0) (sym whole) ∙ fold-append max 0 front ((place_next s (get_or sizes i 0)).0 ∷ last) ∙ ap (λ (x : ℕ). fold max (max (fold max 0 front) x) last) (sym g) in
     omega (arith, all, greatest_from last (max (fold max 0 front) n))
 
 pub placed_all : (front : List ℕ) (s : Packing) (sizes : List ℕ) (i : ℕ) → length sizes ≤ i → IsPlaced front s sizes i → front ≡ fresh sizes

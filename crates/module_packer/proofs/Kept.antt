@@ -6,7 +6,7 @@ use Rattle.std.proofs.lemmas.List.Sums.{sum_by-cons, sum_by_push, AllPass-from_l
 use Rattle.std.proofs.lemmas.List.Elements.{All-nil, All-cons, All-head, All-tail}
 use Rattle.std.proofs.lemmas.Bool.{cases_eq, eq-eqb, ne_eqb, leb-true}
 use Rattle.module_packer.specs.Placement.{room, fresh, sum_in, IsPlacement}
-use Rattle.module_packer.specs.Kept.{Placed, Filled, sizes_in, in_use, has_room, stays, staying, filled_with, first_pass, first_filled, least_with, shared_by, or_new, moved_to, second_pass, tried, within, kept, KeptIsAPlacement}
+use Rattle.module_packer.specs.Kept.{Placed, Filled, sizes_in, in_use, has_room, stays, if_stays, filled_with, first_pass, first_filled, least_with, shared_by, or_new, moved_to, second_pass, two_passes, within, kept_modules, KeptIsAPlacement}
 use Rattle.module_packer.proofs.Fresh.{fresh_is}
 
 -- ---- how many objects a module has, and that none is overfull
@@ -61,7 +61,7 @@ stays_well filled size m e = go (leb size room) e where
   go true f = inr (leb-true (sum_in filled m + size) room f)
   go false f = inl (by_use (in_use filled m) refl f)
 
-fill_staying : (filled : Filled) (size : ℕ) (old : Option ℕ) → IsFilled filled → IsFilled (filled_with filled (staying filled size old) size)
+fill_staying : (filled : Filled) (size : ℕ) (old : Option ℕ) → IsFilled filled → IsFilled (filled_with filled (if_stays filled size old) size)
 fill_staying filled size None is = is
 fill_staying filled size (Some m) is = go (stays filled size m) refl where
   go : (b : Bool) → stays filled size m ≡ b → IsFilled (filled_with filled (cond b (Some m) None) size)
@@ -70,7 +70,7 @@ fill_staying filled size (Some m) is = go (stays filled size m) refl where
 
 fill_first : (os : List Placed) (filled : Filled) → IsFilled filled → IsFilled (first_filled filled os)
 fill_first [] filled is = is
-fill_first (o ∷ os) filled is = fill_first os (filled_with filled (staying filled o.0 o.1) o.0) (fill_staying filled o.0 o.1 is)
+fill_first (o ∷ os) filled is = fill_first os (filled_with filled (if_stays filled o.0 o.1) o.0) (fill_staying filled o.0 o.1 is)
 
 -- ---- the second pass
 
@@ -139,7 +139,7 @@ kept_sum f ((size, None) ∷ os) = kept_sum f os
 first_sum : (f : ℕ × ℕ → ℕ) (os : List Placed) (filled : Filled) → sum_by f (first_filled filled os) ≡ sum_by f filled + kept_sum f (first_pass filled os)
 unfolding kept_sum
 first_sum f [] filled = sym (add-zero (sum_by f filled))
-first_sum f (o ∷ os) filled = go (staying filled o.0 o.1) (first_sum f os (filled_with filled (staying filled o.0 o.1) o.0)) where
+first_sum f (o ∷ os) filled = go (if_stays filled o.0 o.1) (first_sum f os (filled_with filled (if_stays filled o.0 o.1) o.0)) where
   go : (m : Option ℕ) → sum_by f (first_filled (filled_with filled m o.0) os) ≡ sum_by f (filled_with filled m o.0) + kept_sum f (first_pass (filled_with filled m o.0) os)
       → sum_by f (first_filled (filled_with filled m o.0) os) ≡ sum_by f filled + kept_sum f ((o.0, m) ∷ first_pass (filled_with filled m o.0) os)
   go None rest = rest
@@ -156,11 +156,11 @@ second_sum f limit ((size, None) ∷ os) filled =
 
 same_sizes : (os : List Placed) (filled : Filled) → sizes_in (first_pass filled os) ≡ sizes_in os
 same_sizes [] filled = refl
-same_sizes (o ∷ os) filled = ap (λ sizes. o.0 ∷ sizes) (same_sizes os (filled_with filled (staying filled o.0 o.1) o.0))
+same_sizes (o ∷ os) filled = ap (λ sizes. o.0 ∷ sizes) (same_sizes os (filled_with filled (if_stays filled o.0 o.1) o.0))
 
 -- what is placed in the end is each object in its module
 placed_sum : (f : ℕ × ℕ → ℕ) (limit : ℕ) (o : Placed) (os : List Placed)
-    → sum_by f (all_filled limit (first_filled ((1, o.0) ∷ []) os) (first_pass ((1, o.0) ∷ []) os)) ≡ sum_by f (zip (tried limit (o ∷ os)) (sizes_in (o ∷ os)))
+    → sum_by f (all_filled limit (first_filled ((1, o.0) ∷ []) os) (first_pass ((1, o.0) ∷ []) os)) ≡ sum_by f (zip (two_passes limit (o ∷ os)) (sizes_in (o ∷ os)))
 placed_sum f limit o os =
     let start : Filled = (1, o.0) ∷ [] in
     let filled : Filled = first_filled start os in
@@ -180,7 +180,7 @@ length_sizes : (os : List Placed) → length (sizes_in os) ≡ length os
 length_sizes [] = refl
 length_sizes (o ∷ os) = ap suc (length_sizes os)
 
-length_tried : (limit : ℕ) (objects : List Placed) → length (tried limit objects) ≡ length (sizes_in objects)
+length_tried : (limit : ℕ) (objects : List Placed) → length (two_passes limit objects) ≡ length (sizes_in objects)
 length_tried limit [] = refl
 length_tried limit (o ∷ os) =
     let start : Filled = (1, o.0) ∷ [] in
@@ -202,10 +202,10 @@ OfOld P os = All (λ o. (m : ℕ) → o.1 ≡ Some m → P m) os
 pub old_after : (P : ℕ → Type 0) (os : List Placed) (filled : Filled) → OfOld P os → OfOld P (first_pass filled os)
 old_after P [] filled old = All-nil (λ (o : Placed). (m : ℕ) → o.1 ≡ Some m → P m)
 old_after P (o ∷ os) filled old =
-    All-cons (λ (o : Placed). (m : ℕ) → o.1 ≡ Some m → P m) (o.0, staying filled o.0 o.1) (first_pass (filled_with filled (staying filled o.0 o.1) o.0) os)
+    All-cons (λ (o : Placed). (m : ℕ) → o.1 ≡ Some m → P m) (o.0, if_stays filled o.0 o.1) (first_pass (filled_with filled (if_stays filled o.0 o.1) o.0) os)
     (λ m e. here o.1 (λ n is. old 0 o (omega arith) n is) m e)
-    (old_after P os (filled_with filled (staying filled o.0 o.1) o.0) (All-tail (λ (o : Placed). (m : ℕ) → o.1 ≡ Some m → P m) o os old)) where
-      here : (was : Option ℕ) → ((n : ℕ) → was ≡ Some n → P n) → (m : ℕ) → staying filled o.0 was ≡ Some m → P m
+    (old_after P os (filled_with filled (if_stays filled o.0 o.1) o.0) (All-tail (λ (o : Placed). (m : ℕ) → o.1 ≡ Some m → P m) o os old)) where
+      here : (was : Option ℕ) → ((n : ℕ) → was ≡ Some n → P n) → (m : ℕ) → if_stays filled o.0 was ≡ Some m → P m
       here None h m e = cc
       here (Some n) h m e = go (stays filled o.0 n) e where
         go : (b : Bool) → cond b (Some n) None ≡ Some m → P m
@@ -224,13 +224,13 @@ numbers_second limit ((size, None) ∷ os) filled old =
 one_filled : (size : ℕ) → IsFilled ((1, size) ∷ [])
 one_filled size m many = fill [] 1 size (λ k h. absurd (omega (arith, h))) (inl refl) m many
 
-tried_is : (limit : ℕ) (objects : List Placed) → 0 < length objects → OfOld (λ m. 1 ≤ m) objects → within limit (tried limit objects) ≡ true → IsPlacement limit (sizes_in objects) (tried limit objects)
+tried_is : (limit : ℕ) (objects : List Placed) → 0 < length objects → OfOld (λ m. 1 ≤ m) objects → within limit (two_passes limit objects) ≡ true → IsPlacement limit (sizes_in objects) (two_passes limit objects)
 tried_is limit [] some old low = absurd (omega (arith, some))
 tried_is limit (o ∷ os) some old low =
     let start : Filled = (1, o.0) ∷ [] in
     let filled : Filled = first_filled start os in
     let passed : List Placed = first_pass start os in
-    let ms : List ℕ = tried limit (o ∷ os) in
+    let ms : List ℕ = two_passes limit (o ∷ os) in
     let later : List ℕ = second_pass limit filled passed in
     let rest : OfOld (λ m. 1 ≤ m) os = All-tail (λ (o : Placed). (m : ℕ) → o.1 ≡ Some m → 1 ≤ m) o os old in
     let from_one : All (λ m. 1 ≤ m) ms = All-cons (λ m. 1 ≤ m) 1 later (omega arith) (numbers_second limit passed filled (old_after (λ m. 1 ≤ m) os start rest)) in
@@ -249,8 +249,8 @@ tried_is limit (o ∷ os) some old low =
     }
 
 pub kept_is : KeptIsAPlacement
-unfolding kept
-kept_is limit objects are = go (within limit (tried limit objects)) refl where
-  go : (b : Bool) → within limit (tried limit objects) ≡ b → IsPlacement limit (sizes_in objects) (cond b (tried limit objects) (fresh (sizes_in objects)))
+unfolding kept_modules
+kept_is limit objects are = go (within limit (two_passes limit objects)) refl where
+  go : (b : Bool) → within limit (two_passes limit objects) ≡ b → IsPlacement limit (sizes_in objects) (cond b (two_passes limit objects) (fresh (sizes_in objects)))
   go true low = tried_is limit objects are.some (λ k d lt m e. (are.old k d lt m e).0) low
   go false high = fresh_is limit (sizes_in objects) (omega (arith, are.some, length_sizes objects)) are.few

@@ -5,8 +5,8 @@ use Rattle.std.proofs.lemmas.List.{at_drop_more, at_drop_all, take_rest}
 use Rattle.std.proofs.lemmas.List.Sums.{AllPass-from_list_all, list_all-from_AllPass}
 use Rattle.std.proofs.lemmas.List.Elements.{All-push, All-take, All-drop}
 use Rattle.std.proofs.lemmas.Bool.Decides.{nat_tests}
-use Rattle.module_packer.specs.Kept.{Placed, Filled, staying, filled_with, first_pass, first_filled, settled_in, settled, second_pass, tried, within, kept, sizes_in, WereWithin, AreObjects}
-use Rattle.module_packer.specs.Told.{Tells, sum_at}
+use Rattle.module_packer.specs.Kept.{Placed, Filled, if_stays, filled_with, first_pass, first_filled, settled_in, filled_after, second_pass, two_passes, within, kept_modules, sizes_in, WereWithin, AreObjects}
+use Rattle.module_packer.specs.Sums.{Tells, sum_at}
 use Rattle.module_packer.specs.Placement.{fresh, IsPlacement}
 use Rattle.module_packer.proofs.Kept.{old_after, kept_is}
 use Rattle.module_packer.proofs.Telling.{put_told}
@@ -35,13 +35,13 @@ pub staying_first : (limit : ℕ) (start : Filled) (sums : List (Option ℕ)) (s
 staying_first limit start sums stayed objects e tells = record { now = start; tells = tells; passed = ap (λ xs. xs ++ first_pass start objects) e; filled = refl }
 
 pub staying_next : (limit : ℕ) (start : Filled) (sums after : List (Option ℕ)) (stayed more objects : List Placed) (i : ℕ) (m : Option ℕ) → i < length objects
-    → ((g : Filled) → Tells limit sums g → m ≡ staying g (get_or objects i none_there).0 (get_or objects i none_there).1)
-    → ((g : Filled) → Tells limit sums g → Tells limit after (filled_with g (staying g (get_or objects i none_there).0 (get_or objects i none_there).1) (get_or objects i none_there).0))
+    → ((g : Filled) → Tells limit sums g → m ≡ if_stays g (get_or objects i none_there).0 (get_or objects i none_there).1)
+    → ((g : Filled) → Tells limit sums g → Tells limit after (filled_with g (if_stays g (get_or objects i none_there).0 (get_or objects i none_there).1) (get_or objects i none_there).0))
     → more ≡ stayed ++ ((get_or objects i none_there).0, m) ∷ []
     → Staying limit start sums stayed objects i → Staying limit start after more objects (i + 1)
 staying_next limit start sums after stayed more objects i m lt answer next e s =
     let o : Placed = get_or objects i none_there in
-    let later : Filled = filled_with s.now (staying s.now o.0 o.1) o.0 in
+    let later : Filled = filled_with s.now (if_stays s.now o.0 o.1) o.0 in
     let rest : List Placed = first_pass later (drop (i + 1) objects) in
     record {
       now = later;
@@ -87,12 +87,12 @@ settling_first limit start sums modules others le e tells = record {
 
 pub settling_next : (limit : ℕ) (start : Filled) (sums after : List (Option ℕ)) (modules more : List ℕ) (others : List Placed) (i m : ℕ) → i < length others
     → ((g : Filled) → Tells limit sums g → (m ≡ settled_in limit g (get_or others i none_there).0 (get_or others i none_there).1) × (m ≤ limit))
-    → ((g : Filled) → Tells limit sums g → Tells limit after (settled limit g (get_or others i none_there).0 (get_or others i none_there).1))
+    → ((g : Filled) → Tells limit sums g → Tells limit after (filled_after limit g (get_or others i none_there).0 (get_or others i none_there).1))
     → more ≡ modules ++ m ∷ []
     → Settling limit start sums modules others i → Settling limit start after more others (i + 1)
 settling_next limit start sums after modules more others i m lt answer next e s =
     let o : Placed = get_or others i none_there in
-    let later : Filled = settled limit s.now o.0 o.1 in
+    let later : Filled = filled_after limit s.now o.0 o.1 in
     let rest : List ℕ = second_pass limit later (drop (i + 1) others) in
     let is = answer s.now s.tells in
     record {
@@ -109,7 +109,7 @@ pub settling_stops : (limit : ℕ) (start : Filled) (sums : List (Option ℕ)) (
 settling_stops limit start sums modules others i lt high s =
     let o : Placed = get_or others i none_there in
     let m : ℕ = settled_in limit s.now o.0 o.1 in
-    let rest : List ℕ = second_pass limit (settled limit s.now o.0 o.1) (drop (i + 1) others) in
+    let rest : List ℕ = second_pass limit (filled_after limit s.now o.0 o.1) (drop (i + 1) others) in
     let whole : modules ++ (m ∷ rest) ≡ 1 ∷ second_pass limit start others = sym (ap (λ xs. modules ++ xs) (at_drop_more (second_pass limit s.now) others i none_there lt)) ∙ s.rest in
     ap (within limit) (sym whole) ∙ within_not limit m modules rest (high s.now s.tells)
 
@@ -135,7 +135,7 @@ pub start_told : (limit : ℕ) (sums after : List (Option ℕ)) (objects : List 
 start_told limit sums after objects le tells e = subst (λ s. Tells limit s (started objects)) (sym e) (put_told limit sums [] (first_size objects) 1 tells (omega arith) le)
 
 tried_is : (limit : ℕ) (objects : List Placed) → 0 < length objects
-    → 1 ∷ second_pass limit (first_filled (started objects) (others_of objects)) (first_pass (started objects) (others_of objects)) ≡ tried limit objects
+    → 1 ∷ second_pass limit (first_filled (started objects) (others_of objects)) (first_pass (started objects) (others_of objects)) ≡ two_passes limit objects
 tried_is limit [] some = absurd (omega (arith, some))
 tried_is limit (o ∷ os) some =
     ap (λ others. 1 ∷ second_pass limit (first_filled ((1, o.0) ∷ []) others) (first_pass ((1, o.0) ∷ []) others)) (take_rest (o ∷ os) 1)
@@ -143,21 +143,21 @@ tried_is limit (o ∷ os) some =
 pub kept_by : (limit : ℕ) (objects others stayed : List Placed) (answer : Option (Vec ℕ Global)) → 0 < length objects → stayed ≡ others → others ≡ first_pass (started objects) (others_of objects)
     → MatchOption answer (within limit (1 ∷ second_pass limit (first_filled (started objects) (others_of objects)) stayed) ≡ false)
     (λ ms. (ms.items ≡ 1 ∷ second_pass limit (first_filled (started objects) (others_of objects)) stayed) × (within limit ms.items ≡ true))
-    → MatchOption answer (fresh (sizes_in objects) ≡ kept limit objects) (λ ms. ms.items ≡ kept limit objects)
-unfolding kept
+    → MatchOption answer (fresh (sizes_in objects) ≡ kept_modules limit objects) (λ ms. ms.items ≡ kept_modules limit objects)
+unfolding kept_modules
 kept_by limit objects others stayed answer some e f is = go answer is where
-  whole : 1 ∷ second_pass limit (first_filled (started objects) (others_of objects)) stayed ≡ tried limit objects
+  whole : 1 ∷ second_pass limit (first_filled (started objects) (others_of objects)) stayed ≡ two_passes limit objects
   whole = ap (λ os. 1 ∷ second_pass limit (first_filled (started objects) (others_of objects)) os) (e ∙ f) ∙ tried_is limit objects some
 
   go : (a : Option (Vec ℕ Global))
       → MatchOption a (within limit (1 ∷ second_pass limit (first_filled (started objects) (others_of objects)) stayed) ≡ false)
       (λ ms. (ms.items ≡ 1 ∷ second_pass limit (first_filled (started objects) (others_of objects)) stayed) × (within limit ms.items ≡ true))
-      → MatchOption a (fresh (sizes_in objects) ≡ cond (within limit (tried limit objects)) (tried limit objects) (fresh (sizes_in objects)))
-      (λ ms. ms.items ≡ cond (within limit (tried limit objects)) (tried limit objects) (fresh (sizes_in objects)))
-  go None high = let not_within : within limit (tried limit objects) ≡ false = ap (within limit) (sym whole) ∙ high in rw not_within refl
+      → MatchOption a (fresh (sizes_in objects) ≡ cond (within limit (two_passes limit objects)) (two_passes limit objects) (fresh (sizes_in objects)))
+      (λ ms. ms.items ≡ cond (within limit (two_passes limit objects)) (two_passes limit objects) (fresh (sizes_in objects)))
+  go None high = let not_within : within limit (two_passes limit objects) ≡ false = ap (within limit) (sym whole) ∙ high in rw not_within refl
   go (Some ms) low =
-      let same : ms.items ≡ tried limit objects = low.0 ∙ whole in
-      let is_within : within limit (tried limit objects) ≡ true = ap (within limit) (sym same) ∙ low.1 in rw is_within same
+      let same : ms.items ≡ two_passes limit objects = low.0 ∙ whole in
+      let is_within : within limit (two_passes limit objects) ≡ true = ap (within limit) (sym same) ∙ low.1 in rw is_within same
 
 -- the answers of the functions that make up the placement
 pub kept_from : (limit : ℕ) (objects others stayed : List Placed) (sums after later : List (Option ℕ)) (answer : Option (Vec ℕ Global)) → 0 < length objects → 1 ≤ limit
@@ -165,7 +165,7 @@ pub kept_from : (limit : ℕ) (objects others stayed : List Placed) (sums after 
     → ((f : Filled) → Tells limit after f → others ≡ first_pass f (others_of objects))
     → ((f : Filled) → Tells limit after f → Tells limit later (first_filled f (others_of objects)))
     → ((f : Filled) → Tells limit later f → MatchOption answer (within limit (1 ∷ second_pass limit f stayed) ≡ false) (λ ms. (ms.items ≡ 1 ∷ second_pass limit f stayed) × (within limit ms.items ≡ true)))
-    → MatchOption answer (fresh (sizes_in objects) ≡ kept limit objects) (λ ms. ms.items ≡ kept limit objects)
+    → MatchOption answer (fresh (sizes_in objects) ≡ kept_modules limit objects) (λ ms. ms.items ≡ kept_modules limit objects)
 kept_from limit objects others stayed sums after later answer some le none put e passed filled answers =
     let tells = start_told limit sums after objects le none put in
     kept_by limit objects others stayed answer some e (passed (started objects) tells) (answers (first_filled (started objects) (others_of objects)) (filled (started objects) tells))
@@ -174,6 +174,6 @@ pub afresh_is : {E : Type 0} (r : Result (Vec ℕ Global) E) (objects : List Pla
 afresh_is (Ok ms) objects ks e is = is ∙ e
 afresh_is (Err x) objects ks e is = is
 
-pub placed_is : {E : Type 0} (r : Result (Vec ℕ Global) E) (objects : List Placed) → AreObjects 139 objects → IfOk r (λ ms. ms.items ≡ kept 139 objects) → IfOk r (λ ms. IsPlacement 139 (sizes_in objects) ms.items)
+pub placed_is : {E : Type 0} (r : Result (Vec ℕ Global) E) (objects : List Placed) → AreObjects 139 objects → IfOk r (λ ms. ms.items ≡ kept_modules 139 objects) → IfOk r (λ ms. IsPlacement 139 (sizes_in objects) ms.items)
 placed_is (Ok ms) objects are is = subst (λ (ks : List ℕ). IsPlacement 139 (sizes_in objects) ks) (sym is) (kept_is 139 objects are)
 placed_is (Err x) objects are is = is

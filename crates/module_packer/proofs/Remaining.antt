@@ -5,7 +5,7 @@ use Rattle.std.proofs.lemmas.Option.{same_Some}
 use Rattle.std.proofs.lemmas.List.Sums.{sum_by-cons, sum_by_push}
 use Rattle.std.proofs.lemmas.Bool.Decides.{nat_tests}
 use Rattle.module_packer.specs.Placement.{room, fresh, sum_in}
-use Rattle.module_packer.specs.Kept.{Placed, Filled, sizes_in, in_use, stays, staying, filled_with, first_pass, first_filled, settled, second_pass, tried, within, kept, from_one, is_module, bytes_of, HasRoomAfter, ObjectsStay}
+use Rattle.module_packer.specs.Kept.{Placed, Filled, sizes_in, in_use, stays, if_stays, filled_with, first_pass, first_filled, filled_after, second_pass, two_passes, within, kept_modules, from_one, is_module, bytes_of, HasRoomAfter, ObjectsStay}
 use Rattle.module_packer.proofs.Telling.{none_summed, used_push}
 
 -- there is room for it beside what is placed and what comes before it
@@ -64,7 +64,7 @@ fits_without filled m size old os small fits = record { or_alone = go fits.or_al
   go (inl le) = inl (omega (arith, le, later))
   go (inr none) = inr (none.0, omega (arith, none.1, counted))
 
-fits_next : (filled : Filled) (m size : ℕ) (old : Option ℕ) (os : List Placed) (small : ℕ) → Fits filled m ((size, old) ∷ os) small → Fits (filled_with filled (staying filled size old) size) m os small
+fits_next : (filled : Filled) (m size : ℕ) (old : Option ℕ) (os : List Placed) (small : ℕ) → Fits filled m ((size, old) ∷ os) small → Fits (filled_with filled (if_stays filled size old) size) m os small
 fits_next filled m size None os small fits = fits_without filled m size None os small fits
 fits_next filled m size (Some n) os small fits = go (stays filled size n) where
   go : (b : Bool) → Fits (filled_with filled (cond b (Some n) None) size) m os small
@@ -78,12 +78,12 @@ stays_at limit (x ∷ xs) filled full zero m o at was fits =
     let same : x ≡ o = same_Some x o at in
     let old : x.1 ≡ Some m = ap (λ y. y.1) same ∙ was in
     let stay : stays filled x.0 m ≡ true = fits_here filled m x.0 (subst (λ y. Fits filled m [] y.0) (sym same) fits) in
-    let is : staying filled x.0 x.1 ≡ Some m = rw (old, stay) refl in
+    let is : if_stays filled x.0 x.1 ≡ Some m = rw (old, stay) refl in
     rw is refl
 stays_at limit (x ∷ xs) filled full (suc k) m o at was fits =
-    stays_at limit xs (filled_with filled (staying filled x.0 x.1) x.0) (settled limit full x.0 (staying filled x.0 x.1)) k m o at was (fits_next filled m x.0 x.1 (take k xs) o.0 fits)
+    stays_at limit xs (filled_with filled (if_stays filled x.0 x.1) x.0) (filled_after limit full x.0 (if_stays filled x.0 x.1)) k m o at was (fits_next filled m x.0 x.1 (take k xs) o.0 fits)
 
-tried_stays : (limit : ℕ) (objects : List Placed) (k m : ℕ) (o : Placed) → slice_get (from_one objects) k ≡ Some o → o.1 ≡ Some m → HasRoomAfter m (take k (from_one objects)) o.0 → slice_get (tried limit objects) k ≡ Some m
+tried_stays : (limit : ℕ) (objects : List Placed) (k m : ℕ) (o : Placed) → slice_get (from_one objects) k ≡ Some o → o.1 ≡ Some m → HasRoomAfter m (take k (from_one objects)) o.0 → slice_get (two_passes limit objects) k ≡ Some m
 tried_stays limit [] k m o at was fits = cc
 tried_stays limit (x ∷ xs) zero m o at was fits = ap (λ y. y.1) (same_Some (x.0, Some 1) o at) ∙ was
 tried_stays limit (x ∷ xs) (suc k) m o at was fits =
@@ -98,9 +98,9 @@ tried_stays limit (x ∷ xs) (suc k) m o at was fits =
       begins (inr none) = inr (refl, none)
 
 pub objects_stay : ObjectsStay
-unfolding kept
-objects_stay limit objects = go (within limit (tried limit objects)) where
-  go : (b : Bool) → (cond b (tried limit objects) (fresh (sizes_in objects)) ≡ fresh (sizes_in objects))
-      ⊎ ((k m : ℕ) (o : Placed) → slice_get (from_one objects) k ≡ Some o → o.1 ≡ Some m → HasRoomAfter m (take k (from_one objects)) o.0 → slice_get (cond b (tried limit objects) (fresh (sizes_in objects))) k ≡ Some m)
+unfolding kept_modules
+objects_stay limit objects = go (within limit (two_passes limit objects)) where
+  go : (b : Bool) → (cond b (two_passes limit objects) (fresh (sizes_in objects)) ≡ fresh (sizes_in objects))
+      ⊎ ((k m : ℕ) (o : Placed) → slice_get (from_one objects) k ≡ Some o → o.1 ≡ Some m → HasRoomAfter m (take k (from_one objects)) o.0 → slice_get (cond b (two_passes limit objects) (fresh (sizes_in objects))) k ≡ Some m)
   go true = inr (λ k m o at was fits. tried_stays limit objects k m o at was fits)
   go false = inl refl

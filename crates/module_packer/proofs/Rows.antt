@@ -2,7 +2,7 @@
 use Rattle.std.proofs.Common.{◌≡◌, List, [], ◌∷◌, ℕ, ◌≤◌, Some, None, refl, sym, subst, lit<, lit≤}
 use Rattle.std.proofs.lemmas.Option.{same_Some}
 use Rattle.std.proofs.lemmas.List.Elements.{All-from_recursion}
-use Rattle.module_packer.specs.Kept.{Placed, AreObjects, kept, least_with}
+use Rattle.module_packer.specs.Kept.{Placed, AreObjects, kept_modules, least_with}
 
 abbrev pub grown : List Placed
 grown = (117, Some 1) ∷ (65500, Some 1) ∷ (500, Some 2) ∷ (65537, Some 3) ∷ (400, Some 2) ∷ []
@@ -22,16 +22,16 @@ grown_are = record {
   in_range n low high m e = subst (λ k. (1 ≤ k) × (k ≤ 139)) (same_Some n m e) (low, high)
 
 -- the second object grows, and goes to a new module; the others stay
-one_grows : kept 139 grown ≡ 1 ∷ 4 ∷ 2 ∷ 3 ∷ 2 ∷ []
-unfolding kept least_with
+one_grows : kept_modules 139 grown ≡ 1 ∷ 4 ∷ 2 ∷ 3 ∷ 2 ∷ []
+unfolding kept_modules least_with
 one_grows = refl
 
 -- a number that became free is used again
-one_leaves : kept 139 ((117, Some 1) ∷ (65000, Some 3) ∷ (65537, None) ∷ (600, None) ∷ []) ≡ 1 ∷ 3 ∷ 2 ∷ 1 ∷ []
-unfolding kept least_with
+one_leaves : kept_modules 139 ((117, Some 1) ∷ (65000, Some 3) ∷ (65537, None) ∷ (600, None) ∷ []) ≡ 1 ∷ 3 ∷ 2 ∷ 1 ∷ []
+unfolding kept_modules least_with
 one_leaves = refl
 
 -- where a module above the limit would be needed, all are placed afresh
-none_left : kept 2 ((100, Some 1) ∷ (30000, Some 2) ∷ (65536, None) ∷ []) ≡ 1 ∷ 1 ∷ 2 ∷ []
-unfolding kept least_with
+none_left : kept_modules 2 ((100, Some 1) ∷ (30000, Some 2) ∷ (65536, None) ∷ []) ≡ 1 ∷ 1 ∷ 2 ∷ []
+unfolding kept_modules least_with
 none_left = refl

@@ -9,8 +9,8 @@ use Rattle.std.proofs.lemmas.List.Sums.{sum_by-cons, sum_by_push}
 use Rattle.std.proofs.lemmas.Bool.{cases_eq, eq-eqb, ne_eqb, leb-true}
 use Rattle.std.proofs.lemmas.Bool.Decides.{nat_tests}
 use Rattle.module_packer.specs.Placement.{room, sum_in}
-use Rattle.module_packer.specs.Kept.{Filled, in_use, has_room, stays, staying, filled_with, least_with, shared_by, or_new, moved_to, settled_in, settled}
-use Rattle.module_packer.specs.Told.{told, Tells, sum_at, stays_by, takes_more, numbered, shared_of, or_unused, moved_by}
+use Rattle.module_packer.specs.Kept.{Filled, in_use, has_room, stays, if_stays, filled_with, least_with, shared_by, or_new, moved_to, settled_in, filled_after}
+use Rattle.module_packer.specs.Sums.{known_sum, Tells, sum_at, stays_by, takes_more, number_at, shared_of, or_unused, moved_by}
 
 -- ---- one module
 
@@ -24,34 +24,34 @@ none_summed (x ∷ xs) m e = go (eqb x.0 m) refl e (λ f. none_summed xs m f) wh
       omega (arith, none, rest f, sum_by-cons (λ (e : ℕ × ℕ). cond (eqb e.0 m) e.1 0) x xs)
 
 -- the sum of a module is what is told of it, or nothing
-told_sum : (filled : Filled) (m : ℕ) → unwrap_or (told filled m) 0 ≡ sum_in filled m
+told_sum : (filled : Filled) (m : ℕ) → unwrap_or (known_sum filled m) 0 ≡ sum_in filled m
 told_sum filled m = go (in_use filled m) refl where
   go : (b : Bool) → in_use filled m ≡ b → unwrap_or (cond b (Some (sum_in filled m)) None) 0 ≡ sum_in filled m
   go true e = refl
   go false e = sym (none_summed filled m e)
 
-told_none : (filled : Filled) (m : ℕ) → is_none (told filled m) ≡ not (in_use filled m)
+told_none : (filled : Filled) (m : ℕ) → is_none (known_sum filled m) ≡ not (in_use filled m)
 told_none filled m = go (in_use filled m) where
   go : (b : Bool) → is_none (cond b (Some (sum_in filled m)) None) ≡ not b
   go true = refl
   go false = refl
 
-told_takes : (filled : Filled) (size m : ℕ) → takes_more size (told filled m) ≡ (in_use filled m && has_room filled size m)
+told_takes : (filled : Filled) (size m : ℕ) → takes_more size (known_sum filled m) ≡ (in_use filled m && has_room filled size m)
 told_takes filled size m = go (in_use filled m) where
   go : (b : Bool) → takes_more size (cond b (Some (sum_in filled m)) None) ≡ (b && has_room filled size m)
   go true = refl
   go false = refl
 
-told_stays : (filled : Filled) (size m : ℕ) → stays_by size (told filled m) ≡ stays filled size m
+told_stays : (filled : Filled) (size m : ℕ) → stays_by size (known_sum filled m) ≡ stays filled size m
 told_stays filled size m = go (leb size room) where
-  go : (b : Bool) → cond b (leb (unwrap_or (told filled m) 0 + size) room) (is_none (told filled m)) ≡ cond b (has_room filled size m) (not (in_use filled m))
+  go : (b : Bool) → cond b (leb (unwrap_or (known_sum filled m) 0 + size) room) (is_none (known_sum filled m)) ≡ cond b (has_room filled size m) (not (in_use filled m))
   go true = ap (λ n. leb (n + size) room) (told_sum filled m)
   go false = told_none filled m
 
-told_at : (limit : ℕ) (sums : List (Option ℕ)) (filled : Filled) (m : ℕ) → Tells limit sums filled → 1 ≤ m → m ≤ limit → get_or sums (m - 1) None ≡ told filled m
+told_at : (limit : ℕ) (sums : List (Option ℕ)) (filled : Filled) (m : ℕ) → Tells limit sums filled → 1 ≤ m → m ≤ limit → get_or sums (m - 1) None ≡ known_sum filled m
 told_at limit sums filled m tells one most =
     let back : m - 1 + 1 ≡ m = omega arith in
-    tells.each (m - 1) (omega arith) ∙ ap (told filled) back
+    tells.each (m - 1) (omega arith) ∙ ap (known_sum filled) back
 
 pub stays_told : (limit : ℕ) (sums : List (Option ℕ)) (filled : Filled) (size m : ℕ) → Tells limit sums filled → 1 ≤ m → m ≤ limit → stays_by size (get_or sums (m - 1) None) ≡ stays filled size m
 stays_told limit sums filled size m tells one most = ap (stays_by size) (told_at limit sums filled m tells one most) ∙ told_stays filled size m
@@ -68,7 +68,7 @@ used_push (x ∷ xs) n size m = go (eqb x.0 m) (used_push xs n size m) where
   go true rest = refl
   go false rest = rest
 
-told_here : (filled : Filled) (m size : ℕ) → told (filled ++ (m, size) ∷ []) m ≡ Some (sum_in filled m + size)
+told_here : (filled : Filled) (m size : ℕ) → known_sum (filled ++ (m, size) ∷ []) m ≡ Some (sum_in filled m + size)
 told_here filled m size =
     let same : eqb m m ≡ true = eq-eqb m m refl in
     let used : in_use (filled ++ (m, size) ∷ []) m ≡ true = used_push filled m size m ∙ rw same (or_true (in_use filled m)) in
@@ -79,7 +79,7 @@ told_here filled m size =
       or_true true = refl
       or_true false = refl
 
-told_there : (filled : Filled) (n m size : ℕ) → n ≢ m → told (filled ++ (n, size) ∷ []) m ≡ told filled m
+told_there : (filled : Filled) (n m size : ℕ) → n ≢ m → known_sum (filled ++ (n, size) ∷ []) m ≡ known_sum filled m
 told_there filled n m size e =
     let other : eqb n m ≡ false = ne_eqb n m e in
     let used : in_use (filled ++ (n, size) ∷ []) m ≡ in_use filled m = used_push filled n size m ∙ rw other (or_false (in_use filled m)) in
@@ -99,13 +99,13 @@ put_told limit sums filled size m tells one most = record {
   sum : sum_at sums (m - 1) ≡ sum_in filled m
   sum = ap (λ o. unwrap_or o 0) (told_at limit sums filled m tells one most) ∙ told_sum filled m
 
-  by_place : (k : ℕ) → k < limit → (k ≡ m - 1) ⊎ (k ≡ m - 1 → ⊥) → get_or (set sums (m - 1) (Some (sum_at sums (m - 1) + size))) k None ≡ told (filled ++ (m, size) ∷ []) (k + 1)
+  by_place : (k : ℕ) → k < limit → (k ≡ m - 1) ⊎ (k ≡ m - 1 → ⊥) → get_or (set sums (m - 1) (Some (sum_at sums (m - 1) + size))) k None ≡ known_sum (filled ++ (m, size) ∷ []) (k + 1)
   by_place k lt (inl e) =
       let at : k + 1 ≡ m = omega (arith, e, one) in
       let within : m - 1 < length sums = omega (arith, tells.all, one, most) in
       let put : get_or (set sums (m - 1) (Some (sum_at sums (m - 1) + size))) k None ≡ Some (sum_at sums (m - 1) + size) =
       ap (λ j. get_or (set sums (m - 1) (Some (sum_at sums (m - 1) + size))) j None) e ∙ get_or-set_same sums (m - 1) (Some (sum_at sums (m - 1) + size)) None within in
-      put ∙ (ap (λ n. Some (n + size)) sum ∙ (sym (told_here filled m size) ∙ ap (told (filled ++ (m, size) ∷ [])) (sym at)))
+      put ∙ (ap (λ n. Some (n + size)) sum ∙ (sym (told_here filled m size) ∙ ap (known_sum (filled ++ (m, size) ∷ [])) (sym at)))
   by_place k lt (inr e) =
       let other : m ≢ k + 1 = λ same. e (omega (arith, same)) in
       get_or-set_other sums (m - 1) k (Some (sum_at sums (m - 1) + size)) None e ∙ (tells.each k lt ∙ sym (told_there filled m (k + 1) size other))
@@ -152,7 +152,7 @@ shared_told limit sums filled size tells =
     ap (λ o. cond (leb size room) o None)
     (least_is (takes_more size) (λ m. in_use filled m && has_room filled size m) sums limit 1 tells.all (λ k lt. ap (takes_more size) (tells.each k lt) ∙ told_takes filled size (k + 1)))
 
-unused_told : (limit : ℕ) (sums : List (Option ℕ)) (filled : Filled) → Tells limit sums filled → numbered (position is_none sums) ≡ least_with (λ m. not (in_use filled m)) limit 1
+unused_told : (limit : ℕ) (sums : List (Option ℕ)) (filled : Filled) → Tells limit sums filled → number_at (position is_none sums) ≡ least_with (λ m. not (in_use filled m)) limit 1
 unfolding shifted
 unused_told limit sums filled tells =
     least_is is_none (λ m. not (in_use filled m)) sums limit 1 tells.all (λ k lt. ap is_none (tells.each k lt) ∙ told_none filled (k + 1))
@@ -180,9 +180,9 @@ stays_fit size sum small e = go (leb size room) e where
 abbrev pub Has : ℕ → List (Option ℕ) → ℕ → Type 0
 Has size sums m = (1 ≤ m) × (m ≤ length sums) × (sum_at sums (m - 1) + size < 4294967296)
 
-found : (test : Option ℕ → Bool) (size : ℕ) (sums : List (Option ℕ)) → ((o : Option ℕ) → test o ≡ true → unwrap_or o 0 + size < 4294967296) → IfSome (numbered (position test sums)) (Has size sums)
+found : (test : Option ℕ → Bool) (size : ℕ) (sums : List (Option ℕ)) → ((o : Option ℕ) → test o ≡ true → unwrap_or o 0 + size < 4294967296) → IfSome (number_at (position test sums)) (Has size sums)
 found test size sums fits = go (position test sums) refl where
-  go : (o : Option ℕ) → position test sums ≡ o → IfSome (numbered o) (Has size sums)
+  go : (o : Option ℕ) → position test sums ≡ o → IfSome (number_at o) (Has size sums)
   go None e = tt
   go (Some k) e =
       let is = position-Some test sums k None e in
@@ -199,7 +199,7 @@ moved_fits size sums small = by_shared (shared_of size sums) (shared (leb size r
   nothing None f = omega (arith, small)
   nothing (Some n) f = cc
 
-  shared : (b : Bool) → IfSome (cond b (numbered (position (takes_more size) sums)) None) (Has size sums)
+  shared : (b : Bool) → IfSome (cond b (number_at (position (takes_more size) sums)) None) (Has size sums)
   shared true = found (takes_more size) size sums takes
   shared false = tt
 
@@ -210,12 +210,12 @@ moved_fits size sums small = by_shared (shared_of size sums) (shared (leb size r
 -- ---- the answers of one step
 
 pub kept_answer : (limit : ℕ) (sums : List (Option ℕ)) (filled : Filled) (size : ℕ) (old : Option ℕ) (m : ℕ) → old ≡ Some m → stays_by size (get_or sums (m - 1) None) ≡ true → 1 ≤ m → m ≤ limit
-    → Tells limit sums filled → Some m ≡ staying filled size old
+    → Tells limit sums filled → Some m ≡ if_stays filled size old
 kept_answer limit sums filled size old m is stay one most tells =
     let h : stays filled size m ≡ true = sym (stays_told limit sums filled size m tells one most) ∙ stay in rw (is, h) refl
 
 pub kept_after : (limit : ℕ) (sums after : List (Option ℕ)) (filled : Filled) (size : ℕ) (old : Option ℕ) (m : ℕ) → old ≡ Some m → stays_by size (get_or sums (m - 1) None) ≡ true → 1 ≤ m → m ≤ limit
-    → after ≡ set sums (m - 1) (Some (sum_at sums (m - 1) + size)) → Tells limit sums filled → Tells limit after (filled_with filled (staying filled size old) size)
+    → after ≡ set sums (m - 1) (Some (sum_at sums (m - 1) + size)) → Tells limit sums filled → Tells limit after (filled_with filled (if_stays filled size old) size)
 kept_after limit sums after filled size old m is stay one most e tells =
     subst (λ o. Tells limit after (filled_with filled o size)) (kept_answer limit sums filled size old m is stay one most tells)
     (subst (λ s. Tells limit s (filled ++ (m, size) ∷ [])) (sym e) (put_told limit sums filled size m tells one most))
@@ -233,11 +233,11 @@ pub moved_has : (size m : ℕ) (sums : List (Option ℕ)) → size < 4294967296 
 moved_has size m sums small e = subst (λ o. IfSome o (Has size sums)) (sym e) (moved_fits size sums small)
 
 pub moved_after : (limit : ℕ) (sums after : List (Option ℕ)) (filled : Filled) (size m : ℕ) → size < 4294967296 → Some m ≡ moved_by size sums
-    → after ≡ set sums (m - 1) (Some (sum_at sums (m - 1) + size)) → Tells limit sums filled → Tells limit after (settled limit filled size None)
+    → after ≡ set sums (m - 1) (Some (sum_at sums (m - 1) + size)) → Tells limit sums filled → Tells limit after (filled_after limit filled size None)
 moved_after limit sums after filled size m small is e tells =
     let has = moved_has size m sums small is in
     let at : m ≡ moved_to limit filled size = ap (λ o. unwrap_or o (limit + 1)) is ∙ moved_told limit sums filled size tells in
-    subst (λ s. Tells limit s (settled limit filled size None)) (sym e)
+    subst (λ s. Tells limit s (filled_after limit filled size None)) (sym e)
     (subst (λ n. Tells limit (set sums (m - 1) (Some (sum_at sums (m - 1) + size))) (filled ++ (n, size) ∷ [])) at
     (put_told limit sums filled size m tells has.0 (omega (arith, has.1, tells.all))))
 

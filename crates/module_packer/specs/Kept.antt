@@ -2,7 +2,7 @@
 use Rattle.std.specs.Prelude.{◌≡◌, ℕ, zero, suc, ◌+◌, ◌<◌, ◌≤◌, not, ◌&&◌, List, [], ◌∷◌, ◌++◌, length, map, take, slice_get, ◌⊎◌, Option, Some, None, nat_le, ◌==◌, Bool, false, if◌then◌else◌}
 use Rattle.std.specs.Option.{unwrap_or, option_and_then}
 use Rattle.std.specs.List.{All, list_all, list_any, sum_by, count_by}
-use Rattle.module_packer.specs.Placement.{room, fresh, needed, sum_in, IsPlacement}
+use Rattle.module_packer.specs.Placement.{room, fresh, modules_needed, sum_in, IsPlacement}
 
 -- an object's size, and the module in which it was
 abbrev pub Placed : Type 0
@@ -25,9 +25,9 @@ has_room filled size m = nat_le (sum_in filled m + size) room
 abbrev pub stays : Filled → ℕ → ℕ → Bool
 stays filled size m = if nat_le size room then has_room filled size m else not (in_use filled m)
 
-abbrev pub staying : Filled → ℕ → Option ℕ → Option ℕ
-staying filled size None = None
-staying filled size (Some m) = if stays filled size m then Some m else None
+abbrev pub if_stays : Filled → ℕ → Option ℕ → Option ℕ
+if_stays filled size None = None
+if_stays filled size (Some m) = if stays filled size m then Some m else None
 
 abbrev pub filled_with : Filled → Option ℕ → ℕ → Filled
 filled_with filled None size = filled
@@ -37,12 +37,12 @@ filled_with filled (Some m) size = filled ++ (m, size) ∷ []
 abbrev pub first_pass : Filled → List Placed → List Placed
 first_pass filled [] = []
 first_pass filled (o ∷ os) =
-    (o.0, staying filled o.0 o.1) ∷ first_pass (filled_with filled (staying filled o.0 o.1) o.0) os
+    (o.0, if_stays filled o.0 o.1) ∷ first_pass (filled_with filled (if_stays filled o.0 o.1) o.0) os
 
 -- the objects that are placed then
 abbrev pub first_filled : Filled → List Placed → Filled
 first_filled filled [] = filled
-first_filled filled (o ∷ os) = first_filled (filled_with filled (staying filled o.0 o.1) o.0) os
+first_filled filled (o ∷ os) = first_filled (filled_with filled (if_stays filled o.0 o.1) o.0) os
 
 -- the least number from m on, among so many, that passes the test; the later ones aren't tested where m passes
 unfoldable pub least_with : (ℕ → Bool) → ℕ → ℕ → Option ℕ
@@ -68,26 +68,26 @@ abbrev pub settled_in : ℕ → Filled → ℕ → Option ℕ → ℕ
 settled_in limit filled size (Some m) = m
 settled_in limit filled size None = moved_to limit filled size
 
-abbrev pub settled : ℕ → Filled → ℕ → Option ℕ → Filled
-settled limit filled size (Some m) = filled
-settled limit filled size None = filled ++ (moved_to limit filled size, size) ∷ []
+abbrev pub filled_after : ℕ → Filled → ℕ → Option ℕ → Filled
+filled_after limit filled size (Some m) = filled
+filled_after limit filled size None = filled ++ (moved_to limit filled size, size) ∷ []
 
 -- where each object is; those that don't stay are taken in order, after all that stay
 abbrev pub second_pass : ℕ → Filled → List Placed → List ℕ
 second_pass limit filled [] = []
-second_pass limit filled (o ∷ os) = settled_in limit filled o.0 o.1 ∷ second_pass limit (settled limit filled o.0 o.1) os
+second_pass limit filled (o ∷ os) = settled_in limit filled o.0 o.1 ∷ second_pass limit (filled_after limit filled o.0 o.1) os
 
 -- the first object is in module 1, and then come the two passes over the others
-abbrev pub tried : ℕ → List Placed → List ℕ
-tried limit [] = []
-tried limit (o ∷ os) = 1 ∷ second_pass limit (first_filled ((1, o.0) ∷ []) os) (first_pass ((1, o.0) ∷ []) os)
+abbrev pub two_passes : ℕ → List Placed → List ℕ
+two_passes limit [] = []
+two_passes limit (o ∷ os) = 1 ∷ second_pass limit (first_filled ((1, o.0) ∷ []) os) (first_pass ((1, o.0) ∷ []) os)
 
 abbrev pub within : ℕ → List ℕ → Bool
 within limit ms = list_all (λ m. nat_le m limit) ms
 
 -- the module of each object: what the two passes give, or the fresh placement where a number of theirs passes the limit
-unfoldable pub kept : ℕ → List Placed → List ℕ
-kept limit objects = let ms : List ℕ = tried limit objects in if within limit ms then ms else fresh (sizes_in objects)
+unfoldable pub kept_modules : ℕ → List Placed → List ℕ
+kept_modules limit objects = let ms : List ℕ = two_passes limit objects in if within limit ms then ms else fresh (sizes_in objects)
 
 -- each old module lies within the limit
 abbrev pub WereWithin : ℕ → List Placed → Type 0
@@ -96,12 +96,12 @@ WereWithin limit objects = All (λ o. (m : ℕ) → o.1 ≡ Some m → (1 ≤ m)
 -- what is asked of objects: there is one, the first one was in module 1 or is new, and each old module lies within the limit
 pub record AreObjects (limit : ℕ) (objects : List Placed) : Type 0 where
   pub some : 0 < length objects
-  pub few : needed (sizes_in objects) ≤ limit
+  pub few : modules_needed (sizes_in objects) ≤ limit
   pub first : (m : ℕ) → option_and_then (λ o. o.1) (slice_get objects 0) ≡ Some m → m ≡ 1
   pub old : WereWithin limit objects
 
 abbrev pub KeptIsAPlacement : Type 0
-KeptIsAPlacement = (limit : ℕ) (objects : List Placed) → AreObjects limit objects → IsPlacement limit (sizes_in objects) (kept limit objects)
+KeptIsAPlacement = (limit : ℕ) (objects : List Placed) → AreObjects limit objects → IsPlacement limit (sizes_in objects) (kept_modules limit objects)
 
 -- ---- who stays
 
@@ -125,5 +125,5 @@ HasRoomAfter m before size = (bytes_of m before + size ≤ room) ⊎ (count_by (
 -- Unless the whole placement is the fresh one, an object stays in its old module where the objects before it that were
 -- there leave room for it.
 abbrev pub ObjectsStay : Type 0
-ObjectsStay = (limit : ℕ) (objects : List Placed) → (kept limit objects ≡ fresh (sizes_in objects))
-    ⊎ ((k m : ℕ) (o : Placed) → slice_get (from_one objects) k ≡ Some o → o.1 ≡ Some m → HasRoomAfter m (take k (from_one objects)) o.0 → slice_get (kept limit objects) k ≡ Some m)
+ObjectsStay = (limit : ℕ) (objects : List Placed) → (kept_modules limit objects ≡ fresh (sizes_in objects))
+    ⊎ ((k m : ℕ) (o : Placed) → slice_get (from_one objects) k ≡ Some o → o.1 ≡ Some m → HasRoomAfter m (take k (from_one objects)) o.0 → slice_get (kept_modules limit objects) k ≡ Some m)

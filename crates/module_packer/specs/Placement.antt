@@ -26,8 +26,8 @@ shared_sum None = 0
 shared_sum (Some o) = o.sum
 
 -- the module of one more object, and what is open after it
-abbrev pub placed : Packing → ℕ → ℕ × Packing
-placed s size =
+abbrev pub place_next : Packing → ℕ → ℕ × Packing
+place_next s size =
     if nat_lt room size then (s.count + 1, record s { count = s.count + 1 })
     else (if fits_shared s.shared size
     then (shared_number s.shared, record s { shared = Some (record { number = shared_number s.shared; sum = shared_sum s.shared + size }) })
@@ -35,14 +35,14 @@ placed s size =
 
 abbrev pub fresh_from : Packing → List ℕ → List ℕ
 fresh_from s [] = []
-fresh_from s (size ∷ sizes) = (placed s size).0 ∷ fresh_from (placed s size).1 sizes
+fresh_from s (size ∷ sizes) = (place_next s size).0 ∷ fresh_from (place_next s size).1 sizes
 
 abbrev pub fresh : List ℕ → List ℕ
 fresh sizes = fresh_from none_opened sizes
 
 -- how many modules the fresh placement opens: its greatest number
-abbrev pub needed : List ℕ → ℕ
-needed sizes = fold max 0 (fresh sizes)
+abbrev pub modules_needed : List ℕ → ℕ
+modules_needed sizes = fold max 0 (fresh sizes)
 
 -- the module that small objects go to is one of those opened, and isn't overfull
 abbrev pub IsSound : Packing → Type 0
@@ -62,4 +62,4 @@ pub record IsPlacement (limit : ℕ) (sizes modules : List ℕ) : Type 0 where
   pub sums : (m : ℕ) → 1 < count_by (λ n. n == m) modules → sum_in (zip modules sizes) m ≤ room
 
 abbrev pub FreshIsAPlacement : Type 0
-FreshIsAPlacement = (limit : ℕ) (sizes : List ℕ) → 0 < length sizes → needed sizes ≤ limit → IsPlacement limit sizes (fresh sizes)
+FreshIsAPlacement = (limit : ℕ) (sizes : List ℕ) → 0 < length sizes → modules_needed sizes ≤ limit → IsPlacement limit sizes (fresh sizes)

@@ -4,8 +4,8 @@ ghost use Rattle.std.specs.Prelude.{◌≡◌, ◌≤◌, ◌<◌, ◌+◌, ◌-
 ghost use Rattle.std.specs.List.{position};
 ghost use Rattle.std.specs.Option.{unwrap_or, option_map, is_none};
 ghost use Rattle.module_packer.specs.Placement.{room};
-ghost use Rattle.module_packer.specs.Kept.{Filled, staying, filled_with, settled_in, settled};
-ghost use Rattle.module_packer.specs.Told.{Tells, takes_more as takes, stays_by, sum_at, numbered, shared_of, moved_by};
+ghost use Rattle.module_packer.specs.Kept.{Filled, if_stays, filled_with, settled_in, filled_after};
+ghost use Rattle.module_packer.specs.Sums.{Tells, takes_more as takes, stays_by, sum_at, number_at, shared_of, moved_by};
 
 use crate::MOST_MODULES;
 use crate::packing::ROOM;
@@ -30,8 +30,8 @@ impl Filling {
     /// Places an object in its old module, if it stays there, and answers that module.
     pub fn keep(&mut self, size: u32, old: Option<u16>) -> Option<u16>
         requires { (m : ℕ) → old ≡ Some m → (1 ≤ m) × (m ≤ 139) }
-        ensures answer { (f : Filled) → Tells 139 self.old.sums f → result ≡ staying f size old }
-        ensures after { (f : Filled) → Tells 139 self.old.sums f → Tells 139 self.new.sums (filled_with f (staying f size old) size) }
+        ensures answer { (f : Filled) → Tells 139 self.old.sums f → result ≡ if_stays f size old }
+        ensures after { (f : Filled) → Tells 139 self.old.sums f → Tells 139 self.new.sums (filled_with f (if_stays f size old) size) }
     {
         match old {
             Some(number) if self.stays(size, number) => {
@@ -48,7 +48,7 @@ impl Filling {
         requires { (m : ℕ) → stays ≡ Some m → (1 ≤ m) × (m ≤ 139) }
         ensures number { (f : Filled) → Tells 139 self.old.sums f → MatchOption result (139 < settled_in 139 f size stays)
             (λ m. (m ≡ settled_in 139 f size stays) × (m ≤ 139)) }
-        ensures after { (f : Filled) → Tells 139 self.old.sums f → OnSome result (Tells 139 self.new.sums (settled 139 f size stays)) }
+        ensures after { (f : Filled) → Tells 139 self.old.sums f → OnSome result (Tells 139 self.new.sums (filled_after 139 f size stays)) }
     {
         match stays {
             Some(number) => Some(number),
@@ -59,7 +59,7 @@ impl Filling {
     /// Places an object that doesn't stay, and answers its module, if there is one for it.
     fn move_in(&mut self, size: u32) -> Option<u16>
         ensures answer { result ≡ moved_by size self.old.sums }
-        ensures after { (f : Filled) → Tells 139 self.old.sums f → OnSome result (Tells 139 self.new.sums (settled 139 f size None)) }
+        ensures after { (f : Filled) → Tells 139 self.old.sums f → OnSome result (Tells 139 self.new.sums (filled_after 139 f size None)) }
     {
         match self.room_for(size) {
             Some(number) => {
@@ -123,7 +123,7 @@ impl Filling {
 
     /// The least module that isn't in use.
     fn unused(&self) -> Option<u16>
-        ensures { result ≡ numbered (position is_none self.now.sums) }
+        ensures { result ≡ number_at (position is_none self.now.sums) }
     {
         number_of(first_unused(&self.sums))
     }
@@ -148,7 +148,7 @@ fn first_unused(sums: &[Option<u32>]) -> Option<usize>
 /// The number of the module at a place.
 fn number_of(place: Option<usize>) -> Option<u16>
     requires { IfSome place (λ k. k < 139) }
-    ensures { result ≡ numbered place }
+    ensures { result ≡ number_at place }
 {
     match place {
         Some(place) => Some(place as u16 + 1),

@@ -3,8 +3,8 @@
 ghost use Rattle.std.specs.Prelude.{◌≡◌, ◌≤◌, ℕ, ◌∷◌, Some, Option, MatchOption, IfOk, OnOk, false, true};
 ghost use Rattle.std.specs.List.{All};
 ghost use Rattle.module_packer.specs.Placement.{IsPlacement, fresh};
-ghost use Rattle.module_packer.specs.Kept.{Filled, AreObjects, kept, sizes_in, first_pass, first_filled, second_pass, within, WereWithin};
-ghost use Rattle.module_packer.specs.Told.{Tells};
+ghost use Rattle.module_packer.specs.Kept.{Filled, AreObjects, kept_modules, sizes_in, first_pass, first_filled, second_pass, within, WereWithin};
+ghost use Rattle.module_packer.specs.Sums.{Tells};
 
 use crate::filling::Filling;
 use crate::place_fresh;
@@ -26,7 +26,7 @@ use std::alloc::Global;
 /// a module from 1 to 139 or none. Out of memory is the only refusal. The rule is this project's own.
 pub fn place(alloc: Global, objects: &[(u32, Option<u16>)]) -> Result<Vec<u16>, NoMemory>
     requires { AreObjects 139 objects.now }
-    ensures kept { IfOk result (λ ms. ms.items ≡ kept 139 objects.now) }
+    ensures kept { IfOk result (λ ms. ms.items ≡ kept_modules 139 objects.now) }
     ensures fits { IfOk result (λ ms. IsPlacement 139 (sizes_in objects.now) ms.items) }
 {
     let mut filling = Filling::new();

@@ -6,7 +6,7 @@
 #![tactic(auto)]
 
 ghost use Rattle.std.specs.Prelude.{◌≡◌, ◌≤◌, ◌<◌, length, IfOk};
-ghost use Rattle.module_packer.specs.Placement.{fresh, needed, IsPlacement, FreshIsAPlacement};
+ghost use Rattle.module_packer.specs.Placement.{fresh, modules_needed, IsPlacement, FreshIsAPlacement};
 ghost use Rattle.module_packer.specs.Kept.{KeptIsAPlacement, ObjectsStay};
 
 mod filling;
@@ -25,7 +25,7 @@ const MOST_MODULES: usize = 139;
 /// object order, and isn't empty. Takes no memory.
 pub fn need(sizes: &[u32]) -> usize
     requires { 0 < length sizes.now }
-    ensures { result ≡ needed sizes.now }
+    ensures { result ≡ modules_needed sizes.now }
 {
     let mut packing = Packing::new();
     for size in sizes {
@@ -43,7 +43,7 @@ pub fn need(sizes: &[u32]) -> usize
 /// `sizes` isn't empty, and `need` of it is at most 139. Out of memory is the only refusal.
 pub fn place_fresh(alloc: Global, sizes: &[u32]) -> Result<Vec<u16>, NoMemory>
     requires some { 0 < length sizes.now }
-    requires few { needed sizes.now ≤ 139 }
+    requires few { modules_needed sizes.now ≤ 139 }
     ensures fresh { IfOk result (λ ms. ms.items ≡ fresh sizes.now) }
     ensures fits { IfOk result (λ ms. IsPlacement 139 sizes.now ms.items) }
 {

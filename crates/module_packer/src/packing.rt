@@ -1,7 +1,7 @@
 //! A fresh placement, object by object.
 
 ghost use Rattle.std.specs.Prelude.{◌≡◌, ◌≤◌, ◌<◌, ◌+◌, ◌^◌};
-ghost use Rattle.module_packer.specs.Placement.{placed, none_opened, IsSound};
+ghost use Rattle.module_packer.specs.Placement.{place_next, none_opened, IsSound};
 
 /// The most bytes that more than one object has in one module.
 pub(crate) const ROOM: u32 = 65_536;
@@ -47,8 +47,8 @@ impl Packing {
     pub fn place(&mut self, size: u32) -> usize
         requires room { self.old.count + 1 < 2 ^ 64 }
         requires sound { IsSound self.old }
-        ensures module { result ≡ (placed self.old size).0 }
-        ensures after { self.new ≡ (placed self.old size).1 }
+        ensures module { result ≡ (place_next self.old size).0 }
+        ensures after { self.new ≡ (place_next self.old size).1 }
         ensures sound { IsSound self.new }
         ensures few { self.new.count ≤ self.old.count + 1 }
     {

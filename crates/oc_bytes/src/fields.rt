@@ -4,9 +4,11 @@ ghost use Rattle.oc_bytes.specs.Outcome.{Steps};
 
 use byteorder::{BigEndian, ByteOrder};
 use std::marker::Model;
+use thiserror::Error;
 
 /// Fewer bytes are left than were asked for.
-#[derive(Clone, Copy, Debug, PartialEq, Eq)]
+#[derive(Clone, Copy, Debug, PartialEq, Eq, Error)]
+#[error("fewer bytes are left than were asked for")]
 pub struct Short;
 
 /// The bytes of a message, read field by field from the front.

@@ -1,14 +1,18 @@
 ghost use Rattle.std.specs.Prelude.{◌≡◌, ◌<◌, ◌≤◌, ◌++◌, ◌||◌, Bool, true, false, List, ℕ, Option, length, take, IfOk, OnOk, OnErr, IsErrOf};
-ghost use Rattle.oc_bytes.specs.Outcome.{Rose, Told};
-ghost use Rattle.oc_bytes.specs.Streams.{AppendsFront};
+ghost use Rattle.oc_bytes.specs.Outcome.{Rose, Known};
+ghost use Rattle.oc_bytes.specs.Streams.{AppendsPrefix};
+
+use thiserror::Error;
 
 /// Why a write took nothing.
-#[derive(Clone, Copy, Debug, PartialEq, Eq)]
+#[derive(Clone, Copy, Debug, PartialEq, Eq, Error)]
 pub enum WriteFault {
     /// The system answered with an error. It comes only where the sink's count of faults rose in this
     /// call, or stands at its type's end.
+    #[error("the write failed")]
     Failed,
     /// There is no memory.
+    #[error("out of memory")]
     NoMemory,
 }
 
@@ -33,7 +37,7 @@ pub trait Sink {
     fn write(&mut self, from: &[u8]) -> Result<usize, WriteFault>
         requires { 0 < length from.now }
         ensures within { IfOk result (λ n. (0 < n) × (n ≤ length from.now)) }
-        ensures appends { IfOk result (λ n. Told (written self.old) (written self.new) (λ before after. after ≡ before ++ take n from.now)) }
+        ensures appends { IfOk result (λ n. Known (written self.old) (written self.new) (λ before after. after ≡ before ++ take n from.now)) }
         ensures nothing { OnErr result (written self.new ≡ written self.old) }
         ensures later { faults self.old ≤ faults self.new }
         ensures cause { IsErrOf result WriteFault.Failed → Rose (faults self.old) (faults self.new) }
@@ -49,8 +53,8 @@ pub trait Sink {
 /// Writes all of the bytes, in as many calls as the sink needs. After a fault a prefix of them was
 /// written.
 pub fn write_all<K: Sink>(sink: &mut K, from: &[u8]) -> Result<(), WriteFault>
-    ensures ok { OnOk result (Told (K.written sink.old) (K.written sink.new) (λ before after. after ≡ before ++ from.now)) }
-    ensures err { OnErr result (Told (K.written sink.old) (K.written sink.new) (λ before after. AppendsFront before after from.now)) }
+    ensures ok { OnOk result (Known (K.written sink.old) (K.written sink.new) (λ before after. after ≡ before ++ from.now)) }
+    ensures err { OnErr result (Known (K.written sink.old) (K.written sink.new) (λ before after. AppendsPrefix before after from.now)) }
     ensures later { K.faults sink.old ≤ K.faults sink.new }
     ensures cause { IsErrOf result WriteFault.Failed → Rose (K.faults sink.old) (K.faults sink.new) }
     ensures in_time { K.failed sink.old ≡ false → K.late sink.new ≡ K.late sink.old }

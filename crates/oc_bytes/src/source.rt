@@ -1,11 +1,14 @@
 ghost use Rattle.std.specs.Prelude.{◌≡◌, ◌<◌, ◌≤◌, List, ℕ, Option, length, IfOk, OnErr};
-ghost use Rattle.oc_bytes.specs.Outcome.{Rose, Told};
+ghost use Rattle.oc_bytes.specs.Outcome.{Rose, Known};
 ghost use Rattle.oc_bytes.specs.Streams.{Takes};
+
+use thiserror::Error;
 
 /// The system answered a read with an error. Nothing was taken.
 ///
 /// It comes only where the source's count of faults rose in this call, or stands at its type's end.
-#[derive(Clone, Copy, Debug, PartialEq, Eq)]
+#[derive(Clone, Copy, Debug, PartialEq, Eq, Error)]
+#[error("the read failed")]
 pub struct Failed;
 
 /// Where bytes come from. This trait is this project's own.
@@ -23,7 +26,7 @@ pub trait Source {
     fn read(&mut self, into: &mut [u8]) -> Result<usize, Failed>
         requires { 0 < length into.old }
         ensures within { IfOk result (λ n. n ≤ length into.old) }
-        ensures read { IfOk result (λ n. Told (left self.old) (left self.new) (λ before after. Takes before after into.new n)) }
+        ensures read { IfOk result (λ n. Known (left self.old) (left self.new) (λ before after. Takes before after into.new n)) }
         ensures nothing { OnErr result (left self.new ≡ left self.old) }
         ensures later { faults self.old ≤ faults self.new }
         ensures cause { OnErr result (Rose (faults self.old) (faults self.new)) };

@@ -130,3 +130,12 @@ fn repeats_interrupted_calls(rt: HostRuntime) {
     assert_eq!(rt; sink.write(b"b"), Err(WriteFault::Failed));
     assert_eq!(rt; sink.faults(), 17);
 }
+
+#[test]
+fn faults_as_text(rt: HostRuntime) -> Result<(), Fail> {
+    let text = format!(in rt.alloc(); "{}", Short)?;
+    assert_eq!(rt; text.as_str(), "fewer bytes are left than were asked for");
+    let text = format!(in rt.alloc(); "{}", WriteFault::NoMemory)?;
+    assert_eq!(rt; text.as_str(), "out of memory");
+    Ok(())
+}

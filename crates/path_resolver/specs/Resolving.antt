@@ -55,12 +55,12 @@ in_folder rest name (Some bindings) = by_binding rest (find (λ b. same_name nam
 in_folder rest name None = answers.NoSuch
 
 -- at an object: no name is left
-abbrev pub ended : ℕ → Bytes → Found → Answer
-ended m bytes (found.File span) = answers.File (take span.length (drop span.first bytes))
-ended m bytes (found.Folder k) = answers.Folder (names_of (bindings_of bytes k))
-ended m bytes found.Other = answers.OtherKind m
-ended m bytes (found.Bad place) = answers.Bad m place
-ended m bytes found.Missing = answers.Dangling m
+abbrev pub answer_at_end : ℕ → Bytes → Found → Answer
+answer_at_end m bytes (found.File span) = answers.File (take span.length (drop span.first bytes))
+answer_at_end m bytes (found.Folder k) = answers.Folder (names_of (bindings_of bytes k))
+answer_at_end m bytes found.Other = answers.OtherKind m
+answer_at_end m bytes (found.Bad place) = answers.Bad m place
+answer_at_end m bytes found.Missing = answers.Dangling m
 
 -- at an object: a name is left
 abbrev pub goes_on : (Target → Answer) → Bytes → ℕ → Bytes → Found → Answer
@@ -84,7 +84,7 @@ at_target carousel held object t =
 
 -- at a location, where no name is left
 abbrev pub last : ℕ → Held → Target → Answer
-last carousel held t = at_target carousel held (λ bytes. ended t.0.module bytes (found_of bytes t.0.key)) t
+last carousel held t = at_target carousel held (λ bytes. answer_at_end t.0.module bytes (found_of bytes t.0.key)) t
 
 -- at a location, where a name is left: `rest` is the walk from the next location on
 abbrev pub turn : ℕ → Held → (Target → Answer) → Bytes → Target → Answer

@@ -95,8 +95,8 @@ fn module_at<'a>(shot: &'a Shot, carousel: u32, target: &Target) -> Result<&'a A
 
 /// The answer at a location's object, where no name is left.
 fn object_answer(module: &Arc<Module>, location: &Location) -> Result<Answer, NoMemory>
-    ensures answer { IfOk result (λ a. a ≡ resolving.ended location.now.module (arc_value module.now) (found_of (arc_value module.now) location.now.key)) }
-    ensures memory { OnErr result (IsTrue (is_shared (resolving.ended location.now.module (arc_value module.now) (found_of (arc_value module.now) location.now.key)))) }
+    ensures answer { IfOk result (λ a. a ≡ resolving.answer_at_end location.now.module (arc_value module.now) (found_of (arc_value module.now) location.now.key)) }
+    ensures memory { OnErr result (IsTrue (is_shared (resolving.answer_at_end location.now.module (arc_value module.now) (found_of (arc_value module.now) location.now.key)))) }
 {
     let id = location.module;
     match module.find(location.key.bytes()) {

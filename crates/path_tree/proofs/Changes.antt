@@ -7,7 +7,7 @@ use Rattle.std.proofs.lemmas.Bool.{ltb-false}
 use Rattle.std.proofs.lemmas.List.{drop_all}
 use Rattle.path_tree.specs.Paths.{Bytes, PathNames, path_cmp, same_path, is_below, IsPath}
 use Rattle.path_tree.specs.Trees.{Tree, IsTree, File, Folder, NoSuch, content_at, is_folder, is_through_file, names_below, node_at}
-use Rattle.path_tree.specs.Edits.{fault_of, edited, apply_from}
+use Rattle.path_tree.specs.Edits.{fault_of, after_edit, apply_from}
 use Rattle.path_tree.specs.Places.{place_in, first_is, last_is_above}
 use Rattle.path_tree.specs.declared.tree.Edit.{Edit}
 use Rattle.path_tree.specs.declared.tree.Edit.TheVariants.{Put}
@@ -89,9 +89,9 @@ node-none t p place h is e f = rw (no_content t p place h is e, f) refl
 
 -- ---- a list of edits
 
-pub apply-step : (t : Tree) (edits : List Edit) (i : ℕ) (d : Edit) → i < length edits → fault_of t (get_or edits i d) ≡ None → apply_from i t (drop i edits) ≡ apply_from (i + 1) (edited t (get_or edits i d)) (drop (i + 1) edits)
+pub apply-step : (t : Tree) (edits : List Edit) (i : ℕ) (d : Edit) → i < length edits → fault_of t (get_or edits i d) ≡ None → apply_from i t (drop i edits) ≡ apply_from (i + 1) (after_edit t (get_or edits i d)) (drop (i + 1) edits)
 apply-step t edits i d within none = rw (drop-cons edits i d within, add-one) (made (get_or edits i d) none (drop (suc i) edits)) where
-  made : (e : Edit) → fault_of t e ≡ None → (es : List Edit) → apply_from i t (e ∷ es) ≡ apply_from (suc i) (edited t e) es
+  made : (e : Edit) → fault_of t e ≡ None → (es : List Edit) → apply_from i t (e ∷ es) ≡ apply_from (suc i) (after_edit t e) es
   made e none es = rw none refl
 
 pub apply-refused : (t : Tree) (edits : List Edit) (i : ℕ) (d : Edit) (fault : EditFault) → i < length edits → fault_of t (get_or edits i d) ≡ Some fault → apply_from i t (drop i edits) ≡ Err (i, fault)

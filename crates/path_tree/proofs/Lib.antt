@@ -9,3 +9,5 @@ pub mod Changes
 pub mod Names
 pub mod Named
 pub mod Others
+pub mod Checked
+pub mod There

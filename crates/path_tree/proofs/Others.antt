@@ -11,7 +11,7 @@ use Rattle.std.specs.Map.{remove_entry}
 use Rattle.std.proofs.lemmas.List.Elements.{All-head, All-tail}
 use Rattle.path_tree.specs.Paths.{Bytes, PathNames, path_cmp, same_path}
 use Rattle.path_tree.specs.Trees.{Tree, content_at}
-use Rattle.path_tree.specs.Edits.{fault_of, edited, unless, apply_from, path_in}
+use Rattle.path_tree.specs.Edits.{fault_of, after_edit, unless, apply_from, path_in}
 use Rattle.path_tree.specs.Places.{first_is}
 use Rattle.path_tree.specs.declared.tree.Edit.{Edit}
 use Rattle.path_tree.specs.declared.tree.Edit.TheVariants.{Put, Remove}
@@ -43,7 +43,7 @@ remove_other (e ∷ es) p q apart = go (same_path p e.0) refl (remove_other es p
       rw other refl
   go false is rest = ap (λ r. cond (same_path q e.0) (Some e.1) r) rest
 
-edited_other : (t : Tree) (e : Edit) (q : PathNames) → same_path q (path_in e) ≡ false → content_at (edited t e) q ≡ content_at t q
+edited_other : (t : Tree) (e : Edit) (q : PathNames) → same_path q (path_in e) ≡ false → content_at (after_edit t e) q ≡ content_at t q
 edited_other t (Put p b) q apart = insert_other t p q b apart
 edited_other t (Remove p) q apart = remove_other t p q apart
 
@@ -53,8 +53,8 @@ tree_in (Err fault) = []
 
 applied_other : (at : ℕ) (t u : Tree) (edits : List Edit) (q : PathNames) → apply_from at t edits ≡ Ok u → All (λ e. same_path q (path_in e) ≡ false) edits → content_at u q ≡ content_at t q
 applied_other at t u [] q is apart = ap (λ z. content_at z q) (sym (ap tree_in is))
-applied_other at t u (e ∷ es) q is apart = go (fault_of t e) is (λ made. applied_other (suc at) (edited t e) u es q made (All-tail (λ x. same_path q (path_in x) ≡ false) e es apart)) where
-  go : (f : Option EditFault) → unless at f (apply_from (suc at) (edited t e) es) ≡ Ok u → (apply_from (suc at) (edited t e) es ≡ Ok u → content_at u q ≡ content_at (edited t e) q) → content_at u q ≡ content_at t q
+applied_other at t u (e ∷ es) q is apart = go (fault_of t e) is (λ made. applied_other (suc at) (after_edit t e) u es q made (All-tail (λ x. same_path q (path_in x) ≡ false) e es apart)) where
+  go : (f : Option EditFault) → unless at f (apply_from (suc at) (after_edit t e) es) ≡ Ok u → (apply_from (suc at) (after_edit t e) es ≡ Ok u → content_at u q ≡ content_at (after_edit t e) q) → content_at u q ≡ content_at t q
   go (Some fault) bad rest = cc
   go None made rest = rest made ∙ edited_other t e q (All-head (λ x. same_path q (path_in x) ≡ false) e es apart)
 

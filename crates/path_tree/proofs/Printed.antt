@@ -7,7 +7,7 @@ use Rattle.std.proofs.lemmas.Bool.{ne_eqb}
 use Rattle.std.proofs.lemmas.List.Splits.{slice_split_none, slice_split_at}
 use Rattle.std.proofs.lemmas.Bool.Decides.{nat_tests}
 use Rattle.path_tree.specs.Paths.{Bytes, PathNames, IsName, IsPath}
-use Rattle.path_tree.specs.Texts.{Plain, digit, upper_digit, undo_all, undone, if_plain, is_name, is_slash, is_zero_or_slash, name_of, names_of, names_after, path_of, printed_byte, printed_name, text_of}
+use Rattle.path_tree.specs.Texts.{Plain, digit, upper_digit, undo_all, undo_escapes, if_plain, is_name, is_slash, is_zero_or_slash, name_of, names_of, names_after, path_of, printed_byte, printed_name, text_of}
 
 digit-upper_digit : (d : ℕ) → d < 16 → digit (upper_digit d) ≡ Some d
 digit-upper_digit d few = grind (arith, nat_tests)
@@ -42,7 +42,7 @@ is_name-IsName name h =
 
 name_of-printed : (name : Bytes) → IsName name → name_of (flat_map printed_byte name) ≡ Some name
 name_of-printed name h =
-    let whole : undone (flat_map printed_byte name) ≡ Some name = ap if_plain (undo_all-printed name [] h.in_byte) in
+    let whole : undo_escapes (flat_map printed_byte name) ≡ Some name = ap if_plain (undo_all-printed name [] h.in_byte) in
     rw (whole, is_name-IsName name h) refl
 
 slash_free-digit : (d : ℕ) → d < 16 → is_slash (upper_digit d) ≡ false

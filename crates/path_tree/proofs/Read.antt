@@ -18,7 +18,7 @@ after-with_name : (names : PathNames) (name : Bytes) (place : ℕ) (r : Result P
 after-with_name names name place (Ok more) = ap Ok (sym (append_assoc names (name ∷ []) more))
 after-with_name names name place (Err fault) = refl
 
-names_of-cons : (place n : ℕ) (piece : Bytes) (pieces : List Bytes) → n < 16 → names_of place n (piece ∷ pieces) ≡ with_name (name_of piece) place (names_of (place + length piece + 1) (n + 1) pieces)
+pub names_of-cons : (place n : ℕ) (piece : Bytes) (pieces : List Bytes) → n < 16 → names_of place n (piece ∷ pieces) ≡ with_name (name_of piece) place (names_of (place + length piece + 1) (n + 1) pieces)
 names_of-cons place n piece pieces few = let e : nat_eq n 16 ≡ false = ne_eqb n 16 (λ same. omega arith) in rw e refl
 
 -- a name was read, and a slash follows it

@@ -1,8 +1,8 @@
 -- What the steps of reading a text say of each other.
-use Rattle.std.specs.Prelude.{◌≡◌, ℕ, ◌+◌, ◌*◌, ◌<◌, ◌++◌, [], ◌∷◌, length, Option, Some, None, Result, Ok, Err}
+use Rattle.std.specs.Prelude.{◌≡◌, ℕ, ◌+◌, ◌*◌, ◌<◌, ◌++◌, [], ◌∷◌, length, Option, Some, None, Result, Ok, Err, ⊤}
 use Rattle.std.specs.List.{All, slice_split}
-use Rattle.path_tree.specs.Paths.{Bytes, IsName}
-use Rattle.path_tree.specs.Texts.{Plain, undo_all, if_plain, name_of, is_slash}
+use Rattle.path_tree.specs.Paths.{Bytes, PathNames, IsName}
+use Rattle.path_tree.specs.Texts.{TextFault, Plain, undo_all, if_plain, name_of, is_slash}
 use Rattle.path_tree.specs.declared.path.PathFault.{PathFault}
 use Rattle.path_tree.specs.declared.path.PathFault.TheVariants as faults
 
@@ -31,3 +31,8 @@ IsNameAt text place (Ok name) = (name_of text ≡ Some name) × IsName name
 IsNameAt text place (Err (faults.BadName at)) = (name_of text ≡ None) × (at ≡ place)
 IsNameAt text place (Err faults.TooDeep) = ⊥
 IsNameAt text place (Err faults.NoMemory) = Unit {0}
+
+-- whether there are names, or the fault
+abbrev pub checked : Result PathNames TextFault → Result ⊤ TextFault
+checked (Ok names) = Ok tt
+checked (Err fault) = Err fault

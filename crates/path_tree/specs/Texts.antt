@@ -68,12 +68,12 @@ checked_name (Some name) = if is_name name then Some name else None
 checked_name None = None
 
 -- the bytes that a piece of text stands for once its escapes are undone
-abbrev pub undone : Bytes → Option Bytes
-undone piece = if_plain (undo_all (Plain, []) piece)
+abbrev pub undo_escapes : Bytes → Option Bytes
+undo_escapes piece = if_plain (undo_all (Plain, []) piece)
 
 -- the name that a piece of text stands for
 abbrev pub name_of : Bytes → Option Bytes
-name_of piece = checked_name (undone piece)
+name_of piece = checked_name (undo_escapes piece)
 
 abbrev pub with_name : Option Bytes → ℕ → Result PathNames TextFault → Result PathNames TextFault
 with_name None place rest = Err (BadName place)

@@ -1,6 +1,6 @@
 //! Searches among a tree's files, which stand in the order of paths: what lies below a path stands right
 //! after it, and a file that it leads through right before it.
-ghost use Rattle.std.specs.Prelude.{◌≡◌, ◌≤◌, ◌||◌, ◌==◌, length, take, drop, IfOk, OnOk};
+ghost use Rattle.std.specs.Prelude.{◌≡◌, ◌≤◌, ◌<◌, ◌||◌, ◌==◌, length, take, drop, IfOk, OnOk, OnErr};
 ghost use Rattle.std.specs.List.{dedup, filter_map};
 ghost use Rattle.path_tree.specs.Paths.{same_name, next_name, IsPath};
 ghost use Rattle.path_tree.specs.Trees.{IsTree, is_folder, names_below};
@@ -93,7 +93,8 @@ fn list_name(names: &mut Vec<Name>, name: &Name) -> Result<(), NoMemory>
 
 /// The next names below the path of files that all lie below it, each once.
 fn next_names(alloc: Global, files: &[(Path, Blob)], path: &Path) -> Result<Vec<Name>, NoMemory>
-    ensures { IfOk result (λ names. names.items ≡ dedup same_name (filter_map (λ e. next_name path.now e.0) files.now)) }
+    ensures names { IfOk result (λ names. names.items ≡ dedup same_name (filter_map (λ e. next_name path.now e.0) files.now)) }
+    ensures no_memory { OnErr result (0 < length files.now) }
 {
     let mut names = Vec::new(alloc);
     for (file, _) in files {
@@ -114,7 +115,8 @@ pub(crate) fn names_below(
     requires tree { IsTree files.now }
     requires place { place ≡ place_in files.now path.now }
     requires within { place ≤ length files.now }
-    ensures { IfOk result (λ names. names.items ≡ names_below files.now path.now) }
+    ensures names { IfOk result (λ names. names.items ≡ names_below files.now path.now) }
+    ensures no_memory { OnErr result (0 < length files.now) }
 {
     let behind = &files[place..];
     next_names(alloc, &behind[..count_below(behind, path)], path)

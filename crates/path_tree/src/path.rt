@@ -1,16 +1,19 @@
 ghost use Rattle.path_tree.specs.Paths.{same_name};
-ghost use Rattle.std.specs.Prelude.{◌≡◌, ◌≤◌, ◌<◌, length, take, slice_get, option_map, Some, Ok, IfOk};
+ghost use Rattle.std.specs.Prelude.{◌≡◌, ◌≤◌, ◌<◌, length, take, slice_get, option_map, Some, Ok, IfOk, OnErr, IsSome, IsOk, IsErrOf};
+ghost use Rattle.std.specs.Slice.Iter.{iter_rest};
 
-use crate::text::{MOST_NAMES, is_path_name, push_name, read_names};
+use crate::text::{MOST_NAMES, is_path_name, push_name, read_names, write_name};
 use oc_bytes::NoMemory;
 use std::alloc::{AllocError, AllocFailed, Global};
 use std::cmp::Ordering;
 use std::marker::Model;
 use std::sync::Arc;
+use std::{fmt, slice};
+use thiserror::Error;
 
 /// A name as it stands in a folder's listing: 0 to 255 bytes of any value. The names of a `Path` are
 /// narrower.
-#[derive(Drop)]
+#[derive(Debug, Drop)]
 pub struct Name {
     bytes: Vec<u8>,
 }
@@ -58,15 +61,18 @@ pub(crate) fn same_bytes(name: &[u8], other: &[u8]) -> bool
 }
 
 /// Why a text is no path.
-#[derive(Debug, Drop)]
+#[derive(Debug, Drop, Error)]
 pub enum PathFault {
     /// The text doesn't begin with `/` (the place is 0), or one of its first sixteen names is empty, has
     /// more than 254 bytes, has a `%` without two hexadecimal digits after it, or holds a byte zero or
     /// `/` once its escapes are undone. The number is the place of the name's first byte in the text.
+    #[error("no path: the name at byte {0} is not allowed")]
     BadName(usize),
     /// The text has a seventeenth name.
+    #[error("the path has more than 16 names")]
     TooDeep,
     /// There is no memory.
+    #[error("out of memory")]
     NoMemory,
 }
 
@@ -94,7 +100,7 @@ impl<T: Drop> From<AllocFailed<T>> for PathFault {
 
 /// A path below the root of a carousel: 0 to 16 names, each of 1 to 254 bytes without zero and `/`. The
 /// path of no names is the root. Two paths that are shared hold the same names in memory once.
-#[derive(Drop)]
+#[derive(Debug, Drop)]
 pub struct Path {
     names: Arc<Vec<Name>>,
 }
@@ -118,9 +124,11 @@ impl Path {
 
     /// Reads a path's text (this project's own rule): `/` alone is the root, and else `/` stands before
     /// each name, in which `%` and two hexadecimal digits of either case stand for a byte and every other
-    /// byte for itself. The names are taken from the left, and the first fault counts.
+    /// byte for itself. The names are taken from the left, and the first fault counts. Memory is asked for only
+    /// where the text is a path.
     pub fn parse(alloc: Global, text: &[u8]) -> Result<Path, PathFault>
-        ensures { Gives (λ p. p) text_cause result (path_of text.now) }
+        ensures reads { Gives (λ p. p) text_cause result (path_of text.now) }
+        ensures no_memory { IsErrOf result PathFault.NoMemory → IsOk (path_of text.now) }
     {
         let names = match text {
             b"/" => Vec::new(alloc),
@@ -146,6 +154,13 @@ impl Path {
         ensures { slice_get self.now i ≡ Some result.now }
     {
         self.names[i].bytes()
+    }
+
+    /// The names in turn, from the root's side.
+    pub fn iter(&self) -> slice::Iter<'_, Name>
+        ensures { iter_rest result ≡ self.now }
+    {
+        self.names.iter()
     }
 
     /// The same path again, whose names are not copied.
@@ -174,9 +189,10 @@ impl Path {
 
     /// The path of one name more, or none where the name is no name of a path (it is empty, has more than 254
     /// bytes, or holds a byte zero or `/`) or where this path has sixteen names already. The one refusal is
-    /// out of memory.
+    /// out of memory, and comes only where there is a path to give.
     pub fn below(&self, name: &[u8]) -> Result<Option<Path>, NoMemory>
-        ensures { IfOk result (λ below. below ≡ with_below self.now name.now) }
+        ensures below { IfOk result (λ below. below ≡ with_below self.now name.now) }
+        ensures no_memory { OnErr result (IsSome (with_below self.now name.now)) }
     {
         if !is_path_name(name) || self.names.len() >= MOST_NAMES {
             return Ok(None);
@@ -256,5 +272,23 @@ impl Path {
             push_name(&mut text, name.bytes())?;
         }
         Ok(text)
+    }
+}
+
+impl fmt::Display for Path {
+    ghost use Rattle.std.specs.Prelude.{Some};
+    ghost use Rattle.path_tree.specs.Texts.{text_of};
+
+    ghost output = { λ p. Some (text_of p) };
+
+    /// The text that `print` gives.
+    fn fmt<W: fmt::Write>(&self, f: &mut fmt::Formatter<W>) -> fmt::Result {
+        if self.names.is_empty() {
+            return f.write_char('/');
+        }
+        for name in self.names.iter() {
+            write_name(f, name.bytes())?;
+        }
+        Ok(())
     }
 }

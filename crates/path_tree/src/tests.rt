@@ -174,3 +174,15 @@ fn edits_that_are_refused(rt: HostRuntime) -> Result<(), Fail> {
     );
     Ok(())
 }
+
+#[test]
+fn faults_as_text(rt: HostRuntime) -> Result<(), Fail> {
+    let text = format!(in rt.alloc(); "{}", PathFault::BadName(3))?;
+    assert_eq!(rt; text.as_str(), "no path: the name at byte 3 is not allowed");
+    let text = format!(in rt.alloc(); "{}", ApplyFault::Edit(1, EditFault::ThroughFile))?;
+    assert_eq!(rt; text.as_str(), "edit 1: the path leads through a file");
+    let path = Path::parse(rt.alloc(), b"/a%20b/%2d")?;
+    let text = format!(in rt.alloc(); "{path}")?;
+    assert_eq!(rt; text.as_str(), "/a%20b/-");
+    Ok(())
+}

@@ -1,15 +1,17 @@
 //! The texts of names: escapes read and written.
-ghost use Rattle.std.specs.Prelude.{◌≡◌, true, ◌<◌, ◌++◌, length, drop, position, IfOk, IfSome, OnOk, option_map};
+ghost use Rattle.std.specs.Prelude.{◌≡◌, true, ◌<◌, ◌++◌, length, drop, position, is_some, Ok, IfOk, IfSome, IsErrOf, OnOk, option_map, ◌==◌, ◌&&◌, not, nat_le, Some};
 ghost use Rattle.std.specs.List.{list_any, flat_map};
 ghost use Rattle.std.specs.String.{string_bytes};
+ghost use Rattle.std.specs.Fmt.{DisplaysOnOk};
 ghost use Rattle.oc_bytes.specs.Outcome.{Gives};
 ghost use Rattle.path_tree.specs.Paths.{IsName, IsPath};
-ghost use Rattle.path_tree.specs.Texts.{digit, upper_digit, printed_byte, printed_name, text_cause, is_name, is_slash, is_zero_or_slash, undone, names_after};
-ghost use Rattle.path_tree.specs.Steps.{AreBytes, byte_of_digits, Undoes, IsNameAt, Cuts};
+ghost use Rattle.path_tree.specs.Texts.{digit, upper_digit, printed_byte, printed_name, text_cause, is_name, is_slash, is_zero_or_slash, undo_escapes, name_of, names_after};
+ghost use Rattle.path_tree.specs.Steps.{AreBytes, byte_of_digits, Undoes, IsNameAt, Cuts, checked};
 
 use crate::path::{Name, PathFault};
 use oc_bytes::NoMemory;
 use std::alloc::Global;
+use std::fmt;
 
 /// The most names of a path.
 pub(crate) const MOST_NAMES: usize = 16;
@@ -55,7 +57,7 @@ fn first_byte(text: &[u8]) -> Option<(u8, &[u8])>
 
 /// The bytes that a name's text stands for, or none where a `%` lacks its two digits.
 fn unescaped(alloc: Global, text: &[u8]) -> Result<Option<Vec<u8>>, NoMemory>
-    ensures bytes { IfOk result (λ bytes. option_map (λ v. v.items) bytes ≡ undone text.now) }
+    ensures bytes { IfOk result (λ bytes. option_map (λ v. v.items) bytes ≡ undo_escapes text.now) }
     ensures in_byte { IfOk result (λ bytes. IfSome bytes (λ v. AreBytes v.items)) }
 {
     let mut bytes = Vec::new(alloc);
@@ -84,6 +86,30 @@ pub(crate) fn is_path_name(bytes: &[u8]) -> bool
     !bytes.is_empty() && bytes.len() <= 254 && !holds_zero_or_slash(bytes)
 }
 
+fn is_zero_or_slash(byte: u8) -> bool
+    ensures { result ≡ is_zero_or_slash byte }
+{
+    byte == 0 || byte == b'/'
+}
+
+/// Whether a text stands for a name of a path. It takes no memory.
+fn is_name_text(text: &[u8]) -> bool
+    ensures { result ≡ is_some (name_of text.now) }
+{
+    let mut count = 0usize;
+    let mut clean = true;
+    let mut rest = text;
+    while !rest.is_empty() {
+        let Some((byte, more)) = first_byte(rest) else {
+            return false;
+        };
+        clean = clean && !is_zero_or_slash(byte);
+        count += 1;
+        rest = more;
+    }
+    count >= 1 && count <= 254 && clean
+}
+
 /// The name that a text stands for; `place` is where the text begins in the whole.
 fn read_name(alloc: Global, text: &[u8], place: usize) -> Result<Name, PathFault>
     ensures { IsNameAt text.now place result }
@@ -110,12 +136,35 @@ fn first_piece(text: &[u8]) -> (&[u8], Option<&[u8]>)
     }
 }
 
-/// The names of a text that begins with a `/` and has more than that.
+/// Whether the text after a first `/` stands for names, or its first fault from the left. It takes no memory.
+fn check_names(text: &[u8]) -> Result<(), PathFault>
+    requires { 0 < length text.now }
+    ensures read { Gives (λ _. tt) text_cause result (checked (names_after (drop 1 text.now))) }
+    ensures memory { IsErrOf result PathFault.NoMemory → ⊥ }
+{
+    let mut rest = &text[1..];
+    for _ in 0..MOST_NAMES {
+        let (piece, more) = first_piece(rest);
+        if !is_name_text(piece) {
+            return Err(PathFault::BadName(text.len() - rest.len()));
+        }
+        match more {
+            Some(next) => rest = next,
+            None => return Ok(()),
+        }
+    }
+    Err(PathFault::TooDeep)
+}
+
+/// The names of a text that begins with a `/` and has more than that. Memory is asked for only once the whole
+/// text has been checked, so that a fault is never hidden by a lack of it.
 pub(crate) fn read_names(alloc: Global, text: &[u8]) -> Result<Vec<Name>, PathFault>
     requires { 0 < length text.now }
     ensures read { Gives (λ names. names.items) text_cause result (names_after (drop 1 text.now)) }
     ensures path { IfOk result (λ names. IsPath names.items) }
+    ensures no_memory { IsErrOf result PathFault.NoMemory → checked (names_after (drop 1 text.now)) ≡ Ok tt }
 {
+    check_names(text)?;
     let mut names = Vec::new(alloc);
     let mut rest = &text[1..];
     for _ in 0..MOST_NAMES {
@@ -143,10 +192,17 @@ fn hex_char(value: u8) -> char
     char::from(digit)
 }
 
+/// Whether a byte stands as itself in a text.
+fn is_plain(byte: u8) -> bool
+    ensures { result ≡ (nat_le 33 byte && nat_le byte 126 && not (byte == 37) && not (byte == 47)) }
+{
+    matches!(byte, 0x21..=0x7E) && byte != b'%' && byte != b'/'
+}
+
 fn push_byte(text: &mut String, byte: u8) -> Result<(), NoMemory>
     ensures { OnOk result (string_bytes text.new ≡ string_bytes text.old ++ printed_byte byte) }
 {
-    if matches!(byte, 0x21..=0x7E) && byte != b'%' && byte != b'/' {
+    if is_plain(byte) {
         return text.push(char::from(byte));
     }
     text.push('%')?;
@@ -172,6 +228,28 @@ pub(crate) fn push_name(text: &mut String, name: &[u8]) -> Result<(), NoMemory>
     text.push('/')?;
     for byte in name {
         push_byte(text, *byte)?;
+    }
+    Ok(())
+}
+
+fn write_byte<W: fmt::Write>(f: &mut fmt::Formatter<W>, byte: u8) -> fmt::Result
+    ensures { DisplaysOnOk W.write_str_gives f.old result (Some (printed_byte byte)) f.new }
+{
+    if is_plain(byte) {
+        return f.write_char(char::from(byte));
+    }
+    f.write_char('%')?;
+    f.write_char(hex_char(byte / 16))?;
+    f.write_char(hex_char(byte % 16))
+}
+
+/// Shows `/` and a name's text.
+pub(crate) fn write_name<W: fmt::Write>(f: &mut fmt::Formatter<W>, name: &[u8]) -> fmt::Result
+    ensures { DisplaysOnOk W.write_str_gives f.old result (Some (printed_name name.now)) f.new }
+{
+    f.write_char('/')?;
+    for byte in name {
+        write_byte(f, *byte)?;
     }
     Ok(())
 }

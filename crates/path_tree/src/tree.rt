@@ -1,15 +1,18 @@
-ghost use Rattle.std.specs.Prelude.{◌≡◌, ◌≤◌, ◌<◌, [], length, slice_get, None, Some, IfOk, IfNone, IfSome, OnSome};
+ghost use Rattle.std.specs.Prelude.{◌≡◌, ◌≤◌, ◌<◌, [], length, slice_get, None, Some, IfOk, IfNone, IfSome, OnSome, ◌≢◌, OnErr};
+ghost use Rattle.std.specs.Slice.Iter.{iter_rest};
 ghost use Rattle.oc_bytes.specs.Outcome.{Gives};
-ghost use Rattle.path_tree.specs.Edits.{apply_all, apply_cause, fault_of, edited, OthersStay};
+ghost use Rattle.path_tree.specs.Edits.{apply_all, apply_cause, fault_of, after_edit, OthersStay};
 ghost use Rattle.path_tree.specs.Paths.{IsPath};
 ghost use Rattle.path_tree.specs.Places.{place_in};
-ghost use Rattle.path_tree.specs.Trees.{IfFolder, IsListing, IsTree, node_at};
+ghost use Rattle.path_tree.specs.Trees.{IfFolder, IsListing, IsTree, NoSuch, node_at};
 
 use crate::files::{first_is, is_folder, last_is_above, names_below, place_of};
 use crate::path::{Name, Path};
 use oc_bytes::{Blob, NoMemory};
 use std::alloc::{AllocError, AllocFailed, Global};
 use std::marker::Model;
+use std::slice;
+use thiserror::Error;
 
 /// The most bytes of a file: the greatest content of a BIOP file message that this project writes.
 const MOST_CONTENT: usize = 16_777_216;
@@ -37,24 +40,30 @@ impl Edit {
 }
 
 /// Why an edit is refused.
-#[derive(Clone, Copy, Debug, PartialEq, Eq)]
+#[derive(Clone, Copy, Debug, PartialEq, Eq, Error)]
 pub enum EditFault {
     /// No file stands at the path that is to be removed.
+    #[error("no file stands at the path")]
     NoSuchFile,
     /// The path that a file is to be put at is the root, or a folder in which files stand.
+    #[error("a folder stands at the path")]
     FolderThere,
     /// The path that a file is to be put at leads through a file.
+    #[error("the path leads through a file")]
     ThroughFile,
     /// The file that is to be put has more than 16,777,216 bytes.
+    #[error("the file has more than 16,777,216 bytes")]
     FileTooLarge,
 }
 
 /// Why a list of edits is refused.
-#[derive(Debug, Drop)]
+#[derive(Debug, Drop, Error)]
 pub enum ApplyFault {
     /// The first edit that is refused: its place in the list, counted from 0, and its fault.
+    #[error("edit {0}: {1}")]
     Edit(usize, EditFault),
     /// There is no memory.
+    #[error("out of memory")]
     NoMemory,
 }
 
@@ -173,10 +182,19 @@ impl Tree {
         None
     }
 
-    /// What stands at a path. A file's bytes are shared, and not copied.
+    /// The files in turn, in the order of paths: each one's path and bytes.
+    pub fn iter(&self) -> slice::Iter<'_, (Path, Blob)>
+        ensures { iter_rest result ≡ self.now }
+    {
+        self.files.iter()
+    }
+
+    /// What stands at a path. A file's bytes are shared, and not copied. Out of memory is the one refusal, and
+    /// comes only where a file or a folder that isn't empty stands there.
     pub fn lookup(&self, path: &Path) -> Result<Lookup, NoMemory>
         ensures node { IfOk result (λ found. view_lookup found ≡ node_at self.now path.now) }
         ensures listing { IfOk result (λ found. IfFolder (view_lookup found) (IsListing self.now path.now)) }
+        ensures no_memory { OnErr result ((node_at self.now path.now ≢ NoSuch) × (0 < length self.now)) }
     {
         let files = self.files.as_slice();
         let place = place_of(files, path);
@@ -229,7 +247,7 @@ fn put(
 ) -> Result<Option<EditFault>, NoMemory>
     requires { IsTree files.old.items }
     ensures fault { IfOk result (λ fault. fault ≡ fault_of files.old.items (Edit.Put path.now content.now)) }
-    ensures done { IfOk result (λ fault. IfNone fault (files.new.items ≡ edited files.old.items (Edit.Put path.now content.now))) }
+    ensures done { IfOk result (λ fault. IfNone fault (files.new.items ≡ after_edit files.old.items (Edit.Put path.now content.now))) }
     ensures tree { IfOk result (λ fault. IfNone fault (IsTree files.new.items)) }
     ensures same { IfOk result (λ fault. OnSome fault (files.new.items ≡ files.old.items)) }
 {
@@ -250,7 +268,7 @@ fn put(
 fn remove(files: &mut Vec<(Path, Blob)>, path: &Path) -> Option<EditFault>
     requires { IsTree files.old.items }
     ensures fault { result ≡ fault_of files.old.items (Edit.Remove path.now) }
-    ensures done { IfNone result (files.new.items ≡ edited files.old.items (Edit.Remove path.now)) }
+    ensures done { IfNone result (files.new.items ≡ after_edit files.old.items (Edit.Remove path.now)) }
     ensures tree { IfNone result (IsTree files.new.items) }
     ensures same { OnSome result (files.new.items ≡ files.old.items) }
 {
@@ -266,7 +284,7 @@ fn remove(files: &mut Vec<(Path, Blob)>, path: &Path) -> Option<EditFault>
 fn apply_one(files: &mut Vec<(Path, Blob)>, edit: &Edit) -> Result<Option<EditFault>, NoMemory>
     requires { IsTree files.old.items }
     ensures fault { IfOk result (λ fault. fault ≡ fault_of files.old.items edit.now) }
-    ensures done { IfOk result (λ fault. IfNone fault (files.new.items ≡ edited files.old.items edit.now)) }
+    ensures done { IfOk result (λ fault. IfNone fault (files.new.items ≡ after_edit files.old.items edit.now)) }
     ensures tree { IfOk result (λ fault. IfNone fault (IsTree files.new.items)) }
     ensures same { IfOk result (λ fault. OnSome fault (files.new.items ≡ files.old.items)) }
 {

@@ -10,7 +10,7 @@ use Rattle.section_stream.specs.Cuts.{Bytes, candidates}
 use Rattle.section_stream.specs.Laws.{CandidatesGrow}
 use Rattle.psi_tables.specs.declared.tables.PatLine.{PatLine}
 use Rattle.psi_tables.specs.Pats.{PatFields}
-use Rattle.psi_tables.specs.Finding.{pat_in, lines_in_section, completed_by, arrivals, arrivals_of, is_program, listed, first_of_each, is_in, chosen}
+use Rattle.psi_tables.specs.Finding.{pat_in, lines_in_section, completed_by, arrivals, arrivals_of, is_program, listed_pids, first_of_each, is_in, choose}
 use Rattle.psi_tables.specs.Laws.{EachIsFollowed}
 use Rattle.psi_tables.proofs.Following.{or_shift, pids, unless, first_now}
 
@@ -129,20 +129,20 @@ times_of_lines : (k : ℕ) (ls : List PatLine) → All (λ (x : ℕ × ℕ). x.1
 times_of_lines k [] = All-nil (λ (x : ℕ × ℕ). x.1 ≡ k)
 times_of_lines k (l ∷ ls) = All-cons (λ (x : ℕ × ℕ). x.1 ≡ k) (l.pid, k) (map (λ (m : PatLine). (m.pid, k)) ls) refl (times_of_lines k ls)
 
-lines_each : (P : ℕ → Type 0) (k : ℕ) (ls : List PatLine) → All (λ (x : ℕ × ℕ). P x.0) (listed k ls) → All (λ (l : PatLine). is_program l ≡ true → P l.pid) ls
+lines_each : (P : ℕ → Type 0) (k : ℕ) (ls : List PatLine) → All (λ (x : ℕ × ℕ). P x.0) (listed_pids k ls) → All (λ (l : PatLine). is_program l ≡ true → P l.pid) ls
 lines_each P k [] h = All-nil (λ (l : PatLine). is_program l ≡ true → P l.pid)
 lines_each P k (l ∷ ls) h = go (is_program l) refl h (lines_each P k ls) where
   go : (b : Bool) → is_program l ≡ b → All (λ (x : ℕ × ℕ). P x.0) (map (λ (m : PatLine). (m.pid, k)) (cond b (l ∷ filter is_program ls) (filter is_program ls)))
-      → (All (λ (x : ℕ × ℕ). P x.0) (listed k ls) → All (λ (m : PatLine). is_program m ≡ true → P m.pid) ls) → All (λ (m : PatLine). is_program m ≡ true → P m.pid) (l ∷ ls)
+      → (All (λ (x : ℕ × ℕ). P x.0) (listed_pids k ls) → All (λ (m : PatLine). is_program m ≡ true → P m.pid) ls) → All (λ (m : PatLine). is_program m ≡ true → P m.pid) (l ∷ ls)
   go true t all later =
-      All-cons (λ (m : PatLine). is_program m ≡ true → P m.pid) l ls (λ s. All-head (λ (x : ℕ × ℕ). P x.0) (l.pid, k) (listed k ls) all)
-      (later (All-tail (λ (x : ℕ × ℕ). P x.0) (l.pid, k) (listed k ls) all))
+      All-cons (λ (m : PatLine). is_program m ≡ true → P m.pid) l ls (λ s. All-head (λ (x : ℕ × ℕ). P x.0) (l.pid, k) (listed_pids k ls) all)
+      (later (All-tail (λ (x : ℕ × ℕ). P x.0) (l.pid, k) (listed_pids k ls) all))
   go false t all later = All-cons (λ (m : PatLine). is_program m ≡ true → P m.pid) l ls (λ s. absurd (cc (t, s))) (later all)
 
 -- ---- the sections that came
 
 abbrev listings_of : List (Bytes × ℕ) → Pairs
-listings_of came = flat_map (λ a. listed a.1 (lines_in_section (pat_in a.0))) came
+listings_of came = flat_map (λ a. listed_pids a.1 (lines_in_section (pat_in a.0))) came
 
 abbrev first_of : List (Bytes × ℕ) → Option ℕ
 first_of came = slice_get (filter_map (λ (a : Bytes × ℕ). option_map (λ (r : PatFields). a.1) (pat_in a.0)) came) 0
@@ -152,47 +152,47 @@ AreAll p rs = All (λ (r : PatFields). r ≡ p) rs
 
 -- the lines of later sections list no other PIDs
 later_covered : (p : PatFields) (k : ℕ) (came : List (Bytes × ℕ)) → AreAll p (filter_map pat_in (sections_of came))
-    → All (λ (y : ℕ × ℕ). is_in y.0 (pids (first_of_each [] (listed k p.lines))) ≡ true) (listings_of came)
-later_covered p k [] h = All-nil (λ (y : ℕ × ℕ). is_in y.0 (pids (first_of_each [] (listed k p.lines))) ≡ true)
+    → All (λ (y : ℕ × ℕ). is_in y.0 (pids (first_of_each [] (listed_pids k p.lines))) ≡ true) (listings_of came)
+later_covered p k [] h = All-nil (λ (y : ℕ × ℕ). is_in y.0 (pids (first_of_each [] (listed_pids k p.lines))) ≡ true)
 later_covered p k (a ∷ came) h = go (pat_in a.0) h (later_covered p k came) where
   go : (o : Option PatFields) → AreAll p (cons_option o (filter_map pat_in (sections_of came)))
-      → (AreAll p (filter_map pat_in (sections_of came)) → All (λ (y : ℕ × ℕ). is_in y.0 (pids (first_of_each [] (listed k p.lines))) ≡ true) (listings_of came))
-      → All (λ (y : ℕ × ℕ). is_in y.0 (pids (first_of_each [] (listed k p.lines))) ≡ true) (listed a.1 (lines_in_section o) ++ listings_of came)
+      → (AreAll p (filter_map pat_in (sections_of came)) → All (λ (y : ℕ × ℕ). is_in y.0 (pids (first_of_each [] (listed_pids k p.lines))) ≡ true) (listings_of came))
+      → All (λ (y : ℕ × ℕ). is_in y.0 (pids (first_of_each [] (listed_pids k p.lines))) ≡ true) (listed_pids a.1 (lines_in_section o) ++ listings_of came)
   go None all later = later all
   go (Some r) all later =
-      let P : ℕ × ℕ → Type 0 = λ y. is_in y.0 (pids (first_of_each [] (listed k p.lines))) ≡ true in
+      let P : ℕ × ℕ → Type 0 = λ y. is_in y.0 (pids (first_of_each [] (listed_pids k p.lines))) ≡ true in
       let same : r ≡ p = All-head (λ (s : PatFields). s ≡ p) r (filter_map pat_in (sections_of came)) all in
-      let here : All P (listed a.1 p.lines) = all_seen (listed k p.lines) (listed a.1 p.lines) [] (pids_of_lines a.1 k (filter is_program p.lines)) in
-      All-append P (listed a.1 r.lines) (listings_of came) (subst (λ (s : PatFields). All P (listed a.1 s.lines)) (sym same) here)
+      let here : All P (listed_pids a.1 p.lines) = all_seen (listed_pids k p.lines) (listed_pids a.1 p.lines) [] (pids_of_lines a.1 k (filter is_program p.lines)) in
+      All-append P (listed_pids a.1 r.lines) (listings_of came) (subst (λ (s : PatFields). All P (listed_pids a.1 s.lines)) (sym same) here)
       (later (All-tail (λ (s : PatFields). s ≡ p) r (filter_map pat_in (sections_of came)) all))
 
 -- the time of a PID that the first section lists
 since_first : (p : PatFields) (l : PatLine) (k : ℕ) → Contains p.lines l → is_program l ≡ true
-    → option_map (λ (x : ℕ × ℕ). x.1) (find (λ (x : ℕ × ℕ). x.0 == l.pid) (first_of_each [] (listed k p.lines))) ≡ Some k
+    → option_map (λ (x : ℕ × ℕ). x.1) (find (λ (x : ℕ × ℕ). x.0 == l.pid) (first_of_each [] (listed_pids k p.lines))) ≡ Some k
 since_first p l k contains t =
-    let first : Pairs = first_of_each [] (listed k p.lines) in
-    let times : All (λ (x : ℕ × ℕ). x.1 ≡ k) first = first_all (λ (x : ℕ × ℕ). x.1 ≡ k) (listed k p.lines) [] (times_of_lines k (filter is_program p.lines)) in
-    let each = lines_each (λ (n : ℕ). is_in n (pids first) ≡ true) k p.lines (all_seen (listed k p.lines) (listed k p.lines) [] refl) in
+    let first : Pairs = first_of_each [] (listed_pids k p.lines) in
+    let times : All (λ (x : ℕ × ℕ). x.1 ≡ k) first = first_all (λ (x : ℕ × ℕ). x.1 ≡ k) (listed_pids k p.lines) [] (times_of_lines k (filter is_program p.lines)) in
+    let each = lines_each (λ (n : ℕ). is_in n (pids first) ≡ true) k p.lines (all_seen (listed_pids k p.lines) (listed_pids k p.lines) [] refl) in
     found_time k l.pid first times (All-contains (λ (m : PatLine). is_program m ≡ true → is_in m.pid (pids first) ≡ true) p.lines l each contains t)
 
-since : (p : PatFields) (l : PatLine) (came : List (Bytes × ℕ)) → Contains p.lines l → is_program l ≡ true → length (first_of_each [] (listed 0 p.lines)) ≤ 64 → AreAll p (filter_map pat_in (sections_of came))
-    → option_map (λ (x : ℕ × ℕ). x.1) (find (λ (x : ℕ × ℕ). x.0 == l.pid) (chosen (listings_of came))) ≡ first_of came
+since : (p : PatFields) (l : PatLine) (came : List (Bytes × ℕ)) → Contains p.lines l → is_program l ≡ true → length (first_of_each [] (listed_pids 0 p.lines)) ≤ 64 → AreAll p (filter_map pat_in (sections_of came))
+    → option_map (λ (x : ℕ × ℕ). x.1) (find (λ (x : ℕ × ℕ). x.0 == l.pid) (choose (listings_of came))) ≡ first_of came
 since p l [] contains t few h = refl
 since p l (a ∷ came) contains t few h = go (pat_in a.0) h (since p l came contains t few) where
   time : Pairs → Option ℕ
   time xs = option_map (λ (x : ℕ × ℕ). x.1) (find (λ (x : ℕ × ℕ). x.0 == l.pid) xs)
 
-  go : (o : Option PatFields) → AreAll p (cons_option o (filter_map pat_in (sections_of came))) → (AreAll p (filter_map pat_in (sections_of came)) → time (chosen (listings_of came)) ≡ first_of came)
-      → time (chosen (listed a.1 (lines_in_section o) ++ listings_of came)) ≡ slice_get (cons_option (option_map (λ (r : PatFields). a.1) o) (filter_map (λ (b : Bytes × ℕ). option_map (λ (r : PatFields). b.1) (pat_in b.0)) came)) 0
+  go : (o : Option PatFields) → AreAll p (cons_option o (filter_map pat_in (sections_of came))) → (AreAll p (filter_map pat_in (sections_of came)) → time (choose (listings_of came)) ≡ first_of came)
+      → time (choose (listed_pids a.1 (lines_in_section o) ++ listings_of came)) ≡ slice_get (cons_option (option_map (λ (r : PatFields). a.1) o) (filter_map (λ (b : Bytes × ℕ). option_map (λ (r : PatFields). b.1) (pat_in b.0)) came)) 0
   go None all later = later all
   go (Some r) all later =
       let same : r ≡ p = All-head (λ (s : PatFields). s ≡ p) r (filter_map pat_in (sections_of came)) all in
       let rest = All-tail (λ (s : PatFields). s ≡ p) r (filter_map pat_in (sections_of came)) all in
-      let first : first_of_each [] (listed a.1 p.lines ++ listings_of came) ≡ first_of_each [] (listed a.1 p.lines) = covered (listed a.1 p.lines) (listings_of came) (later_covered p a.1 came rest) in
-      let size : length (first_of_each [] (listed a.1 p.lines)) ≤ 64 =
-      omega (arith, few, same_length (listed 0 p.lines) (listed a.1 p.lines) [] (pids_of_lines a.1 0 (filter is_program p.lines))) in
-      ap (λ (s : PatFields). time (chosen (listed a.1 s.lines ++ listings_of came))) same
-      ∙ ap (λ (xs : Pairs). time (take 64 xs)) first ∙ ap time (take_all 64 (first_of_each [] (listed a.1 p.lines)) size) ∙ since_first p l a.1 contains t
+      let first : first_of_each [] (listed_pids a.1 p.lines ++ listings_of came) ≡ first_of_each [] (listed_pids a.1 p.lines) = covered (listed_pids a.1 p.lines) (listings_of came) (later_covered p a.1 came rest) in
+      let size : length (first_of_each [] (listed_pids a.1 p.lines)) ≤ 64 =
+      omega (arith, few, same_length (listed_pids 0 p.lines) (listed_pids a.1 p.lines) [] (pids_of_lines a.1 0 (filter is_program p.lines))) in
+      ap (λ (s : PatFields). time (choose (listed_pids a.1 s.lines ++ listings_of came))) same
+      ∙ ap (λ (xs : Pairs). time (take 64 xs)) first ∙ ap time (take_all 64 (first_of_each [] (listed_pids a.1 p.lines)) size) ∙ since_first p l a.1 contains t
 
 pub each_is_followed : CandidatesGrow → EachIsFollowed
 each_is_followed grow packets p l same contains t few =

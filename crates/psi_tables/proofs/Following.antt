@@ -10,9 +10,9 @@ use Rattle.section_stream.specs.Rules as streams
 use Rattle.psi_tables.specs.declared.tables.PatLine.{PatLine}
 use Rattle.psi_tables.specs.declared.followed.Followed.{Followed}
 use Rattle.psi_tables.specs.Receiving.{is_pid, pid_of}
-use Rattle.psi_tables.specs.Finding.{chosen, first_of_each, is_in, is_program, listed}
+use Rattle.psi_tables.specs.Finding.{choose, first_of_each, is_in, is_program, listed_pids}
 use Rattle.psi_tables.specs.Stands.{FollowedState, Hears, Follows, FollowsEach, view_followed, named_for}
-use Rattle.psi_tables.specs.Steps.{Each, Heard, wanted}
+use Rattle.psi_tables.specs.Steps.{Each, Heard, becomes_followed}
 use Rattle.psi_tables.proofs.Programs.{hears_still}
 
 -- ---- one packet
@@ -115,19 +115,19 @@ pub first_now : (xs : List (ℕ × ℕ)) (x : ℕ × ℕ) → first_of_each [] (
 first_now xs x = first_more [] xs x ∙ ap (λ (b : Bool). first_of_each [] xs ++ unless b x) (or_nothing (is_in x.0 (pids (first_of_each [] xs))))
 
 -- as long as there is room, all that came first are chosen
-roomy : (xs : List (ℕ × ℕ)) → length (chosen xs) < 64 → chosen xs ≡ first_of_each [] xs
+roomy : (xs : List (ℕ × ℕ)) → length (choose xs) < 64 → choose xs ≡ first_of_each [] xs
 roomy xs lt = take_all 64 (first_of_each [] xs) (omega (arith, lt, length-take 64 (first_of_each [] xs)))
 
-pub chosen_full : (xs : List (ℕ × ℕ)) (x : ℕ × ℕ) → 64 ≤ length (chosen xs) → chosen (xs ++ x ∷ []) ≡ chosen xs
+pub chosen_full : (xs : List (ℕ × ℕ)) (x : ℕ × ℕ) → 64 ≤ length (choose xs) → choose (xs ++ x ∷ []) ≡ choose xs
 chosen_full xs x le =
     ap (take 64) (first_now xs x) ∙ take-append-le 64 (first_of_each [] xs) (unless (is_in x.0 (pids (first_of_each [] xs))) x) (omega (arith, le, length-take 64 (first_of_each [] xs)))
 
-pub chosen_known : (xs : List (ℕ × ℕ)) (x : ℕ × ℕ) → length (chosen xs) < 64 → is_in x.0 (pids (chosen xs)) ≡ true → chosen (xs ++ x ∷ []) ≡ chosen xs
+pub chosen_known : (xs : List (ℕ × ℕ)) (x : ℕ × ℕ) → length (choose xs) < 64 → is_in x.0 (pids (choose xs)) ≡ true → choose (xs ++ x ∷ []) ≡ choose xs
 chosen_known xs x lt known =
     let here : is_in x.0 (pids (first_of_each [] xs)) ≡ true = ap (λ (zs : List (ℕ × ℕ)). is_in x.0 (pids zs)) (sym (roomy xs lt)) ∙ known in
     ap (take 64) (first_now xs x ∙ ap (λ (b : Bool). first_of_each [] xs ++ unless b x) here ∙ append-nil (first_of_each [] xs))
 
-pub chosen_new : (xs : List (ℕ × ℕ)) (x : ℕ × ℕ) → length (chosen xs) < 64 → is_in x.0 (pids (chosen xs)) ≡ false → chosen (xs ++ x ∷ []) ≡ chosen xs ++ x ∷ []
+pub chosen_new : (xs : List (ℕ × ℕ)) (x : ℕ × ℕ) → length (choose xs) < 64 → is_in x.0 (pids (choose xs)) ≡ false → choose (xs ++ x ∷ []) ≡ choose xs ++ x ∷ []
 chosen_new xs x lt other =
     let all = roomy xs lt in
     let here : is_in x.0 (pids (first_of_each [] xs)) ≡ false = ap (λ (zs : List (ℕ × ℕ)). is_in x.0 (pids zs)) (sym all) ∙ other in
@@ -163,16 +163,16 @@ seen_length [] = refl
 seen_length (f ∷ fs) = ap suc (seen_length fs)
 
 -- what a line lists
-one_listed : (k : ℕ) (l : PatLine) → is_program l ≡ true → listed k (l ∷ []) ≡ (l.pid, k) ∷ []
+one_listed : (k : ℕ) (l : PatLine) → is_program l ≡ true → listed_pids k (l ∷ []) ≡ (l.pid, k) ∷ []
 one_listed k l t = rw t refl
 
-none_listed : (k : ℕ) (l : PatLine) → is_program l ≡ false → listed k (l ∷ []) ≡ []
+none_listed : (k : ℕ) (l : PatLine) → is_program l ≡ false → listed_pids k (l ∷ []) ≡ []
 none_listed k l t = rw t refl
 
 -- the statement of one line
 abbrev pub Goes : List Followed → List Followed → List PatLine → Type 0
-Goes before after lines = (carousel : ℕ) (packets : List Bytes) (came : List (ℕ × ℕ)) → FollowsEach carousel packets (map view_followed before) (chosen came)
-    → FollowsEach carousel packets (map view_followed after) (chosen (came ++ listed (length packets) lines))
+Goes before after lines = (carousel : ℕ) (packets : List Bytes) (came : List (ℕ × ℕ)) → FollowsEach carousel packets (map view_followed before) (choose came)
+    → FollowsEach carousel packets (map view_followed after) (choose (came ++ listed_pids (length packets) lines))
 
 -- a line that is passed over: it is no program's, there is no room, or its PID is followed already
 pub passed_over : (fs : List Followed) (l : PatLine) → (is_program l ≡ true → length fs < 64 → list_any (λ f. f.pid == l.pid) fs ≡ true) → Goes fs fs (l ∷ [])
@@ -180,29 +180,29 @@ passed_over fs l why carousel packets came h = subst (FollowsEach carousel packe
   x : ℕ × ℕ
   x = (l.pid, length packets)
 
-  sizes : length fs ≡ length (chosen came)
-  sizes = sym (seen_length fs) ∙ follows_length carousel packets (map view_followed fs) (chosen came) h
+  sizes : length fs ≡ length (choose came)
+  sizes = sym (seen_length fs) ∙ follows_length carousel packets (map view_followed fs) (choose came) h
 
-  known : length fs < 64 → is_program l ≡ true → is_in l.pid (pids (chosen came)) ≡ true
-  known lt t = ap (is_in l.pid) (sym (follows_pids carousel packets (map view_followed fs) (chosen came) h)) ∙ sym (seen_pid l.pid fs) ∙ why t lt
+  known : length fs < 64 → is_program l ≡ true → is_in l.pid (pids (choose came)) ≡ true
+  known lt t = ap (is_in l.pid) (sym (follows_pids carousel packets (map view_followed fs) (choose came) h)) ∙ sym (seen_pid l.pid fs) ∙ why t lt
 
-  listing : is_program l ≡ true → chosen (came ++ x ∷ []) ≡ chosen came
+  listing : is_program l ≡ true → choose (came ++ x ∷ []) ≡ choose came
   listing t = elim (cases_lt (length fs) 64) [ inl lt ↦ chosen_known came x (omega (arith, lt, sizes)) (known lt t) | inr ge ↦ chosen_full came x (omega (arith, ge, sizes)) ]
 
-  stays : (b : Bool) → is_program l ≡ b → chosen (came ++ listed (length packets) (l ∷ [])) ≡ chosen came
-  stays true t = ap (λ (ys : List (ℕ × ℕ)). chosen (came ++ ys)) (one_listed (length packets) l t) ∙ listing t
-  stays false t = ap (λ (ys : List (ℕ × ℕ)). chosen (came ++ ys)) (none_listed (length packets) l t) ∙ ap chosen (append-nil came)
+  stays : (b : Bool) → is_program l ≡ b → choose (came ++ listed_pids (length packets) (l ∷ [])) ≡ choose came
+  stays true t = ap (λ (ys : List (ℕ × ℕ)). choose (came ++ ys)) (one_listed (length packets) l t) ∙ listing t
+  stays false t = ap (λ (ys : List (ℕ × ℕ)). choose (came ++ ys)) (none_listed (length packets) l t) ∙ ap choose (append-nil came)
 
 -- a program's PID that isn't followed yet, where there is room
 pub taken_up : (fs : List Followed) (l : PatLine) (f : Followed) → is_program l ≡ true → length fs < 64 → list_any (λ g. g.pid == l.pid) fs ≡ false
     → f.pid ≡ l.pid → f.demux.pid ≡ l.pid → streams.StandsFor f.demux [] → f.programs.items ≡ [] → Goes fs (fs ++ f ∷ []) (l ∷ [])
 taken_up fs l f t lt other pid demux stands programs carousel packets came h =
-    let sizes : length fs ≡ length (chosen came) = sym (seen_length fs) ∙ follows_length carousel packets (map view_followed fs) (chosen came) h in
-    let unknown : is_in l.pid (pids (chosen came)) ≡ false = ap (is_in l.pid) (sym (follows_pids carousel packets (map view_followed fs) (chosen came) h)) ∙ sym (seen_pid l.pid fs) ∙ other in
-    let longer : chosen (came ++ listed (length packets) (l ∷ [])) ≡ chosen came ++ x ∷ [] =
-    ap (λ (ys : List (ℕ × ℕ)). chosen (came ++ ys)) (one_listed (length packets) l t) ∙ chosen_new came x (omega (arith, lt, sizes)) unknown in
-    let all : FollowsEach carousel packets (map view_followed fs ++ view_followed f ∷ []) (chosen came ++ x ∷ []) =
-    follows_more carousel packets (map view_followed fs) (chosen came) (view_followed f) x h begins in
+    let sizes : length fs ≡ length (choose came) = sym (seen_length fs) ∙ follows_length carousel packets (map view_followed fs) (choose came) h in
+    let unknown : is_in l.pid (pids (choose came)) ≡ false = ap (is_in l.pid) (sym (follows_pids carousel packets (map view_followed fs) (choose came) h)) ∙ sym (seen_pid l.pid fs) ∙ other in
+    let longer : choose (came ++ listed_pids (length packets) (l ∷ [])) ≡ choose came ++ x ∷ [] =
+    ap (λ (ys : List (ℕ × ℕ)). choose (came ++ ys)) (one_listed (length packets) l t) ∙ chosen_new came x (omega (arith, lt, sizes)) unknown in
+    let all : FollowsEach carousel packets (map view_followed fs ++ view_followed f ∷ []) (choose came ++ x ∷ []) =
+    follows_more carousel packets (map view_followed fs) (choose came) (view_followed f) x h begins in
     rw (longer, map-append view_followed fs (f ∷ [])) all where
       x : ℕ × ℕ
       x = (l.pid, length packets)
@@ -217,18 +217,18 @@ taken_up fs l f t lt other pid demux stands programs carousel packets came h =
       begins = record { pid = pid; since = omega arith; hears = subst (Hears carousel (view_followed f)) (sym nothing_left) nothing_heard }
 
 -- one line after another
-listed_append : (k : ℕ) (ls ms : List PatLine) → listed k (ls ++ ms) ≡ listed k ls ++ listed k ms
+listed_append : (k : ℕ) (ls ms : List PatLine) → listed_pids k (ls ++ ms) ≡ listed_pids k ls ++ listed_pids k ms
 listed_append k ls ms = ap (map (λ l. (l.pid, k))) (filter-append is_program ls ms) ∙ map-append (λ l. (l.pid, k)) (filter is_program ls) (filter is_program ms)
 
 pub goes_none : (fs : List Followed) → Goes fs fs []
-goes_none fs carousel packets came h = subst (FollowsEach carousel packets (map view_followed fs)) (ap chosen (sym (append-nil came))) h
+goes_none fs carousel packets came h = subst (FollowsEach carousel packets (map view_followed fs)) (ap choose (sym (append-nil came))) h
 
 pub goes_then : (fs gs hs : List Followed) (ls ms : List PatLine) → Goes fs gs ls → Goes gs hs ms → Goes fs hs (ls ++ ms)
 goes_then fs gs hs ls ms one two carousel packets came h =
     let k = length packets in
-    subst (λ (ys : List (ℕ × ℕ)). FollowsEach carousel packets (map view_followed hs) (chosen ys))
-    (append_assoc came (listed k ls) (listed k ms) ∙ ap (λ (ys : List (ℕ × ℕ)). came ++ ys) (sym (listed_append k ls ms)))
-    (two carousel packets (came ++ listed k ls) (one carousel packets came h))
+    subst (λ (ys : List (ℕ × ℕ)). FollowsEach carousel packets (map view_followed hs) (choose ys))
+    (append_assoc came (listed_pids k ls) (listed_pids k ms) ∙ ap (λ (ys : List (ℕ × ℕ)). came ++ ys) (sym (listed_append k ls ms)))
+    (two carousel packets (came ++ listed_pids k ls) (one carousel packets came h))
 
 pub goes_more : (fs gs hs : List Followed) (lines : List PatLine) (i : ℕ) (d : PatLine) → i < length lines → Goes fs gs (take i lines) → Goes gs hs (get_or lines i d ∷ []) → Goes fs hs (take (i + 1) lines)
 goes_more fs gs hs lines i d lt one two = subst (Goes fs hs) (sym (take_more lines i d lt)) (goes_then fs gs hs (take i lines) (get_or lines i d ∷ []) one two)
@@ -247,10 +247,10 @@ all_three true true false e = (refl, refl, refl)
 all_three true false c e = cc
 all_three false b c e = cc
 
-pub not_wanted : (fs : List Followed) (l : PatLine) → wanted fs l ≡ false → Goes fs fs (l ∷ [])
+pub not_wanted : (fs : List Followed) (l : PatLine) → becomes_followed fs l ≡ false → Goes fs fs (l ∷ [])
 not_wanted fs l e = passed_over fs l (λ t lt. not_both (is_program l) (ltb (length fs) 64) (list_any (λ f. f.pid == l.pid) fs) e t (lt-ltb (length fs) 64 lt))
 
-pub is_wanted : (fs gs : List Followed) (l : PatLine) (f : Followed) → wanted fs l ≡ true → gs ≡ fs ++ f ∷ []
+pub is_wanted : (fs gs : List Followed) (l : PatLine) (f : Followed) → becomes_followed fs l ≡ true → gs ≡ fs ++ f ∷ []
     → f.pid ≡ l.pid → f.demux.pid ≡ l.pid → streams.StandsFor f.demux [] → f.programs.items ≡ [] → Goes fs gs (l ∷ [])
 is_wanted fs gs l f e same pid demux stands programs =
     let all = all_three (is_program l) (ltb (length fs) 64) (list_any (λ g. g.pid == l.pid) fs) e in

@@ -6,9 +6,9 @@ use Rattle.std.specs.Option.{option_map}
 use Rattle.std.proofs.lemmas.Bool.{ne_eqb, eq-eqb}
 use Rattle.std.proofs.lemmas.List.{append-nil, map-append}
 use Rattle.std.proofs.lemmas.List.Elements.{filter-append}
-use Rattle.ts_packet.specs.Packets.{Fields, parsed}
+use Rattle.ts_packet.specs.Packets.{Fields, parse_packet}
 use Rattle.ts_packet.specs.declared.PacketFault.{PacketFault}
-use Rattle.section_stream.specs.Cuts.{Bytes, Received, Cut, kept_of, received, is_repeat, without_repeats_of, without_repeats, pointer_of, pointer_fits, going_on, whole_len, opened_in, cuts_at, cuts_of, candidates}
+use Rattle.section_stream.specs.Cuts.{Bytes, Received, Cut, kept_of, payloads_in, is_repeat, without_repeats_of, without_repeats, pointer_of, pointer_fits, going_on, whole_len, opened_in, cuts_at, cuts_of, candidates}
 use Rattle.section_stream.specs.Rules as streams
 use Rattle.psi_tables.specs.Receiving.{pid_in, pid_of, is_pid, of_pid, HeardOn}
 
@@ -83,23 +83,23 @@ kept_plain pid n (Ok p) = go ((p.pid == pid) && not (length p.payload == 0)) whe
 
 -- the packet, where it is one of the PID
 abbrev kept : ℕ → Bytes → Option Received
-kept pid packet = kept_of pid 0 (parsed packet)
+kept pid packet = kept_of pid 0 (parse_packet packet)
 
 onto_plain : (o : Option Received) (rs : List Received) → plain (cons_option o rs) ≡ cons_option (option_map unnumbered o) (plain rs)
 onto_plain (Some r) rs = refl
 onto_plain None rs = refl
 
-received_plain : (pid n : ℕ) (packets : List Bytes) → plain (filter_map (λ x. kept_of pid x.0 (parsed x.1)) (enumerate_from n packets)) ≡ filter_map (kept pid) packets
+received_plain : (pid n : ℕ) (packets : List Bytes) → plain (filter_map (λ x. kept_of pid x.0 (parse_packet x.1)) (enumerate_from n packets)) ≡ filter_map (kept pid) packets
 received_plain pid n [] = refl
 received_plain pid n (p ∷ ps) =
-    let rest = filter_map (λ x. kept_of pid x.0 (parsed x.1)) (enumerate_from (n + 1) ps) in
-    onto_plain (kept_of pid n (parsed p)) rest
-    ∙ ap (λ (o : Option Received). cons_option o (plain rest)) (kept_plain pid n (parsed p))
+    let rest = filter_map (λ x. kept_of pid x.0 (parse_packet x.1)) (enumerate_from (n + 1) ps) in
+    onto_plain (kept_of pid n (parse_packet p)) rest
+    ∙ ap (λ (o : Option Received). cons_option o (plain rest)) (kept_plain pid n (parse_packet p))
     ∙ ap (λ (rs : List Received). cons_option (kept pid p) rs) (received_plain pid (n + 1) ps)
 
 cut_plain : (pid : ℕ) (packets : List Bytes) → candidates pid packets ≡ bytes_of (cuts_of (without_repeats (filter_map (kept pid) packets)))
 cut_plain pid packets =
-    sym (cuts_plain (without_repeats (received pid packets))) ∙ ap (λ (rs : List Received). bytes_of (cuts_of rs)) (sym (all_repeats_plain (received pid packets)))
+    sym (cuts_plain (without_repeats (payloads_in pid packets))) ∙ ap (λ (rs : List Received). bytes_of (cuts_of rs)) (sym (all_repeats_plain (payloads_in pid packets)))
     ∙ ap (λ (rs : List Received). bytes_of (cuts_of (without_repeats rs))) (received_plain pid 0 packets)
 
 -- ---- nor on packets of other PIDs
@@ -124,7 +124,7 @@ alone pid (p ∷ ps) = go (is_pid pid (pid_of p)) refl (alone pid ps) where
   go : (t : Bool) → is_pid pid (pid_of p) ≡ t → filter_map (kept pid) (of_pid pid ps) ≡ filter_map (kept pid) ps
       → filter_map (kept pid) (cond t (p ∷ of_pid pid ps) (of_pid pid ps)) ≡ cons_option (kept pid p) (filter_map (kept pid) ps)
   go true f later = ap (λ (rs : List Received). cons_option (kept pid p) rs) later
-  go false f later = later ∙ sym (ap (λ (o : Option Received). cons_option o (filter_map (kept pid) ps)) (not_kept pid (parsed p) f))
+  go false f later = later ∙ sym (ap (λ (o : Option Received). cons_option o (filter_map (kept pid) ps)) (not_kept pid (parse_packet p) f))
 
 cut_alone : (pid : ℕ) (packets : List Bytes) → candidates pid (of_pid pid packets) ≡ candidates pid packets
 cut_alone pid packets =

@@ -13,7 +13,7 @@ use Rattle.std.specs.declared.vec.Vec.{Vec}
 use Rattle.std.specs.declared.alloc.Global.{Global}
 use Rattle.section_stream.specs.Kept.{view_bytes}
 use Rattle.psi_tables.specs.Pats.{PatFields, view_pat}
-use Rattle.psi_tables.specs.Finding.{chosen, listed, listed_by, listings, arrivals, arrivals_of, completed_by, is_section, newest_in, section_among, list_of, pat_in, pats_among, pats_in, pmts_in, pmt_among, pmt_of_line, names, followed_in, lines_in_section, found_with, found_in}
+use Rattle.psi_tables.specs.Finding.{choose, listed_pids, listed_by, listings, arrivals, arrivals_of, completed_by, is_section, newest_in, section_among, list_of, pat_in, pats_among, pats_in, pmts_in, pmt_among, pmt_of_line, names, followed_in, lines_in_section, found_with, found_in}
 use Rattle.psi_tables.specs.Stands.{FollowedState, DirectoryState, Hears, FollowsEach, Keeps, named_for, named_by, section_kept, found_by, view_directory}
 use Rattle.psi_tables.specs.Steps.{put, Each, Heard}
 use Rattle.psi_tables.proofs.Lists.{found_put, found_still, last_more, last_where_here, last_where_still}
@@ -62,12 +62,12 @@ sections_more sections pats p are v n = go (is_section v n p) refl where
 
 pub keeps_more : (packets : List Bytes) (d e : DirectoryState) (pats : List PatFields) (came : List (ℕ × ℕ)) (p : PatFields) → e.carousel ≡ d.carousel → e.newest ≡ Some p.version
     → e.sections ≡ put (is_section p.version p.number) p d.sections
-    → FollowsEach d.carousel packets e.followed (chosen (came ++ listed (length packets) p.lines))
-    → Keeps packets d pats came → Keeps packets e (pats ++ p ∷ []) (came ++ listed (length packets) p.lines)
+    → FollowsEach d.carousel packets e.followed (choose (came ++ listed_pids (length packets) p.lines))
+    → Keeps packets d pats came → Keeps packets e (pats ++ p ∷ []) (came ++ listed_pids (length packets) p.lines)
 keeps_more packets d e pats came p carousel newest sections followed h = record {
   newest = newest ∙ sym (ap (option_map (λ (q : PatFields). q.version)) (last_more pats p));
   sections = λ v n. ap (λ (xs : List PatFields). section_kept xs v n) sections ∙ sections_more d.sections pats p h.sections v n;
-  followed = subst (λ (c : ℕ). FollowsEach c packets e.followed (chosen (came ++ listed (length packets) p.lines))) (sym carousel) followed;
+  followed = subst (λ (c : ℕ). FollowsEach c packets e.followed (choose (came ++ listed_pids (length packets) p.lines))) (sym carousel) followed;
 }
 
 pub keeps_as : (packets : List Bytes) (d : DirectoryState) (pats qats : List PatFields) (came dame : List (ℕ × ℕ)) → pats ≡ qats → came ≡ dame → Keeps packets d pats came → Keeps packets d qats dame
@@ -80,20 +80,20 @@ Takes before after sections = (packets : List Bytes) (pats : List PatFields) (ca
 
 abbrev pub TakesOne : Directory → Directory → Bytes → Type 0
 TakesOne before after section = (packets : List Bytes) (pats : List PatFields) (came : List (ℕ × ℕ)) → Keeps packets (view_directory before) pats came
-    → Keeps packets (view_directory after) (pats ++ list_of (pat_in section)) (came ++ listed (length packets) (lines_in_section (pat_in section)))
+    → Keeps packets (view_directory after) (pats ++ list_of (pat_in section)) (came ++ listed_pids (length packets) (lines_in_section (pat_in section)))
 
 -- bytes that are no PAT section
 pub takes_no_section : (d : Directory) (section : Bytes) → pat_in section ≡ None → TakesOne d d section
 takes_no_section d section none packets pats came h =
-    keeps_as packets (view_directory d) pats (pats ++ list_of (pat_in section)) came (came ++ listed (length packets) (lines_in_section (pat_in section)))
-    (sym (append-nil pats) ∙ ap (λ (o : Option PatFields). pats ++ list_of o) (sym none)) (sym (append-nil came) ∙ ap (λ (o : Option PatFields). came ++ listed (length packets) (lines_in_section o)) (sym none)) h
+    keeps_as packets (view_directory d) pats (pats ++ list_of (pat_in section)) came (came ++ listed_pids (length packets) (lines_in_section (pat_in section)))
+    (sym (append-nil pats) ∙ ap (λ (o : Option PatFields). pats ++ list_of o) (sym none)) (sym (append-nil came) ∙ ap (λ (o : Option PatFields). came ++ listed_pids (length packets) (lines_in_section o)) (sym none)) h
 
 -- bytes that are a PAT section
 pub takes_section : (d e : Directory) (section : Bytes) (p : PatFields) → pat_in section ≡ Some p → e.carousel ≡ d.carousel → e.newest ≡ Some p.version
     → map view_pat e.sections.items ≡ put (is_section p.version p.number) p (map view_pat d.sections.items) → Goes d.followed.items e.followed.items p.lines → TakesOne d e section
 takes_section d e section p read carousel newest sections goes packets pats came h =
-    keeps_as packets (view_directory e) (pats ++ p ∷ []) (pats ++ list_of (pat_in section)) (came ++ listed (length packets) p.lines) (came ++ listed (length packets) (lines_in_section (pat_in section)))
-    (ap (λ (o : Option PatFields). pats ++ list_of o) (sym read)) (ap (λ (o : Option PatFields). came ++ listed (length packets) (lines_in_section o)) (sym read))
+    keeps_as packets (view_directory e) (pats ++ p ∷ []) (pats ++ list_of (pat_in section)) (came ++ listed_pids (length packets) p.lines) (came ++ listed_pids (length packets) (lines_in_section (pat_in section)))
+    (ap (λ (o : Option PatFields). pats ++ list_of o) (sym read)) (ap (λ (o : Option PatFields). came ++ listed_pids (length packets) (lines_in_section o)) (sym read))
     (keeps_more packets (view_directory d) (view_directory e) pats came p carousel newest sections (goes d.carousel packets came h.followed) h)
 
 pub takes_none : (d : Directory) → Takes d d []
@@ -111,10 +111,10 @@ takes_then d e f ss s one two packets pats came h =
     let so_far = two packets (pats ++ pats_among ss) (came ++ listed_by k ss) (one packets pats came h) in
     let same_pats : pats ++ pats_among ss ++ list_of (pat_in s) ≡ pats ++ pats_among (ss ++ s ∷ []) =
     append_assoc pats (pats_among ss) (list_of (pat_in s)) ∙ ap (λ (xs : List PatFields). pats ++ xs) (ap (λ (xs : List PatFields). pats_among ss ++ xs) (sym (as_list s)) ∙ sym (filter_map-append pat_in ss (s ∷ []))) in
-    let one_list : listed_by k (s ∷ []) ≡ listed k (lines_in_section (pat_in s)) = append-nil (listed k (lines_in_section (pat_in s))) in
-    let same_listed : came ++ listed_by k ss ++ listed k (lines_in_section (pat_in s)) ≡ came ++ listed_by k (ss ++ s ∷ []) =
-    append_assoc came (listed_by k ss) (listed k (lines_in_section (pat_in s)))
-    ∙ ap (λ (xs : List (ℕ × ℕ)). came ++ xs) (ap (λ (xs : List (ℕ × ℕ)). listed_by k ss ++ xs) (sym one_list) ∙ sym (flat_map-append (λ t. listed k (lines_in_section (pat_in t))) ss (s ∷ []))) in
+    let one_list : listed_by k (s ∷ []) ≡ listed_pids k (lines_in_section (pat_in s)) = append-nil (listed_pids k (lines_in_section (pat_in s))) in
+    let same_listed : came ++ listed_by k ss ++ listed_pids k (lines_in_section (pat_in s)) ≡ came ++ listed_by k (ss ++ s ∷ []) =
+    append_assoc came (listed_by k ss) (listed_pids k (lines_in_section (pat_in s)))
+    ∙ ap (λ (xs : List (ℕ × ℕ)). came ++ xs) (ap (λ (xs : List (ℕ × ℕ)). listed_by k ss ++ xs) (sym one_list) ∙ sym (flat_map-append (λ t. listed_pids k (lines_in_section (pat_in t))) ss (s ∷ []))) in
     keeps_as packets (view_directory f) (pats ++ pats_among ss ++ list_of (pat_in s)) (pats ++ pats_among (ss ++ s ∷ [])) _ (came ++ listed_by k (ss ++ s ∷ [])) same_pats same_listed so_far
 
 pub takes_more : (d e f : Directory) (sections : List (Vec ℕ Global)) (i : ℕ) (x : Vec ℕ Global) (s : Bytes) → i < length sections → x ≡ get_or sections i x → s ≡ x.items
@@ -150,7 +150,7 @@ pub keeps_step : (packets : List Bytes) (x : Bytes) (b : Bool) (d e : DirectoryS
 keeps_step packets x b d e pats came carousel newest sections heard h = record {
   newest = newest ∙ h.newest;
   sections = λ v n. ap (λ (xs : List PatFields). section_kept xs v n) sections ∙ h.sections v n;
-  followed = subst (λ (c : ℕ). FollowsEach c (packets ++ x ∷ []) e.followed (chosen came)) (sym carousel) (follows_step d.carousel packets x b d.followed e.followed (chosen came) h.followed heard);
+  followed = subst (λ (c : ℕ). FollowsEach c (packets ++ x ∷ []) e.followed (choose came)) (sym carousel) (follows_step d.carousel packets x b d.followed e.followed (choose came) h.followed heard);
 }
 
 -- the longer list of packets has the arrivals of the shorter one
@@ -186,15 +186,15 @@ arrivals_more pid packets x new cuts =
     ∙ ap (λ (cs : List Bytes). arrivals_of pid packets n ++ map (λ c. (c, suc n)) cs) completed
     ∙ ap (λ (k : ℕ). arrivals_of pid packets n ++ map (λ c. (c, k)) new) (sym size)
 
-flat_seen : (k : ℕ) (cs : List Bytes) → flat_map (λ (a : Bytes × ℕ). listed a.1 (lines_in_section (pat_in a.0))) (map (λ c. (c, k)) cs) ≡ listed_by k cs
+flat_seen : (k : ℕ) (cs : List Bytes) → flat_map (λ (a : Bytes × ℕ). listed_pids a.1 (lines_in_section (pat_in a.0))) (map (λ c. (c, k)) cs) ≡ listed_by k cs
 flat_seen k [] = refl
-flat_seen k (c ∷ cs) = ap (λ (ys : List (ℕ × ℕ)). listed k (lines_in_section (pat_in c)) ++ ys) (flat_seen k cs)
+flat_seen k (c ∷ cs) = ap (λ (ys : List (ℕ × ℕ)). listed_pids k (lines_in_section (pat_in c)) ++ ys) (flat_seen k cs)
 
 pub listings_more : (packets : List Bytes) (x : Bytes) (new : List Bytes) → candidates 0 (packets ++ x ∷ []) ≡ candidates 0 packets ++ new
     → listings (packets ++ x ∷ []) ≡ listings packets ++ listed_by (length (packets ++ x ∷ [])) new
 listings_more packets x new cuts =
     let k = length (packets ++ x ∷ []) in
-    let each : Bytes × ℕ → List (ℕ × ℕ) = λ a. listed a.1 (lines_in_section (pat_in a.0)) in
+    let each : Bytes × ℕ → List (ℕ × ℕ) = λ a. listed_pids a.1 (lines_in_section (pat_in a.0)) in
     ap (flat_map each) (arrivals_more 0 packets x new cuts) ∙ flat_map-append each (arrivals 0 packets) (map (λ c. (c, k)) new) ∙ ap (λ (ys : List (ℕ × ℕ)). listings packets ++ ys) (flat_seen k new)
 
 pub pats_more : (packets : List Bytes) (x : Bytes) (new : List Bytes) → candidates 0 (packets ++ x ∷ []) ≡ candidates 0 packets ++ new → pats_in (packets ++ x ∷ []) ≡ pats_in packets ++ pats_among new

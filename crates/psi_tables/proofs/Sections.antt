@@ -5,7 +5,7 @@ use Rattle.std.proofs.lemmas.Bool.{ltb-false, leb-true, eqb-true, eqb-false, not
 use Rattle.std.proofs.lemmas.List.{length-take-le, get_or-drop, take_at}
 use Rattle.oc_bytes.specs.Numbers.{four_bytes, number_of}
 use Rattle.section_crc.specs.Crc.{crc_of}
-use Rattle.psi_tables.specs.Frames.{Fields, Fits, IsSection, header_fault, crc_fault, other_table, wrong_length, not_current, fields_of, front_with, length_of, length_field, spelling}
+use Rattle.psi_tables.specs.Frames.{Fields, Fits, IsSection, header_fault, crc_fault, other_table, wrong_length, not_current, fields_of, prefix_with, length_of, length_field, spelling}
 use Rattle.psi_tables.proofs.Checks.{its_own_crc}
 
 abbrev pub AreBytes : List ℕ → Type 0
@@ -161,22 +161,22 @@ syntax_set p q n = omega arith
 odd : (v w : ℕ) → (64 * v + 2 * w + 1) % 2 ≡ 0 → ⊥
 odd v w e = omega arith
 
-written_length : (id p q v crc : ℕ) (s : Fields) → length (front_with id p q v s ++ four_bytes crc) ≡ length s.body + 12
+written_length : (id p q v crc : ℕ) (s : Fields) → length (prefix_with id p q v s ++ four_bytes crc) ≡ length s.body + 12
 written_length id p q v crc s = omega (arith, lit<, length-append s.body (four_bytes crc))
 
-written_field : (id p q v crc : ℕ) (s : Fields) → p < 2 → q < 4 → length s.body ≤ 1012 → length_field (front_with id p q v s ++ four_bytes crc) ≡ length s.body + 9
+written_field : (id p q v crc : ℕ) (s : Fields) → p < 2 → q < 4 → length s.body ≤ 1012 → length_field (prefix_with id p q v s ++ four_bytes crc) ≡ length s.body + 9
 written_field id p q v crc s hp hq room = omega arith
 
-written_fields : (id p q v crc : ℕ) (s : Fields) → v < 4 → Fits s → fields_of (front_with id p q v s ++ four_bytes crc) ≡ s
+written_fields : (id p q v crc : ℕ) (s : Fields) → v < 4 → Fits s → fields_of (prefix_with id p q v s ++ four_bytes crc) ≡ s
 written_fields id p q v crc s hv f = same_fields _ _ _ _ _ _ _ _ _ _ (omega (arith, f.extension)) (omega (arith, f.version)) refl refl
-    (let e : length (front_with id p q v s ++ four_bytes crc) - 12 ≡ length s.body = omega (arith, written_length id p q v crc s) in
+    (let e : length (prefix_with id p q v s ++ four_bytes crc) - 12 ≡ length s.body = omega (arith, written_length id p q v crc s) in
     ap (λ n. take n (s.body ++ four_bytes crc)) e ∙ take_at s.body (four_bytes crc) (length s.body) refl)
 
-written_has_none : (id p q v crc : ℕ) (s : Fields) → p < 2 → q < 4 → v < 4 → Fits s → header_fault id (front_with id p q v s ++ four_bytes crc) ≡ None
+written_has_none : (id p q v crc : ℕ) (s : Fields) → p < 2 → q < 4 → v < 4 → Fits s → header_fault id (prefix_with id p q v s ++ four_bytes crc) ≡ None
 written_has_none id p q v crc s hp hq hv f =
     let size = written_length id p q v crc s in
     let field = written_field id p q v crc s hp hq f.body in
-    let whole = front_with id p q v s ++ four_bytes crc in
+    let whole = prefix_with id p q v s ++ four_bytes crc in
     let least : 12 ≤ length whole = omega arith in
     let most : length_field whole ≤ 1021 = omega (arith, f.body) in
     let counted : length whole ≡ length_field whole + 3 = omega arith in
@@ -207,11 +207,11 @@ spelling_is_section id f fits = record {
   private = 0;
   reserved = 3;
   version_reserved = 3;
-  crc = crc_of (front_with id 0 3 3 f);
+  crc = crc_of (prefix_with id 0 3 3 f);
   bits = (omega arith, omega arith, omega arith);
   fits = fits;
   whole = refl;
-  right = its_own_crc (front_with id 0 3 3 f);
+  right = its_own_crc (prefix_with id 0 3 3 f);
 }
 
 -- the body's bytes are bytes

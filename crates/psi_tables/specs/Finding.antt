@@ -77,16 +77,16 @@ abbrev pub arrivals : (pid : ℕ) → List Bytes → List (Bytes × ℕ)
 arrivals pid packets = arrivals_of pid packets (length packets)
 
 -- the PIDs that lines list, with the number of packets up to their section
-abbrev pub listed : ℕ → List PatLine → List (ℕ × ℕ)
-listed k lines = map (λ l. (l.pid, k)) (filter is_program lines)
+abbrev pub listed_pids : ℕ → List PatLine → List (ℕ × ℕ)
+listed_pids k lines = map (λ l. (l.pid, k)) (filter is_program lines)
 
 -- the PIDs that sections list which the k-th packet completed
 abbrev pub listed_by : ℕ → List Bytes → List (ℕ × ℕ)
-listed_by k sections = flat_map (λ s. listed k (lines_in_section (pat_in s))) sections
+listed_by k sections = flat_map (λ s. listed_pids k (lines_in_section (pat_in s))) sections
 
 -- the PIDs that all sections list, in order
 abbrev pub listings : List Bytes → List (ℕ × ℕ)
-listings packets = flat_map (λ a. listed a.1 (lines_in_section (pat_in a.0))) (arrivals 0 packets)
+listings packets = flat_map (λ a. listed_pids a.1 (lines_in_section (pat_in a.0))) (arrivals 0 packets)
 
 abbrev pub is_in : ℕ → List ℕ → Bool
 is_in pid pids = list_any (λ q. q == pid) pids
@@ -99,13 +99,13 @@ first_of_each seen (x ∷ xs) = if is_in x.0 seen then first_of_each seen xs els
 abbrev pub most_followed : ℕ
 most_followed = 64
 
-abbrev pub chosen : List (ℕ × ℕ) → List (ℕ × ℕ)
-chosen xs = take most_followed (first_of_each [] xs)
+abbrev pub choose : List (ℕ × ℕ) → List (ℕ × ℕ)
+choose xs = take most_followed (first_of_each [] xs)
 
 -- each followed PID, with the number of packets that are passed over on it: those up to the one that completed the first section that
 -- lists it
 abbrev pub followed_in : List Bytes → List (ℕ × ℕ)
-followed_in packets = chosen (listings packets)
+followed_in packets = choose (listings packets)
 
 -- ---- the carousel
 

@@ -24,8 +24,8 @@ abbrev pub length_of : Fields → ℕ
 length_of f = length f.body + 9
 
 -- the bytes of a section before its CRC, with these bits in the fields that reading passes over
-abbrev pub front_with : (id private reserved version_reserved : ℕ) → Fields → List ℕ
-front_with id private reserved version_reserved f =
+abbrev pub prefix_with : (id private reserved version_reserved : ℕ) → Fields → List ℕ
+prefix_with id private reserved version_reserved f =
     (id ∷ (128 + 64 * private + 16 * reserved + length_of f / 256) ∷ (length_of f % 256) ∷ [])
     ++ two_bytes f.extension
     ++ ((64 * version_reserved + 2 * f.version + 1) ∷ f.number ∷ f.last ∷ []) ++ f.body
@@ -46,12 +46,12 @@ pub record IsSection (id : ℕ) (bytes : List ℕ) (f : Fields) : Type 0 where
   pub crc : ℕ
   pub bits : (private < 2) × (reserved < 4) × (version_reserved < 4)
   pub fits : Fits f
-  pub whole : bytes ≡ front_with id private reserved version_reserved f ++ four_bytes crc
+  pub whole : bytes ≡ prefix_with id private reserved version_reserved f ++ four_bytes crc
   pub right : crc_of bytes ≡ 0
 
 -- the one spelling: the private bit is 0, and reserved bits are 1
 abbrev pub spelling : ℕ → Fields → List ℕ
-spelling id f = let front = front_with id 0 3 3 f in front ++ four_bytes (crc_of front)
+spelling id f = let front = prefix_with id 0 3 3 f in front ++ four_bytes (crc_of front)
 
 abbrev pub length_field : List ℕ → ℕ
 length_field bytes = slice_index bytes 1 % 16 * 256 + slice_index bytes 2

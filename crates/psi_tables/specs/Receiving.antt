@@ -1,7 +1,7 @@
 -- Which packets a receiver of one PID takes: those of its PID that have a payload (ISO/IEC 13818-1, 2.4.3.3).
 use Rattle.std.specs.Prelude.{◌≡◌, ℕ, Bool, false, List, length, Option, Some, None, Result, Ok, Err, ◌==◌, if◌then◌else◌}
 use Rattle.std.specs.List.{filter}
-use Rattle.ts_packet.specs.Packets.{Fields, parsed}
+use Rattle.ts_packet.specs.Packets.{Fields, parse_packet}
 use Rattle.ts_packet.specs.declared.PacketFault.{PacketFault}
 use Rattle.section_stream.specs.Cuts.{Bytes}
 use Rattle.section_stream.specs.Rules as streams
@@ -12,7 +12,7 @@ pid_in (Err fault) = None
 
 -- the PID of a packet that has a payload
 abbrev pub pid_of : Bytes → Option ℕ
-pid_of packet = pid_in (parsed packet)
+pid_of packet = pid_in (parse_packet packet)
 
 abbrev pub is_pid : ℕ → Option ℕ → Bool
 is_pid pid None = false

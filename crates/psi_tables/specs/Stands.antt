@@ -11,7 +11,7 @@ use Rattle.psi_tables.specs.declared.finder.Find.{Find}
 use Rattle.psi_tables.specs.declared.finder.Finder.TheInside.{Inside}
 use Rattle.psi_tables.specs.Pats.{PatFields, view_pat}
 use Rattle.psi_tables.specs.Receiving.{HeardOn, pid_of}
-use Rattle.psi_tables.specs.Finding.{followed_in, is_in, pats_in, pmts_in, pmt_among, names, newest_in, section_among, is_section, listings, chosen, found_with, found_in}
+use Rattle.psi_tables.specs.Finding.{followed_in, is_in, pats_in, pmts_in, pmt_among, names, newest_in, section_among, is_section, listings, choose, found_with, found_in}
 
 -- a PID that is followed, and of each program whose map table came on it the stream that the last one names
 pub record FollowedState : Type 0 where
@@ -82,7 +82,7 @@ FollowsEach carousel packets (f ∷ fs) [] = ⊥
 pub record Keeps (packets : List Bytes) (d : DirectoryState) (pats : List PatFields) (listed : List (ℕ × ℕ)) : Type 0 where
   pub newest : d.newest ≡ newest_in pats
   pub sections : (version number : ℕ) → section_kept d.sections version number ≡ section_among pats version number
-  pub followed : FollowsEach d.carousel packets d.followed (chosen listed)
+  pub followed : FollowsEach d.carousel packets d.followed (choose listed)
 
 -- what is kept is what these packets left, part by part
 pub record Holds (f : FinderState) (packets : List Bytes) : Type 0 where

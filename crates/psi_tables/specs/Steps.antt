@@ -50,5 +50,5 @@ pub record TablesHeard (packet : Bytes) (listed : Bool) (before after : FinderSt
   pub quiet : listed ≡ false → new ≡ []
 
 -- a line's PID is followed from now on: it is a program's, there is room, and it isn't followed yet
-abbrev pub wanted : List Followed → PatLine → Bool
-wanted followed l = is_program l && nat_lt (length followed) most_followed && not (list_any (λ f. f.pid == l.pid) followed)
+abbrev pub becomes_followed : List Followed → PatLine → Bool
+becomes_followed followed l = is_program l && nat_lt (length followed) most_followed && not (list_any (λ f. f.pid == l.pid) followed)

@@ -3,7 +3,7 @@
 use Rattle.std.specs.Prelude.{ℕ, List, [], ◌∷◌, ◌++◌}
 use Rattle.oc_bytes.specs.Numbers.{two_bytes, four_bytes}
 use Rattle.section_stream.specs.Cuts.{Bytes}
-use Rattle.section_stream.specs.Packing.{MuxState, finished, idle, last_of, packets_of, past}
+use Rattle.section_stream.specs.Packing.{MuxState, after_finish, idle, last_of, packets_of, past}
 use Rattle.psi_tables.specs.declared.tables.PatLine.{PatLine}
 use Rattle.psi_tables.specs.Frames.{Fields, spelling}
 use Rattle.psi_tables.specs.Pats.{PatFields, line_bytes}
@@ -57,11 +57,11 @@ abbrev pub packets_of_table : MuxState → Bytes → List Bytes
 packets_of_table m table = packets_of m table ++ last_of (past m table)
 
 abbrev pub past_table : MuxState → Bytes → MuxState
-past_table m table = finished (past m table)
+past_table m table = after_finish (past m table)
 
 -- the packets of the PAT, and then those of the map table
-abbrev pub announced : AnnouncerState → List Bytes
-announced a = packets_of_table a.tables pat_spelling ++ packets_of_table a.maps (pmt_spelling a.carousel)
+abbrev pub announcer_packets : AnnouncerState → List Bytes
+announcer_packets a = packets_of_table a.tables pat_spelling ++ packets_of_table a.maps (pmt_spelling a.carousel)
 
 abbrev pub after_announcing : AnnouncerState → AnnouncerState
 after_announcing a = record { carousel = a.carousel; tables = past_table a.tables pat_spelling; maps = past_table a.maps (pmt_spelling a.carousel) }

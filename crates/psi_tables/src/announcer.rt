@@ -1,6 +1,6 @@
 ghost use Rattle.std.specs.Prelude.{◌≡◌, ◌++◌, IfOk, OnOk};
 ghost use Rattle.section_stream.specs.Packing.{IsSectionLike};
-ghost use Rattle.psi_tables.specs.Written.{announced, announcer_start, after_announcing, packets_of_table, past_table};
+ghost use Rattle.psi_tables.specs.Written.{announcer_packets, announcer_start, after_announcing, packets_of_table, past_table};
 
 use crate::tables::PAT_PID;
 use crate::written::{written_pat, written_pmt};
@@ -54,7 +54,7 @@ impl Announcer {
     ///
     /// After `NoMemory` `out` may have the packets of the PAT, and nothing more is said of the counters.
     pub fn packets(&mut self, out: &mut Vec<[u8; 188]>) -> Result<(), NoMemory>
-        ensures packets { OnOk result (out.new.items ≡ out.old.items ++ announced self.old) }
+        ensures packets { OnOk result (out.new.items ≡ out.old.items ++ announcer_packets self.old) }
         ensures counters { OnOk result (self.new ≡ after_announcing self.old) }
     {
         send(&mut self.tables, &self.pat, out)?;

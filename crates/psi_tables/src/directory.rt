@@ -6,9 +6,9 @@ ghost use Rattle.section_stream.specs.Kept.{view_bytes};
 ghost use Rattle.psi_tables.specs.Pats.{PatFields, view_pat};
 ghost use Rattle.psi_tables.specs.Receiving.{pid_of};
 ghost use Rattle.psi_tables.specs.Finding as finding;
-ghost use Rattle.psi_tables.specs.Finding.{chosen, is_section, lines_in_section, listed, pat_in};
+ghost use Rattle.psi_tables.specs.Finding.{choose, is_section, lines_in_section, listed_pids, pat_in};
 ghost use Rattle.psi_tables.specs.Stands.{FollowedState, DirectoryState, FollowsEach, Keeps, view_followed, view_directory, named_by, named_for, section_kept, found_by};
-ghost use Rattle.psi_tables.specs.Steps.{put, Each, Heard, wanted};
+ghost use Rattle.psi_tables.specs.Steps.{put, Each, Heard, becomes_followed};
 
 use crate::finder::Find;
 use crate::followed::{Followed, named_for_program};
@@ -69,15 +69,15 @@ fn is_followed(followed: &[Followed], pid: u16) -> bool
 
 /// Whether a line's PID is followed from now on: it is a program's, there is room, and it isn't followed yet.
 fn is_wanted(followed: &[Followed], line: PatLine) -> bool
-    ensures { result ≡ wanted followed.now line }
+    ensures { result ≡ becomes_followed followed.now line }
 {
     is_program(line) && followed.len() < MOST_FOLLOWED && !is_followed(followed, line.pid)
 }
 
 /// Follows the PID of a line from the next packet on, where it is wanted.
 fn follow(alloc: Global, followed: &mut Vec<Followed>, line: PatLine) -> Result<(), NoMemory>
-    ensures { OnOk result ((carousel : ℕ) (packets : List Bytes) (before : List (ℕ × ℕ)) → FollowsEach carousel packets (map view_followed followed.old.items) (chosen before)
-        → FollowsEach carousel packets (map view_followed followed.new.items) (chosen (before ++ listed (length packets) (line ∷ [])))) }
+    ensures { OnOk result ((carousel : ℕ) (packets : List Bytes) (before : List (ℕ × ℕ)) → FollowsEach carousel packets (map view_followed followed.old.items) (choose before)
+        → FollowsEach carousel packets (map view_followed followed.new.items) (choose (before ++ listed_pids (length packets) (line ∷ [])))) }
 {
     if !is_wanted(followed, line) {
         return Ok(());
@@ -97,8 +97,8 @@ fn follow_all(
     followed: &mut Vec<Followed>,
     lines: &[PatLine],
 ) -> Result<(), NoMemory>
-    ensures { OnOk result ((carousel : ℕ) (packets : List Bytes) (before : List (ℕ × ℕ)) → FollowsEach carousel packets (map view_followed followed.old.items) (chosen before)
-        → FollowsEach carousel packets (map view_followed followed.new.items) (chosen (before ++ listed (length packets) lines.now))) }
+    ensures { OnOk result ((carousel : ℕ) (packets : List Bytes) (before : List (ℕ × ℕ)) → FollowsEach carousel packets (map view_followed followed.old.items) (choose before)
+        → FollowsEach carousel packets (map view_followed followed.new.items) (choose (before ++ listed_pids (length packets) lines.now))) }
 {
     for line in lines {
         follow(alloc, followed, *line)?;
@@ -171,7 +171,7 @@ impl Directory {
     /// Takes a section that came on PID 0. One that is no PAT section changes nothing.
     pub fn take(&mut self, section: &[u8]) -> Result<(), NoMemory>
         ensures keeps { OnOk result ((packets : List Bytes) (pats : List PatFields) (before : List (ℕ × ℕ)) → Keeps packets (view_directory self.old) pats before
-            → Keeps packets (view_directory self.new) (pats ++ finding.list_of (pat_in section.now)) (before ++ listed (length packets) (lines_in_section (pat_in section.now)))) }
+            → Keeps packets (view_directory self.new) (pats ++ finding.list_of (pat_in section.now)) (before ++ listed_pids (length packets) (lines_in_section (pat_in section.now)))) }
         ensures carousel { self.new.carousel ≡ self.old.carousel }
     {
         let pat = match decode_pat(self.alloc, section) {

@@ -1,6 +1,7 @@
 ghost use Rattle.std.specs.Prelude.{◌≡◌};
 
 use std::alloc::AllocError;
+use thiserror::Error;
 
 /// The PID of the program association table (ISO/IEC 13818-1, table 2-3).
 pub const PAT_PID: u16 = 0;
@@ -46,12 +47,14 @@ pub struct Pmt {
 }
 
 /// Why reading gave no table.
-#[derive(Clone, Copy, Debug, PartialEq, Eq)]
+#[derive(Clone, Copy, Debug, PartialEq, Eq, Error)]
 pub enum PsiFault {
     /// The bytes are no section of the table: the place of the first field that breaks its rule or is cut, counted in bytes
     /// from the first one on.
+    #[error("no section of the table: the field at byte {0} is cut or breaks a rule")]
     NotPsi(usize),
     /// There is no memory.
+    #[error("out of memory")]
     NoMemory,
 }
 

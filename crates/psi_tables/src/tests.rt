@@ -250,3 +250,13 @@ fn faults_have_places(rt: HostRuntime) -> Result<(), Fail> {
     assert_eq!(rt; pmt_fault(alloc, 30, 0), Some(27));
     Ok(())
 }
+
+#[test]
+fn faults_as_text(rt: HostRuntime) -> Result<(), Fail> {
+    let text = format!(in rt.alloc(); "{}", PsiFault::NotPsi(3))?;
+    assert_eq!(rt;
+        text.as_str(),
+        "no section of the table: the field at byte 3 is cut or breaks a rule"
+    );
+    Ok(())
+}

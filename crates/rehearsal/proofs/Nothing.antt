@@ -1,5 +1,5 @@
 -- A world in which nothing happened.
-use Rattle.std.proofs.Common.{[], arith}
+use Rattle.std.proofs.Common.{ℕ, List, [], arith}
 use Rattle.std.proofs.lemmas.List.Elements.{All-nil}
 use Rattle.generation.specs.Lawful.{ArePublishable, IsPublishable}
 use Rattle.carousel_world.specs.Promises.{MeetsHeadline, EveryRunMeetsTheHeadline}
@@ -8,5 +8,5 @@ no_trees : ArePublishable 1 []
 no_trees = record { carousel_id = omega arith; few = omega arith; each = All-nil IsPublishable }
 
 -- what is promised of every list of events holds of none
-pub meets_nothing : EveryRunMeetsTheHeadline → MeetsHeadline 1 []
-meets_nothing law = law 1 [] no_trees
+pub meets_nothing : EveryRunMeetsTheHeadline → (weights : List ℕ) → MeetsHeadline 1 weights []
+meets_nothing law weights = law 1 weights [] no_trees

@@ -1,5 +1,5 @@
 -- Events one after another, and their report.
-use Rattle.std.proofs.Common.{◌≡◌, List, [], ◌∷◌, ◌++◌, Result, Ok, Err, refl, sym, ap, ◌∙◌, append-nil, append_assoc, subst}
+use Rattle.std.proofs.Common.{◌≡◌, ℕ, List, [], ◌∷◌, ◌++◌, Result, Ok, Err, refl, sym, ap, ◌∙◌, append-nil, append_assoc, subst}
 use Rattle.std.specs.Prelude.{OnOk}
 use Rattle.session_script.specs.Scripts.{Act, Fields, LineFields}
 use Rattle.path_tree.specs.Paths.{Bytes}
@@ -8,7 +8,7 @@ use Rattle.shell_streams.specs.declared.output.OutputFault.{OutputFault}
 use Rattle.shell_streams.specs.declared.output.OutputFault.TheVariants as faults
 use Rattle.shell_streams.proofs.CallerLemmas.{puts_nothing, puts_none, puts_then, puts_err, puts_as}
 use Rattle.carousel_world.specs.Events.{Step}
-use Rattle.carousel_world.specs.World.{WorldState, opening, reply_to, happens, after_all}
+use Rattle.carousel_world.specs.World.{WorldState, initial_world, reply_to, happens, after_all}
 use Rattle.carousel_world.specs.declared.event.Reply.{Reply}
 use Rattle.carousel_world.specs.View.{Kept, StandsFor}
 use Rattle.carousel_world.specs.Promises.{MeetsHeadline, world_after}
@@ -29,11 +29,11 @@ report_more w (e ∷ es) b =
     ∙ sym (append_assoc (report_line e (reply_to w e)) (report_in (happens w e) es) (report_in (after_all w (e ∷ es)) b))
 
 -- the report of events, and of others after them
-reports_then : (before es fs : List Step)
-    → report_in (world_after 1 before) es ++ report_in (world_after 1 (before ++ es)) fs ≡ report_in (world_after 1 before) (es ++ fs)
-reports_then before es fs =
-    ap (λ (w : WorldState). report_in (world_after 1 before) es ++ report_in w fs) (after_more (opening 1) before es)
-    ∙ sym (report_more (world_after 1 before) es fs)
+reports_then : (ws : List ℕ) (before es fs : List Step)
+    → report_in (world_after 1 ws before) es ++ report_in (world_after 1 ws (before ++ es)) fs ≡ report_in (world_after 1 ws before) (es ++ fs)
+reports_then ws before es fs =
+    ap (λ (w : WorldState). report_in (world_after 1 ws before) es ++ report_in w fs) (after_more (initial_world 1 ws) before es)
+    ∙ sym (report_more (world_after 1 ws before) es fs)
 
 pub on_ok : {T E A : Type 0} (r : Result T E) → A → OnOk r A
 on_ok (Ok x) a = a
@@ -43,13 +43,13 @@ pub on_ok_map : {T E A B : Type 0} (r : Result T E) → (A → B) → OnOk r A �
 on_ok_map (Ok x) f a = f a
 on_ok_map (Err e) f a = tt
 
-meets_as : {a b : List Step} → a ≡ b → MeetsHeadline 1 a → MeetsHeadline 1 b
-meets_as e m = subst (MeetsHeadline 1) e m
+meets_as : {ws : List ℕ} {a b : List Step} → a ≡ b → MeetsHeadline 1 ws a → MeetsHeadline 1 ws b
+meets_as {ws = ws} e m = subst (MeetsHeadline 1 ws) e m
 
 -- ---- events of a line
 
 -- nothing happened, since there was no memory
-pub runs_none : {T : Type 0} (o : OutputState) (before events : List Step) → MeetsHeadline 1 before → Runs {T = T} (Err faults.NoMemory) o o before events
+pub runs_none : {ws : List ℕ} {T : Type 0} (o : OutputState) (before events : List Step) → MeetsHeadline 1 ws before → Runs {T = T} (Err faults.NoMemory) o o ws before events
 runs_none o before events m = record {
   happened = [];
   rest = events;
@@ -60,7 +60,7 @@ runs_none o before events m = record {
 }
 
 -- no event was there
-pub runs_empty : {T : Type 0} (x : T) (o : OutputState) (before : List Step) → MeetsHeadline 1 before → Runs (Ok x) o o before []
+pub runs_empty : {ws : List ℕ} {T : Type 0} (x : T) (o : OutputState) (before : List Step) → MeetsHeadline 1 ws before → Runs (Ok x) o o ws before []
 runs_empty x o before m = record {
   happened = [];
   rest = [];
@@ -71,34 +71,34 @@ runs_empty x o before m = record {
 }
 
 -- one event happened
-pub runs_one : {T : Type 0} {r : Result T OutputFault} {old new : OutputState} (before : List Step) (e : Step)
-    → Puts r old new (report_line e (reply_to (world_after 1 before) e)) → MeetsHeadline 1 (before ++ e ∷ []) → Runs r old new before (e ∷ [])
-runs_one {r = r} before e p m = record {
+pub runs_one : {ws : List ℕ} {T : Type 0} {r : Result T OutputFault} {old new : OutputState} (before : List Step) (e : Step)
+    → Puts r old new (report_line e (reply_to (world_after 1 ws before) e)) → MeetsHeadline 1 ws (before ++ e ∷ []) → Runs r old new ws before (e ∷ [])
+runs_one {ws = ws} {r = r} before e p m = record {
   happened = e ∷ [];
   rest = [];
   split = refl;
   all = on_ok r refl;
-  puts = puts_as (sym (append-nil (report_line e (reply_to (world_after 1 before) e)))) p;
+  puts = puts_as (sym (append-nil (report_line e (reply_to (world_after 1 ws before) e)))) p;
   headline = m;
 }
 
 -- all of the first events happened: those of the record
-all_happened : {T : Type 0} {x : T} {a b : OutputState} {before es : List Step} (r : Runs (Ok x) a b before es) → es ≡ r.happened
+all_happened : {ws : List ℕ} {T : Type 0} {x : T} {a b : OutputState} {before es : List Step} (r : Runs (Ok x) a b ws before es) → es ≡ r.happened
 all_happened r = r.split ∙ ap (λ (ys : List Step). r.happened ++ ys) r.all ∙ append-nil r.happened
 
-pub runs_then : {T U : Type 0} {x : T} {r : Result U OutputFault} {a b c : OutputState} (before es fs : List Step)
-    → Runs (Ok x) a b before es → Runs r b c (before ++ es) fs → Runs r a c before (es ++ fs)
-runs_then before es fs p q = record {
+pub runs_then : {ws : List ℕ} {T U : Type 0} {x : T} {r : Result U OutputFault} {a b c : OutputState} (before es fs : List Step)
+    → Runs (Ok x) a b ws before es → Runs r b c ws (before ++ es) fs → Runs r a c ws before (es ++ fs)
+runs_then {ws = ws} before es fs p q = record {
   happened = es ++ q.happened;
   rest = q.rest;
   split = ap (λ (ys : List Step). es ++ ys) q.split ∙ sym (append_assoc es q.happened q.rest);
   all = q.all;
-  puts = puts_as (reports_then before es q.happened) (puts_then (puts_as (ap (λ (ys : List Step). report_in (world_after 1 before) ys) (sym (all_happened p))) p.puts) q.puts);
+  puts = puts_as (reports_then ws before es q.happened) (puts_then (puts_as (ap (λ (ys : List Step). report_in (world_after 1 ws before) ys) (sym (all_happened p))) p.puts) q.puts);
   headline = meets_as (append_assoc before es q.happened) q.headline;
 }
 
-pub runs_stop : {T U : Type 0} {f : OutputFault} {a b : OutputState} (before es fs : List Step)
-    → Runs {T = T} (Err f) a b before es → Runs {T = U} (Err f) a b before (es ++ fs)
+pub runs_stop : {ws : List ℕ} {T U : Type 0} {f : OutputFault} {a b : OutputState} (before es fs : List Step)
+    → Runs {T = T} (Err f) a b ws before es → Runs {T = U} (Err f) a b ws before (es ++ fs)
 runs_stop before es fs p = record {
   happened = p.happened;
   rest = p.rest ++ fs;
@@ -109,35 +109,35 @@ runs_stop before es fs p = record {
 }
 
 -- the same events in other words
-pub runs_as : {T : Type 0} {r : Result T OutputFault} {a b : OutputState} (before : List Step) {es fs : List Step} → es ≡ fs → Runs r a b before es → Runs r a b before fs
-runs_as {r = r} {a = a} {b = b} before e p = let P : List Step → Type 0 = λ es. Runs r a b before es in subst P e p
+pub runs_as : {ws : List ℕ} {T : Type 0} {r : Result T OutputFault} {a b : OutputState} (before : List Step) {es fs : List Step} → es ≡ fs → Runs r a b ws before es → Runs r a b ws before fs
+runs_as {ws = ws} {r = r} {a = a} {b = b} before e p = let P : List Step → Type 0 = λ es. Runs r a b ws before es in subst P e p
 
-pub stands_as : {r : Rehearsal} {a b : List Step} {p : Pending} → a ≡ b → Stands r a p → Stands r b p
-stands_as {r} {p = p} e st = let P : List Step → Type 0 = λ es. Stands r es p in subst P e st
+pub stands_as : {X : _} {F : _} {g : _} {ws : List ℕ} {r : Rehearsal X F g} {a b : List Step} {p : Pending} → a ≡ b → Stands r ws a p → Stands r ws b p
+stands_as {ws = ws} {r = r} {p = p} e st = let P : List Step → Type 0 = λ es. Stands r ws es p in subst P e st
 
 -- the line of an action
-pub runs_line_of : {T : Type 0} {r : Result T OutputFault} {a b : OutputState} (before : List Step) (p : Pending) {x y : Act} → x ≡ y
-    → Runs r a b before (events_of_line p y) → Runs r a b before (events_of_line p x)
-runs_line_of {r = r} {a = a} {b = b} before p e ran = let P : Act → Type 0 = λ x. Runs r a b before (events_of_line p x) in subst P (sym e) ran
+pub runs_line_of : {ws : List ℕ} {T : Type 0} {r : Result T OutputFault} {a b : OutputState} (before : List Step) (p : Pending) {x y : Act} → x ≡ y
+    → Runs r a b ws before (events_of_line p y) → Runs r a b ws before (events_of_line p x)
+runs_line_of {ws = ws} {r = r} {a = a} {b = b} before p e ran = let P : Act → Type 0 = λ x. Runs r a b ws before (events_of_line p x) in subst P (sym e) ran
 
-pub stands_line_of : {r : Rehearsal} (before : List Step) (p : Pending) {x y : Act} → x ≡ y
-    → Stands r (before ++ events_of_line p y) (pending_after p y) → Stands r (before ++ events_of_line p x) (pending_after p x)
-stands_line_of {r} before p e st = let P : Act → Type 0 = λ x. Stands r (before ++ events_of_line p x) (pending_after p x) in subst P (sym e) st
+pub stands_line_of : {X : _} {F : _} {g : _} {ws : List ℕ} {r : Rehearsal X F g} (before : List Step) (p : Pending) {x y : Act} → x ≡ y
+    → Stands r ws (before ++ events_of_line p y) (pending_after p y) → Stands r ws (before ++ events_of_line p x) (pending_after p x)
+stands_line_of {ws = ws} {r = r} before p e st = let P : Act → Type 0 = λ x. Stands r ws (before ++ events_of_line p x) (pending_after p x) in subst P (sym e) st
 
 -- an event more in the world
-pub world_more : (k : Kept) (before : List Step) (e : Step) → StandsFor k (happens (world_after 1 before) e) → StandsFor k (world_after 1 (before ++ e ∷ []))
-world_more k before e st = subst (StandsFor k) (sym (after_more (opening 1) before (e ∷ []))) st
+pub world_more : (k : Kept) (ws : List ℕ) (before : List Step) (e : Step) → StandsFor k (happens (world_after 1 ws before) e) → StandsFor k (world_after 1 ws (before ++ e ∷ []))
+world_more k ws before e st = subst (StandsFor k) (sym (after_more (initial_world 1 ws) before (e ∷ []))) st
 
 -- ---- all lines
 
-pub runs_first : (r : Rehearsal) (lines : List LineFields) (o : OutputState) → Stands r [] none_pending → HasRun r lines lines o o
-runs_first r lines o s = record { happened = []; pending = none_pending; split = refl; stands = s; puts = puts_nothing tt o }
+pub runs_first : {X : _} {F : _} {g : _} (r : Rehearsal X F g) (ws : List ℕ) (lines : List LineFields) (o : OutputState) → Stands r ws [] none_pending → HasRun r ws lines lines o o
+runs_first r ws lines o s = record { happened = []; pending = none_pending; split = refl; stands = s; puts = puts_nothing tt o }
 
 -- one line more
-pub runs_line : {r s : Rehearsal} {all : List LineFields} (line : LineFields) (lines : List LineFields) {a b c : OutputState} (h : HasRun r all (line ∷ lines) a b)
-    → Runs {T = Unit {0}} (Ok tt) b c h.happened (events_of_line h.pending line.act)
-    → Stands s (h.happened ++ events_of_line h.pending line.act) (pending_after h.pending line.act) → HasRun s all lines a c
-runs_line line lines h ran stands =
+pub runs_line : {X : _} {F : _} {g : _} {ws : List ℕ} {r s : Rehearsal X F g} {all : List LineFields} (line : LineFields) (lines : List LineFields) {a b c : OutputState} (h : HasRun r ws all (line ∷ lines) a b)
+    → Runs {T = Unit {0}} (Ok tt) b c ws h.happened (events_of_line h.pending line.act)
+    → Stands s ws (h.happened ++ events_of_line h.pending line.act) (pending_after h.pending line.act) → HasRun s ws all lines a c
+runs_line {ws = ws} line lines h ran stands =
     let es = events_of_line h.pending line.act in
     let below = events_from (pending_after h.pending line.act) lines in
     record {
@@ -145,14 +145,14 @@ runs_line line lines h ran stands =
       pending = pending_after h.pending line.act;
       split = h.split ∙ sym (append_assoc h.happened es below);
       stands = stands;
-      puts = puts_as (reports_then [] h.happened es)
-          (puts_then h.puts (puts_as (ap (λ (ys : List Step). report_in (world_after 1 h.happened) ys) (sym (all_happened ran))) ran.puts));
+      puts = puts_as (reports_then ws [] h.happened es)
+          (puts_then h.puts (puts_as (ap (λ (ys : List Step). report_in (world_after 1 ws h.happened) ys) (sym (all_happened ran))) ran.puts));
     }
 
 -- a fault ended a line
-pub rehearses_part : {T U : Type 0} {r : Rehearsal} (script : Fields) (line : LineFields) (lines : List LineFields) {a b c : OutputState} {f : OutputFault}
-    (h : HasRun r script.lines (line ∷ lines) a b) → Runs {T = T} (Err f) b c h.happened (events_of_line h.pending line.act) → Rehearses {T = U} (Err f) a c script
-rehearses_part script line lines h ran =
+pub rehearses_part : {T U : Type 0} {X : _} {F : _} {g : _} {ws : List ℕ} {r : Rehearsal X F g} (script : Fields) (line : LineFields) (lines : List LineFields) {a b c : OutputState} {f : OutputFault}
+    (h : HasRun r ws script.lines (line ∷ lines) a b) → Runs {T = T} (Err f) b c ws h.happened (events_of_line h.pending line.act) → Rehearses {T = U} (Err f) a c ws script
+rehearses_part {ws = ws} script line lines h ran =
     let below = events_from (pending_after h.pending line.act) lines in
     record {
       happened = h.happened ++ ran.happened;
@@ -161,26 +161,26 @@ rehearses_part script line lines h ran =
           ∙ ap (λ (ys : List Step). h.happened ++ ys) (append_assoc ran.happened ran.rest below)
           ∙ sym (append_assoc h.happened ran.happened (ran.rest ++ below));
       all = tt;
-      puts = puts_err (puts_as (reports_then [] h.happened ran.happened) (puts_then h.puts ran.puts));
+      puts = puts_err (puts_as (reports_then ws [] h.happened ran.happened) (puts_then h.puts ran.puts));
       empty = tt;
       headline = ran.headline;
     }
 
 -- all lines were run, and what was pending was written, or a fault ended that
-pub rehearses_all : {T : Type 0} {r : Rehearsal} (script : Fields) {a b c : OutputState} (outcome : Result T OutputFault)
-    (h : HasRun r script.lines [] a b) → Puts outcome b c [] → OnOk outcome (c.pending ≡ []) → Rehearses outcome a c script
-rehearses_all script outcome h flushed empty = record {
+pub rehearses_all : {T : Type 0} {X : _} {F : _} {g : _} {ws : List ℕ} {r : Rehearsal X F g} (script : Fields) {a b c : OutputState} (outcome : Result T OutputFault)
+    (h : HasRun r ws script.lines [] a b) → Puts outcome b c [] → OnOk outcome (c.pending ≡ []) → Rehearses outcome a c ws script
+rehearses_all {ws = ws} script outcome h flushed empty = record {
   happened = h.happened;
   rest = [];
   events = h.split;
   all = on_ok outcome refl;
-  puts = puts_as (append-nil (report_of h.happened)) (puts_then h.puts flushed);
+  puts = puts_as (append-nil (report_of ws h.happened)) (puts_then h.puts flushed);
   empty = empty;
   headline = h.stands.headline;
 }
 
 -- no world could be made
-pub rehearses_nothing : {T : Type 0} (script : Fields) (o : OutputState) → MeetsHeadline 1 [] → Rehearses {T = T} (Err faults.NoMemory) o o script
+pub rehearses_nothing : {T : Type 0} {ws : List ℕ} (script : Fields) (o : OutputState) → MeetsHeadline 1 ws [] → Rehearses {T = T} (Err faults.NoMemory) o o ws script
 rehearses_nothing script o m = record {
   happened = [];
   rest = events_from none_pending script.lines;
@@ -196,5 +196,5 @@ pub line_as : (e : Step) (words path : Bytes) (reply given : Reply) → words �
 line_as e words path reply given a b c = ap (λ x. line_of x path reply) a ∙ ap (λ x. line_of (subject_words e) x reply) b ∙ ap (λ x. line_of (subject_words e) (path_words e) x) c
 
 -- other lines are left only in other words
-pub has_run_as : {r : Rehearsal} {all left others : List LineFields} {a b : OutputState} → left ≡ others → HasRun r all left a b → HasRun r all others a b
-has_run_as {r} {all} {a = a} {b = b} e h = let P : List LineFields → Type 0 = λ ls. HasRun r all ls a b in subst P e h
+pub has_run_as : {X : _} {F : _} {g : _} {ws : List ℕ} {r : Rehearsal X F g} {all left others : List LineFields} {a b : OutputState} → left ≡ others → HasRun r ws all left a b → HasRun r ws all others a b
+has_run_as {ws = ws} {r = r} {all = all} {a = a} {b = b} e h = let P : List LineFields → Type 0 = λ ls. HasRun r ws all ls a b in subst P e h

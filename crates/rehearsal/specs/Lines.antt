@@ -25,27 +25,27 @@ without p editor = λ e. if e == editor then [] else p e
 abbrev pub filled_byte : ℕ → ℕ → ℕ
 filled_byte from i = (from + 7 * i + i / 256) % 256
 
-abbrev pub filled : ℕ → ℕ → Bytes
-filled size from = map (filled_byte from) (range_with_len 0 size)
+abbrev pub filled_bytes : ℕ → ℕ → Bytes
+filled_bytes size from = map (filled_byte from) (range_with_len 0 size)
 
 -- what is pending below a line, where this is pending above it: a commit line takes its editor's edits, whatever its reply
 abbrev pub pending_after : Pending → Act → Pending
 pending_after p (lines.Put editor path content) = with_edit p editor (edits.Put path content)
-pending_after p (lines.Fill editor path size from) = with_edit p editor (edits.Put path (filled size from))
+pending_after p (lines.Fill editor path size from) = with_edit p editor (edits.Put path (filled_bytes size from))
 pending_after p (lines.Remove editor path) = with_edit p editor (edits.Remove path)
 pending_after p (lines.Commit editor) = without p editor
 pending_after p _ = p
 
 -- a settling draw asks for the most that one may, and all its packets arrive
-abbrev pub settling : Step
-settling = Draw 1048576 []
+abbrev pub settling_step : Step
+settling_step = Draw 1048576 []
 
 -- the events of a line
 abbrev pub events_of_line : Pending → Act → List Step
 events_of_line p (lines.Commit editor) = Commit editor (p editor) ∷ []
 events_of_line p (lines.Draw asked fates) = Draw asked fates ∷ []
 events_of_line p (lines.Open reader path) = Open reader path ∷ []
-events_of_line p lines.Settle = settling ∷ settling ∷ []
+events_of_line p lines.Settle = settling_step ∷ settling_step ∷ []
 events_of_line p _ = []
 
 abbrev pub events_from : Pending → List LineFields → List Step

@@ -9,7 +9,7 @@ use Rattle.path_resolver.specs.declared.answer.Answer.{Answer}
 use Rattle.path_resolver.specs.declared.answer.Answer.TheVariants as answers
 use Rattle.shell_words.specs.Texts.{with_number, answer_line, refusal_line}
 use Rattle.carousel_world.specs.Events.{Step, Commit, Draw, Open}
-use Rattle.carousel_world.specs.World.{WorldState, opening, replies_to}
+use Rattle.carousel_world.specs.World.{WorldState, initial_world, replies_to}
 use Rattle.carousel_world.specs.declared.event.Reply.{Reply}
 use Rattle.carousel_world.specs.declared.event.Reply.TheVariants as replies
 
@@ -72,6 +72,6 @@ report (e ∷ es) (r ∷ rs) = report_line e r ++ report es rs
 abbrev pub report_in : WorldState → List Step → Bytes
 report_in w events = report events (replies_to w events)
 
--- the report of events of which the first is the first of all in a world of carousel 1
-abbrev pub report_of : List Step → Bytes
-report_of events = report_in (opening 1) events
+-- the report of events of which the first is the first of all in a world of carousel 1 with these weights
+abbrev pub report_of : List ℕ → List Step → Bytes
+report_of weights events = report_in (initial_world 1 weights) events

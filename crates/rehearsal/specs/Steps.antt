@@ -11,7 +11,7 @@ use Rattle.shell_streams.specs.Sending.{OutputState, Puts, HasPut}
 use Rattle.shell_streams.specs.declared.output.OutputFault.{OutputFault}
 use Rattle.carousel_world.specs.Events.{Step}
 use Rattle.carousel_world.specs.Promises.{MeetsHeadline, world_after}
-use Rattle.carousel_world.specs.View.{kept, StandsFor}
+use Rattle.carousel_world.specs.View.{kept_in, StandsFor}
 use Rattle.rehearsal.specs.declared.pending.PendingEdits.{PendingEdits}
 use Rattle.rehearsal.specs.declared.subject.Subject.{Subject}
 use Rattle.rehearsal.specs.declared.rehearsal.Rehearsal.{Rehearsal}
@@ -32,24 +32,24 @@ abbrev pub Holds : PendingEdits → Pending → Type 0
 Holds e p = (editor : ℕ) → edits_in (get nat_cmp e.by_editor editor) ≡ p editor
 
 -- these events happened in the rehearsal's world, and these edits are pending
-pub record Stands (r : Rehearsal) (before : List Step) (p : Pending) : Type 0 where
-  pub world : StandsFor (kept r.world) (world_after 1 before)
-  pub headline : MeetsHeadline 1 before
+pub record Stands {X : _} {F : _} {g : _} (r : Rehearsal X F g) (weights : List ℕ) (before : List Step) (p : Pending) : Type 0 where
+  pub world : StandsFor (kept_in r.world) (world_after 1 weights before)
+  pub headline : MeetsHeadline 1 weights before
   pub pending : Holds r.pending p
 
 -- below these events, those happened that a line has, or on a fault the first of them, and their report was put
-pub record Runs {T : Type 0} (outcome : Result T OutputFault) (old new : OutputState) (before events : List Step) : Type 0 where
+pub record Runs {T : Type 0} (outcome : Result T OutputFault) (old new : OutputState) (weights : List ℕ) (before events : List Step) : Type 0 where
   pub happened : List Step
   pub rest : List Step
   pub split : events ≡ happened ++ rest
   pub all : OnOk outcome (rest ≡ [])
-  pub puts : Puts outcome old new (report_in (world_after 1 before) happened)
-  pub headline : MeetsHeadline 1 (before ++ happened)
+  pub puts : Puts outcome old new (report_in (world_after 1 weights before) happened)
+  pub headline : MeetsHeadline 1 weights (before ++ happened)
 
 -- of all lines, those above the ones that are left were run, and the report of their events was put
-pub record HasRun (r : Rehearsal) (all left : List LineFields) (old new : OutputState) : Type 0 where
+pub record HasRun {X : _} {F : _} {g : _} (r : Rehearsal X F g) (weights : List ℕ) (all left : List LineFields) (old new : OutputState) : Type 0 where
   pub happened : List Step
   pub pending : Pending
   pub split : events_from none_pending all ≡ happened ++ events_from pending left
-  pub stands : Stands r happened pending
-  pub puts : HasPut old new (report_of happened)
+  pub stands : Stands r weights happened pending
+  pub puts : HasPut old new (report_of weights happened)

@@ -10,7 +10,7 @@ use std::alloc::Global;
 /// Out of memory is the only refusal.
 pub fn filled(alloc: Global, size: u32, from: u8) -> Result<Blob, NoMemory>
     requires { size ≤ 16777217 }
-    ensures { IfOk result (λ content. content ≡ lines.filled size from) }
+    ensures { IfOk result (λ content. content ≡ lines.filled_bytes size from) }
 {
     let mut bytes = Vec::with_capacity(alloc, size as usize)?;
     for place in 0..size {

@@ -1,10 +1,10 @@
-ghost use Rattle.std.specs.Prelude.{◌++◌, ◌∷◌, [], List, IfOk, OnOk};
+ghost use Rattle.std.specs.Prelude.{◌++◌, ◌∷◌, [], List, ℕ, IfOk, OnOk};
 ghost use Rattle.session_script.specs.Scripts.{view, view_action};
 ghost use Rattle.session_script.specs.Ranges.{IsActor, IsInRange, IsInRanges};
 ghost use Rattle.carousel_world.specs.Events as events;
 ghost use Rattle.carousel_world.specs.Events.{Step};
 ghost use Rattle.carousel_world.specs.World.{InRange};
-ghost use Rattle.rehearsal.specs.Lines.{Pending, none_pending, without, settling, events_of_line, pending_after};
+ghost use Rattle.rehearsal.specs.Lines.{Pending, none_pending, without, settling_step, events_of_line, pending_after};
 ghost use Rattle.rehearsal.specs.Rehearsals.{Rehearses};
 
 use crate::filling::filled;
@@ -12,6 +12,7 @@ use crate::pending::PendingEdits;
 use crate::report::put_line;
 use crate::subject::Subject;
 use carousel_world::{Event, World, every_run_meets_the_headline};
+use cycle_planner::Weigh;
 use oc_bytes::NoMemory;
 use path_tree::{Edit, Edits};
 use session_script::{Action, Script};
@@ -24,18 +25,23 @@ const CAROUSEL: u32 = 1;
 /// How many items a settling draw asks for: the most that one may.
 const SETTLING: u32 = 1_048_576;
 
-/// Runs a script in one world of carousel 1: each line's events happen when the line is met, and after each event its line of the
-/// report is put. `settle` is two draws of 1,048,576 sections all of whose packets arrive. Edits that no commit line of their editor
-/// follows are given up.
+/// Runs a script in one world of carousel 1, each of whose modules is sent as often a cycle as it weighs: each line's events happen when
+/// the line is met, and after each event its line of the report is put. `settle` is two draws of 1,048,576 sections all of whose packets
+/// arrive. Edits that no commit line of their editor follows are given up.
 ///
 /// The script's numbers are within their ranges, as those of each script that `session_script::parse` gives. After `Failed` and
 /// `NoMemory` some of the events happened, and a prefix of their report was written.
-pub fn rehearse<O: Output>(alloc: Global, script: Script, out: &mut O) -> Result<(), OutputFault>
+pub fn rehearse<O: Output>(
+    alloc: Global,
+    script: Script,
+    weigh: Weigh,
+    out: &mut O,
+) -> Result<(), OutputFault>
     requires { IsInRanges (view script) }
-    ensures { Rehearses result (O.state out.old) (O.state out.new) (view script) }
+    ensures { Rehearses result (O.state out.old) (O.state out.new) weigh.weights (view script) }
 {
     every_run_meets_the_headline();
-    let mut rehearsal = Rehearsal::new(alloc)?;
+    let mut rehearsal = Rehearsal::new(alloc, weigh)?;
     for line in script.lines {
         rehearsal.run(line.action, out)?;
     }
@@ -54,10 +60,10 @@ impl Rehearsal {
     ghost use Rattle.rehearsal.specs.Steps.{Stands, Runs};
 
     /// One in which no line was run.
-    fn new(alloc: Global) -> Result<Rehearsal, NoMemory>
-        ensures { IfOk result (λ r. Stands r [] none_pending) }
+    fn new(alloc: Global, weigh: Weigh) -> Result<Rehearsal, NoMemory>
+        ensures { IfOk result (λ r. Stands r weigh.weights [] none_pending) }
     {
-        let world = World::new(alloc, CAROUSEL)?;
+        let world = World::new(alloc, CAROUSEL, weigh)?;
         world.keeps_the_headline();
         Ok(Rehearsal {
             alloc,
@@ -69,10 +75,10 @@ impl Rehearsal {
     /// Runs one line more. After a fault the rehearsal is of no use any more.
     fn run<O: Output>(&mut self, action: Action, out: &mut O) -> Result<(), OutputFault>
         requires { IsInRange (view_action action) }
-        ensures runs { (before : List Step) (p : Pending) → Stands self.old before p
-            → Runs result (O.state out.old) (O.state out.new) before (events_of_line p (view_action action)) }
-        ensures stands { OnOk result ((before : List Step) (p : Pending) → Stands self.old before p
-            → Stands self.new (before ++ events_of_line p (view_action action)) (pending_after p (view_action action))) }
+        ensures runs { (weights : List ℕ) (before : List Step) (p : Pending) → Stands self.old weights before p
+            → Runs result (O.state out.old) (O.state out.new) weights before (events_of_line p (view_action action)) }
+        ensures stands { OnOk result ((weights : List ℕ) (before : List Step) (p : Pending) → Stands self.old weights before p
+            → Stands self.new weights (before ++ events_of_line p (view_action action)) (pending_after p (view_action action))) }
     {
         match action {
             Action::Put(editor, path, content) => Ok(
@@ -93,10 +99,10 @@ impl Rehearsal {
     /// Commits the editor's pending edits.
     fn commit<O: Output>(&mut self, editor: u32, out: &mut O) -> Result<(), OutputFault>
         requires { IsActor editor }
-        ensures runs { (before : List Step) (p : Pending) → Stands self.old before p
-            → Runs result (O.state out.old) (O.state out.new) before (events.Commit editor (p editor) ∷ []) }
-        ensures stands { OnOk result ((before : List Step) (p : Pending) → Stands self.old before p
-            → Stands self.new (before ++ events.Commit editor (p editor) ∷ []) (without p editor)) }
+        ensures runs { (weights : List ℕ) (before : List Step) (p : Pending) → Stands self.old weights before p
+            → Runs result (O.state out.old) (O.state out.new) weights before (events.Commit editor (p editor) ∷ []) }
+        ensures stands { OnOk result ((weights : List ℕ) (before : List Step) (p : Pending) → Stands self.old weights before p
+            → Stands self.new weights (before ++ events.Commit editor (p editor) ∷ []) (without p editor)) }
     {
         let edits = Edits::new(self.pending.take(editor));
         self.happen(Event::Commit { editor, edits }, out)
@@ -104,20 +110,20 @@ impl Rehearsal {
 
     /// Two settling draws.
     fn settle<O: Output>(&mut self, out: &mut O) -> Result<(), OutputFault>
-        ensures runs { (before : List Step) (p : Pending) → Stands self.old before p
-            → Runs result (O.state out.old) (O.state out.new) before (settling ∷ settling ∷ []) }
-        ensures stands { OnOk result ((before : List Step) (p : Pending) → Stands self.old before p
-            → Stands self.new (before ++ settling ∷ settling ∷ []) p) }
+        ensures runs { (weights : List ℕ) (before : List Step) (p : Pending) → Stands self.old weights before p
+            → Runs result (O.state out.old) (O.state out.new) weights before (settling_step ∷ settling_step ∷ []) }
+        ensures stands { OnOk result ((weights : List ℕ) (before : List Step) (p : Pending) → Stands self.old weights before p
+            → Stands self.new weights (before ++ settling_step ∷ settling_step ∷ []) p) }
     {
         self.draw_to_settle(out)?;
         self.draw_to_settle(out)
     }
 
     fn draw_to_settle<O: Output>(&mut self, out: &mut O) -> Result<(), OutputFault>
-        ensures runs { (before : List Step) (p : Pending) → Stands self.old before p
-            → Runs result (O.state out.old) (O.state out.new) before (settling ∷ []) }
-        ensures stands { OnOk result ((before : List Step) (p : Pending) → Stands self.old before p
-            → Stands self.new (before ++ settling ∷ []) p) }
+        ensures runs { (weights : List ℕ) (before : List Step) (p : Pending) → Stands self.old weights before p
+            → Runs result (O.state out.old) (O.state out.new) weights before (settling_step ∷ []) }
+        ensures stands { OnOk result ((weights : List ℕ) (before : List Step) (p : Pending) → Stands self.old weights before p
+            → Stands self.new weights (before ++ settling_step ∷ []) p) }
     {
         let fates = Vec::new(self.alloc);
         self.happen(
@@ -132,10 +138,10 @@ impl Rehearsal {
     /// Makes an event happen, and puts its line of the report.
     fn happen<O: Output>(&mut self, event: Event, out: &mut O) -> Result<(), OutputFault>
         requires { InRange (events.view event) }
-        ensures runs { (before : List Step) (p : Pending) → Stands self.old before p
-            → Runs result (O.state out.old) (O.state out.new) before (events.view event ∷ []) }
-        ensures stands { OnOk result ((before : List Step) (p : Pending) → Stands self.old before p
-            → Stands self.new (before ++ events.view event ∷ []) p) }
+        ensures runs { (weights : List ℕ) (before : List Step) (p : Pending) → Stands self.old weights before p
+            → Runs result (O.state out.old) (O.state out.new) weights before (events.view event ∷ []) }
+        ensures stands { OnOk result ((weights : List ℕ) (before : List Step) (p : Pending) → Stands self.old weights before p
+            → Stands self.new weights (before ++ events.view event ∷ []) p) }
     {
         let subject = Subject::of(self.alloc, &event)?;
         let reply = self.world.step(event)?;

@@ -1,16 +1,32 @@
+ghost use Rattle.std.specs.Prelude.{◌≡◌};
+
 use crate::rehearse;
+use cycle_planner::{GREATEST_ID, Weigh};
 use oc_bytes::MemSink;
 use session_script::parse;
 use shell_streams::{Buffered, OutputFault, room};
 use std::alloc::Global;
 use std::test::Fail;
 
-/// What the rehearsal of a script writes, where the sink's calls of these numbers fail, or how it ends where it fails.
+/// What the rehearsal of a script writes, where each module is sent once a cycle and the sink's calls of these numbers fail, or how it
+/// ends where it fails.
 fn outcome(alloc: Global, text: &str, fail_at: Vec<u64>) -> Result<String, Fail> {
     let script = parse(alloc, text.as_bytes())?;
+    let call = Box::new(
+        alloc,
+        |_id: u16| -> u8
+            ensures { result ≡ 1 }
+        { 1 },
+    )?;
+    let weigh = Weigh::new([1; GREATEST_ID], call);
     let mut sink = MemSink::new(alloc, fail_at, 1000);
     let mut room = room(alloc)?;
-    match rehearse(alloc, script, &mut Buffered::new(&mut sink, &mut room)) {
+    match rehearse(
+        alloc,
+        script,
+        weigh,
+        &mut Buffered::new(&mut sink, &mut room),
+    ) {
         Ok(()) => text_of(alloc, sink.written()),
         Err(OutputFault::Failed) => Ok(String::from_str(alloc, "failed")?),
         Err(OutputFault::NoMemory) => Ok(String::from_str(alloc, "no memory")?),

@@ -1,10 +1,10 @@
 -- The packets of bytes, and the bytes after them, when more bytes come.
-use Rattle.std.proofs.Common.{◌≡◌, ℕ, zero, suc, ◌+◌, ◌-◌, ◌<◌, ◌≤◌, nat_le, Bool, true, false, cond, List, [], ◌∷◌, ◌++◌, length, take, drop, if◌then◌else◌, refl, sym, ◌∙◌, ap, subst, arith, append_assoc, append-nil, length-append, length-drop}
+use Rattle.std.proofs.Common.{◌≡◌, ℕ, zero, suc, ◌+◌, ◌<◌, ◌≤◌, nat_le, Bool, true, false, List, [], ◌∷◌, ◌++◌, length, take, drop, if◌then◌else◌, refl, sym, ◌∙◌, ap, subst, arith, append_assoc, length-append, length-drop}
 use Rattle.std.proofs.lemmas.Bool.{lt-leb, le-leb, leb-true}
 use Rattle.std.proofs.lemmas.List.{take-append-le, drop-append-le, take-append-drop, length-take-le}
 use Rattle.std.proofs.Math.Seq.{take-append_seam, drop-append_seam}
 use Rattle.section_stream.specs.Cuts.{Bytes, candidates}
-use Rattle.section_stream.specs.Rules.{Receiving, DemuxState, HasReceived, HasRun, receiving, step}
+use Rattle.section_stream.specs.Rules.{Receiving, DemuxState, HasReceived, HasRun, as_receiving, step}
 use Rattle.section_stream.specs.Steps.{Gives}
 use Rattle.section_stream.specs.Kept.{with_unfinished}
 use Rattle.section_stream.specs.Pieces.{packets_in, packets_of, rest_in, rest_of, StandsForBytes}
@@ -99,22 +99,22 @@ rest_first p behind h =
 abbrev Ends : DemuxState → Bytes → List Bytes → Bytes → Type 0
 Ends d piece packets rest = (packets_of (d.unfinished ++ piece) ≡ packets) × (rest_of (d.unfinished ++ piece) ≡ rest)
 
-ends_stand : (d e : DemuxState) (piece : Bytes) (packets out : List Bytes) → HasRun (receiving d) (receiving e) packets [] out → Ends d piece packets e.unfinished
+ends_stand : (d e : DemuxState) (piece : Bytes) (packets out : List Bytes) → HasRun (as_receiving d) (as_receiving e) packets [] out → Ends d piece packets e.unfinished
     → (bytes : Bytes) → StandsForBytes d bytes → StandsForBytes e (bytes ++ piece)
 ends_stand d e piece packets out r ends bytes h =
     let goes = goes_on (length bytes) bytes piece in
     let all : packets_of (bytes ++ piece) ≡ packets_of bytes ++ packets = goes.0 ∙ ap (λ u. packets_of bytes ++ packets_of (u ++ piece)) (sym h.unfinished) ∙ ap (λ ps. packets_of bytes ++ ps) ends.0 in
     record {
-      received = subst (λ ps. HasReceived (receiving e) ps) (sym all) (received_run (receiving d) (receiving e) packets [] out r (packets_of bytes) h.received);
+      received = subst (λ ps. HasReceived (as_receiving e) ps) (sym all) (received_run (as_receiving d) (as_receiving e) packets [] out r (packets_of bytes) h.received);
       unfinished = sym (goes.1 ∙ ap (λ u. rest_of (u ++ piece)) (sym h.unfinished) ∙ ends.1);
     }
 
-ends_cut : (d e : DemuxState) (piece : Bytes) (packets out : List Bytes) → HasRun (receiving d) (receiving e) packets [] out → Ends d piece packets e.unfinished
+pub ends_cut : (d e : DemuxState) (piece : Bytes) (packets out : List Bytes) → HasRun (as_receiving d) (as_receiving e) packets [] out → Ends d piece packets e.unfinished
     → (bytes : Bytes) → StandsForBytes d bytes → candidates d.pid (packets_of (bytes ++ piece)) ≡ candidates d.pid (packets_of bytes) ++ out
 ends_cut d e piece packets out r ends bytes h =
     let goes = goes_on (length bytes) bytes piece in
     let all : packets_of (bytes ++ piece) ≡ packets_of bytes ++ packets = goes.0 ∙ ap (λ u. packets_of bytes ++ packets_of (u ++ piece)) (sym h.unfinished) ∙ ap (λ ps. packets_of bytes ++ ps) ends.0 in
-    ap (candidates d.pid) all ∙ cuts_run (receiving d) (receiving e) packets out r (packets_of bytes) h.received
+    ap (candidates d.pid) all ∙ cuts_run (as_receiving d) (as_receiving e) packets out r (packets_of bytes) h.received
 
 pub ends_none : (d : DemuxState) (piece : Bytes) → length d.unfinished + length piece < 188 → Ends d piece [] (d.unfinished ++ piece)
 ends_none d piece h = let few : length (d.unfinished ++ piece) < 188 = omega (arith, length-append d.unfinished piece, h) in (packets_none (d.unfinished ++ piece) few, rest_none (d.unfinished ++ piece) few)
@@ -130,7 +130,7 @@ ends_some d piece front behind n size long f b =
 -- all that is said of a piece
 pub record Takes (d e : DemuxState) (piece : Bytes) (out : List Bytes) : Type 0 where
   pub packets : List Bytes
-  pub run : HasRun (receiving d) (receiving e) packets [] out
+  pub run : HasRun (as_receiving d) (as_receiving e) packets [] out
   pub ends : (packets_of (d.unfinished ++ piece) ≡ packets) × (rest_of (d.unfinished ++ piece) ≡ e.unfinished)
 
 pub takes_stand : (d e : DemuxState) (piece : Bytes) (out : List Bytes) → Takes d e piece out → (bytes : Bytes) → StandsForBytes d bytes → StandsForBytes e (bytes ++ piece)
@@ -183,7 +183,7 @@ piece_taken d r s t w z u first front behind rest piece n before mid out v c e s
     })
 
 pub takes_pid : (d e : DemuxState) (piece : Bytes) (out : List Bytes) → Takes d e piece out → e.pid ≡ d.pid
-takes_pid d e piece out t = pid_run (receiving d) (receiving e) t.packets [] out t.run
+takes_pid d e piece out t = pid_run (as_receiving d) (as_receiving e) t.packets [] out t.run
 
 pub takes_short : (d e : DemuxState) (piece : Bytes) (out : List Bytes) → Takes d e piece out → e.counts.short_tail ≡ d.counts.short_tail
-takes_short d e piece out t = short_run (receiving d) (receiving e) t.packets [] out t.run
+takes_short d e piece out t = short_run (as_receiving d) (as_receiving e) t.packets [] out t.run

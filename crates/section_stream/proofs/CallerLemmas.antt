@@ -1,14 +1,13 @@
 -- What crates above may cite of packing: the packets of groups, how many there are, and where their sections begin.
 use Rattle.std.proofs.Common.{◌≡◌, ℕ, zero, suc, ◌+◌, ◌-◌, ◌*◌, ◌%◌, ◌<◌, ◌≤◌, Bool, true, false, ◌&&◌, ◌||◌, ◌==◌, nat_le, nat_lt, List, [], ◌∷◌, ◌++◌, length, map, take, drop, if◌then◌else◌, refl, sym, ◌∙◌, ap, subst, arith, append-nil, length-append, length-drop, append_assoc}
-use Rattle.std.specs.List.{All, flat_map, fold, sum_by}
+use Rattle.std.specs.List.{All, fold, sum_by}
 use Rattle.std.proofs.lemmas.Bool.{leb-true, leb-false}
 use Rattle.std.proofs.lemmas.List.{length-map, length-take-le}
 use Rattle.std.proofs.lemmas.List.Sums.{sum_by-cons}
 use Rattle.std.proofs.lemmas.List.Elements.{All-append, All-cons, All-nil}
-use Rattle.ts_packet.specs.Packets.{packet_bytes}
 use Rattle.section_stream.specs.Cuts.{Bytes, candidates, cuts}
-use Rattle.section_stream.specs.Packing.{MuxState, IsSectionLike, Held, filled, giving, idle, is_none, sent, sent_of, put, ended, numbered, packets_of, packets_of_all, past, last_of, finished}
-use Rattle.section_stream.specs.Groups.{IsBetween, Filling, Laid, fill, is_done, laid, with_start, layout_from, layout_of, packets_from, packets_of_group, packets_of_groups, past_group, places_in, starts, starts_from, CallsGiveTheGroup, PacketsGiveTheGroups}
+use Rattle.section_stream.specs.Packing.{MuxState, IsSectionLike, Held, give, idle, is_none, send_begun, sent_of, put, end_packets, number_packets, packets_of, packets_of_all, past, last_of, after_finish}
+use Rattle.section_stream.specs.Groups.{IsBetween, Filling, Laid, fill, is_done, lay_packet, with_start, layout_from, layout_of, packets_from, packets_of_group, packets_of_groups, past_group, places_in, starts_from, CallsGiveTheGroup, PacketsGiveTheGroups}
 use Rattle.section_stream.proofs.Calling.{calls-give-the-group}
 use Rattle.section_stream.proofs.GroupPlaces.{groups-open}
 use Rattle.section_stream.proofs.Grouped.{fill_length, groups-cut}
@@ -22,7 +21,7 @@ pub between_idle : (pid n : ℕ) → IsBetween (idle pid (n % 16))
 between_idle pid n = record { tail = refl; body = refl; counter = omega arith }
 
 -- a group of one section
-pub one_given : (m : MuxState) (s : Bytes) → IsBetween m → IsSectionLike s → (packets_of m s ++ last_of (past m s) ≡ packets_of_group m (s ∷ [])) × (finished (past m s) ≡ past_group m (s ∷ []))
+pub one_given : (m : MuxState) (s : Bytes) → IsBetween m → IsSectionLike s → (packets_of m s ++ last_of (past m s) ≡ packets_of_group m (s ∷ [])) × (after_finish (past m s) ≡ past_group m (s ∷ []))
 one_given m s b h =
     let g = calls-give-the-group m (s ∷ []) b (All-cons IsSectionLike s [] h (All-nil IsSectionLike)) in
     (ap (λ xs. xs ++ last_of (past m s)) (sym (append-nil (packets_of m s))) ∙ g.0, g.1)
@@ -46,7 +45,7 @@ packets_of_all-append m (s ∷ ss) second =
 abbrev pub Fits : Laid → Type 0
 Fits l = length l.bytes ≤ 184
 
-laid_fits : (begun : Bytes) (rest : List Bytes) → Fits (laid begun rest)
+laid_fits : (begun : Bytes) (rest : List Bytes) → Fits (lay_packet begun rest)
 laid_fits begun rest = go (nat_le 184 (length begun)) refl ((length begun == 183) || (nat_lt 0 (length begun) && is_none rest)) where
   later : Filling
   later = fill (5 + length begun) (183 - length begun) rest
@@ -66,24 +65,24 @@ laid_fits begun rest = go (nat_le 184 (length begun)) refl ((length begun == 183
 
 all_fit : (steps : ℕ) (begun : Bytes) (rest : List Bytes) → All Fits (layout_from steps begun rest)
 all_fit zero begun rest = All-nil Fits
-all_fit (suc steps) begun rest = go (all_fit steps (laid begun rest).begun (laid begun rest).rest) (is_done begun rest) where
+all_fit (suc steps) begun rest = go (all_fit steps (lay_packet begun rest).begun (lay_packet begun rest).rest) (is_done begun rest) where
   later : List Laid
-  later = layout_from steps (laid begun rest).begun (laid begun rest).rest
+  later = layout_from steps (lay_packet begun rest).begun (lay_packet begun rest).rest
 
-  go : All Fits later → (b : Bool) → All Fits (if b then [] else laid begun rest ∷ later)
+  go : All Fits later → (b : Bool) → All Fits (if b then [] else lay_packet begun rest ∷ later)
   go fit true = All-nil Fits
-  go fit false = All-cons Fits (laid begun rest) later (laid_fits begun rest) fit
+  go fit false = All-cons Fits (lay_packet begun rest) later (laid_fits begun rest) fit
 
 pub layout_fits : (group : List Bytes) → All Fits (layout_of group)
 layout_fits group = all_fit (sum_by length group) [] group
 
 -- ---- how many packets
 
-numbered_count : (pid counter : ℕ) (ps : List (Bool × Bytes)) → length (numbered pid counter ps) ≡ length ps
+numbered_count : (pid counter : ℕ) (ps : List (Bool × Bytes)) → length (number_packets pid counter ps) ≡ length ps
 numbered_count pid counter [] = refl
 numbered_count pid counter (p ∷ ps) = ap suc (numbered_count pid ((counter + 1) % 16) ps)
 
-sent_count : (steps : ℕ) (begun : Bytes) → 184 * length (sent steps begun).given ≤ length begun + 1
+sent_count : (steps : ℕ) (begun : Bytes) → 184 * length (send_begun steps begun).given ≤ length begun + 1
 sent_count zero begun = omega arith
 sent_count (suc steps) begun = go (sent_count steps (drop 184 begun)) (nat_le 184 (length begun)) refl (length begun == 183) refl where
   Claim : Held → Type 0
@@ -91,10 +90,10 @@ sent_count (suc steps) begun = go (sent_count steps (drop 184 begun)) (nat_le 18
 
   by : Bool → Bool → Held
   by t u =
-      if t then giving (false, take 184 begun) (sent steps (drop 184 begun))
+      if t then give (false, take 184 begun) (send_begun steps (drop 184 begun))
       else (if u then record { given = (false, begun) ∷ []; tail = []; body = [] } else record { given = []; tail = begun; body = [] })
 
-  go : 184 * length (sent steps (drop 184 begun)).given ≤ length (drop 184 begun) + 1 → (t : Bool) → nat_le 184 (length begun) ≡ t → (u : Bool) → (length begun == 183) ≡ u
+  go : 184 * length (send_begun steps (drop 184 begun)).given ≤ length (drop 184 begun) + 1 → (t : Bool) → nat_le 184 (length begun) ≡ t → (u : Bool) → (length begun == 183) ≡ u
       → Claim (by (nat_le 184 (length begun)) (length begun == 183))
   go next true t u e =
       let i : 184 ≤ length begun = leb-true 184 (length begun) t in
@@ -111,7 +110,7 @@ put_count tail body s h = go (nat_lt (length s) room) where
   room = 183 - (length tail + length body)
 
   by : Bool → Held
-  by t = if t then record { given = []; tail = tail; body = body ++ s } else giving (true, length tail ∷ (tail ++ (body ++ take room s))) (sent_of (drop room s))
+  by t = if t then record { given = []; tail = tail; body = body ++ s } else give (true, length tail ∷ (tail ++ (body ++ take room s))) (sent_of (drop room s))
 
   go : (t : Bool) → length (by t).given ≤ 23
   go true = omega arith
@@ -123,8 +122,8 @@ few_packets m s h = let n = numbered_count m.pid m.counter (put m.tail m.body s)
 
 -- a group's end gives at most one
 pub few_last : (m : MuxState) → length (last_of m) ≤ 1
-few_last m = let n = numbered_count m.pid m.counter (ended m.tail m.body) in let k = go m.tail m.body in omega (arith, n, k) where
-  go : (tail body : Bytes) → length (ended tail body) ≤ 1
+few_last m = let n = numbered_count m.pid m.counter (end_packets m.tail m.body) in let k = go m.tail m.body in omega (arith, n, k) where
+  go : (tail body : Bytes) → length (end_packets tail body) ≤ 1
   go [] [] = omega arith
   go (x ∷ xs) [] = omega arith
   go tail (y ∷ ys) = omega arith

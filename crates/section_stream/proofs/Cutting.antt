@@ -4,7 +4,7 @@ use Rattle.std.proofs.lemmas.Grind.{common_steps}
 use Rattle.std.proofs.lemmas.List.{take-append-le, map-append}
 use Rattle.std.proofs.lemmas.Bool.{le-leb}
 use Rattle.section_stream.specs.Cuts.{Bytes, Received, Cut, whole_len, going_on, opened_in, cuts_at, cuts_of, pointer_of, pointer_fits}
-use Rattle.section_stream.specs.Rules.{After, Grown, Growing, Oversize, Whole, grown, open_on, appended, goes_on, closes, starts}
+use Rattle.section_stream.specs.Rules.{After, Grown, Growing, Oversize, Whole, as_grown, open_on, after_append, goes_on, closes, starts}
 use Rattle.section_stream.specs.declared.counts.Counts.{Counts}
 
 -- the candidate of some bytes
@@ -17,27 +17,27 @@ abbrev pub finish : Option Bytes → Bytes → List Bytes
 finish (Some x) more = candidate (whole_len (x ++ more)) (x ++ more)
 finish None more = []
 
-growing_is_not_whole : (x : Bytes) → grown x ≡ Growing → whole_len x ≡ None
+growing_is_not_whole : (x : Bytes) → as_grown x ≡ Growing → whole_len x ≡ None
 growing_is_not_whole x e = grind (arith, common_steps)
 
-whole_with_more : (x more : Bytes) (n : ℕ) → grown x ≡ Whole n → (whole_len (x ++ more) ≡ Some n) × (n ≤ length x)
+whole_with_more : (x more : Bytes) (n : ℕ) → as_grown x ≡ Whole n → (whole_len (x ++ more) ≡ Some n) × (n ≤ length x)
 whole_with_more x more n e = (grind (arith, common_steps), grind (arith, common_steps))
 
-oversize_with_more : (x more : Bytes) → grown x ≡ Oversize → whole_len (x ++ more) ≡ None
+oversize_with_more : (x more : Bytes) → as_grown x ≡ Oversize → whole_len (x ++ more) ≡ None
 oversize_with_more x more e = grind (arith, common_steps)
 
 -- an append that closes nothing
-append_open : (x more : Bytes) (k : Counts) → (appended false x k).out ++ finish (appended false x k).opened more ≡ finish (Some x) more
-append_open x more k = go (grown x) refl where
-  go : (g : Grown) → grown x ≡ g → (appended false x k).out ++ finish (appended false x k).opened more ≡ finish (Some x) more
+append_open : (x more : Bytes) (k : Counts) → (after_append false x k).out ++ finish (after_append false x k).opened more ≡ finish (Some x) more
+append_open x more k = go (as_grown x) refl where
+  go : (g : Grown) → as_grown x ≡ g → (after_append false x k).out ++ finish (after_append false x k).opened more ≡ finish (Some x) more
   go Growing e = rw e refl
   go Oversize e = rw (e, oversize_with_more x more e) refl
   go (Whole n) e = rw (e, (whole_with_more x more n e).0) (ap (λ b. b ∷ []) (sym (take-append-le n x more (whole_with_more x more n e).1)))
 
 -- one that closes
-append_closed : (x : Bytes) (k : Counts) → ((appended true x k).out ≡ finish (Some x) []) × ((appended true x k).opened ≡ None)
-append_closed x k = go (grown x) refl where
-  go : (g : Grown) → grown x ≡ g → ((appended true x k).out ≡ finish (Some x) []) × ((appended true x k).opened ≡ None)
+append_closed : (x : Bytes) (k : Counts) → ((after_append true x k).out ≡ finish (Some x) []) × ((after_append true x k).opened ≡ None)
+append_closed x k = go (as_grown x) refl where
+  go : (g : Grown) → as_grown x ≡ g → ((after_append true x k).out ≡ finish (Some x) []) × ((after_append true x k).opened ≡ None)
   go Growing e = (rw (e, append-nil, growing_is_not_whole x e) refl, rw e refl)
   go Oversize e = (rw (e, oversize_with_more x [] e) refl, rw e refl)
   go (Whole n) e = (rw (e, (whole_with_more x [] n e).0) (ap (λ b. b ∷ []) (sym (take-append-le n x [] (whole_with_more x [] n e).1))), rw e refl)
@@ -46,7 +46,7 @@ abbrev pub bytes_of : List Cut → List Bytes
 bytes_of cs = map (λ c. c.bytes) cs
 
 -- a section that grows is not whole with what goes on, and else ends after this packet
-grows_past : (here more : Bytes) (n : ℕ) → grown here ≡ Growing → whole_len (here ++ more) ≡ Some n → nat_le n (length here) ≡ false
+grows_past : (here more : Bytes) (n : ℕ) → as_grown here ≡ Growing → whole_len (here ++ more) ≡ Some n → nat_le n (length here) ≡ false
 grows_past here more n e w = grind (arith, common_steps)
 
 -- what is opened in a packet, with the bytes that go on after it
@@ -59,11 +59,11 @@ opens (suc steps) number here more k = ends (λ rest. opens steps number rest mo
   Next : Type 0
   Next = (rest : Bytes) → (open_on steps rest k).out ++ finish (open_on steps rest k).opened more ≡ bytes_of (opened_in steps number rest more)
 
-  grows : ((length here == 0) || (slice_index here 0 == 0xFF)) ≡ false → grown here ≡ Growing → (w : Option ℕ) → whole_len (here ++ more) ≡ w → Claim
+  grows : ((length here == 0) || (slice_index here 0 == 0xFF)) ≡ false → as_grown here ≡ Growing → (w : Option ℕ) → whole_len (here ++ more) ≡ w → Claim
   grows t e None w = rw (t, e, w) refl
   grows t e (Some n) w = rw (t, e, w, grows_past here more n e w) refl
 
-  goes : Next → ((length here == 0) || (slice_index here 0 == 0xFF)) ≡ false → (g : Grown) → grown here ≡ g → Claim
+  goes : Next → ((length here == 0) || (slice_index here 0 == 0xFF)) ≡ false → (g : Grown) → as_grown here ≡ g → Claim
   goes next t Growing e = grows t e (whole_len (here ++ more)) refl
   goes next t Oversize e = rw (t, e, oversize_with_more here more e) refl
   goes next t (Whole n) e =
@@ -73,19 +73,19 @@ opens (suc steps) number here more k = ends (λ rest. opens steps number rest mo
 
   ends : Next → (b : Bool) → ((length here == 0) || (slice_index here 0 == 0xFF)) ≡ b → Claim
   ends next true t = rw t refl
-  ends next false t = goes next t (grown here) refl
+  ends next false t = goes next t (as_grown here) refl
 
 -- what is kept open can still grow
 abbrev pub IsOpen : Option Bytes → Type 0
-IsOpen (Some x) = grown x ≡ Growing
+IsOpen (Some x) = as_grown x ≡ Growing
 IsOpen None = Unit {0}
 
-append_keeps : (closing : Bool) (x : Bytes) (k : Counts) → IsOpen (appended closing x k).opened
-append_keeps closing x k = go closing (grown x) refl where
-  go : (b : Bool) (g : Grown) → grown x ≡ g → IsOpen (appended b x k).opened
+append_keeps : (closing : Bool) (x : Bytes) (k : Counts) → IsOpen (after_append closing x k).opened
+append_keeps closing x k = go closing (as_grown x) refl where
+  go : (b : Bool) (g : Grown) → as_grown x ≡ g → IsOpen (after_append b x k).opened
   go true Growing e = rw e tt
   go false Growing e = subst IsOpen (sym (opened_is e)) e where
-    opened_is : grown x ≡ Growing → (appended false x k).opened ≡ Some x
+    opened_is : as_grown x ≡ Growing → (after_append false x k).opened ≡ Some x
     opened_is h = rw h refl
   go b Oversize e = rw e tt
   go b (Whole n) e = rw e tt
@@ -96,16 +96,16 @@ open_keeps (suc steps) here k = ends (λ rest. open_keeps steps rest k) ((length
   Claim : Type 0
   Claim = IsOpen (open_on (suc steps) here k).opened
 
-  goes : ((rest : Bytes) → IsOpen (open_on steps rest k).opened) → ((length here == 0) || (slice_index here 0 == 0xFF)) ≡ false → (g : Grown) → grown here ≡ g → Claim
+  goes : ((rest : Bytes) → IsOpen (open_on steps rest k).opened) → ((length here == 0) || (slice_index here 0 == 0xFF)) ≡ false → (g : Grown) → as_grown here ≡ g → Claim
   goes next t Growing e = subst IsOpen (sym (opened_is t e)) e where
-    opened_is : ((length here == 0) || (slice_index here 0 == 0xFF)) ≡ false → grown here ≡ Growing → (open_on (suc steps) here k).opened ≡ Some here
+    opened_is : ((length here == 0) || (slice_index here 0 == 0xFF)) ≡ false → as_grown here ≡ Growing → (open_on (suc steps) here k).opened ≡ Some here
     opened_is u h = rw (u, h) refl
   goes next t Oversize e = rw (t, e) tt
   goes next t (Whole n) e = rw (t, e) (next (drop n here))
 
   ends : ((rest : Bytes) → IsOpen (open_on steps rest k).opened) → (b : Bool) → ((length here == 0) || (slice_index here 0 == 0xFF)) ≡ b → Claim
   ends next true t = rw t tt
-  ends next false t = goes next t (grown here) refl
+  ends next false t = goes next t (as_grown here) refl
 
 pub finish_nothing : (o : Option Bytes) → IsOpen o → finish o [] ≡ []
 finish_nothing None h = refl

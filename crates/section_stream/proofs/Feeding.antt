@@ -1,9 +1,9 @@
 -- One more packet: what stood for the packets stands for the longer list.
 use Rattle.std.proofs.Common.{◌≡◌, ℕ, List, [], ◌∷◌, ◌++◌, Option, refl, sym, ◌∙◌, ap, subst, append_assoc, append-nil}
-use Rattle.ts_packet.specs.Packets.{parsed}
+use Rattle.ts_packet.specs.Packets.{parse_packet}
 use Rattle.section_stream.specs.Cuts.{Bytes, candidates}
 use Rattle.section_stream.specs.declared.counts.Counts.{Counts}
-use Rattle.section_stream.specs.Rules.{Receiving, DemuxState, StandsFor, HasReceived, started, HasRun, step, after_all, one_more, outputs}
+use Rattle.section_stream.specs.Rules.{Receiving, DemuxState, StandsFor, HasReceived, at_start, HasRun, step, after_all, one_more, outputs}
 use Rattle.section_stream.specs.Steps.{Gives}
 use Rattle.section_stream.specs.Kept.{with_unfinished}
 use Rattle.section_stream.proofs.Short.{state_short, both_short, step_short}
@@ -18,7 +18,7 @@ same_state a b p l o c =
     ∙ ap (λ x. state_of b.pid b.last x a.counts) o ∙ ap (λ x. state_of b.pid b.last b.opened x) c
 
 pid_step : (s : Receiving) (x : Bytes) → (step s x).0.pid ≡ s.pid
-pid_step s x = pid_fed (one_more s) (parsed x)
+pid_step s x = pid_fed (one_more s) (parse_packet x)
 
 pid_after : (s : Receiving) (packets : List Bytes) → (after_all s packets).pid ≡ s.pid
 pid_after s [] = refl
@@ -29,26 +29,26 @@ after_append s [] x = refl
 after_append s (y ∷ ys) x = after_append (step s y).0 ys x
 
 -- with its short tails uncounted, the state is the one that the packets leave
-settled : (s : Receiving) (packets : List Bytes) → HasReceived s packets → state_short 0 s ≡ after_all (started s.pid) packets
-settled s packets h = same_state (state_short 0 s) (after_all (started s.pid) packets) (sym (pid_after (started s.pid) packets)) h.last h.opened h.counts
+settled : (s : Receiving) (packets : List Bytes) → HasReceived s packets → state_short 0 s ≡ after_all (at_start s.pid) packets
+settled s packets h = same_state (state_short 0 s) (after_all (at_start s.pid) packets) (sym (pid_after (at_start s.pid) packets)) h.last h.opened h.counts
 
-stepped : (s : Receiving) (packets : List Bytes) (x : Bytes) → HasReceived s packets → both_short 0 (step s x) ≡ step (after_all (started s.pid) packets) x
+stepped : (s : Receiving) (packets : List Bytes) (x : Bytes) → HasReceived s packets → both_short 0 (step s x) ≡ step (after_all (at_start s.pid) packets) x
 stepped s packets x h = sym (step_short 0 s x) ∙ ap (λ t. step t x) (settled s packets h)
 
 pub stands_step : (s : Receiving) (packets : List Bytes) (x : Bytes) → HasReceived s packets → HasReceived (step s x).0 (packets ++ x ∷ [])
 stands_step s packets x h =
-    let left : state_short 0 (step s x).0 ≡ after_all (started s.pid) (packets ++ x ∷ []) =
-    ap (λ y. y.0) (stepped s packets x h) ∙ sym (after_append (started s.pid) packets x) in
-    let here : state_short 0 (step s x).0 ≡ after_all (started (step s x).0.pid) (packets ++ x ∷ []) =
-    left ∙ ap (λ i. after_all (started i) (packets ++ x ∷ [])) (sym (pid_step s x)) in
+    let left : state_short 0 (step s x).0 ≡ after_all (at_start s.pid) (packets ++ x ∷ []) =
+    ap (λ y. y.0) (stepped s packets x h) ∙ sym (after_append (at_start s.pid) packets x) in
+    let here : state_short 0 (step s x).0 ≡ after_all (at_start (step s x).0.pid) (packets ++ x ∷ []) =
+    left ∙ ap (λ i. after_all (at_start i) (packets ++ x ∷ [])) (sym (pid_step s x)) in
     record { last = ap (λ t. t.last) here; opened = ap (λ t. t.opened) here; counts = ap (λ t. t.counts) here }
 
 pub cuts_step : (s : Receiving) (packets : List Bytes) (x : Bytes) → HasReceived s packets
     → candidates s.pid (packets ++ x ∷ []) ≡ candidates s.pid packets ++ (step s x).1
 cuts_step s packets x h =
-    let t = after_all (started s.pid) packets in
-    let same : t.pid ≡ s.pid = pid_after (started s.pid) packets in
-    let begun : t ≡ after_all (started t.pid) packets = ap (λ i. after_all (started i) packets) (sym same) in
+    let t = after_all (at_start s.pid) packets in
+    let same : t.pid ≡ s.pid = pid_after (at_start s.pid) packets in
+    let begun : t ≡ after_all (at_start t.pid) packets = ap (λ i. after_all (at_start i) packets) (sym same) in
     subst (λ i. candidates i (packets ++ x ∷ []) ≡ candidates i packets ++ (step t x).1) same (candidates_append t packets x begun)
     ∙ ap (λ out. candidates s.pid packets ++ out) (sym (ap (λ y. y.1) (stepped s packets x h)))
 

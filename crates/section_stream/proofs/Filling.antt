@@ -4,7 +4,7 @@ use Rattle.std.proofs.lemmas.List.{drop_all, drop-replicate}
 use Rattle.std.proofs.Math.Seq.{take-append_seam, drop-append-add}
 use Rattle.std.proofs.lemmas.Bool.{cases_lt}
 use Rattle.section_stream.specs.Cuts.{Bytes}
-use Rattle.section_stream.specs.Packing.{filled}
+use Rattle.section_stream.specs.Packing.{with_stuffing}
 
 abbrev stuffing : ℕ → Bytes
 stuffing n = replicate n 0xFF
@@ -20,7 +20,7 @@ pub three_writes : (pointer held front one two three : Bytes) → length pointer
     → one ≡ take 0 (stuffing 184) ++ (pointer ++ drop (0 + length pointer) (stuffing 184))
     → two ≡ take (length pointer) one ++ (held ++ drop (length pointer + length held) one)
     → three ≡ take (length pointer + length held) two ++ (front ++ drop (length pointer + length held + length front) two)
-    → three ≡ filled (pointer ++ (held ++ front))
+    → three ≡ with_stuffing (pointer ++ (held ++ front))
 three_writes pointer held front one two three h a b c =
     let both : length pointer + length held ≡ length (pointer ++ held) = sym (length-append pointer held) in
     let left : ℕ = 184 - length pointer - length held in

@@ -7,8 +7,8 @@ use Rattle.std.proofs.lemmas.Bool.{leb-true, leb-false}
 use Rattle.std.proofs.Math.Seq.{take-append_seam, drop-append_seam}
 use Rattle.section_stream.specs.Cuts.{Bytes, Received, Cut, without_repeats, pointer_fits, going_on, whole_len, opened_in, cuts_at, cuts_of, cuts}
 use Rattle.section_stream.specs.Rules.{nothing_counted}
-use Rattle.section_stream.specs.Packing.{MuxState, IsSectionLike, filled, is_none}
-use Rattle.section_stream.specs.Groups.{Filling, fill, Laid, with_start, laid, is_done, layout_from, layout_of, packets_of_groups, places_in, starts_from, starts}
+use Rattle.section_stream.specs.Packing.{MuxState, IsSectionLike, with_stuffing, is_none}
+use Rattle.section_stream.specs.Groups.{Filling, fill, Laid, with_start, lay_packet, is_done, layout_from, layout_of, packets_of_groups, places_in, starts_from, starts}
 use Rattle.section_stream.proofs.Packed.{all_stay}
 use Rattle.section_stream.proofs.Grouped.{IsUnderWay, Leaves, does, laid_leaves, fill_length, begins_whole, begins_one, layout_taken, groups_taken, groups_received, groups_follow}
 
@@ -104,8 +104,8 @@ pointer_in : (begun bytes rest : Bytes) → nat_lt (length begun) (length (lengt
 pointer_in begun bytes rest = grind (arith, length-append (begun ++ bytes) rest, length-append begun bytes)
 
 -- the first packet goes on with what isn't sent yet, where what is left then goes on after it
-laid_goes : (n a : ℕ) (begun : Bytes) (rest : List Bytes) (qs : List Received) → 0 < length begun → GoesOn (laid begun rest).begun (going_on ((a + 1) % 16) qs)
-    → GoesOn begun (going_on a (record { number = n; start = (laid begun rest).start; counter = (a + 1) % 16; payload = filled (laid begun rest).bytes } ∷ qs))
+laid_goes : (n a : ℕ) (begun : Bytes) (rest : List Bytes) (qs : List Received) → 0 < length begun → GoesOn (lay_packet begun rest).begun (going_on ((a + 1) % 16) qs)
+    → GoesOn begun (going_on a (record { number = n; start = (lay_packet begun rest).start; counter = (a + 1) % 16; payload = with_stuffing (lay_packet begun rest).bytes } ∷ qs))
 laid_goes n a begun rest qs some next = long (nat_le 184 (length begun)) refl next where
   test : Bool
   test = (length begun == 183) || (nat_lt 0 (length begun) && is_none rest)
@@ -117,16 +117,16 @@ laid_goes n a begun rest qs some next = long (nat_le 184 (length begun)) refl ne
       else with_start begun (fill (5 + length begun) (183 - length begun) rest))
 
   packet : Laid → Received
-  packet l = record { number = n; start = l.start; counter = (a + 1) % 16; payload = filled l.bytes }
+  packet l = record { number = n; start = l.start; counter = (a + 1) % 16; payload = with_stuffing l.bytes }
 
   Claim : Laid → Type 0
   Claim l = GoesOn l.begun (going_on ((a + 1) % 16) qs) → GoesOn begun (going_on a (packet l ∷ qs))
 
   -- what goes on with the packet, whose counter follows
-  follows : (l : Laid) → going_on a (packet l ∷ qs) ≡ (if l.start then (if pointer_fits (packet l) then take (slice_index (filled l.bytes) 0) (drop 1 (filled l.bytes)) else []) else filled l.bytes ++ going_on ((a + 1) % 16) qs)
+  follows : (l : Laid) → going_on a (packet l ∷ qs) ≡ (if l.start then (if pointer_fits (packet l) then take (slice_index (with_stuffing l.bytes) 0) (drop 1 (with_stuffing l.bytes)) else []) else with_stuffing l.bytes ++ going_on ((a + 1) % 16) qs)
   follows l =
       let same : ((a + 1) % 16 == (a + 1) % 16) ≡ true = grind arith in
-      ap (λ t. if not t then [] else (if l.start then (if pointer_fits (packet l) then take (slice_index (filled l.bytes) 0) (drop 1 (filled l.bytes)) else []) else filled l.bytes ++ going_on ((a + 1) % 16) qs)) same
+      ap (λ t. if not t then [] else (if l.start then (if pointer_fits (packet l) then take (slice_index (with_stuffing l.bytes) 0) (drop 1 (with_stuffing l.bytes)) else []) else with_stuffing l.bytes ++ going_on ((a + 1) % 16) qs)) same
 
   more : Bytes
   more = going_on ((a + 1) % 16) qs
@@ -135,7 +135,7 @@ laid_goes n a begun rest qs some next = long (nat_le 184 (length begun)) refl ne
   part i g =
       let taken : length (take 184 begun) ≡ 184 = length-take-le 184 begun i in
       let none : 184 - length (take 184 begun) ≡ 0 = omega (arith, taken) in
-      let full : filled (take 184 begun) ≡ take 184 begun = ap (λ k. take 184 begun ++ replicate k 0xFF) none ∙ append-nil (take 184 begun) in (
+      let full : with_stuffing (take 184 begun) ≡ take 184 begun = ap (λ k. take 184 begun ++ replicate k 0xFF) none ∙ append-nil (take 184 begun) in (
         g.0,
         follows (one true test) ∙ ap (λ y. y ++ more) full ∙ ap (λ y. take 184 begun ++ y) g.1 ∙ sym (append_assoc (take 184 begun) (drop 184 begun) g.0)
             ∙ ap (λ y. y ++ g.0) (take-append-drop 184 begun),
@@ -156,7 +156,7 @@ laid_goes n a begun rest qs some next = long (nat_le 184 (length begun)) refl ne
   short true g = (replicate (184 - length begun) 0xFF ++ more, follows (one false true) ∙ append_assoc begun (replicate (184 - length begun) 0xFF) more)
   short false g = start g
 
-  long : (t : Bool) → nat_le 184 (length begun) ≡ t → Claim (laid begun rest)
+  long : (t : Bool) → nat_le 184 (length begun) ≡ t → Claim (lay_packet begun rest)
   long true e = subst (λ x. Claim (one x test)) (sym e) (part (leb-true 184 (length begun) e))
   long false e = subst (λ x. Claim (one x test)) (sym e) (short test)
 
@@ -167,16 +167,16 @@ layout_goes steps n a o [] rest later h all fits = (going_on a (layout_taken n (
 layout_goes zero n a o (y ∷ ys) rest later h all fits = absurd (omega (arith, fits))
 layout_goes (suc steps) n a o (y ∷ ys) rest later h all fits =
     let begun : Bytes = y ∷ ys in
-    let is : Leaves o (y ∷ ys) rest (does o nothing_counted (laid (y ∷ ys) rest)) (laid (y ∷ ys) rest) = laid_leaves o (y ∷ ys) rest nothing_counted h all refl in
-    let smaller : length (laid (y ∷ ys) rest).begun + sum_by length (laid (y ∷ ys) rest).rest < length (y ∷ ys) + sum_by length rest = is.fewer in
-    laid_goes n a (y ∷ ys) rest (layout_taken (n + 1) (((a + 1) % 16 + 1) % 16) (layout_from steps (laid (y ∷ ys) rest).begun (laid (y ∷ ys) rest).rest) ++ later) (omega arith)
-    (layout_goes steps (n + 1) ((a + 1) % 16) (does o nothing_counted (laid (y ∷ ys) rest)).opened (laid (y ∷ ys) rest).begun (laid (y ∷ ys) rest).rest later is.under is.all (omega (arith, smaller, fits)))
+    let is : Leaves o (y ∷ ys) rest (does o nothing_counted (lay_packet (y ∷ ys) rest)) (lay_packet (y ∷ ys) rest) = laid_leaves o (y ∷ ys) rest nothing_counted h all refl in
+    let smaller : length (lay_packet (y ∷ ys) rest).begun + sum_by length (lay_packet (y ∷ ys) rest).rest < length (y ∷ ys) + sum_by length rest = is.fewer in
+    laid_goes n a (y ∷ ys) rest (layout_taken (n + 1) (((a + 1) % 16 + 1) % 16) (layout_from steps (lay_packet (y ∷ ys) rest).begun (lay_packet (y ∷ ys) rest).rest) ++ later) (omega arith)
+    (layout_goes steps (n + 1) ((a + 1) % 16) (does o nothing_counted (lay_packet (y ∷ ys) rest)).opened (lay_packet (y ∷ ys) rest).begun (lay_packet (y ∷ ys) rest).rest later is.under is.all (omega (arith, smaller, fits)))
 
 -- ---- where the cuts open
 
 -- the cuts of a packet of a group, where what is left of the section under way goes on after it
-laid_places : (n c : ℕ) (begun : Bytes) (rest : List Bytes) (qs : List Received) → All IsSectionLike rest → GoesOn (laid begun rest).begun (going_on c qs)
-    → places_of (cuts_at (record { number = n; start = (laid begun rest).start; counter = c; payload = filled (laid begun rest).bytes }) qs) ≡ map (λ o. (n, o)) (laid begun rest).offsets
+laid_places : (n c : ℕ) (begun : Bytes) (rest : List Bytes) (qs : List Received) → All IsSectionLike rest → GoesOn (lay_packet begun rest).begun (going_on c qs)
+    → places_of (cuts_at (record { number = n; start = (lay_packet begun rest).start; counter = c; payload = with_stuffing (lay_packet begun rest).bytes }) qs) ≡ map (λ o. (n, o)) (lay_packet begun rest).offsets
 laid_places n c begun rest qs all next = long (nat_le 184 (length begun)) refl next where
   test : Bool
   test = (length begun == 183) || (nat_lt 0 (length begun) && is_none rest)
@@ -188,7 +188,7 @@ laid_places n c begun rest qs all next = long (nat_le 184 (length begun)) refl n
       else with_start begun (fill (5 + length begun) (183 - length begun) rest))
 
   packet : Laid → Received
-  packet l = record { number = n; start = l.start; counter = c; payload = filled l.bytes }
+  packet l = record { number = n; start = l.start; counter = c; payload = with_stuffing l.bytes }
 
   Claim : Laid → Type 0
   Claim l = GoesOn l.begun (going_on c qs) → places_of (cuts_at (packet l) qs) ≡ map (λ o. (n, o)) l.offsets
@@ -214,7 +214,7 @@ laid_places n c begun rest qs all next = long (nat_le 184 (length begun)) refl n
   short i true t g = refl
   short i false t g = start i t g
 
-  long : (t : Bool) → nat_le 184 (length begun) ≡ t → Claim (laid begun rest)
+  long : (t : Bool) → nat_le 184 (length begun) ≡ t → Claim (lay_packet begun rest)
   long true e = subst (λ x. Claim (one x test)) (sym e) (λ g. refl)
   long false e = subst (λ x. Claim (one x test)) (sym e) (short (leb-false 184 (length begun) e) test refl)
 
@@ -224,10 +224,10 @@ layout_places zero n c o begun rest later h all fits = refl
 layout_places (suc steps) n c o begun rest later h all fits =
     go (λ p b ss i j f. layout_places steps (n + 1) ((c + 1) % 16) p b ss later i j f) (is_done begun rest) refl where
       l : Laid
-      l = laid begun rest
+      l = lay_packet begun rest
 
       q : Received
-      q = record { number = n; start = l.start; counter = c; payload = filled l.bytes }
+      q = record { number = n; start = l.start; counter = c; payload = with_stuffing l.bytes }
 
       qs : List Received
       qs = layout_taken (n + 1) ((c + 1) % 16) (layout_from steps l.begun l.rest) ++ later

@@ -9,9 +9,9 @@ use Rattle.std.proofs.lemmas.Bool.{cases_lt, leb-true, leb-false}
 use Rattle.std.proofs.Math.Seq.{take-append_seam, drop-append_seam}
 use Rattle.section_stream.specs.declared.counts.Counts.{Counts}
 use Rattle.section_stream.specs.Cuts.{Bytes, Received, without_repeats, cuts_of, candidates}
-use Rattle.section_stream.specs.Rules.{After, Growing, Whole, grown, with_out, open_on, appended, goes_on, closes, starts, up, nothing_counted}
-use Rattle.section_stream.specs.Packing.{MuxState, IsSectionLike, filled, is_none}
-use Rattle.section_stream.specs.Groups.{Filling, fill, Laid, with_start, laid, is_done, layout_from, layout_of, packets_from, past_group, packets_of_groups}
+use Rattle.section_stream.specs.Rules.{After, Growing, Whole, as_grown, with_out, open_on, after_append, goes_on, closes, starts, up, nothing_counted}
+use Rattle.section_stream.specs.Packing.{MuxState, IsSectionLike, with_stuffing, is_none}
+use Rattle.section_stream.specs.Groups.{Filling, fill, Laid, with_start, lay_packet, is_done, layout_from, layout_of, packets_from, past_group, packets_of_groups}
 use Rattle.section_stream.proofs.Cutting.{bytes_of, run_from, run_is_cuts, act, kept, onto}
 use Rattle.section_stream.proofs.Outputs.{received_from}
 use Rattle.section_stream.proofs.Packed.{kept_built, Follow, all_stay, counter_past, counter_past_is}
@@ -27,19 +27,19 @@ abbrev pub IsUnderWay : Option Bytes → Bytes → Type 0
 IsUnderWay None begun = begun ≡ []
 IsUnderWay (Some front) begun = IsSectionLike (front ++ begun) × (0 < length begun)
 
-part_grows : (front begun : Bytes) → IsSectionLike (front ++ begun) → 0 < length begun → grown front ≡ Growing
+part_grows : (front begun : Bytes) → IsSectionLike (front ++ begun) → 0 < length begun → as_grown front ≡ Growing
 part_grows front begun h some = grind (arith, common_steps, h.size.0, h.size.1, h.length_field)
 
-whole_grows : (s more : Bytes) → IsSectionLike s → grown (s ++ more) ≡ Whole (length s)
+whole_grows : (s more : Bytes) → IsSectionLike s → as_grown (s ++ more) ≡ Whole (length s)
 whole_grows s more h = grind (arith, common_steps, h.size.0, h.size.1, h.length_field)
 
 pub begins_one : (front begun : Bytes) → IsSectionLike (front ++ begun) → 0 < length front → ((length front == 0) || (slice_index front 0 == 0xFF)) ≡ false
 begins_one front begun h some = grind (arith, common_steps, h.size.0, h.first)
 
-appended_whole : (closing : Bool) (s more : Bytes) (k : Counts) → IsSectionLike s → appended closing (s ++ more) k ≡ record { opened = None; out = s ∷ []; counts = k }
+appended_whole : (closing : Bool) (s more : Bytes) (k : Counts) → IsSectionLike s → after_append closing (s ++ more) k ≡ record { opened = None; out = s ∷ []; counts = k }
 appended_whole closing s more k h = rw (whole_grows s more h, take-append_seam) refl
 
-appended_part : (front begun : Bytes) (k : Counts) → IsSectionLike (front ++ begun) → 0 < length begun → appended false front k ≡ record { opened = Some front; out = []; counts = k }
+appended_part : (front begun : Bytes) (k : Counts) → IsSectionLike (front ++ begun) → 0 < length begun → after_append false front k ≡ record { opened = Some front; out = []; counts = k }
 appended_part front begun k h some = rw (part_grows front begun h some) refl
 
 -- ---- one packet
@@ -56,7 +56,7 @@ goes_whole : (front part more : Bytes) (rest : List Bytes) (k : Counts) (l : Lai
     → Leaves (Some front) part rest (goes_on (Some front) (part ++ more) k) l
 goes_whole front part more rest k l h some all b r =
     let is : goes_on (Some front) (part ++ more) k ≡ record { opened = None; out = (front ++ part) ∷ []; counts = k } =
-    ap (λ x. appended false x k) (sym (append_assoc front part more)) ∙ appended_whole false (front ++ part) more k h in
+    ap (λ x. after_append false x k) (sym (append_assoc front part more)) ∙ appended_whole false (front ++ part) more k h in
     rw is (record { under = b; out = rw r refl; all = rw r all; fewer = rw (b, r) (omega (arith, some)) })
 
 -- 184 bytes of a section that goes on after them
@@ -93,8 +93,8 @@ starts_is o begun tail k =
 closes_is : (o : Option Bytes) (begun : Bytes) (k : Counts) → IsUnderWay o begun → ((closes o begun k).out ≡ under_way o begun) × ((closes o begun k).counts ≡ k)
 closes_is None begun k h = (refl, refl)
 closes_is (Some front) begun k h =
-    let is : appended true (front ++ begun) k ≡ record { opened = None; out = (front ++ begun) ∷ []; counts = k } =
-    ap (λ x. appended true x k) (sym (append-nil (front ++ begun))) ∙ appended_whole true (front ++ begun) [] k h.0 in
+    let is : after_append true (front ++ begun) k ≡ record { opened = None; out = (front ++ begun) ∷ []; counts = k } =
+    ap (λ x. after_append true x k) (sym (append-nil (front ++ begun))) ∙ appended_whole true (front ++ begun) [] k h.0 in
     (ap (λ a. a.out) is, ap (λ a. a.counts) is)
 
 -- the sections that are opened one after another, with n bytes of stuffing where the room isn't filled
@@ -216,10 +216,10 @@ fill_takes at room s ss some h = go (nat_le (length s) room) refl where
 
 -- what a packet's payload does to the open section
 abbrev pub does : Option Bytes → Counts → Laid → After
-does o k l = if l.start then starts o (filled l.bytes) k else goes_on o (filled l.bytes) k
+does o k l = if l.start then starts o (with_stuffing l.bytes) k else goes_on o (with_stuffing l.bytes) k
 
 leaves_long : (o : Option Bytes) (begun : Bytes) (rest : List Bytes) (k : Counts) → IsUnderWay o begun → All IsSectionLike rest → 184 ≤ length begun
-    → Leaves o begun rest (goes_on o (filled (take 184 begun)) k) (record { start = false; bytes = take 184 begun; begun = drop 184 begun; rest = rest; offsets = [] })
+    → Leaves o begun rest (goes_on o (with_stuffing (take 184 begun)) k) (record { start = false; bytes = take 184 begun; begun = drop 184 begun; rest = rest; offsets = [] })
 leaves_long None begun rest k h all i = let z : length begun ≡ 0 = ap (λ (x : Bytes). length x) h in absurd (omega (arith, z, i))
 leaves_long (Some front) begun rest k h all i = go (cases_lt 184 (length begun)) where
   l : Laid
@@ -228,10 +228,10 @@ leaves_long (Some front) begun rest k h all i = go (cases_lt 184 (length begun))
   taken : length (take 184 begun) ≡ 184
   taken = length-take-le 184 begun i
 
-  full : filled (take 184 begun) ≡ take 184 begun
+  full : with_stuffing (take 184 begun) ≡ take 184 begun
   full = let none : 184 - length (take 184 begun) ≡ 0 = omega (arith, taken) in rw (none, append-nil) refl
 
-  go : (184 < length begun) ⊎ (length begun ≤ 184) → Leaves (Some front) begun rest (goes_on (Some front) (filled (take 184 begun)) k) l
+  go : (184 < length begun) ⊎ (length begun ≤ 184) → Leaves (Some front) begun rest (goes_on (Some front) (with_stuffing (take 184 begun)) k) l
   go (inl j) =
       let parts : take 184 begun ++ drop 184 begun ≡ begun = take-append-drop 184 begun in
       let is : Leaves (Some front) (take 184 begun ++ drop 184 begun) rest (goes_on (Some front) (take 184 begun) k) l =
@@ -243,7 +243,7 @@ leaves_long (Some front) begun rest k h all i = go (cases_lt 184 (length begun))
       subst (λ x. Leaves (Some front) begun rest (goes_on (Some front) x k) l) (append-nil begun ∙ sym whole ∙ sym full) is
 
 leaves_last : (o : Option Bytes) (begun : Bytes) (rest : List Bytes) (k : Counts) → IsUnderWay o begun → All IsSectionLike rest → 0 < length begun
-    → Leaves o begun rest (goes_on o (filled begun) k) (record { start = false; bytes = begun; begun = []; rest = rest; offsets = [] })
+    → Leaves o begun rest (goes_on o (with_stuffing begun) k) (record { start = false; bytes = begun; begun = []; rest = rest; offsets = [] })
 leaves_last None begun rest k h all i = let z : length begun ≡ 0 = ap (λ (x : Bytes). length x) h in absurd (omega (arith, z, i))
 leaves_last (Some front) begun rest k h all i = goes_whole front begun (replicate (184 - length begun) 0xFF) rest k (record { start = false; bytes = begun; begun = []; rest = rest; offsets = [] }) h.0 h.1 all refl refl
 
@@ -294,7 +294,7 @@ none_is (s ∷ ss) e = cc
 
 -- a packet of a group leaves the section under way and those after it
 pub laid_leaves : (o : Option Bytes) (begun : Bytes) (rest : List Bytes) (k : Counts) → IsUnderWay o begun → All IsSectionLike rest → is_done begun rest ≡ false
-    → Leaves o begun rest (does o k (laid begun rest)) (laid begun rest)
+    → Leaves o begun rest (does o k (lay_packet begun rest)) (lay_packet begun rest)
 laid_leaves o begun rest k h all left = long (nat_le 184 (length begun)) refl where
   Claim : Laid → Type 0
   Claim l = Leaves o begun rest (does o k l) l
@@ -325,7 +325,7 @@ laid_leaves o begun rest k h all left = long (nat_le 184 (length begun)) refl wh
   last i true t = leaves_last o begun rest k h all (grind (arith, t))
   last i false t = start rest refl (grind (arith, t, i)) t
 
-  long : (a : Bool) → nat_le 184 (length begun) ≡ a → Claim (laid begun rest)
+  long : (a : Bool) → nat_le 184 (length begun) ≡ a → Claim (lay_packet begun rest)
   long true a = subst (λ x. Claim (one x test)) (sym a) (leaves_long o begun rest k h all (leb-true 184 (length begun) a))
   long false a = subst (λ x. Claim (one x test)) (sym a) (last (leb-false 184 (length begun) a) test refl)
 
@@ -334,7 +334,7 @@ laid_leaves o begun rest k h all left = long (nat_le 184 (length begun)) refl wh
 -- the packets of a layout, as they are received
 abbrev pub layout_taken : ℕ → ℕ → List Laid → List Received
 layout_taken n c [] = []
-layout_taken n c (l ∷ ls) = record { number = n; start = l.start; counter = c; payload = filled l.bytes } ∷ layout_taken (n + 1) ((c + 1) % 16) ls
+layout_taken n c (l ∷ ls) = record { number = n; start = l.start; counter = c; payload = with_stuffing l.bytes } ∷ layout_taken (n + 1) ((c + 1) % 16) ls
 
 -- a packet and those after it, from this open section on
 abbrev pub run_with : Option Bytes → Counts → Received → List Received → List Bytes
@@ -371,10 +371,10 @@ group_runs zero n c o k begun rest later x h all fits next = done_runs o k c beg
 group_runs (suc steps) n c o k begun rest later x h all fits next =
     go (λ p l b ss i j f. group_runs steps (n + 1) ((c + 1) % 16) p l b ss later x i j f next) (is_done begun rest) refl where
       l : Laid
-      l = laid begun rest
+      l = lay_packet begun rest
 
       q : Received
-      q = record { number = n; start = l.start; counter = (c + 1) % 16; payload = filled l.bytes }
+      q = record { number = n; start = l.start; counter = (c + 1) % 16; payload = with_stuffing l.bytes }
 
       qs : List Received
       qs = layout_taken (n + 1) (((c + 1) % 16 + 1) % 16) (layout_from steps l.begun l.rest) ++ later
@@ -435,7 +435,7 @@ layout_received : (pid n c : ℕ) (ls : List Laid) (rest : List Bytes) → pid <
 layout_received pid n c [] rest h i = ap (λ x. received_from pid x rest) (sym (add-zero n))
 layout_received pid n c (l ∷ ls) rest h i =
     rw (kept_built pid n l.start c l.bytes h i)
-    (ap (λ rs. record { number = n; start = l.start; counter = c; payload = filled l.bytes } ∷ rs)
+    (ap (λ rs. record { number = n; start = l.start; counter = c; payload = with_stuffing l.bytes } ∷ rs)
     (layout_received pid (n + 1) ((c + 1) % 16) ls rest h (omega arith)
     ∙ ap (λ x. layout_taken (n + 1) ((c + 1) % 16) ls ++ received_from pid x rest) (omega arith)))
 

@@ -5,8 +5,8 @@ use Rattle.std.proofs.lemmas.List.{take_all, drop_all}
 use Rattle.std.proofs.lemmas.List.Sums.{sum_by-cons}
 use Rattle.std.proofs.lemmas.Bool.{leb-true, ltb-true, ltb-false, le-leb}
 use Rattle.section_stream.specs.Cuts.{Bytes}
-use Rattle.section_stream.specs.Packing.{IsSectionLike, is_none, Held, giving, sent, sent_of, put, ended}
-use Rattle.section_stream.specs.Groups.{Filling, fill, Laid, with_start, laid, is_done, layout_from, layout_of}
+use Rattle.section_stream.specs.Packing.{IsSectionLike, is_none, Held, give, send_begun, sent_of, put, end_packets}
+use Rattle.section_stream.specs.Groups.{Filling, fill, Laid, with_start, lay_packet, is_done, layout_from, layout_of}
 use Rattle.section_stream.proofs.Grouped.{fill_takes, fill_sizes}
 
 -- a packet: whether a section begins in it, and its bytes before the stuffing
@@ -15,7 +15,7 @@ shape l = (l.start, l.bytes)
 
 -- all packets of the sections to come and of what is held back
 abbrev pub packed : Bytes → Bytes → List Bytes → List (Bool × Bytes)
-packed tail body [] = ended tail body
+packed tail body [] = end_packets tail body
 packed tail body (s ∷ ss) = (put tail body s).given ++ packed (put tail body s).tail (put tail body s).body ss
 
 -- ---- one packet of the layout
@@ -31,9 +31,9 @@ pub some_behind : (begun s : Bytes) (ss : List Bytes) → is_done begun (s ∷ s
 some_behind [] s ss = refl
 some_behind (y ∷ ys) s ss = refl
 
-pub layout_step : (fuel : ℕ) (begun : Bytes) (rest : List Bytes) (l : Laid) → is_done begun rest ≡ false → laid begun rest ≡ l → layout_from (suc fuel) begun rest ≡ l ∷ layout_from fuel l.begun l.rest
+pub layout_step : (fuel : ℕ) (begun : Bytes) (rest : List Bytes) (l : Laid) → is_done begun rest ≡ false → lay_packet begun rest ≡ l → layout_from (suc fuel) begun rest ≡ l ∷ layout_from fuel l.begun l.rest
 layout_step fuel begun rest l d e =
-    ap (λ b. if b then [] else laid begun rest ∷ layout_from fuel (laid begun rest).begun (laid begun rest).rest) d ∙ ap (λ x. x ∷ layout_from fuel x.begun x.rest) e
+    ap (λ b. if b then [] else lay_packet begun rest ∷ layout_from fuel (lay_packet begun rest).begun (lay_packet begun rest).rest) d ∙ ap (λ x. x ∷ layout_from fuel x.begun x.rest) e
 
 pub nothing_laid : (fuel : ℕ) → layout_from fuel [] [] ≡ []
 nothing_laid zero = refl
@@ -46,14 +46,14 @@ laid_by begun rest t b =
     else (if b then record { start = false; bytes = begun; begun = []; rest = rest; offsets = [] }
     else with_start begun (fill (5 + length begun) (183 - length begun) rest))
 
-pub laid_long : (begun : Bytes) (rest : List Bytes) → nat_le 184 (length begun) ≡ true → laid begun rest ≡ record { start = false; bytes = take 184 begun; begun = drop 184 begun; rest = rest; offsets = [] }
+pub laid_long : (begun : Bytes) (rest : List Bytes) → nat_le 184 (length begun) ≡ true → lay_packet begun rest ≡ record { start = false; bytes = take 184 begun; begun = drop 184 begun; rest = rest; offsets = [] }
 laid_long begun rest t = ap (λ x. laid_by begun rest x ((length begun == 183) || (nat_lt 0 (length begun) && is_none rest))) t
 
 pub laid_last : (begun : Bytes) (rest : List Bytes) → nat_le 184 (length begun) ≡ false → ((length begun == 183) || (nat_lt 0 (length begun) && is_none rest)) ≡ true
-    → laid begun rest ≡ record { start = false; bytes = begun; begun = []; rest = rest; offsets = [] }
+    → lay_packet begun rest ≡ record { start = false; bytes = begun; begun = []; rest = rest; offsets = [] }
 laid_last begun rest t b = ap (λ x. laid_by begun rest x ((length begun == 183) || (nat_lt 0 (length begun) && is_none rest))) t ∙ ap (laid_by begun rest false) b
 
-pub laid_start : (begun s : Bytes) (ss : List Bytes) → length begun < 183 → laid begun (s ∷ ss) ≡ with_start begun (fill (5 + length begun) (183 - length begun) (s ∷ ss))
+pub laid_start : (begun s : Bytes) (ss : List Bytes) → length begun < 183 → lay_packet begun (s ∷ ss) ≡ with_start begun (fill (5 + length begun) (183 - length begun) (s ∷ ss))
 laid_start begun s ss h =
     let t : nat_le 184 (length begun) ≡ false = grind (arith, h) in
     let b : ((length begun == 183) || (nat_lt 0 (length begun) && false)) ≡ false = grind (arith, h) in
@@ -73,7 +73,7 @@ Fills ss body = (tail : Bytes) (at room fuel : ℕ) → length tail + length bod
 
 -- what is left of a begun section, and then the sections after it
 sent_is : (steps fuel : ℕ) (begun : Bytes) (ss : List Bytes) → length begun < steps → length begun + sum_by length ss ≤ fuel → Tails ss
-    → (sent steps begun).given ++ packed (sent steps begun).tail (sent steps begun).body ss ≡ shapes (layout_from fuel begun ss)
+    → (send_begun steps begun).given ++ packed (send_begun steps begun).tail (send_begun steps begun).body ss ≡ shapes (layout_from fuel begun ss)
 sent_is zero fuel begun ss below fits next = absurd (omega (arith, below))
 sent_is (suc steps) zero begun ss below fits next =
     let none : length begun ≡ 0 = omega (arith, fits) in
@@ -86,7 +86,7 @@ sent_is (suc steps) (suc fuel) begun ss below fits next = go (λ i j. sent_is st
 
   by : Bool → Bool → Held
   by t u =
-      if t then giving (false, take 184 begun) (sent steps (drop 184 begun))
+      if t then give (false, take 184 begun) (send_begun steps (drop 184 begun))
       else (if u then record { given = (false, begun) ∷ []; tail = []; body = [] } else record { given = []; tail = begun; body = [] })
 
   last : nat_le 184 (length begun) ≡ false → (u : Bool) → (length begun == 183) ≡ u → Claim (by false u)
@@ -98,8 +98,8 @@ sent_is (suc steps) (suc fuel) begun ss below fits next = go (λ i j. sent_is st
   last t false u = next begun (suc fuel) (grind (arith, t, u)) fits
 
   go : ((i : length (drop 184 begun) < steps) → length (drop 184 begun) + sum_by length ss ≤ fuel
-      → (sent steps (drop 184 begun)).given ++ packed (sent steps (drop 184 begun)).tail (sent steps (drop 184 begun)).body ss ≡ shapes (layout_from fuel (drop 184 begun) ss))
-      → (t : Bool) → nat_le 184 (length begun) ≡ t → Claim (sent (suc steps) begun)
+      → (send_begun steps (drop 184 begun)).given ++ packed (send_begun steps (drop 184 begun)).tail (send_begun steps (drop 184 begun)).body ss ≡ shapes (layout_from fuel (drop 184 begun) ss))
+      → (t : Bool) → nat_le 184 (length begun) ≡ t → Claim (send_begun (suc steps) begun)
   go again true t =
       let i : 184 ≤ length begun = leb-true 184 (length begun) t in
       subst (λ x. Claim (by x (length begun == 183))) (sym t)
@@ -148,7 +148,7 @@ fill_full at room s ss h i = subst (λ f. Filled f room s ss) (sym (fill_some at
 abbrev put_by : ℕ → Bytes → Bytes → Bytes → Bool → Held
 put_by room tail body s t =
     if t then record { given = []; tail = tail; body = body ++ s }
-    else giving (true, length tail ∷ (tail ++ (body ++ take room s))) (sent_of (drop room s))
+    else give (true, length tail ∷ (tail ++ (body ++ take room s))) (sent_of (drop room s))
 
 one_more : (s : Bytes) (ss : List Bytes) → IsSectionLike s → Tails ss → ((body : Bytes) → 0 < length body → Fills ss body) → (body : Bytes) → Fills (s ∷ ss) body
 unfolding sent_of

@@ -3,7 +3,7 @@ use Rattle.std.proofs.Common.{◌≡◌, ℕ, suc, ◌+◌, ◌%◌, ◌<◌, Bo
 use Rattle.std.specs.List.{All, enumerate_from, filter_map, flat_map, fold}
 use Rattle.std.proofs.lemmas.List.{map-append}
 use Rattle.std.proofs.lemmas.List.Elements.{filter_map-append}
-use Rattle.ts_packet.specs.Packets.{parsed}
+use Rattle.ts_packet.specs.Packets.{parse_packet}
 use Rattle.section_stream.specs.Cuts.{Bytes, Received, Cut, kept_of, is_repeat, without_repeats_of, without_repeats, cuts_at, cuts_of}
 use Rattle.section_stream.specs.Packing.{MuxState, IsSectionLike}
 use Rattle.section_stream.specs.Groups.{Laid, layout_of, packets_from, packets_of_group, packets_of_groups, past_group, LaterGroupsAreGiven}
@@ -63,7 +63,7 @@ enumerated n (x ∷ xs) ys = let more = enumerated (n + 1) xs ys in (more.0, ap 
 received-append : (pid n : ℕ) (xs ys : List Bytes) → (k : ℕ) × (received_from pid n (xs ++ ys) ≡ received_from pid n xs ++ received_from pid k ys)
 received-append pid n xs ys =
     let parts = enumerated n xs ys in
-    let kept = λ (x : ℕ × Bytes). kept_of pid x.0 (parsed x.1) in
+    let kept = λ (x : ℕ × Bytes). kept_of pid x.0 (parse_packet x.1) in
     (parts.0, ap (filter_map kept) parts.1 ∙ filter_map-append kept (enumerate_from n xs) (enumerate_from parts.0 ys))
 
 taken-append : (k : ℕ) (m : MuxState) (first second : List (List Bytes))

@@ -6,6 +6,7 @@ pub mod Pieces
 pub mod Bytes
 pub mod Opening
 pub mod Taking
+pub mod Completing
 pub mod Packed
 pub mod Filling
 pub mod InPlace

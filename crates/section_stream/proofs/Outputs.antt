@@ -5,15 +5,15 @@ use Rattle.std.specs.List.{filter_map, enumerate_from, cons_option}
 use Rattle.std.specs.Str.{bytes_eq}
 use Rattle.std.proofs.lemmas.List.{map-append}
 use Rattle.std.proofs.lemmas.Slice.Eq.{bytes_eq-Decides}
-use Rattle.ts_packet.specs.Packets.{Fields, parsed}
+use Rattle.ts_packet.specs.Packets.{Fields, parse_packet}
 use Rattle.ts_packet.specs.declared.PacketFault.{PacketFault}
 use Rattle.section_stream.specs.Cuts.{Bytes, Received, kept_of, is_repeat, without_repeats_of, without_repeats, going_on, cuts_at, cuts_of, candidates}
-use Rattle.section_stream.specs.Rules.{Receiving, step, fed, counted, keeps, starts, goes_on, up, one_more, is_last, jumps_from, started, after_all, outputs}
+use Rattle.section_stream.specs.Rules.{Receiving, step, after_packet, with_counts, keeps, starts, goes_on, up, one_more, is_last, jumps_from, at_start, after_all, outputs}
 use Rattle.section_stream.specs.declared.counts.Counts.{Counts}
 use Rattle.section_stream.proofs.Cutting.{IsOpen, finish, finish_nothing, bytes_of, act, acts, onto}
 
 abbrev pub received_from : ℕ → ℕ → List Bytes → List Received
-received_from pid n xs = filter_map (λ x. kept_of pid x.0 (parsed x.1)) (enumerate_from n xs)
+received_from pid n xs = filter_map (λ x. kept_of pid x.0 (parse_packet x.1)) (enumerate_from n xs)
 
 -- what is still to come of the open section and of the packets
 abbrev pub to_come : Receiving → Received → List Received → List Bytes
@@ -104,9 +104,9 @@ not_false false e = cc
 -- what a parsed packet does, by the outcomes of the tests on it: the PID, no payload, a repeat, a jump
 abbrev pub fed_by : Receiving → Fields → Bool → Bool → Bool → Bool → Receiving × List Bytes
 fed_by s f p l d j =
-    if not p then counted s (record s.counts { other_pid = up s.counts.other_pid })
-    else (if l then counted s (record s.counts { no_payload = up s.counts.no_payload })
-    else (if d then counted s (record s.counts { duplicates = up s.counts.duplicates })
+    if not p then with_counts s (record s.counts { other_pid = up s.counts.other_pid })
+    else (if l then with_counts s (record s.counts { no_payload = up s.counts.no_payload })
+    else (if d then with_counts s (record s.counts { duplicates = up s.counts.duplicates })
     else (let opened = if j then None else s.opened in
     let c = if j then record s.counts { jumps = up s.counts.jumps } else s.counts in
     keeps s f (if f.start then starts opened f.payload c else goes_on opened f.payload c))))
@@ -122,7 +122,7 @@ by_tests s a n f h true false true j r i = repeated s a (received_as n f) _ h r
 by_tests s a n f h true false false true r i = takes_it s a (received_as n f) _ false h r (not_true (f.counter == (a.counter + 1) % 16) i)
 by_tests s a n f h true false false false r i = takes_it s a (received_as n f) _ true h r (not_false (f.counter == (a.counter + 1) % 16) i)
 
-one_parsed : (s : Receiving) (a : Received) (n : ℕ) (r : Result Fields PacketFault) → IsLast s a → Goes s a (fed (one_more s) r) (cons_option (kept_of s.pid n r) [])
+one_parsed : (s : Receiving) (a : Received) (n : ℕ) (r : Result Fields PacketFault) → IsLast s a → Goes s a (after_packet (one_more s) r) (cons_option (kept_of s.pid n r) [])
 one_parsed s a n (Err fault) h = quiet s a _ h
 one_parsed s a n (Ok f) h =
     by_tests s a n f h (f.pid == s.pid) (length f.payload == 0) (is_last f.counter f.payload s.last) (jumps_from f.counter s.last)
@@ -134,7 +134,7 @@ pid_by s f true true d j = refl
 pid_by s f true false true j = refl
 pid_by s f true false false j = refl
 
-pub pid_fed : (s : Receiving) (r : Result Fields PacketFault) → (fed s r).0.pid ≡ s.pid
+pub pid_fed : (s : Receiving) (r : Result Fields PacketFault) → (after_packet s r).0.pid ≡ s.pid
 pid_fed s (Err fault) = refl
 pid_fed s (Ok f) = pid_by s f (f.pid == s.pid) (length f.payload == 0) (is_last f.counter f.payload s.last) (jumps_from f.counter s.last)
 
@@ -146,11 +146,11 @@ onto_rest (Some q) rs = refl
 pub outputs_are : (s : Receiving) (a : Received) (n : ℕ) (xs : List Bytes) → IsLast s a → outputs s xs ≡ to_come s a (received_from s.pid n xs)
 outputs_are s a n [] h = rw (finish_nothing s.opened h.opened) refl
 outputs_are s a n (x ∷ xs) h =
-    let g = one_parsed s a n (parsed x) h in
+    let g = one_parsed s a n (parse_packet x) h in
     let rest = received_from s.pid (n + 1) xs in
     let next = outputs_are (step s x).0 g.0 (n + 1) xs g.1 in
-    let same : outputs (step s x).0 xs ≡ to_come (step s x).0 g.0 rest = next ∙ ap (λ i. to_come (step s x).0 g.0 (received_from i (n + 1) xs)) (pid_fed (one_more s) (parsed x)) in
-    g.2 rest (outputs (step s x).0 xs) same ∙ ap (to_come s a) (onto_rest (kept_of s.pid n (parsed x)) rest)
+    let same : outputs (step s x).0 xs ≡ to_come (step s x).0 g.0 rest = next ∙ ap (λ i. to_come (step s x).0 g.0 (received_from i (n + 1) xs)) (pid_fed (one_more s) (parse_packet x)) in
+    g.2 rest (outputs (step s x).0 xs) same ∙ ap (to_come s a) (onto_rest (kept_of s.pid n (parse_packet x)) rest)
 
 -- a state that has had no packet yet
 pub record IsStart (s : Receiving) : Type 0 where
@@ -190,7 +190,7 @@ begins_by s n xs f h true false false false e g = first s.opened h.opened where
   first : (o : Option Bytes) → o ≡ None → Claim o
   first o is = subst Claim (sym is) none
 
-begins : (s : Receiving) (n : ℕ) (xs : List Bytes) (r : Result Fields PacketFault) → IsStart s → Begins s n xs (fed (one_more s) r) (kept_of s.pid n r)
+begins : (s : Receiving) (n : ℕ) (xs : List Bytes) (r : Result Fields PacketFault) → IsStart s → Begins s n xs (after_packet (one_more s) r) (kept_of s.pid n r)
 begins s n xs (Err fault) h = (record { last = h.last; opened = h.opened }, refl)
 begins s n xs (Ok f) h =
     begins_by s n xs f h (f.pid == s.pid) (length f.payload == 0) (is_last f.counter f.payload s.last) (jumps_from f.counter s.last)
@@ -198,12 +198,12 @@ begins s n xs (Ok f) h =
 
 pub outputs_from_start : (s : Receiving) (n : ℕ) (xs : List Bytes) → IsStart s → outputs s xs ≡ all_cuts (received_from s.pid n xs)
 outputs_from_start s n [] h = refl
-outputs_from_start s n (x ∷ xs) h = go (λ i. outputs_from_start (step s x).0 (n + 1) xs i) (kept_of s.pid n (parsed x)) (begins s n xs (parsed x) h) where
+outputs_from_start s n (x ∷ xs) h = go (λ i. outputs_from_start (step s x).0 (n + 1) xs i) (kept_of s.pid n (parse_packet x)) (begins s n xs (parse_packet x) h) where
   rest : List Received
   rest = received_from s.pid (n + 1) xs
 
   pids : (step s x).0.pid ≡ s.pid
-  pids = pid_fed (one_more s) (parsed x)
+  pids = pid_fed (one_more s) (parse_packet x)
 
   go : (IsStart (step s x).0 → outputs (step s x).0 xs ≡ all_cuts (received_from (step s x).0.pid (n + 1) xs)) → (o : Option Received) → Begins s n xs (step s x) o
       → (step s x).1 ++ outputs (step s x).0 xs ≡ all_cuts (cons_option o rest)
@@ -211,18 +211,18 @@ outputs_from_start s n (x ∷ xs) h = go (λ i. outputs_from_start (step s x).0 
   go next (Some q) b = b.1 rest (outputs (step s x).0 xs) (outputs_are (step s x).0 q (n + 1) xs b.0 ∙ ap (λ i. to_come (step s x).0 q (received_from i (n + 1) xs)) pids)
 
 -- all that the rules give are the candidates
-pub outputs_are_candidates : (pid : ℕ) (packets : List Bytes) → outputs (started pid) packets ≡ candidates pid packets
-outputs_are_candidates pid packets = outputs_from_start (started pid) 0 packets (record { last = refl; opened = refl })
+pub outputs_are_candidates : (pid : ℕ) (packets : List Bytes) → outputs (at_start pid) packets ≡ candidates pid packets
+outputs_are_candidates pid packets = outputs_from_start (at_start pid) 0 packets (record { last = refl; opened = refl })
 
 outputs_append : (s : Receiving) (xs : List Bytes) (x : Bytes) → outputs s (xs ++ x ∷ []) ≡ outputs s xs ++ (step (after_all s xs) x).1
 outputs_append s [] x = append-nil (step s x).1
 outputs_append s (y ∷ ys) x = ap (λ zs. (step s y).1 ++ zs) (outputs_append (step s y).0 ys x) ∙ sym (append_assoc (step s y).1 (outputs (step s y).0 ys) (step (after_all (step s y).0 ys) x).1)
 
 -- one more packet adds what the rules give at it
-pub candidates_append : (s : Receiving) (packets : List Bytes) (x : Bytes) → s ≡ after_all (started s.pid) packets → candidates s.pid (packets ++ x ∷ []) ≡ candidates s.pid packets ++ (step s x).1
+pub candidates_append : (s : Receiving) (packets : List Bytes) (x : Bytes) → s ≡ after_all (at_start s.pid) packets → candidates s.pid (packets ++ x ∷ []) ≡ candidates s.pid packets ++ (step s x).1
 candidates_append s packets x h =
-    sym (outputs_are_candidates s.pid (packets ++ x ∷ [])) ∙ outputs_append (started s.pid) packets x
-    ∙ ap (λ out. out ++ (step (after_all (started s.pid) packets) x).1) (outputs_are_candidates s.pid packets)
+    sym (outputs_are_candidates s.pid (packets ++ x ∷ [])) ∙ outputs_append (at_start s.pid) packets x
+    ∙ ap (λ out. out ++ (step (after_all (at_start s.pid) packets) x).1) (outputs_are_candidates s.pid packets)
     ∙ ap (λ (t : Receiving). candidates s.pid packets ++ (step t x).1) (sym h)
 
 outputs-append : (s : Receiving) (xs ys : List Bytes) → outputs s (xs ++ ys) ≡ outputs s xs ++ outputs (after_all s xs) ys
@@ -233,7 +233,7 @@ outputs-append s (x ∷ xs) ys =
 -- more packets leave the candidates so far
 pub candidates-grow : (pid : ℕ) (packets more : List Bytes) → (rest : List Bytes) × (candidates pid (packets ++ more) ≡ candidates pid packets ++ rest)
 candidates-grow pid packets more =
-    let rest = outputs (after_all (started pid) packets) more in (
+    let rest = outputs (after_all (at_start pid) packets) more in (
       rest,
-      sym (outputs_are_candidates pid (packets ++ more)) ∙ outputs-append (started pid) packets more ∙ ap (λ out. out ++ rest) (outputs_are_candidates pid packets),
+      sym (outputs_are_candidates pid (packets ++ more)) ∙ outputs-append (at_start pid) packets more ∙ ap (λ out. out ++ rest) (outputs_are_candidates pid packets),
     )

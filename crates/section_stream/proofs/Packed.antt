@@ -1,28 +1,28 @@
 -- Packets that are built and received, and that none of them repeats the one before it.
 use Rattle.std.proofs.Common.{◌≡◌, ℕ, zero, suc, ◌+◌, ◌%◌, ◌<◌, Bool, true, false, ◌==◌, List, [], ◌∷◌, length, Some, Ok, refl, sym, ◌∙◌, ap, subst, arith}
 use Rattle.std.proofs.lemmas.Grind.{common_steps}
-use Rattle.ts_packet.specs.Packets.{parsed, packet_bytes}
+use Rattle.ts_packet.specs.Packets.{parse_packet, packet_bytes}
 use Rattle.section_stream.specs.Cuts.{Bytes, Received, kept_of, is_repeat, without_repeats_of, without_repeats}
-use Rattle.section_stream.specs.Packing.{filled}
+use Rattle.section_stream.specs.Packing.{with_stuffing}
 
 -- ---- what is received
 
 -- a packet without an adaptation field parses as what it was built of
 built_parses : (pid : ℕ) (start : Bool) (c : ℕ) (payload : Bytes) → pid < 8192 → c < 16
-    → parsed (packet_bytes pid start c payload) ≡ Ok (record { pid = pid; start = start; counter = c; payload = payload })
+    → parse_packet (packet_bytes pid start c payload) ≡ Ok (record { pid = pid; start = start; counter = c; payload = payload })
 built_parses pid true c payload h k = grind (arith, common_steps)
 built_parses pid false c payload h k = grind (arith, common_steps)
 
-length-filled : (bytes : Bytes) → 0 < length (filled bytes)
+length-filled : (bytes : Bytes) → 0 < length (with_stuffing bytes)
 length-filled bytes = grind (arith, common_steps)
 
 pub kept_built : (pid k : ℕ) (start : Bool) (c : ℕ) (bytes : Bytes) → pid < 8192 → c < 16
-    → kept_of pid k (parsed (packet_bytes pid start c (filled bytes))) ≡ Some (record { number = k; start = start; counter = c; payload = filled bytes })
-kept_built pid k start c bytes h i = ap (kept_of pid k) (built_parses pid start c (filled bytes) h i) ∙ rw (same, full) refl where
+    → kept_of pid k (parse_packet (packet_bytes pid start c (with_stuffing bytes))) ≡ Some (record { number = k; start = start; counter = c; payload = with_stuffing bytes })
+kept_built pid k start c bytes h i = ap (kept_of pid k) (built_parses pid start c (with_stuffing bytes) h i) ∙ rw (same, full) refl where
   same : (pid == pid) ≡ true
   same = grind arith
 
-  full : (length (filled bytes) == 0) ≡ false
+  full : (length (with_stuffing bytes) == 0) ≡ false
   full = grind (arith, length-filled bytes)
 
 -- ---- none repeats the one before it

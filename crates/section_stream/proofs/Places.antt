@@ -8,9 +8,9 @@ use Rattle.std.proofs.lemmas.List.{map-append, length-map, get_or-map, length-ta
 use Rattle.std.proofs.lemmas.List.Elements.{All-nil, All-cons, All-append, All-head, All-tail}
 use Rattle.std.proofs.lemmas.Option.{same_Some}
 use Rattle.std.proofs.Common.{length-drop, drop-drop}
-use Rattle.ts_packet.specs.Packets.{Fields, parsed}
+use Rattle.ts_packet.specs.Packets.{Fields, parse_packet}
 use Rattle.ts_packet.specs.declared.PacketFault.{PacketFault}
-use Rattle.section_stream.specs.Cuts.{Bytes, Cut, Received, kept_of, received, is_repeat, without_repeats_of, without_repeats, whole_len, opened_in, cuts_at, cuts_of, cuts, going_on, pointer_fits, pointer_of}
+use Rattle.section_stream.specs.Cuts.{Bytes, Cut, Received, kept_of, payloads_in, is_repeat, without_repeats_of, without_repeats, whole_len, opened_in, cuts_at, cuts_of, cuts, going_on, pointer_fits, pointer_of}
 use Rattle.section_stream.specs.Laws.{IsBefore, StandsThere, CutsComeInOrder}
 
 -- ---- numbers that rise by e or more from each to the next
@@ -47,14 +47,14 @@ kept_number pid n (Ok p) x e = go ((p.pid == pid) && not (length p.payload == 0)
   go true e = cc
   go false e = cc
 
-received_rise : (pid n : ℕ) (ps : List Bytes) → Rises 1 n (map (λ r. r.number) (filter_map (λ x. kept_of pid x.0 (parsed x.1)) (enumerate_from n ps)))
+received_rise : (pid n : ℕ) (ps : List Bytes) → Rises 1 n (map (λ r. r.number) (filter_map (λ x. kept_of pid x.0 (parse_packet x.1)) (enumerate_from n ps)))
 received_rise pid n [] = tt
-received_rise pid n (p ∷ ps) = go (kept_of pid n (parsed p)) refl (received_rise pid (n + 1) ps) where
-  go : (o : Option Received) → kept_of pid n (parsed p) ≡ o → Rises 1 (n + 1) (map (λ r. r.number) (filter_map (λ x. kept_of pid x.0 (parsed x.1)) (enumerate_from (n + 1) ps)))
-      → Rises 1 n (map (λ r. r.number) (cons_option o (filter_map (λ x. kept_of pid x.0 (parsed x.1)) (enumerate_from (n + 1) ps))))
+received_rise pid n (p ∷ ps) = go (kept_of pid n (parse_packet p)) refl (received_rise pid (n + 1) ps) where
+  go : (o : Option Received) → kept_of pid n (parse_packet p) ≡ o → Rises 1 (n + 1) (map (λ r. r.number) (filter_map (λ x. kept_of pid x.0 (parse_packet x.1)) (enumerate_from (n + 1) ps)))
+      → Rises 1 n (map (λ r. r.number) (cons_option o (filter_map (λ x. kept_of pid x.0 (parse_packet x.1)) (enumerate_from (n + 1) ps))))
   go None e rest = lower 1 n (n + 1) (omega arith) _ rest
   go (Some x) e rest =
-      let is = kept_number pid n (parsed p) x e in
+      let is = kept_number pid n (parse_packet p) x e in
       (omega (arith, is), lower 1 (x.number + 1) (n + 1) (omega (arith, is)) _ rest)
 
 once_from : (a : Received) (bs : List Received) (lo : ℕ) → Rises 1 lo (map (λ r. r.number) bs) → Rises 1 lo (map (λ r. r.number) (without_repeats_of a bs))
@@ -172,11 +172,11 @@ cuts_small (p ∷ ps) = All-append (λ c. c.offset ≤ 188) (cuts_at p ps) (cuts
 
 -- ---- in order
 
-keys_rise : (e pid : ℕ) (packets : List Bytes) → All (λ r. IsStep e (length r.payload)) (received pid packets) → Rises e 0 (map key (cuts pid packets))
+keys_rise : (e pid : ℕ) (packets : List Bytes) → All (λ r. IsStep e (length r.payload)) (payloads_in pid packets) → Rises e 0 (map key (cuts pid packets))
 keys_rise e pid packets all =
-    cuts_rise e (without_repeats (received pid packets)) 0 (once (received pid packets) 0 (received_rise pid 0 packets)) (kept (λ r. IsStep e (length r.payload)) (received pid packets) all)
+    cuts_rise e (without_repeats (payloads_in pid packets)) 0 (once (payloads_in pid packets) 0 (received_rise pid 0 packets)) (kept (λ r. IsStep e (length r.payload)) (payloads_in pid packets) all)
 
-key_at : (e pid : ℕ) (packets : List Bytes) → All (λ r. IsStep e (length r.payload)) (received pid packets) → (i j : ℕ) (d : Cut) → i < j → j < length (cuts pid packets)
+key_at : (e pid : ℕ) (packets : List Bytes) → All (λ r. IsStep e (length r.payload)) (payloads_in pid packets) → (i j : ℕ) (d : Cut) → i < j → j < length (cuts pid packets)
     → key (get_or (cuts pid packets) i d) + e ≤ key (get_or (cuts pid packets) j d)
 key_at e pid packets all i j d lt inside =
     let up = rises_at e 0 (map key (cuts pid packets)) (keys_rise e pid packets all) i j (key d) lt (omega (arith, inside, length-map (cuts pid packets) key)) in
@@ -186,12 +186,12 @@ key_at e pid packets all i j d lt inside =
 pub packets-rise : (pid : ℕ) (packets : List Bytes) → AllPairs (λ c d. c.packet ≤ d.packet) (cuts pid packets)
 packets-rise pid packets i j d lt inside =
     let up = key_at 0 pid packets (λ k r below. inl refl) i j d lt inside in
-    let small : (get_or (cuts pid packets) j d).offset ≤ 188 = cuts_small (without_repeats (received pid packets)) j d inside in
+    let small : (get_or (cuts pid packets) j d).offset ≤ 188 = cuts_small (without_repeats (payloads_in pid packets)) j d inside in
     omega (arith, up, small)
 
 -- ---- packets of 188 bytes
 
-payload_short : (bytes : Bytes) → length bytes ≡ 188 → (p : Fields) → parsed bytes ≡ Ok p → (p.payload ≡ drop (188 - length p.payload) bytes) × (length p.payload ≤ 188)
+payload_short : (bytes : Bytes) → length bytes ≡ 188 → (p : Fields) → parse_packet bytes ≡ Ok p → (p.payload ≡ drop (188 - length p.payload) bytes) × (length p.payload ≤ 188)
 payload_short bytes size p e = grind (arith, common_steps, e, size)
 
 -- a received packet is one of these, and its payload is the packet's last bytes
@@ -201,7 +201,7 @@ pub record IsOf (packets : List Bytes) (r : Received) : Type 0 where
   pub last : r.payload ≡ drop (188 - length r.payload) packet
   pub short : length r.payload ≤ 188
 
-kept_is : (packets : List Bytes) (pid n : ℕ) (bytes : Bytes) → slice_get packets n ≡ Some bytes → length bytes ≡ 188 → (r : Result Fields PacketFault) → parsed bytes ≡ r
+kept_is : (packets : List Bytes) (pid n : ℕ) (bytes : Bytes) → slice_get packets n ≡ Some bytes → length bytes ≡ 188 → (r : Result Fields PacketFault) → parse_packet bytes ≡ r
     → (x : Received) → kept_of pid n r ≡ Some x → IsOf packets x
 kept_is packets pid n bytes there size (Err f) e x k = cc
 kept_is packets pid n bytes there size (Ok p) e x k = go ((p.pid == pid) && not (length p.payload == 0)) k where
@@ -213,18 +213,18 @@ kept_is packets pid n bytes there size (Ok p) e x k = go ((p.pid == pid) && not 
   go false h = cc
 
 received_of : (packets : List Bytes) (pid n : ℕ) (ps : List Bytes) → ((k : ℕ) → slice_get packets (n + k) ≡ slice_get ps k) → All (λ p. length p ≡ 188) ps
-    → All (IsOf packets) (filter_map (λ x. kept_of pid x.0 (parsed x.1)) (enumerate_from n ps))
+    → All (IsOf packets) (filter_map (λ x. kept_of pid x.0 (parse_packet x.1)) (enumerate_from n ps))
 received_of packets pid n [] are sized = All-nil (IsOf packets)
 received_of packets pid n (p ∷ ps) are sized =
-    go (kept_of pid n (parsed p)) refl
+    go (kept_of pid n (parse_packet p)) refl
     (received_of packets pid (n + 1) ps (λ k. ap (slice_get packets) (omega arith) ∙ are (suc k)) (All-tail (λ p. length p ≡ 188) p ps sized)) where
       here : slice_get packets n ≡ Some p
       here = ap (slice_get packets) (omega arith) ∙ are 0
 
-      go : (o : Option Received) → kept_of pid n (parsed p) ≡ o → All (IsOf packets) (filter_map (λ x. kept_of pid x.0 (parsed x.1)) (enumerate_from (n + 1) ps))
-          → All (IsOf packets) (cons_option o (filter_map (λ x. kept_of pid x.0 (parsed x.1)) (enumerate_from (n + 1) ps)))
+      go : (o : Option Received) → kept_of pid n (parse_packet p) ≡ o → All (IsOf packets) (filter_map (λ x. kept_of pid x.0 (parse_packet x.1)) (enumerate_from (n + 1) ps))
+          → All (IsOf packets) (cons_option o (filter_map (λ x. kept_of pid x.0 (parse_packet x.1)) (enumerate_from (n + 1) ps)))
       go None e rest = rest
-      go (Some x) e rest = All-cons (IsOf packets) x _ (kept_is packets pid n p here (All-head (λ p. length p ≡ 188) p ps sized) (parsed p) refl x e) rest
+      go (Some x) e rest = All-cons (IsOf packets) x _ (kept_is packets pid n p here (All-head (λ p. length p ≡ 188) p ps sized) (parse_packet p) refl x e) rest
 
 -- ---- each stands where its place says
 
@@ -302,9 +302,9 @@ short_steps packets rs all k d below = inr (refl, (all k d below).short)
 
 in_order : (pid : ℕ) (packets : List Bytes) → All (λ p. length p ≡ 188) packets → AllPairs IsBefore (cuts pid packets)
 in_order pid packets sized i j d lt inside =
-    let up = key_at 1 pid packets (short_steps packets (received pid packets) (received_of packets pid 0 packets (from_none packets) sized)) i j d lt inside in
-    let a : (get_or (cuts pid packets) i d).offset ≤ 188 = cuts_small (without_repeats (received pid packets)) i d (omega (arith, lt, inside)) in
-    let b : (get_or (cuts pid packets) j d).offset ≤ 188 = cuts_small (without_repeats (received pid packets)) j d inside in
+    let up = key_at 1 pid packets (short_steps packets (payloads_in pid packets) (received_of packets pid 0 packets (from_none packets) sized)) i j d lt inside in
+    let a : (get_or (cuts pid packets) i d).offset ≤ 188 = cuts_small (without_repeats (payloads_in pid packets)) i d (omega (arith, lt, inside)) in
+    let b : (get_or (cuts pid packets) j d).offset ≤ 188 = cuts_small (without_repeats (payloads_in pid packets)) j d inside in
     by (get_or (cuts pid packets) i d) (get_or (cuts pid packets) j d) up a b (nat_lt (get_or (cuts pid packets) i d).packet (get_or (cuts pid packets) j d).packet) refl where
       by : (c e : Cut) → key c + 1 ≤ key e → c.offset ≤ 188 → e.offset ≤ 188 → (t : Bool) → nat_lt c.packet e.packet ≡ t → IsBefore c e
       by c e up a b true t = inl (ltb-true c.packet e.packet t)
@@ -315,6 +315,6 @@ cuts_in_order = record {
   packets_rise = packets-rise;
   rise = in_order;
   stand = λ pid packets sized.
-      cuts_stand packets (without_repeats (received pid packets))
-      (kept (IsOf packets) (received pid packets) (received_of packets pid 0 packets (from_none packets) sized));
+      cuts_stand packets (without_repeats (payloads_in pid packets))
+      (kept (IsOf packets) (payloads_in pid packets) (received_of packets pid 0 packets (from_none packets) sized));
 }

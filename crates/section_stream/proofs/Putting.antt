@@ -1,48 +1,48 @@
 -- A section more, as the packer packs it.
 use Rattle.std.proofs.Common.{◌≡◌, ℕ, zero, suc, ◌+◌, ◌-◌, ◌%◌, ◌<◌, ◌≤◌, Bool, true, false, ◌==◌, nat_le, nat_lt, List, [], ◌∷◌, ◌++◌, length, take, drop, if◌then◌else◌, refl, sym, ◌∙◌, ap, subst, arith, append_assoc, append-nil, length-drop, length-append}
 use Rattle.std.proofs.lemmas.List.{take_all, drop_all}
-use Rattle.std.proofs.lemmas.Bool.{leb-true, le-leb, lt-leb}
+use Rattle.std.proofs.lemmas.Bool.{leb-true, lt-leb}
 use Rattle.ts_packet.specs.Packets.{packet_bytes}
 use Rattle.section_stream.specs.Cuts.{Bytes}
-use Rattle.section_stream.specs.Packing.{MuxState, Back, Held, filled, giving, sent, sent_of, put, numbered, packets_of, past}
+use Rattle.section_stream.specs.Packing.{MuxState, Back, Held, with_stuffing, give, send_begun, sent_of, put, number_packets, packets_of, past}
 
 -- ---- what is left of a begun section
 
 abbrev sent_by : ℕ → Bytes → Bool → Bool → Held
 sent_by steps begun t u =
-    if t then giving (false, take 184 begun) (sent steps (drop 184 begun))
+    if t then give (false, take 184 begun) (send_begun steps (drop 184 begun))
     else (if u then record { given = (false, begun) ∷ []; tail = []; body = [] } else record { given = []; tail = begun; body = [] })
 
-same_steps : (m n : ℕ) (begun : Bytes) → length begun < m → length begun < n → sent m begun ≡ sent n begun
+same_steps : (m n : ℕ) (begun : Bytes) → length begun < m → length begun < n → send_begun m begun ≡ send_begun n begun
 same_steps zero n begun h k = absurd (omega (arith, h))
 same_steps (suc m) zero begun h k = absurd (omega (arith, k))
 same_steps (suc m) (suc n) begun h k = go (λ a b. same_steps m n (drop 184 begun) a b) (nat_le 184 (length begun)) refl where
-  go : (length (drop 184 begun) < m → length (drop 184 begun) < n → sent m (drop 184 begun) ≡ sent n (drop 184 begun)) → (t : Bool) → nat_le 184 (length begun) ≡ t
+  go : (length (drop 184 begun) < m → length (drop 184 begun) < n → send_begun m (drop 184 begun) ≡ send_begun n (drop 184 begun)) → (t : Bool) → nat_le 184 (length begun) ≡ t
       → sent_by m begun (nat_le 184 (length begun)) (length begun == 183) ≡ sent_by n begun (nat_le 184 (length begun)) (length begun == 183)
   go next false t = subst (λ x. sent_by m begun x (length begun == 183) ≡ sent_by n begun x (length begun == 183)) (sym t) refl
   go next true t =
       let i : 184 ≤ length begun = leb-true 184 (length begun) t in
       subst (λ x. sent_by m begun x (length begun == 183) ≡ sent_by n begun x (length begun == 183)) (sym t)
-      (ap (giving (false, take 184 begun)) (next (omega (arith, length-drop 184 begun, i, h)) (omega (arith, length-drop 184 begun, i, k))))
+      (ap (give (false, take 184 begun)) (next (omega (arith, length-drop 184 begun, i, h)) (omega (arith, length-drop 184 begun, i, k))))
 
 -- a packet that it fills, or ends with one byte to spare
-pub sent_more : (begun : Bytes) → 183 ≤ length begun → sent_of begun ≡ giving (false, take 184 begun) (sent_of (drop 184 begun))
+pub sent_more : (begun : Bytes) → 183 ≤ length begun → sent_of begun ≡ give (false, take 184 begun) (sent_of (drop 184 begun))
 unfolding sent_of
 sent_more begun h = go (nat_le 184 (length begun)) refl where
   Claim : Bool → Type 0
-  Claim t = sent_by (length begun) begun t (length begun == 183) ≡ giving (false, take 184 begun) (sent_of (drop 184 begun))
+  Claim t = sent_by (length begun) begun t (length begun == 183) ≡ give (false, take 184 begun) (sent_of (drop 184 begun))
 
   go : (t : Bool) → nat_le 184 (length begun) ≡ t → Claim (nat_le 184 (length begun))
   go true t =
       let i : 184 ≤ length begun = leb-true 184 (length begun) t in
-      subst Claim (sym t) (ap (giving (false, take 184 begun)) (same_steps (length begun) (suc (length (drop 184 begun))) (drop 184 begun) (omega (arith, length-drop 184 begun, i)) (omega arith)))
+      subst Claim (sym t) (ap (give (false, take 184 begun)) (same_steps (length begun) (suc (length (drop 184 begun))) (drop 184 begun) (omega (arith, length-drop 184 begun, i)) (omega arith)))
   go false t =
       let size : (length begun == 183) ≡ true = grind (arith, t, h) in
       let is : length begun ≡ 183 = grind (arith, t, h) in
       subst Claim (sym t)
       (ap (sent_by (length begun) begun false) size
       ∙ ap (λ x. record { given = (false, x) ∷ []; tail = []; body = [] }) (sym (take_all 184 begun (omega (arith, is))))
-      ∙ ap (λ x. giving (false, take 184 begun) (sent_of x)) (sym (drop_all 184 begun (omega (arith, is)))))
+      ∙ ap (λ x. give (false, take 184 begun) (sent_of x)) (sym (drop_all 184 begun (omega (arith, is)))))
 
 -- nothing more is given
 pub sent_less : (begun : Bytes) → length begun < 183 → sent_of begun ≡ record { given = []; tail = begun; body = [] }
@@ -52,10 +52,10 @@ sent_less begun h =
     let u : (length begun == 183) ≡ false = grind (arith, h) in
     ap (λ x. sent_by (length begun) begun x (length begun == 183)) t ∙ ap (sent_by (length begun) begun false) u
 
-body_by : (steps : ℕ) (begun : Bytes) → (sent steps begun).body ≡ []
+body_by : (steps : ℕ) (begun : Bytes) → (send_begun steps begun).body ≡ []
 body_by zero begun = refl
 body_by (suc steps) begun = go (body_by steps (drop 184 begun)) (nat_le 184 (length begun)) (length begun == 183) where
-  go : (sent steps (drop 184 begun)).body ≡ [] → (t u : Bool) → (sent_by steps begun t u).body ≡ []
+  go : (send_begun steps (drop 184 begun)).body ≡ [] → (t u : Bool) → (sent_by steps begun t u).body ≡ []
   go next true u = next
   go next false true = refl
   go next false false = refl
@@ -67,14 +67,14 @@ sent_body begun = body_by (suc (length begun)) begun
 -- ---- the loop over what is left
 
 pub packets_more : (pid counter : ℕ) (rest part behind : Bytes) (out more whole : List Bytes) → 183 ≤ length rest → part ≡ take 184 rest → behind ≡ drop 184 rest
-    → more ≡ out ++ packet_bytes pid false counter (filled part) ∷ [] → out ++ numbered pid counter (sent_of rest).given ≡ whole
-    → more ++ numbered pid ((counter + 1) % 16) (sent_of behind).given ≡ whole
+    → more ≡ out ++ packet_bytes pid false counter (with_stuffing part) ∷ [] → out ++ number_packets pid counter (sent_of rest).given ≡ whole
+    → more ++ number_packets pid ((counter + 1) % 16) (sent_of behind).given ≡ whole
 packets_more pid counter rest part behind out more whole h p b m w =
-    ap (λ xs. xs ++ numbered pid ((counter + 1) % 16) (sent_of behind).given) m
-    ∙ append_assoc out (packet_bytes pid false counter (filled part) ∷ []) (numbered pid ((counter + 1) % 16) (sent_of behind).given)
-    ∙ ap (λ x. out ++ (packet_bytes pid false counter (filled x) ∷ numbered pid ((counter + 1) % 16) (sent_of behind).given)) p
-    ∙ ap (λ x. out ++ (packet_bytes pid false counter (filled (take 184 rest)) ∷ numbered pid ((counter + 1) % 16) (sent_of x).given)) b
-    ∙ sym (ap (λ (x : Held). out ++ numbered pid counter x.given) (sent_more rest h)) ∙ w
+    ap (λ xs. xs ++ number_packets pid ((counter + 1) % 16) (sent_of behind).given) m
+    ∙ append_assoc out (packet_bytes pid false counter (with_stuffing part) ∷ []) (number_packets pid ((counter + 1) % 16) (sent_of behind).given)
+    ∙ ap (λ x. out ++ (packet_bytes pid false counter (with_stuffing x) ∷ number_packets pid ((counter + 1) % 16) (sent_of behind).given)) p
+    ∙ ap (λ x. out ++ (packet_bytes pid false counter (with_stuffing (take 184 rest)) ∷ number_packets pid ((counter + 1) % 16) (sent_of x).given)) b
+    ∙ sym (ap (λ (x : Held). out ++ number_packets pid counter x.given) (sent_more rest h)) ∙ w
 
 pub tail_more : (rest behind : Bytes) → 183 ≤ length rest → behind ≡ drop 184 rest → (sent_of behind).tail ≡ (sent_of rest).tail
 tail_more rest behind h b = ap (λ x. (sent_of x).tail) b ∙ sym (ap (λ (x : Held). x.tail) (sent_more rest h))
@@ -87,8 +87,8 @@ counter_more counter rest behind h b =
     omega (arith, one)
 
 -- nothing more is given
-pub packets_end : (pid counter : ℕ) (rest : Bytes) (out whole : List Bytes) → length rest < 183 → out ++ numbered pid counter (sent_of rest).given ≡ whole → out ≡ whole
-packets_end pid counter rest out whole h w = sym (ap (λ (x : Held). out ++ numbered pid counter x.given) (sent_less rest h) ∙ append-nil out) ∙ w
+pub packets_end : (pid counter : ℕ) (rest : Bytes) (out whole : List Bytes) → length rest < 183 → out ++ number_packets pid counter (sent_of rest).given ≡ whole → out ≡ whole
+packets_end pid counter rest out whole h w = sym (ap (λ (x : Held). out ++ number_packets pid counter x.given) (sent_less rest h) ∙ append-nil out) ∙ w
 
 pub tail_end : (rest tail : Bytes) → length rest < 183 → (sent_of rest).tail ≡ tail → rest ≡ tail
 tail_end rest tail h t = sym (ap (λ (x : Held). x.tail) (sent_less rest h)) ∙ t
@@ -103,7 +103,7 @@ counter_end counter next rest h b n =
 abbrev put_by : ℕ → Bytes → Bytes → Bytes → Bool → Held
 put_by room tail body s t =
     if t then record { given = []; tail = tail; body = body ++ s }
-    else giving (true, length tail ∷ (tail ++ (body ++ take room s))) (sent_of (drop room s))
+    else give (true, length tail ∷ (tail ++ (body ++ take room s))) (sent_of (drop room s))
 
 -- it leaves room
 put_small : (m : MuxState) (s : Bytes) → length s < 183 - (length m.tail + length m.body) → put m.tail m.body s ≡ record { given = []; tail = m.tail; body = m.body ++ s }
@@ -112,7 +112,7 @@ put_small m s h =
     ap (put_by (183 - (length m.tail + length m.body)) m.tail m.body s) t
 
 pub small_packets : (m : MuxState) (s : Bytes) (out : List Bytes) → length s < 183 - (length m.tail + length m.body) → out ≡ out ++ packets_of m s
-small_packets m s out h = sym (ap (λ (x : Held). out ++ numbered m.pid m.counter x.given) (put_small m s h) ∙ append-nil out)
+small_packets m s out h = sym (ap (λ (x : Held). out ++ number_packets m.pid m.counter x.given) (put_small m s h) ∙ append-nil out)
 
 pub small_past : (m : MuxState) (s : Bytes) → length s < 183 - (length m.tail + length m.body) → m.counter < 16
     → record { pid = m.pid; counter = m.counter; tail = m.tail; body = m.body ++ s } ≡ past m s
@@ -123,23 +123,23 @@ small_past m s h k =
 
 -- it fills the packet under way
 put_large : (m : MuxState) (s : Bytes) (room : ℕ) → room ≡ 183 - (length m.tail + length m.body) → room ≤ length s
-    → put m.tail m.body s ≡ giving (true, length m.tail ∷ (m.tail ++ (m.body ++ take room s))) (sent_of (drop room s))
+    → put m.tail m.body s ≡ give (true, length m.tail ∷ (m.tail ++ (m.body ++ take room s))) (sent_of (drop room s))
 put_large m s room e h =
     let t : nat_lt (length s) room ≡ false = grind (arith, h) in
     ap (λ k. put_by k m.tail m.body s (nat_lt (length s) k)) (sym e) ∙ ap (put_by room m.tail m.body s) t
 
 pub large_packets : (m : MuxState) (s : Bytes) (room : ℕ) (held front behind : Bytes) (out one two : List Bytes) → room ≡ 183 - (length m.tail + length m.body) → room ≤ length s
     → held ≡ m.tail ++ m.body → front ≡ take room s → behind ≡ drop room s
-    → one ≡ out ++ packet_bytes m.pid true m.counter (filled (length m.tail ∷ (held ++ front))) ∷ []
-    → two ≡ one ++ numbered m.pid ((m.counter + 1) % 16) (sent_of behind).given
+    → one ≡ out ++ packet_bytes m.pid true m.counter (with_stuffing (length m.tail ∷ (held ++ front))) ∷ []
+    → two ≡ one ++ number_packets m.pid ((m.counter + 1) % 16) (sent_of behind).given
     → two ≡ out ++ packets_of m s
 large_packets m s room held front behind out one two e h a f b o t =
     let bytes : held ++ front ≡ m.tail ++ (m.body ++ take room s) = ap (λ x. x ++ front) a ∙ ap (λ x. (m.tail ++ m.body) ++ x) f ∙ append_assoc m.tail m.body (take room s) in
-    t ∙ ap (λ x. x ++ numbered m.pid ((m.counter + 1) % 16) (sent_of behind).given) o
-    ∙ append_assoc out (packet_bytes m.pid true m.counter (filled (length m.tail ∷ (held ++ front))) ∷ []) (numbered m.pid ((m.counter + 1) % 16) (sent_of behind).given)
-    ∙ ap (λ x. out ++ (packet_bytes m.pid true m.counter (filled (length m.tail ∷ x)) ∷ numbered m.pid ((m.counter + 1) % 16) (sent_of behind).given)) bytes
-    ∙ ap (λ x. out ++ (packet_bytes m.pid true m.counter (filled (length m.tail ∷ (m.tail ++ (m.body ++ take room s)))) ∷ numbered m.pid ((m.counter + 1) % 16) (sent_of x).given)) b
-    ∙ sym (ap (λ (x : Held). out ++ numbered m.pid m.counter x.given) (put_large m s room e h))
+    t ∙ ap (λ x. x ++ number_packets m.pid ((m.counter + 1) % 16) (sent_of behind).given) o
+    ∙ append_assoc out (packet_bytes m.pid true m.counter (with_stuffing (length m.tail ∷ (held ++ front))) ∷ []) (number_packets m.pid ((m.counter + 1) % 16) (sent_of behind).given)
+    ∙ ap (λ x. out ++ (packet_bytes m.pid true m.counter (with_stuffing (length m.tail ∷ x)) ∷ number_packets m.pid ((m.counter + 1) % 16) (sent_of behind).given)) bytes
+    ∙ ap (λ x. out ++ (packet_bytes m.pid true m.counter (with_stuffing (length m.tail ∷ (m.tail ++ (m.body ++ take room s)))) ∷ number_packets m.pid ((m.counter + 1) % 16) (sent_of x).given)) b
+    ∙ sym (ap (λ (x : Held). out ++ number_packets m.pid m.counter x.given) (put_large m s room e h))
 
 pub large_past : (m : MuxState) (s : Bytes) (room : ℕ) (behind tail : Bytes) (counter : ℕ) → room ≡ 183 - (length m.tail + length m.body) → room ≤ length s → behind ≡ drop room s
     → tail ≡ (sent_of behind).tail → counter ≡ ((m.counter + 1) % 16 + length (sent_of behind).given) % 16
@@ -155,7 +155,7 @@ large_past m s room behind tail counter e h b t k =
 -- then a packet is given
 pub large_gives : (m : MuxState) (s : Bytes) (room : ℕ) → room ≡ 183 - (length m.tail + length m.body) → room ≤ length s → 0 < length (packets_of m s)
 large_gives m s room e h =
-    subst (λ (x : Held). 0 < length (numbered m.pid m.counter x.given)) (sym (put_large m s room e h)) (omega arith)
+    subst (λ (x : Held). 0 < length (number_packets m.pid m.counter x.given)) (sym (put_large m s room e h)) (omega arith)
 
 -- what is held back of a section that fills the packet under way
 pub large_state : (m : MuxState) (pid first : ℕ) (held kept : Back) (bytes s behind tail : Bytes) (counter : ℕ)

@@ -4,7 +4,7 @@ use Rattle.std.specs.List.{All, sum_by}
 use Rattle.section_stream.specs.Cuts.{Bytes}
 use Rattle.section_stream.specs.Rules.{nothing_counted}
 use Rattle.section_stream.specs.Packing.{IsSectionLike, is_none}
-use Rattle.section_stream.specs.Groups.{Filling, fill, Laid, with_start, laid, is_done, layout_from, layout_of, places_in, starts_from, starts, Rise}
+use Rattle.section_stream.specs.Groups.{Filling, fill, Laid, with_start, lay_packet, is_done, layout_from, layout_of, places_in, starts_from, starts, Rise}
 use Rattle.section_stream.proofs.Grouped.{IsUnderWay, Leaves, does, laid_leaves}
 
 -- offsets that rise from `low` on
@@ -36,7 +36,7 @@ fill_rises at room (s ∷ ss) all = go (λ i. fill_rises (at + length s) i ss (�
   go next true z = rw z tt
   go next false z = fits next z (nat_le (length s) room) refl
 
-laid_rises : (begun : Bytes) (rest : List Bytes) → All IsSectionLike rest → Offsets 0 (laid begun rest).offsets
+laid_rises : (begun : Bytes) (rest : List Bytes) → All IsSectionLike rest → Offsets 0 (lay_packet begun rest).offsets
 laid_rises begun rest all = go (nat_le 184 (length begun)) ((length begun == 183) || (nat_lt 0 (length begun) && is_none rest)) where
   go : (t b : Bool) → Offsets 0 (if t then record { start = false; bytes = take 184 begun; begun = drop 184 begun; rest = rest; offsets = [] }
       else (if b then record { start = false; bytes = begun; begun = []; rest = rest; offsets = [] }
@@ -65,7 +65,7 @@ layout_rises : (steps n : ℕ) (o : Option Bytes) (begun : Bytes) (rest : List B
 layout_rises zero n o begun rest more h all i = same_packet n (n + 0) more (omega arith) i
 layout_rises (suc steps) n o begun rest more h all i = go (λ p b ss u v w. layout_rises steps (n + 1) p b ss more u v w) (is_done begun rest) refl i where
   l : Laid
-  l = laid begun rest
+  l = lay_packet begun rest
 
   ls : List Laid
   ls = layout_from steps l.begun l.rest

@@ -1,11 +1,11 @@
 -- Whatever the count of short tails is, the rules give the same.
 use Rattle.std.proofs.Common.{◌≡◌, ℕ, zero, suc, ◌+◌, Bool, true, false, ◌||◌, ◌==◌, nat_lt, List, [], ◌∷◌, ◌++◌, length, take, drop, slice_index, Option, Some, None, Result, Ok, Err, cond, refl, ◌∙◌, ap}
-use Rattle.ts_packet.specs.Packets.{Fields, parsed}
+use Rattle.ts_packet.specs.Packets.{Fields, parse_packet}
 use Rattle.ts_packet.specs.declared.PacketFault.{PacketFault}
 use Rattle.ts_packet.specs.declared.PacketFault.TheVariants.{NoSync, Errored, Scrambled, Reserved, BadField}
 use Rattle.section_stream.specs.Cuts.{Bytes}
 use Rattle.section_stream.specs.declared.counts.Counts.{Counts}
-use Rattle.section_stream.specs.Rules.{Receiving, After, Grown, Growing, Oversize, Whole, grown, with_out, open_on, appended, goes_on, closes, starts, keeps, takes, fed, count_fault, step, one_more, is_last, jumps_from, up}
+use Rattle.section_stream.specs.Rules.{Receiving, After, Grown, Growing, Oversize, Whole, as_grown, with_out, open_on, after_append, goes_on, closes, starts, keeps, takes, after_packet, count_fault, step, one_more, is_last, jumps_from, up}
 
 abbrev short : ℕ → Counts → Counts
 short k c = record c { short_tail = k }
@@ -16,7 +16,7 @@ after_short k a = record a { counts = short k a.counts }
 abbrev pub state_short : ℕ → Receiving → Receiving
 state_short k s = record s { counts = short k s.counts }
 
-by_grown : (k n : ℕ) (here : Bytes) (c : Counts) (g : Grown) → grown here ≡ g
+by_grown : (k n : ℕ) (here : Bytes) (c : Counts) (g : Grown) → as_grown here ≡ g
     → ((rest : Bytes) → open_on n rest (short k c) ≡ after_short k (open_on n rest c))
     → (t : Bool) → ((length here == 0) || (slice_index here 0 == 0xFF)) ≡ t
     → open_on (suc n) here (short k c) ≡ after_short k (open_on (suc n) here c)
@@ -27,9 +27,9 @@ by_grown k n here c (Whole m) e next false f = rw (f, e) (ap (with_out (take m h
 
 open_short : (k n : ℕ) (here : Bytes) (c : Counts) → open_on n here (short k c) ≡ after_short k (open_on n here c)
 open_short k zero here c = refl
-open_short k (suc n) here c = by_grown k n here c (grown here) refl (λ rest. open_short k n rest c) ((length here == 0) || (slice_index here 0 == 0xFF)) refl
+open_short k (suc n) here c = by_grown k n here c (as_grown here) refl (λ rest. open_short k n rest c) ((length here == 0) || (slice_index here 0 == 0xFF)) refl
 
-appended_by : (k : ℕ) (b : Bool) (bytes : Bytes) (c : Counts) (g : Grown) → grown bytes ≡ g → appended b bytes (short k c) ≡ after_short k (appended b bytes c)
+appended_by : (k : ℕ) (b : Bool) (bytes : Bytes) (c : Counts) (g : Grown) → as_grown bytes ≡ g → after_append b bytes (short k c) ≡ after_short k (after_append b bytes c)
 appended_by k true bytes c Growing e = rw e refl
 appended_by k false bytes c Growing e = rw e refl
 appended_by k b bytes c Oversize e = rw e refl
@@ -37,11 +37,11 @@ appended_by k b bytes c (Whole m) e = rw e refl
 
 goes_on_short : (k : ℕ) (o : Option Bytes) (payload : Bytes) (c : Counts) → goes_on o payload (short k c) ≡ after_short k (goes_on o payload c)
 goes_on_short k None payload c = refl
-goes_on_short k (Some b) payload c = appended_by k false (b ++ payload) c (grown (b ++ payload)) refl
+goes_on_short k (Some b) payload c = appended_by k false (b ++ payload) c (as_grown (b ++ payload)) refl
 
 closes_short : (k : ℕ) (o : Option Bytes) (part : Bytes) (c : Counts) → closes o part (short k c) ≡ after_short k (closes o part c)
 closes_short k None part c = refl
-closes_short k (Some b) part c = appended_by k true (b ++ part) c (grown (b ++ part)) refl
+closes_short k (Some b) part c = appended_by k true (b ++ part) c (as_grown (b ++ part)) refl
 
 abbrev behind : ℕ → Bytes → After → After
 behind n rest first = with_out first.out (open_on n rest first.counts)
@@ -80,16 +80,16 @@ fault_short k Reserved c = refl
 fault_short k BadField c = refl
 
 fed_by : (k : ℕ) (s : Receiving) (p : Fields) (a b d : Bool) → (p.pid == s.pid) ≡ a → (length p.payload == 0) ≡ b → is_last p.counter p.payload s.last ≡ d
-    → fed (state_short k s) (Ok p) ≡ both_short k (fed s (Ok p))
+    → after_packet (state_short k s) (Ok p) ≡ both_short k (after_packet s (Ok p))
 fed_by k s p false b d e f h = rw e refl
 fed_by k s p true true d e f h = rw (e, f) refl
 fed_by k s p true false true e f h = rw (e, f, h) refl
 fed_by k s p true false false e f h = rw (e, f, h) (takes_by k s p (jumps_from p.counter s.last) refl)
 
-fed_short : (k : ℕ) (s : Receiving) (r : Result Fields PacketFault) → fed (state_short k s) r ≡ both_short k (fed s r)
+fed_short : (k : ℕ) (s : Receiving) (r : Result Fields PacketFault) → after_packet (state_short k s) r ≡ both_short k (after_packet s r)
 fed_short k s (Err fault) = ap (λ c. (record s { counts = c }, [])) (fault_short k fault s.counts)
 fed_short k s (Ok p) = fed_by k s p (p.pid == s.pid) (length p.payload == 0) (is_last p.counter p.payload s.last) refl refl refl
 
 -- one packet: another count of short tails is kept, and all else is the same
 pub step_short : (k : ℕ) (s : Receiving) (x : Bytes) → step (state_short k s) x ≡ both_short k (step s x)
-step_short k s x = fed_short k (one_more s) (parsed x)
+step_short k s x = fed_short k (one_more s) (parse_packet x)

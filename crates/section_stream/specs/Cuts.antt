@@ -5,7 +5,7 @@
 use Rattle.std.specs.Prelude.{ℕ, zero, suc, ◌+◌, ◌-◌, ◌*◌, ◌%◌, Bool, not, ◌&&◌, ◌||◌, List, [], ◌∷◌, ◌++◌, length, map, take, drop, slice_index, Option, Some, None, Result, Ok, Err, nat_lt, nat_le, ◌==◌, if◌then◌else◌}
 use Rattle.std.specs.List.{filter_map, enumerate_from}
 use Rattle.std.specs.Str.{bytes_eq}
-use Rattle.ts_packet.specs.Packets.{Fields, parsed}
+use Rattle.ts_packet.specs.Packets.{Fields, parse_packet}
 use Rattle.ts_packet.specs.declared.PacketFault.{PacketFault}
 
 abbrev pub Bytes : Type 0
@@ -26,8 +26,8 @@ kept_of pid number (Ok p) =
 kept_of pid number (Err fault) = None
 
 -- the packets that parse, have the asked PID and a payload
-abbrev pub received : ℕ → List Bytes → List Received
-received pid packets = filter_map (λ x. kept_of pid x.0 (parsed x.1)) (enumerate_from 0 packets)
+abbrev pub payloads_in : ℕ → List Bytes → List Received
+payloads_in pid packets = filter_map (λ x. kept_of pid x.0 (parse_packet x.1)) (enumerate_from 0 packets)
 
 abbrev pub is_repeat : Received → Received → Bool
 is_repeat a b = (a.counter == b.counter) && bytes_eq a.payload b.payload
@@ -90,7 +90,7 @@ cuts_of [] = []
 cuts_of (p ∷ ps) = cuts_at p ps ++ cuts_of ps
 
 abbrev pub cuts : ℕ → List Bytes → List Cut
-cuts pid packets = cuts_of (without_repeats (received pid packets))
+cuts pid packets = cuts_of (without_repeats (payloads_in pid packets))
 
 -- the candidates themselves
 abbrev pub candidates : ℕ → List Bytes → List Bytes

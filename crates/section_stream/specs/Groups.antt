@@ -4,7 +4,7 @@ use Rattle.std.specs.Prelude.{◌≡◌, ◌≤◌, ◌⊎◌, ℕ, zero, suc, �
 use Rattle.std.specs.List.{All, flat_map, fold, sum_by}
 use Rattle.ts_packet.specs.Packets.{packet_bytes}
 use Rattle.section_stream.specs.Cuts.{Bytes, candidates, cuts}
-use Rattle.section_stream.specs.Packing.{MuxState, IsSectionLike, filled, idle, is_none, packets_of_all, past, last_of, finished}
+use Rattle.section_stream.specs.Packing.{MuxState, IsSectionLike, with_stuffing, idle, is_none, packets_of_all, past, last_of, after_finish}
 
 -- what goes into the room of a packet, what isn't sent yet of the section that was begun last, the sections after it, and the bytes of
 -- the packet at which sections begin
@@ -35,8 +35,8 @@ pub record Laid : Type 0 where
 abbrev pub with_start : Bytes → Filling → Laid
 with_start begun f = record { start = true; bytes = length begun ∷ begun ++ f.bytes; begun = f.begun; rest = f.rest; offsets = f.offsets }
 
-abbrev pub laid : Bytes → List Bytes → Laid
-laid begun rest =
+abbrev pub lay_packet : Bytes → List Bytes → Laid
+lay_packet begun rest =
     if nat_le 184 (length begun) then record { start = false; bytes = take 184 begun; begun = drop 184 begun; rest = rest; offsets = [] }
     else (if (length begun == 183) || (nat_lt 0 (length begun) && is_none rest) then record { start = false; bytes = begun; begun = []; rest = rest; offsets = [] }
     else with_start begun (fill (5 + length begun) (183 - length begun) rest))
@@ -48,7 +48,7 @@ is_done begun rest = is_none begun && is_none rest
 abbrev pub layout_from : ℕ → Bytes → List Bytes → List Laid
 layout_from zero begun rest = []
 layout_from (suc steps) begun rest =
-    if is_done begun rest then [] else laid begun rest ∷ layout_from steps (laid begun rest).begun (laid begun rest).rest
+    if is_done begun rest then [] else lay_packet begun rest ∷ layout_from steps (lay_packet begun rest).begun (lay_packet begun rest).rest
 
 -- a group, packet by packet: each packet takes at least a byte of it
 abbrev pub layout_of : List Bytes → List Laid
@@ -56,7 +56,7 @@ layout_of group = layout_from (sum_by length group) [] group
 
 abbrev pub packets_from : ℕ → ℕ → List Laid → List Bytes
 packets_from pid counter [] = []
-packets_from pid counter (l ∷ ls) = packet_bytes pid l.start counter (filled l.bytes) ∷ packets_from pid ((counter + 1) % 16) ls
+packets_from pid counter (l ∷ ls) = packet_bytes pid l.start counter (with_stuffing l.bytes) ∷ packets_from pid ((counter + 1) % 16) ls
 
 abbrev pub packets_of_group : MuxState → List Bytes → List Bytes
 packets_of_group m group = packets_from m.pid m.counter (layout_of group)
@@ -114,4 +114,4 @@ pub record IsBetween (m : MuxState) : Type 0 where
 -- then the packets that the sections of a group give and the one that its end gives are the group's
 abbrev pub CallsGiveTheGroup : Type 0
 CallsGiveTheGroup = (m : MuxState) (group : List Bytes) → IsBetween m → All IsSectionLike group
-    → (packets_of_all m group ++ last_of (fold past m group) ≡ packets_of_group m group) × (finished (fold past m group) ≡ past_group m group)
+    → (packets_of_all m group ++ last_of (fold past m group) ≡ packets_of_group m group) × (after_finish (fold past m group) ≡ past_group m group)

@@ -2,7 +2,7 @@
 use Rattle.std.specs.Prelude.{ℕ, Option, Some, None, Result, Ok, Err}
 use Rattle.std.specs.declared.vec.Vec.{Vec}
 use Rattle.std.specs.declared.alloc.Global.{Global}
-use Rattle.ts_packet.specs.Packets.{Fields, parsed}
+use Rattle.ts_packet.specs.Packets.{Fields, parse_packet}
 use Rattle.ts_packet.specs.declared.PacketFault.{PacketFault}
 use Rattle.section_stream.specs.Cuts.{Bytes}
 use Rattle.section_stream.specs.Rules.{Receiving, DemuxState}
@@ -17,7 +17,7 @@ last_of (Ok p) = Some (p.counter, p.payload)
 last_of (Err fault) = None
 
 abbrev pub view_receiver : Inside → Receiving
-view_receiver d = record { pid = d.pid; last = last_of (parsed d.last); opened = d.opened; counts = d.counts }
+view_receiver d = record { pid = d.pid; last = last_of (parse_packet d.last); opened = d.opened; counts = d.counts }
 
 -- a receiver and the bytes that are kept beside it
 abbrev pub with_unfinished : Receiving → Bytes → DemuxState

@@ -1,5 +1,5 @@
 -- What is packed and what is cut are one.
-use Rattle.std.specs.Prelude.{◌≡◌, ◌<◌, ℕ, ◌-◌, ◌≤◌, ◌⊎◌, List, ◌++◌, length, map, take, drop, Some, slice_get}
+use Rattle.std.specs.Prelude.{◌≡◌, ◌<◌, ℕ, ◌-◌, ◌≤◌, ◌⊎◌, List, ◌++◌, length, take, drop, Some, slice_get}
 use Rattle.std.specs.List.{All, AllPairs}
 use Rattle.section_stream.specs.Cuts.{Bytes, Cut, cuts, candidates}
 

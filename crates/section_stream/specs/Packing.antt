@@ -25,8 +25,8 @@ pub record IsSectionLike (section : Bytes) : Type 0 where
   pub first : slice_index section 0 ≢ 0xFF
 
 -- a payload with stuffing after these bytes
-abbrev pub filled : Bytes → Bytes
-filled piece = piece ++ replicate (184 - length piece) 0xFF
+abbrev pub with_stuffing : Bytes → Bytes
+with_stuffing piece = piece ++ replicate (184 - length piece) 0xFF
 
 abbrev pub is_none : {A : Type 0} → List A → Bool
 is_none [] = true
@@ -44,38 +44,38 @@ pub record Held : Type 0 where
   pub tail : Bytes
   pub body : Bytes
 
-abbrev pub giving : Bool × Bytes → Held → Held
-giving p h = record { given = p ∷ h.given; tail = h.tail; body = h.body }
+abbrev pub give : Bool × Bytes → Held → Held
+give p h = record { given = p ∷ h.given; tail = h.tail; body = h.body }
 
 -- what is left of a begun section: packets that it fills, and one that 183 bytes end, are given
-abbrev pub sent : ℕ → Bytes → Held
-sent zero begun = record { given = []; tail = begun; body = [] }
-sent (suc steps) begun =
-    if nat_le 184 (length begun) then giving (false, take 184 begun) (sent steps (drop 184 begun))
+abbrev pub send_begun : ℕ → Bytes → Held
+send_begun zero begun = record { given = []; tail = begun; body = [] }
+send_begun (suc steps) begun =
+    if nat_le 184 (length begun) then give (false, take 184 begun) (send_begun steps (drop 184 begun))
     else (if length begun == 183 then record { given = (false, begun) ∷ []; tail = []; body = [] } else record { given = []; tail = begun; body = [] })
 
 unfoldable pub sent_of : Bytes → Held
-sent_of begun = sent (suc (length begun)) begun
+sent_of begun = send_begun (suc (length begun)) begun
 
 -- one section more: it is held back where it leaves room in the packet under way, and else that packet is given
 abbrev pub put : Bytes → Bytes → Bytes → Held
 put tail body s =
     let room = 183 - (length tail + length body) in
     if nat_lt (length s) room then record { given = []; tail = tail; body = body ++ s }
-    else giving (true, length tail ∷ (tail ++ (body ++ take room s))) (sent_of (drop room s))
+    else give (true, length tail ∷ (tail ++ (body ++ take room s))) (sent_of (drop room s))
 
 -- the group ends
-abbrev pub ended : Bytes → Bytes → List (Bool × Bytes)
-ended tail body = if is_none body then (if is_none tail then [] else (false, tail) ∷ []) else (true, length tail ∷ (tail ++ body)) ∷ []
+abbrev pub end_packets : Bytes → Bytes → List (Bool × Bytes)
+end_packets tail body = if is_none body then (if is_none tail then [] else (false, tail) ∷ []) else (true, length tail ∷ (tail ++ body)) ∷ []
 
 -- packets one after another, with counters that go on
-abbrev pub numbered : ℕ → ℕ → List (Bool × Bytes) → List Bytes
-numbered pid counter [] = []
-numbered pid counter (p ∷ ps) = packet_bytes pid p.0 counter (filled p.1) ∷ numbered pid ((counter + 1) % 16) ps
+abbrev pub number_packets : ℕ → ℕ → List (Bool × Bytes) → List Bytes
+number_packets pid counter [] = []
+number_packets pid counter (p ∷ ps) = packet_bytes pid p.0 counter (with_stuffing p.1) ∷ number_packets pid ((counter + 1) % 16) ps
 
 -- the packets that a section gives, and what is held back after it
 abbrev pub packets_of : MuxState → Bytes → List Bytes
-packets_of m section = numbered m.pid m.counter (put m.tail m.body section).given
+packets_of m section = number_packets m.pid m.counter (put m.tail m.body section).given
 
 abbrev pub past : MuxState → Bytes → MuxState
 past m section = record {
@@ -92,7 +92,7 @@ packets_of_all m (s ∷ ss) = packets_of m s ++ packets_of_all (past m s) ss
 
 -- the packet that a group's end gives, where something is held back
 abbrev pub last_of : MuxState → List Bytes
-last_of m = numbered m.pid m.counter (ended m.tail m.body)
+last_of m = number_packets m.pid m.counter (end_packets m.tail m.body)
 
-abbrev pub finished : MuxState → MuxState
-finished m = idle m.pid ((m.counter + length (ended m.tail m.body)) % 16)
+abbrev pub after_finish : MuxState → MuxState
+after_finish m = idle m.pid ((m.counter + length (end_packets m.tail m.body)) % 16)

@@ -1,7 +1,7 @@
 -- Bytes in pieces of any size: 188 of them from the beginning are one packet, and so on (ISO/IEC 13818-1, 2.4.3.2).
 use Rattle.std.specs.Prelude.{◌≡◌, ℕ, zero, suc, List, [], ◌∷◌, length, take, drop, nat_le, if◌then◌else◌}
 use Rattle.section_stream.specs.Cuts.{Bytes}
-use Rattle.section_stream.specs.Rules.{DemuxState, HasReceived, receiving}
+use Rattle.section_stream.specs.Rules.{DemuxState, HasReceived, as_receiving}
 
 -- packets of 188 bytes; a last piece that is shorter is no packet
 abbrev pub packets_in : ℕ → Bytes → List Bytes
@@ -21,5 +21,5 @@ rest_of input = rest_in (length input) input
 
 -- the value stands for these bytes: for their whole packets, and it keeps the bytes after them
 pub record StandsForBytes (d : DemuxState) (bytes : Bytes) : Type 0 where
-  pub received : HasReceived (receiving d) (packets_of bytes)
+  pub received : HasReceived (as_receiving d) (packets_of bytes)
   pub unfinished : d.unfinished ≡ rest_of bytes

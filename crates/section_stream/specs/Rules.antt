@@ -3,8 +3,8 @@
 -- what is counted, and that a section whose packets are missing is dropped, are this project's own rules.
 use Rattle.std.specs.Prelude.{◌≡◌, ℕ, zero, suc, ◌+◌, ◌%◌, ◌*◌, Bool, true, false, not, ◌&&◌, ◌||◌, List, [], ◌∷◌, ◌++◌, length, take, drop, slice_index, Option, Some, None, Result, Ok, Err, nat_lt, nat_le, ◌==◌, if◌then◌else◌}
 use Rattle.std.specs.Str.{bytes_eq}
-use Rattle.oc_bytes.specs.Outcome.{capped}
-use Rattle.ts_packet.specs.Packets.{Fields, parsed}
+use Rattle.oc_bytes.specs.Outcome.{cap_at_u64}
+use Rattle.ts_packet.specs.Packets.{Fields, parse_packet}
 use Rattle.ts_packet.specs.declared.PacketFault.{PacketFault}
 use Rattle.ts_packet.specs.declared.PacketFault.TheVariants.{NoSync, Errored, Scrambled, Reserved, BadField}
 use Rattle.section_stream.specs.Cuts.{Bytes}
@@ -39,7 +39,7 @@ nothing_counted = record {
 
 -- one more, or the greatest count
 abbrev pub up : ℕ → ℕ
-up n = capped (n + 1)
+up n = cap_at_u64 (n + 1)
 
 abbrev pub count_fault : PacketFault → Counts → Counts
 count_fault NoSync c = record c { no_sync = up c.no_sync }
@@ -54,8 +54,8 @@ pub data Grown : Type 0 where
   Oversize : Grown
   Whole : ℕ → Grown
 
-abbrev pub grown : Bytes → Grown
-grown bytes =
+abbrev pub as_grown : Bytes → Grown
+as_grown bytes =
     let n = slice_index bytes 1 % 16 * 256 + slice_index bytes 2 in
     if nat_lt (length bytes) 3 then Growing
     else (if nat_lt 4093 n then Oversize else (if nat_le (3 + n) (length bytes) then Whole (3 + n) else Growing))
@@ -75,7 +75,7 @@ abbrev pub open_on : ℕ → Bytes → Counts → After
 open_on zero here c = record { opened = None; out = []; counts = c }
 open_on (suc steps) here c =
     if (length here == 0) || (slice_index here 0 == 0xFF) then record { opened = None; out = []; counts = c }
-    else go (λ rest. open_on steps rest c) (grown here) where
+    else go (λ rest. open_on steps rest c) (as_grown here) where
       go : (Bytes → After) → Grown → After
       go more Growing = record { opened = Some here; out = []; counts = c }
       go more Oversize = record { opened = None; out = []; counts = record c { oversize = up c.oversize } }
@@ -83,8 +83,8 @@ open_on (suc steps) here c =
 
 -- Bytes after those of the open section. Those beyond its end are passed over. Where the section closes
 -- and still isn't whole, it is dropped and counted.
-abbrev pub appended : Bool → Bytes → Counts → After
-appended closes bytes c = go (grown bytes) where
+abbrev pub after_append : Bool → Bytes → Counts → After
+after_append closes bytes c = go (as_grown bytes) where
   go : Grown → After
   go Growing = if closes then record { opened = None; out = []; counts = record c { cut = up c.cut } } else record { opened = Some bytes; out = []; counts = c }
   go Oversize = record { opened = None; out = []; counts = record c { oversize = up c.oversize } }
@@ -93,12 +93,12 @@ appended closes bytes c = go (grown bytes) where
 -- a packet that begins no section: its payload goes on with the open one
 abbrev pub goes_on : Option Bytes → Bytes → Counts → After
 goes_on None payload c = record { opened = None; out = []; counts = record c { orphans = up c.orphans } }
-goes_on (Some bytes) payload c = appended false (bytes ++ payload) c
+goes_on (Some bytes) payload c = after_append false (bytes ++ payload) c
 
 -- the bytes of a start packet before its first section: they are the open section's last
 abbrev pub closes : Option Bytes → Bytes → Counts → After
 closes None part c = record { opened = None; out = []; counts = c }
-closes (Some bytes) part c = appended true (bytes ++ part) c
+closes (Some bytes) part c = after_append true (bytes ++ part) c
 
 -- a packet that begins a section: its first byte says how many bytes stand before that section
 abbrev pub starts : Option Bytes → Bytes → Counts → After
@@ -131,28 +131,28 @@ takes s p =
     keeps s p (if p.start then starts opened p.payload c else goes_on opened p.payload c)
 
 -- nothing but a count changes
-abbrev pub counted : Receiving → Counts → Receiving × List Bytes
-counted s c = (record s { counts = c }, [])
+abbrev pub with_counts : Receiving → Counts → Receiving × List Bytes
+with_counts s c = (record s { counts = c }, [])
 
 -- one packet: a fault, another PID, no payload and a duplicate are counted, in this order, and leave the rest
-abbrev pub fed : Receiving → Result Fields PacketFault → Receiving × List Bytes
-fed s (Err fault) = counted s (count_fault fault s.counts)
-fed s (Ok p) =
-    if not (p.pid == s.pid) then counted s (record s.counts { other_pid = up s.counts.other_pid })
-    else (if length p.payload == 0 then counted s (record s.counts { no_payload = up s.counts.no_payload })
-    else (if is_last p.counter p.payload s.last then counted s (record s.counts { duplicates = up s.counts.duplicates })
+abbrev pub after_packet : Receiving → Result Fields PacketFault → Receiving × List Bytes
+after_packet s (Err fault) = with_counts s (count_fault fault s.counts)
+after_packet s (Ok p) =
+    if not (p.pid == s.pid) then with_counts s (record s.counts { other_pid = up s.counts.other_pid })
+    else (if length p.payload == 0 then with_counts s (record s.counts { no_payload = up s.counts.no_payload })
+    else (if is_last p.counter p.payload s.last then with_counts s (record s.counts { duplicates = up s.counts.duplicates })
     else takes s p))
 
 -- no packet has come yet
-abbrev pub started : ℕ → Receiving
-started pid = record { pid = pid; last = None; opened = None; counts = nothing_counted }
+abbrev pub at_start : ℕ → Receiving
+at_start pid = record { pid = pid; last = None; opened = None; counts = nothing_counted }
 
 abbrev pub one_more : Receiving → Receiving
 one_more s = record s { counts = record s.counts { packets = up s.counts.packets } }
 
 -- the state and the candidates after one packet
 abbrev pub step : Receiving → Bytes → Receiving × List Bytes
-step s packet = fed (one_more s) (parsed packet)
+step s packet = after_packet (one_more s) (parse_packet packet)
 
 abbrev pub after_all : Receiving → List Bytes → Receiving
 after_all s [] = s
@@ -165,9 +165,9 @@ outputs s (x ∷ xs) = (step s x).1 ++ outputs (step s x).0 xs
 
 -- the state stands for this list of packets, part by part; last pieces that were too short are counted apart
 pub record HasReceived (s : Receiving) (packets : List Bytes) : Type 0 where
-  pub last : s.last ≡ (after_all (started s.pid) packets).last
-  pub opened : s.opened ≡ (after_all (started s.pid) packets).opened
-  pub counts : record s.counts { short_tail = 0 } ≡ (after_all (started s.pid) packets).counts
+  pub last : s.last ≡ (after_all (at_start s.pid) packets).last
+  pub opened : s.opened ≡ (after_all (at_start s.pid) packets).opened
+  pub counts : record s.counts { short_tail = 0 } ≡ (after_all (at_start s.pid) packets).counts
 
 -- from one state these packets lead to the other, and their candidates stand after those before them
 pub record HasRun (s t : Receiving) (packets before after : List Bytes) : Type 0 where
@@ -182,8 +182,8 @@ pub record DemuxState : Type 0 where
   pub counts : Counts
   pub unfinished : Bytes
 
-abbrev pub receiving : DemuxState → Receiving
-receiving d = record { pid = d.pid; last = d.last; opened = d.opened; counts = d.counts }
+abbrev pub as_receiving : DemuxState → Receiving
+as_receiving d = record { pid = d.pid; last = d.last; opened = d.opened; counts = d.counts }
 
 -- nothing has come yet
 abbrev pub fresh : ℕ → DemuxState
@@ -191,5 +191,5 @@ fresh pid = record { pid = pid; last = None; opened = None; counts = nothing_cou
 
 -- the value stands for this list of packets, and no bytes are kept after them
 pub record StandsFor (d : DemuxState) (packets : List Bytes) : Type 0 where
-  pub received : HasReceived (receiving d) packets
+  pub received : HasReceived (as_receiving d) packets
   pub whole : d.unfinished ≡ []

@@ -1,5 +1,5 @@
 -- The parts of one packet's step, as the code goes through them.
-use Rattle.std.specs.Prelude.{◌≡◌, Bool, ◌||◌, if◌then◌else◌, ◌==◌, List, ◌++◌, length, slice_index, Option, Some, None}
+use Rattle.std.specs.Prelude.{◌≡◌, ◌<◌, Bool, ◌||◌, if◌then◌else◌, ◌==◌, List, ◌++◌, length, slice_index, Option, Some, None}
 use Rattle.section_stream.specs.Cuts.{Bytes}
 use Rattle.section_stream.specs.Rules.{After, Receiving, Grown, Growing, Oversize, Whole, count_fault, goes_on, open_on, starts, up}
 use Rattle.section_stream.specs.declared.counts.Counts.{Counts}
@@ -23,17 +23,25 @@ growth_of growths.Oversize = Oversize
 growth_of (growths.Whole n) = Whole n
 
 -- what is open after a packet
-abbrev pub turned : Option Bytes → Turn → Option Bytes
-turned opened Closed = None
-turned None (Grows more) = None
-turned (Some bytes) (Grows more) = Some (bytes ++ more.now)
-turned opened (Opens here) = Some here.now
+abbrev pub open_after : Option Bytes → Turn → Option Bytes
+open_after opened Closed = None
+open_after None (Grows more) = None
+open_after (Some bytes) (Grows more) = Some (bytes ++ more.now)
+open_after opened (Opens here) = Some here.now
 
 -- the part of the step is done: this is open, these candidates came, and so much is counted
 pub record HasDone (after : After) (left : Option Bytes) (before candidates : List Bytes) (counts : Counts) : Type 0 where
   pub opened : after.opened ≡ left
   pub out : candidates ≡ before ++ after.out
   pub counted : after.counts ≡ counts
+
+-- the part of the step has candidates
+pub record HasOut (after : After) : Type 0 where
+  pub some : 0 < length after.out
+
+-- the step has candidates
+pub record Completes (r : Receiving × List Bytes) : Type 0 where
+  pub some : 0 < length r.1
 
 -- the step leads to this state, and its candidates stand after those before them
 pub record Gives (r : Receiving × List Bytes) (t : Receiving) (before after : List Bytes) : Type 0 where

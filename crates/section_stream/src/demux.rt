@@ -1,4 +1,4 @@
-ghost use Rattle.std.specs.Prelude.{◌≡◌, ◌++◌, ◌∷◌, ◌≤◌, ◌+◌, [], List, length, map, IfOk, IsErr, OnOk, OnErr};
+ghost use Rattle.std.specs.Prelude.{◌≡◌, ◌++◌, ◌∷◌, ◌<◌, ◌≤◌, ◌+◌, [], List, length, map, IfOk, IsErr, OnOk, OnErr};
 ghost use Rattle.section_stream.specs.Cuts.{Bytes, candidates};
 ghost use Rattle.section_stream.specs.Kept.{view_bytes};
 ghost use Rattle.section_stream.specs.Pieces.{packets_of, StandsForBytes};
@@ -59,8 +59,8 @@ impl Demux {
     ///
     /// No bytes of an unfinished packet are kept (`pending` is 0).
     ///
-    /// A packet that completes no section takes no memory. After out of memory the packet isn't
-    /// taken, and everything is as it was.
+    /// A packet that completes no section takes no memory, so out of memory comes only of one that
+    /// completes one. After it the packet isn't taken, and everything is as it was.
     #[inline]
     pub fn feed(&mut self, packet: &[u8; 188]) -> Result<Vec<Vec<u8>>, NoMemory>
         requires { self.old.unfinished ≡ [] }
@@ -70,6 +70,8 @@ impl Demux {
         ensures whole { self.new.unfinished ≡ [] }
         ensures cuts { IfOk result (λ out. (packets : List Bytes) → StandsFor self.old packets
             → candidates self.old.pid (packets ++ packet.now ∷ []) ≡ candidates self.old.pid packets ++ map view_bytes out.items) }
+        ensures completes { OnErr result ((packets : List Bytes) → StandsFor self.old packets
+            → length (candidates self.old.pid packets) < length (candidates self.old.pid (packets ++ packet.now ∷ []))) }
         ensures err { OnErr result (self.new ≡ self.old) }
     {
         let mut out = Vec::new(self.alloc);
@@ -80,8 +82,9 @@ impl Demux {
     /// Takes the next bytes, at most 65,536: 188 bytes from the beginning are one packet, and so on, however they are
     /// cut into pieces. Gives the sections that the packets complete that end in this piece, as `feed` gives them.
     ///
-    /// A piece that ends no packet takes no memory. After out of memory, also in the middle of a piece, everything is as
-    /// it was, what is counted too.
+    /// A piece that ends no packet, or whose packets complete no section, takes no memory, so out of memory comes only of
+    /// one with which a section is complete. After it, also in the middle of a piece, everything is as it was, what is
+    /// counted too.
     pub fn feed_bytes(&mut self, piece: &[u8]) -> Result<Vec<Vec<u8>>, NoMemory>
         requires { length piece.now ≤ 65536 }
         ensures stands { OnOk result ((bytes : Bytes) → StandsForBytes self.old bytes → StandsForBytes self.new (bytes ++ piece.now)) }
@@ -90,6 +93,8 @@ impl Demux {
         ensures cuts { IfOk result (λ out. (bytes : Bytes) → StandsForBytes self.old bytes
             → candidates self.old.pid (packets_of (bytes ++ piece.now)) ≡ candidates self.old.pid (packets_of bytes) ++ map view_bytes out.items) }
         ensures memory { IsErr result → 188 ≤ length self.old.unfinished + length piece.now }
+        ensures completes { OnErr result ((bytes : Bytes) → StandsForBytes self.old bytes
+            → length (candidates self.old.pid (packets_of bytes)) < length (candidates self.old.pid (packets_of (bytes ++ piece.now)))) }
         ensures err { OnErr result (self.new ≡ self.old) }
     {
         let mut out = Vec::new(self.alloc);

@@ -1,6 +1,6 @@
 ghost use Rattle.std.specs.Prelude.{◌≡◌, ◌++◌, ◌∷◌, [], ◌<◌, ◌≤◌, ◌+◌, ◌/◌, ◌%◌, nat_lt, length, vec_capacity, vec_len, OnOk, OnErr};
 ghost use Rattle.ts_packet.specs.Packets.{packet_bytes};
-ghost use Rattle.section_stream.specs.Packing.{IsSectionLike, filled, finished, idle, last_of, numbered, packets_of, past, sent_of};
+ghost use Rattle.section_stream.specs.Packing.{IsSectionLike, with_stuffing, after_finish, idle, last_of, number_packets, packets_of, past, sent_of};
 
 use crate::held::Held;
 use crate::piece::copy_at;
@@ -98,7 +98,7 @@ impl Mux {
     /// After out of memory, which comes only where something is held back, all is as before.
     pub fn finish(&mut self, out: &mut Vec<[u8; 188]>) -> Result<(), NoMemory>
         ensures packets { OnOk result (out.new.items ≡ out.old.items ++ last_of self.old) }
-        ensures state { OnOk result (self.new ≡ finished self.old) }
+        ensures state { OnOk result (self.new ≡ after_finish self.old) }
         ensures memory { OnErr result (0 < length (last_of self.old)) }
         ensures err { OnErr result ((self.new ≡ self.old) × (out.new.items ≡ out.old.items)) }
     {
@@ -122,7 +122,7 @@ fn put_rest<'a>(pid: u16, first: u8, section: &'a [u8], out: &mut Vec<[u8; 188]>
     requires pid { pid < 8192 }
     requires counter { first < 16 }
     requires room { vec_len out.old + (length section.now + 1) / 184 ≤ vec_capacity out.old }
-    ensures packets { out.new.items ≡ out.old.items ++ numbered pid first (sent_of section.now).given }
+    ensures packets { out.new.items ≡ out.old.items ++ number_packets pid first (sent_of section.now).given }
     ensures rest { (result.0.now ≡ (sent_of section.now).tail) × (length result.0.now < 183) }
     ensures counter { (result.1 ≡ (first + length (sent_of section.now).given) % 16) × (result.1 < 16) }
 {
@@ -144,7 +144,7 @@ fn put(pid: u16, counter: u8, pointer: &[u8], held: &[u8], front: &[u8], out: &m
     requires counter { counter < 16 }
     requires size { length pointer.now + length held.now + length front.now ≤ 184 }
     requires room { vec_len out.old < vec_capacity out.old }
-    ensures packet { out.new.items ≡ out.old.items ++ packet_bytes pid (nat_lt 0 (length pointer.now)) counter (filled (pointer.now ++ (held.now ++ front.now))) ∷ [] }
+    ensures packet { out.new.items ≡ out.old.items ++ packet_bytes pid (nat_lt 0 (length pointer.now)) counter (with_stuffing (pointer.now ++ (held.now ++ front.now))) ∷ [] }
     ensures room { vec_capacity out.old ≤ vec_capacity out.new }
     ensures one { vec_len out.new ≡ vec_len out.old + 1 }
 {
@@ -156,7 +156,7 @@ fn put(pid: u16, counter: u8, pointer: &[u8], held: &[u8], front: &[u8], out: &m
 /// The payload of these bytes, with stuffing after them.
 fn payload_of(pointer: &[u8], held: &[u8], front: &[u8]) -> [u8; 184]
     requires { length pointer.now + length held.now + length front.now ≤ 184 }
-    ensures { result ≡ filled (pointer.now ++ (held.now ++ front.now)) }
+    ensures { result ≡ with_stuffing (pointer.now ++ (held.now ++ front.now)) }
 {
     let mut payload = [0xFF; 184];
     copy_at(&mut payload, 0, pointer);

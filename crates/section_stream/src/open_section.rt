@@ -1,6 +1,6 @@
 ghost use Rattle.std.specs.Prelude.{◌≡◌, ◌≤◌, ◌+◌, ◌++◌, None, IfOk, length, vec_len, vec_capacity};
 ghost use Rattle.std.specs.Option.{option_copied, ForSome};
-ghost use Rattle.section_stream.specs.Steps.{kept_unless, turned};
+ghost use Rattle.section_stream.specs.Steps.{kept_unless, open_after};
 
 use oc_bytes::NoMemory;
 use std::alloc::Global;
@@ -82,8 +82,8 @@ impl OpenSection {
     /// What is open after a packet; it is no longer than the longest section.
     #[inline]
     pub fn turn(&mut self, turn: Turn<'_>)
-        requires { ForSome (turned self.old turn) (λ bytes. length bytes ≤ 4096) }
-        ensures { self.new ≡ turned self.old turn.entry }
+        requires { ForSome (open_after self.old turn) (λ bytes. length bytes ≤ 4096) }
+        ensures { self.new ≡ open_after self.old turn.entry }
     {
         match turn {
             Turn::Closed => self.is_open = false,

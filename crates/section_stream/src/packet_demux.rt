@@ -1,4 +1,4 @@
-ghost use Rattle.std.specs.Prelude.{◌≡◌, ◌++◌, ◌∷◌, [], List, map, IfOk, OnOk, OnErr};
+ghost use Rattle.std.specs.Prelude.{◌≡◌, ◌++◌, ◌∷◌, ◌<◌, [], List, length, map, IfOk, OnOk, OnErr};
 ghost use Rattle.section_stream.specs.Cuts.{Bytes, candidates};
 ghost use Rattle.section_stream.specs.Kept.{view_bytes};
 ghost use Rattle.section_stream.specs.Rules.{fresh, StandsFor, up};
@@ -38,7 +38,7 @@ impl PacketDemux {
         })
     }
 
-    /// Takes one packet, as `Demux::feed` does.
+    /// Takes one packet, as `Demux::feed` does: out of memory comes only of a packet that completes a section.
     #[inline]
     pub fn feed(&mut self, packet: &[u8; 188]) -> Result<Vec<Vec<u8>>, NoMemory>
         ensures stands { OnOk result ((packets : List Bytes) → StandsFor self.old packets → StandsFor self.new (packets ++ packet.now ∷ [])) }
@@ -46,6 +46,8 @@ impl PacketDemux {
         ensures short { OnOk result (self.new.counts.short_tail ≡ self.old.counts.short_tail) }
         ensures cuts { IfOk result (λ out. (packets : List Bytes) → StandsFor self.old packets
             → candidates self.old.pid (packets ++ packet.now ∷ []) ≡ candidates self.old.pid packets ++ map view_bytes out.items) }
+        ensures completes { OnErr result ((packets : List Bytes) → StandsFor self.old packets
+            → length (candidates self.old.pid packets) < length (candidates self.old.pid (packets ++ packet.now ∷ []))) }
         ensures err { OnErr result (self.new ≡ self.old) }
     {
         let mut out = Vec::new(self.alloc);

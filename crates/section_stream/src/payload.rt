@@ -1,10 +1,10 @@
 //! What a packet's payload does to the open section.
 
-ghost use Rattle.std.specs.Prelude.{◌≡◌, ◌<◌, ◌≤◌, ◌++◌, [], ◌∷◌, length, map, take, slice_index, IfOk, OnOk, nat_le};
+ghost use Rattle.std.specs.Prelude.{◌≡◌, ◌<◌, ◌≤◌, ◌++◌, [], ◌∷◌, length, map, take, slice_index, IfOk, OnOk, OnErr, nat_le};
 ghost use Rattle.std.specs.Option.{option_copied, ForSome};
 ghost use Rattle.section_stream.specs.Kept.{view_bytes};
 ghost use Rattle.section_stream.specs.Rules as rules;
-ghost use Rattle.section_stream.specs.Steps.{done_by, growth_of, no_section_in, open_all, turned, HasDone};
+ghost use Rattle.section_stream.specs.Steps.{done_by, growth_of, no_section_in, open_all, open_after, HasDone, HasOut};
 
 use crate::counts::{Counts, up};
 use crate::open_section::Turn;
@@ -52,7 +52,7 @@ fn byte_at(front: &[u8], back: &[u8], at: usize) -> u8
 /// How far a section with these two pieces has come.
 #[inline]
 fn growth_with(front: &[u8], back: &[u8]) -> Growth
-    ensures { growth_of result ≡ rules.grown (front.now ++ back.now) }
+    ensures { growth_of result ≡ rules.as_grown (front.now ++ back.now) }
 {
     if !have(front, back, 3) {
         return Growth::Growing;
@@ -97,8 +97,9 @@ fn goes_on<'a>(
     out: &mut Vec<Vec<u8>>,
     counts: &mut Counts,
 ) -> Result<Turn<'a>, NoMemory>
-    ensures done { IfOk result (λ turn. HasDone (rules.goes_on (option_copied opened.entry) payload.now counts.old) (turned (option_copied opened.entry) turn) (map view_bytes out.old.items) (map view_bytes out.new.items) counts.new) }
-    ensures room { IfOk result (λ turn. ForSome (turned (option_copied opened.entry) turn) (λ bytes. length bytes ≤ 4096)) }
+    ensures done { IfOk result (λ turn. HasDone (rules.goes_on (option_copied opened.entry) payload.now counts.old) (open_after (option_copied opened.entry) turn) (map view_bytes out.old.items) (map view_bytes out.new.items) counts.new) }
+    ensures room { IfOk result (λ turn. ForSome (open_after (option_copied opened.entry) turn) (λ bytes. length bytes ≤ 4096)) }
+    ensures memory { OnErr result (HasOut (rules.goes_on (option_copied opened.entry) payload.now counts.old)) }
 {
     let Some(opened) = opened else {
         counts.orphans = up(counts.orphans);
@@ -125,7 +126,8 @@ fn closes(
     out: &mut Vec<Vec<u8>>,
     counts: &mut Counts,
 ) -> Result<(), NoMemory>
-    ensures { OnOk result (HasDone (rules.closes (option_copied opened.entry) part.now counts.old) None (map view_bytes out.old.items) (map view_bytes out.new.items) counts.new) }
+    ensures done { OnOk result (HasDone (rules.closes (option_copied opened.entry) part.now counts.old) None (map view_bytes out.old.items) (map view_bytes out.new.items) counts.new) }
+    ensures memory { OnErr result (0 < length (rules.closes (option_copied opened.entry) part.now counts.old).out) }
 {
     let Some(opened) = opened else {
         return Ok(());
@@ -161,6 +163,7 @@ fn open_sections<'a>(
     requires { length here.now ≤ 188 }
     ensures done { IfOk result (λ opened. HasDone (open_all here.now counts.old) (option_copied opened) (map view_bytes out.old.items) (map view_bytes out.new.items) counts.new) }
     ensures room { IfOk result (λ opened. ForSome opened (λ bytes. length bytes.now ≤ 4096)) }
+    ensures memory { OnErr result (0 < length (open_all here.now counts.old).out) }
 {
     while !has_no_section(here) {
         match growth_with(&[], here) {
@@ -188,8 +191,9 @@ fn starts<'a>(
     counts: &mut Counts,
 ) -> Result<Turn<'a>, NoMemory>
     requires { (0 < length payload.now) × (length payload.now ≤ 184) }
-    ensures done { IfOk result (λ turn. HasDone (rules.starts (option_copied opened.entry) payload.now counts.old) (turned (option_copied opened.entry) turn) (map view_bytes out.old.items) (map view_bytes out.new.items) counts.new) }
-    ensures room { IfOk result (λ turn. ForSome (turned (option_copied opened.entry) turn) (λ bytes. length bytes ≤ 4096)) }
+    ensures done { IfOk result (λ turn. HasDone (rules.starts (option_copied opened.entry) payload.now counts.old) (open_after (option_copied opened.entry) turn) (map view_bytes out.old.items) (map view_bytes out.new.items) counts.new) }
+    ensures room { IfOk result (λ turn. ForSome (open_after (option_copied opened.entry) turn) (λ bytes. length bytes ≤ 4096)) }
+    ensures memory { OnErr result (HasOut (rules.starts (option_copied opened.entry) payload.now counts.old)) }
 {
     let pointer = usize::from(payload[0]);
     if pointer >= payload.len() {
@@ -214,8 +218,9 @@ pub fn payload_done<'a>(
     counts: &mut Counts,
 ) -> Result<Turn<'a>, NoMemory>
     requires { (0 < length payload.now) × (length payload.now ≤ 184) }
-    ensures done { IfOk result (λ turn. HasDone (done_by start (option_copied opened.entry) payload.now counts.old) (turned (option_copied opened.entry) turn) (map view_bytes out.old.items) (map view_bytes out.new.items) counts.new) }
-    ensures room { IfOk result (λ turn. ForSome (turned (option_copied opened.entry) turn) (λ bytes. length bytes ≤ 4096)) }
+    ensures done { IfOk result (λ turn. HasDone (done_by start (option_copied opened.entry) payload.now counts.old) (open_after (option_copied opened.entry) turn) (map view_bytes out.old.items) (map view_bytes out.new.items) counts.new) }
+    ensures room { IfOk result (λ turn. ForSome (open_after (option_copied opened.entry) turn) (λ bytes. length bytes ≤ 4096)) }
+    ensures memory { OnErr result (HasOut (done_by start (option_copied opened.entry) payload.now counts.old)) }
 {
     if start {
         starts(alloc, opened, payload, out, counts)

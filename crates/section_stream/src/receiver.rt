@@ -1,9 +1,9 @@
 ghost use Rattle.std.specs.Prelude.{◌≡◌, ◌++◌, ◌∷◌, ◌<◌, ◌≤◌, ◌+◌, ◌%◌, [], length, map, Ok, OnOk, OnErr, IfOk};
-ghost use Rattle.ts_packet.specs.Packets.{parsed, view};
+ghost use Rattle.ts_packet.specs.Packets.{parse_packet, view};
 ghost use Rattle.section_stream.specs.Pieces.{packets_of, rest_of};
-ghost use Rattle.section_stream.specs.Rules.{HasRun, one_more, started, up};
+ghost use Rattle.section_stream.specs.Rules.{HasRun, one_more, outputs, at_start, up};
 ghost use Rattle.section_stream.specs.Rules as rules;
-ghost use Rattle.section_stream.specs.Steps.{Gives};
+ghost use Rattle.section_stream.specs.Steps.{Completes, Gives};
 ghost use Rattle.section_stream.specs.Kept.{view_bytes};
 
 use crate::counts::{Aside, Counts, count_aside, nothing_counted, up, with_packet};
@@ -59,7 +59,7 @@ impl Receiver {
 
     /// A receiver of the PID `pid` that has had no packet. It reserves all the memory that it keeps.
     pub fn new(alloc: Global, pid: u16) -> Result<Receiver, NoMemory>
-        ensures { IfOk result (λ r. r ≡ started pid) }
+        ensures { IfOk result (λ r. r ≡ at_start pid) }
     {
         Ok(Receiver {
             alloc,
@@ -81,7 +81,8 @@ impl Receiver {
     }
 
     /// The whole packets at the front of some bytes, one after another, with their candidates after those
-    /// in `out`; gives the bytes after them. After out of memory some of the packets were taken.
+    /// in `out`; gives the bytes after them. After out of memory, which comes only where they complete a
+    /// section, some of the packets were taken.
     pub fn take_all<'a>(
         &mut self,
         bytes: &'a [u8],
@@ -89,6 +90,7 @@ impl Receiver {
     ) -> Result<&'a [u8], NoMemory>
         ensures run { OnOk result (HasRun self.old self.new (packets_of bytes.now) (map view_bytes out.old.items) (map view_bytes out.new.items)) }
         ensures rest { IfOk result (λ rest. (rest.now ≡ rest_of bytes.now) × (length rest.now < 188)) }
+        ensures memory { OnErr result (0 < length (outputs self.old (packets_of bytes.now))) }
     {
         let mut rest = bytes;
         while let Some(packet) = rest.first_chunk::<PACKET>() {
@@ -98,11 +100,12 @@ impl Receiver {
         Ok(rest)
     }
 
-    /// One packet by the receiver's rules, with its candidates after those in `out`. After out of memory
-    /// the packet isn't taken.
+    /// One packet by the receiver's rules, with its candidates after those in `out`. After out of memory,
+    /// which comes only where it has any, the packet isn't taken.
     #[inline]
     pub fn step(&mut self, packet: &[u8; 188], out: &mut Vec<Vec<u8>>) -> Result<(), NoMemory>
         ensures ok { OnOk result (Gives (rules.step self.old packet.now) self.new (map view_bytes out.old.items) (map view_bytes out.new.items)) }
+        ensures memory { OnErr result (Completes (rules.step self.old packet.now)) }
         ensures err { OnErr result (self.new ≡ self.old) }
     {
         match self.classify(packet) {
@@ -147,10 +150,11 @@ impl Receiver {
         jumped: bool,
         out: &mut Vec<Vec<u8>>,
     ) -> Result<(), NoMemory>
-        requires packet { parsed packet.now ≡ Ok (view fields) }
+        requires packet { parse_packet packet.now ≡ Ok (view fields) }
         requires payload { (0 < length fields.payload.now) × (length fields.payload.now ≤ 184) }
         requires jumped { rules.jumps_from fields.counter self.old.last ≡ jumped }
         ensures ok { OnOk result (Gives (rules.takes (one_more self.old) (view fields.entry)) self.new (map view_bytes out.old.items) (map view_bytes out.new.items)) }
+        ensures memory { OnErr result (Completes (rules.takes (one_more self.old) (view fields.entry))) }
         ensures err { OnErr result (self.new ≡ self.old) }
     {
         let mut counts = with_packet(self.counts, jumped);

@@ -8,7 +8,7 @@ use mathlib.Core.Logic.{dite}
 use native.Mathlib.Decide.{ℕ_discrete}
 use Rattle.path_tree.specs.Paths.{Bytes, PathNames}
 use Rattle.oc_bytes.specs.Decimals.{decimal_in}
-use Rattle.oc_bytes.specs.Outcome.{capped32}
+use Rattle.oc_bytes.specs.Outcome.{cap_at_u32}
 use Rattle.session_script.specs.declared.keyword.Keyword.{Keyword}
 use Rattle.session_script.specs.declared.keyword.Keyword.TheVariants as keywords
 use Rattle.session_script.specs.declared.line.Part.{Part}
@@ -22,7 +22,7 @@ use Rattle.session_script.specs.Values.{actor_of, path_in, content_in, fates_of}
 use Rattle.session_script.specs.Scripts.{Act, LineFields, Fields}
 use Rattle.session_script.specs.Scripts as acts
 use Rattle.session_script.specs.Ranges.{IsInRanges}
-use Rattle.session_script.specs.Grammar.{Saying, Passed, Starts, Does, Ends, ◌>>=◌, or_cause, word_by, no_more, put_by, fill_by, remove_by, commit_by, draw_by, open_by, said, said_by, is_start, is_end, part_of, may_stand, in_order, in_words, words_in, line_by, lines_in, or_bad_line, sayings, editor_of, reader_of, who, first_mentions, stage_above, lines_from, script_of}
+use Rattle.session_script.specs.Grammar.{Saying, Passed, Starts, Does, Ends, ◌>>=◌, or_cause, word_by, no_more, put_by, fill_by, remove_by, commit_by, draw_by, open_by, as_saying, said_by, is_start, is_end, part_of, may_stand, in_order, in_words, words_in, line_by, lines_in, or_bad_line, sayings, editor_of, reader_of, who, first_mentions, stage_above, lines_from, script_of}
 use Rattle.session.specs.Lines.{is_settle, IsMentioned, IsLineOf, IsFinale, AreEnds, IsArranged}
 use Rattle.session.specs.Texts.{TextsAreArranged}
 
@@ -105,11 +105,11 @@ record Fits (part : Part) (s : Saying) : Type 0 where
 passed_fits : (part : Part) (s : Saying) → ok Passed ≡ Ok s → Fits part s
 passed_fits part s h = subst (Fits part) (given Passed s h) (record { kind = tt; once = λ e. refl; last = λ e. tt })
 
-does_fits : (part : Part) (r : Result Act LineCause) (s : Saying) → part ≢ Closing → ((act : Act) → r ≡ Ok act → is_settle act ≡ false) → said Does r ≡ Ok s → Fits part s
+does_fits : (part : Part) (r : Result Act LineCause) (s : Saying) → part ≢ Closing → ((act : Act) → r ≡ Ok act → is_settle act ≡ false) → as_saying Does r ≡ Ok s → Fits part s
 does_fits part (Ok act) s early f h = subst (Fits part) (given (Does act) s h) (record { kind = f act refl; once = λ e. refl; last = λ e. absurd (early e) })
 does_fits part (Err fault) s early f h = absurd (cc)
 
-finale_fits : (part : Part) (r : Result Act LineCause) (s : Saying) → ((act : Act) → r ≡ Ok act → IsOpen act) → said Ends r ≡ Ok s → Fits part s
+finale_fits : (part : Part) (r : Result Act LineCause) (s : Saying) → ((act : Act) → r ≡ Ok act → IsOpen act) → as_saying Ends r ≡ Ok s → Fits part s
 finale_fits part (Ok act) s f h = subst (Fits part) (given (Ends act) s h) (record { kind = inr (f act refl); once = λ e. refl; last = λ e. f act refl })
 finale_fits part (Err fault) s f h = absurd (cc)
 
@@ -251,7 +251,7 @@ no_other_start (Does act ∷ below) w = no_other_start below w.1
 no_other_start (Ends act ∷ below) w = no_more_starts below w.1
 
 abbrev line_at : ℕ → Stage → Act → LineFields
-line_at n stage act = record { number = capped32 n; stage = stage; act = act }
+line_at n stage act = record { number = cap_at_u32 n; stage = stage; act = act }
 
 finales : (n : ℕ) (below : List Saying) → Well Closing below → All IsFinale (lines_from n below)
 finales n [] w = All-nil IsFinale

@@ -59,12 +59,12 @@ new_viewers setting board most shots b m (v ∷ vs) h = ((h.0.0 ∙ b, h.0.1 ∙
 -- ---- the passes of a new station
 
 -- of its passes the last is the feeder's
-last_pass : (s : Station) (first : ℕ) (ps : List (Pass Kept KeptItem)) (p : Pass Kept KeptItem) → AreNewPasses s first (ps ++ p ∷ [])
+last_pass : {X : _} {F : _} {g : _} (s : Station X F g) (first : ℕ) (ps : List (Pass Kept KeptItem)) (p : Pass Kept KeptItem) → AreNewPasses s first (ps ++ p ∷ [])
     → AreNewPasses s first ps × IsStationPass s p × (entries_seen p ≡ []) × (own_entries p ≡ [])
 last_pass s first [] p h = (tt, h.0, h.2, h.3)
 last_pass s first (q ∷ ps) p h = let r = last_pass s (suc first) ps p h.4 in ((h.0, h.1, h.2, h.3, r.0), r.1, r.2, r.3)
 
-pub popped_pass : (s : Station) (all rest : List (Pass Kept KeptItem)) (o : Option (Pass Kept KeptItem)) (p : Pass Kept KeptItem) → all ≡ rest ++ option_to_list o → o ≡ Some p → AreNewPasses s 0 all
+pub popped_pass : {X : _} {F : _} {g : _} (s : Station X F g) (all rest : List (Pass Kept KeptItem)) (o : Option (Pass Kept KeptItem)) (p : Pass Kept KeptItem) → all ≡ rest ++ option_to_list o → o ≡ Some p → AreNewPasses s 0 all
     → AreNewPasses s 0 rest × IsStationPass s p × (entries_seen p ≡ []) × (own_entries p ≡ [])
 popped_pass s all rest o p is some h =
     last_pass s 0 rest p (subst (AreNewPasses s 0) (is ∙ ap (λ (x : Option (Pass Kept KeptItem)). rest ++ option_to_list x) some) h)
@@ -78,7 +78,7 @@ module _ (script : Fields) (setting : Setting) (shots : List Shot) (start : Star
   pub few_readers : length start.readers.items ≤ 64
   few_readers = let m = u.arranged.ranges.readers.most in let e = ap length u.readers_are in omega (arith, m, e)
 
-  module _ (s : Station) (cast : Cast) (numbers : numbers_of cast.editors.items ≡ start.editors.items) (watchers : readers_of cast.readers.items ≡ start.readers.items) where
+  module _ {X : _} {F : _} {g : _} (s : Station X F g) (cast : Cast) (numbers : numbers_of cast.editors.items ≡ start.editors.items) (watchers : readers_of cast.readers.items ≡ start.readers.items) where
     pub new_cast : All (IsEditorSeat s) cast.editors.items → IsCast s cast
     new_cast passes = record {
       editors = subst AreApart (sym (numbers ∙ u.editors_are)) (apart_numbers script.editors u.arranged.ranges.editors.once);
@@ -109,7 +109,7 @@ module _ (script : Fields) (setting : Setting) (shots : List Shot) (start : Star
       read = h.read;
     }
 
-  new_feeder : (s : Station) (seat : FeederSeat) → IsStationPass s seat.pass → entries_seen seat.pass ≡ [] → own_entries seat.pass ≡ [] → seat.downlink ≡ start.downlink
+  new_feeder : {X : _} {F : _} {g : _} (s : Station X F g) (seat : FeederSeat) → IsStationPass s seat.pass → entries_seen seat.pass ≡ [] → own_entries seat.pass ≡ [] → seat.downlink ≡ start.downlink
       → seat.draws.items ≡ [] → seat.fates.items ≡ [] → FeederStands s [] shots seat
   new_feeder s seat pass entries own same draws fates = record {
     fed = record {
@@ -124,7 +124,7 @@ module _ (script : Fields) (setting : Setting) (shots : List Shot) (start : Star
   }
 
   -- before any event
-  pub stands_first : (s : Station) (cast : Cast) (events : List Staged) → events ≡ start.events.items → EditorsStand s [] cast.editors.items
+  pub stands_first : {X : _} {F : _} {g : _} (s : Station X F g) (cast : Cast) (events : List Staged) → events ≡ start.events.items → EditorsStand s [] cast.editors.items
       → IsStationPass s cast.feeder.pass × (entries_seen cast.feeder.pass ≡ []) × (own_entries cast.feeder.pass ≡ []) → cast.feeder.downlink ≡ start.downlink
       → cast.feeder.draws.items ≡ [] → cast.feeder.fates.items ≡ []
       → ((setting : Setting) (shots : List Shot) → setting.events ≡ map view_staged events → length shots ≡ 1 → Each (IsViewerOf setting shots) start.viewers.items → ReadersStand setting [] shots cast.readers.items)

@@ -11,8 +11,8 @@ use Rattle.session_script.specs.declared.script.Stage.{Stage}
 use Rattle.session_script.specs.declared.script.Stage.TheVariants.{Before, During, After}
 use Rattle.carousel_world.specs.Events.{Step, Commit, Draw, Open}
 use Rattle.session_actors.specs.Chains.{DrawFields, Draws, Seen, nothing_seen, seen_after, seen_in}
-use Rattle.station.specs.Passes.{IsStationPass, carousel_of}
-use Rattle.generation_catalogue.specs.History.{drawn}
+use Rattle.station.specs.Passes.{IsStationPass, carousel_of, weights_of}
+use Rattle.generation_catalogue.specs.History.{with_draw}
 use Rattle.session_actors.specs.Shown.{HasShown}
 use Rattle.session_actors.specs.Opened.{AreOpened, Rises}
 use Rattle.session_actors.specs.Seats.{HasFed, IsDrawLine, IsEditorSeat, draw_of}
@@ -32,12 +32,12 @@ use Rattle.session.proofs.Reading.{readers_idle}
 use Rattle.session_actors.specs.declared.feeder.FeederSeat.{FeederSeat}
 use Rattle.session_actors.specs.declared.reader.ReaderSeat.{ReaderSeat}
 use Rattle.session.specs.Lines.{asked_from, draws_in, is_before, opens_by}
-use Rattle.session.specs.Acting.{AreApart, EditorsStand, FeederStands, IsNext, IsTold, ReaderStands, ReadersStand, Setting, draws_before, draws_of, is_during, numbers_of, readers_of, staged_where, steps_where, view_deed}
+use Rattle.session.specs.Acting.{AreApart, EditorsStand, FeederStands, IsNext, IsKnown, ReaderStands, ReadersStand, Setting, draws_before, draws_of, is_during, numbers_of, readers_of, staged_where, steps_where, view_deed}
 use Rattle.session.proofs.Staged.{draws_more, idle_of, next_of, other_of, steps}
 
 -- ---- the feeder
 
-pub feeder_idles : (s : Station) (done : List (Stage × Step)) (shots : List Shot) (seat : FeederSeat) (e : Stage × Step) → draws_in (e.1 ∷ []) ≡ [] → FeederStands s done shots seat → FeederStands s (done ++ e ∷ []) shots seat
+pub feeder_idles : {X : _} {F : _} {g : _} (s : Station X F g) (done : List (Stage × Step)) (shots : List Shot) (seat : FeederSeat) (e : Stage × Step) → draws_in (e.1 ∷ []) ≡ [] → FeederStands s done shots seat → FeederStands s (done ++ e ∷ []) shots seat
 feeder_idles s done shots seat e none st = record {
   fed = subst (λ (lines : List DrawFields). HasFed s lines seat shots) (sym (idle_of draws_in refl draws_more is_before done e none)) st.fed;
   to_come = st.to_come ∙ sym (idle_of draws_in refl draws_more is_during done e none);
@@ -45,7 +45,7 @@ feeder_idles s done shots seat e none st = record {
 }
 
 -- an event after all actors
-pub after_feeder : (s : Station) (done : List (Stage × Step)) (shots : List Shot) (seat : FeederSeat) (e : Step) → FeederStands s done shots seat → FeederStands s (done ++ (After, e) ∷ []) shots seat
+pub after_feeder : {X : _} {F : _} {g : _} (s : Station X F g) (done : List (Stage × Step)) (shots : List Shot) (seat : FeederSeat) (e : Step) → FeederStands s done shots seat → FeederStands s (done ++ (After, e) ∷ []) shots seat
 after_feeder s done shots seat e st = record {
   fed = subst (λ (lines : List DrawFields). HasFed s lines seat shots) (sym (other_of draws_in refl draws_more is_before done (After, e) refl)) st.fed;
   to_come = st.to_come ∙ sym (other_of draws_in refl draws_more is_during done (After, e) refl);
@@ -53,7 +53,7 @@ after_feeder s done shots seat e st = record {
 }
 
 -- it drew before the start
-pub feeder_drew : (s : Station) (done : List (Stage × Step)) (shots shown : List Shot) (old new : FeederSeat) (asked : ℕ) (fates : List Fate) → new.draws ≡ old.draws
+pub feeder_drew : {X : _} {F : _} {g : _} (s : Station X F g) (done : List (Stage × Step)) (shots shown : List Shot) (old new : FeederSeat) (asked : ℕ) (fates : List Fate) → new.draws ≡ old.draws
     → ((lines : List DrawFields) → HasFed s lines old shots → HasFed s (lines ++ record { asked = asked; fates = fates } ∷ []) new shown)
     → FeederStands s done shots old → FeederStands s (done ++ (Before, Draw asked fates) ∷ []) shown new
 feeder_drew s done shots shown old new asked fates same drew st =
@@ -64,11 +64,11 @@ feeder_drew s done shots shown old new asked fates same drew st =
       in_range = subst (λ ds. All IsDrawLine ds.items) (sym same) st.in_range;
     }
 
-pub draws_count : (id : ℕ) (a b : Seen) (lines : List DrawFields) (ds : List Drawing) → Draws id a lines ds b → length ds ≡ length lines
-draws_count id a b [] [] h = refl
-draws_count id a b (l ∷ ls) (d ∷ ds) h = ap suc (draws_count id (seen_after a h.0 (drawn h.0 l.asked)) b ls ds h.4)
-draws_count id a b [] (d ∷ ds) h = absurd h
-draws_count id a b (l ∷ ls) [] h = absurd h
+pub draws_count : (id : ℕ) (ws : List ℕ) (a b : Seen) (lines : List DrawFields) (ds : List Drawing) → Draws id ws a lines ds b → length ds ≡ length lines
+draws_count id ws a b [] [] h = refl
+draws_count id ws a b (l ∷ ls) (d ∷ ds) h = ap suc (draws_count id ws (seen_after a h.0 (with_draw h.0 l.asked)) b ls ds h.4)
+draws_count id ws a b [] (d ∷ ds) h = absurd h
+draws_count id ws a b (l ∷ ls) [] h = absurd h
 
 fewer_draws : (test : Stage → Bool) (es : List (Stage × Step)) → length (draws_in (steps_where test es)) ≤ length (draws_in (steps es))
 fewer_draws test [] = omega arith
@@ -85,9 +85,9 @@ fewer_draws test (e ∷ es) = by_test (test e.0) (fewer_draws test es) (one_more
     by_test false r h = let b = h.1 (steps es) in omega (arith, b, r)
 
 -- how many shots were shown
-pub shots_count : (s : Station) (done : List (Stage × Step)) (shots : List Shot) (seat : FeederSeat) → FeederStands s done shots seat → length shots ≡ length (draws_in (steps_where is_before done)) + 1
+pub shots_count : {X : _} {F : _} {g : _} (s : Station X F g) (done : List (Stage × Step)) (shots : List Shot) (seat : FeederSeat) → FeederStands s done shots seat → length shots ≡ length (draws_in (steps_where is_before done)) + 1
 shots_count s done shots seat st =
-    let drawn = draws_count (carousel_of s) nothing_seen (seen_in seat.pass) (draws_in (steps_where is_before done)) st.fed.drawings st.fed.draws in
+    let drawn = draws_count (carousel_of s) (weights_of s) nothing_seen (seen_in seat.pass) (draws_in (steps_where is_before done)) st.fed.drawings st.fed.draws in
     let shown = st.fed.shown.shown.count in omega (arith, drawn, shown)
 
 -- there is room for a draw that comes next
@@ -104,13 +104,13 @@ room_to_draw setting done asked fates next =
 -- ---- the readers
 
 pub readers_told : (setting : Setting) (done : List (Stage × Step)) (shots shown : List Shot) (old new : List ReaderSeat) → length new ≡ length old
-    → ((k : ℕ) (d : ReaderSeat) → k < length old → IsTold shown (slice_index_or old k d) (slice_index_or new k d))
+    → ((k : ℕ) (d : ReaderSeat) → k < length old → IsKnown shown (slice_index_or old k d) (slice_index_or new k d))
     → ReadersStand setting done shots old → ReadersStand setting done shown new
 readers_told setting done shots shown old new count told st = λ k d lt.
     let below : k < length old = omega (arith, count, lt) in
     one_told setting done shots shown (slice_index_or old k d) (slice_index_or new k d) (told k d below) (st k d below)
   where
-    one_told : (setting : Setting) (done : List (Stage × Step)) (shots shown : List Shot) (old new : ReaderSeat) → IsTold shown old new → ReaderStands setting done shots old → ReaderStands setting done shown new
+    one_told : (setting : Setting) (done : List (Stage × Step)) (shots shown : List Shot) (old new : ReaderSeat) → IsKnown shown old new → ReaderStands setting done shots old → ReaderStands setting done shown new
     one_told setting done shots shown old new t st =
         let asked = λ (r : ℕ). asked_from r (draws_before setting) (draws_of setting) 0 (staged_where is_before done) in
         record {
@@ -126,7 +126,7 @@ readers_told setting done shots shown old new count told st = λ k d lt.
           room = t.same.1 ∙ st.room ∙ ap (λ (r : ℕ). length (opens_by r (steps setting.events))) (sym t.same.0);
         }
 
-pub same_readers : (shown : List Shot) (old new : List ReaderSeat) → length new ≡ length old → ((k : ℕ) (d : ReaderSeat) → k < length old → IsTold shown (slice_index_or old k d) (slice_index_or new k d)) → readers_of new ≡ readers_of old
+pub same_readers : (shown : List Shot) (old new : List ReaderSeat) → length new ≡ length old → ((k : ℕ) (d : ReaderSeat) → k < length old → IsKnown shown (slice_index_or old k d) (slice_index_or new k d)) → readers_of new ≡ readers_of old
 same_readers shown [] [] count told = refl
 same_readers shown (x ∷ xs) (y ∷ ys) count told =
     ap (λ (r : ℕ). r ∷ readers_of ys) (told 0 x (omega arith)).same.0
@@ -136,7 +136,7 @@ same_readers shown (x ∷ xs) [] count told = absurd (omega (arith, count))
 
 -- ---- all of them
 
-pub is_cast : (s : Station) (old new : Cast) → IsCast s old → numbers_of new.editors.items ≡ numbers_of old.editors.items → readers_of new.readers.items ≡ readers_of old.readers.items
+pub is_cast : {X : _} {F : _} {g : _} (s : Station X F g) (old new : Cast) → IsCast s old → numbers_of new.editors.items ≡ numbers_of old.editors.items → readers_of new.readers.items ≡ readers_of old.readers.items
     → All (IsEditorSeat s) new.editors.items → IsCast s new
 is_cast s old new h editors readers passes = record {
   editors = subst AreApart (sym editors) h.editors;
@@ -144,7 +144,7 @@ is_cast s old new h editors readers passes = record {
   passes = passes;
 }
 
-module _ (setting : Setting) (s : Station) (done : List (Stage × Step)) (stage : Stage) (shots : List Shot) (old new : Cast) (st : CastStands setting s done shots old) (d : Deed) where
+module _ {X : _} {F : _} {g : _} (setting : Setting) (s : Station X F g) (done : List (Stage × Step)) (stage : Stage) (shots : List Shot) (old new : Cast) (st : CastStands setting s done shots old) (d : Deed) where
   -- a commit
   pub cast_edited : (editor : ℕ) (edits : Vec Edit Global) → d ≡ deeds.Commit editor edits → new.feeder ≡ old.feeder → new.readers ≡ old.readers
       → EditorsStand s (done ++ (stage, Commit editor edits.items) ∷ []) new.editors.items → CastStands setting s (done ++ (stage, view_deed d) ∷ []) shots new
@@ -184,11 +184,11 @@ module _ (setting : Setting) (s : Station) (done : List (Stage × Step)) (stage 
       })
 
 -- a draw before the start: it was made, a shot was shown, and the readers were told of it
-pub cast_drew_now : (setting : Setting) (s : Station) (done : List (Stage × Step)) (shots drawn shown : List Shot) (old new : Cast) (d : Deed) (asked : ℕ) (fates : Vec Fate Global) → CastStands setting s done shots old
+pub cast_drew_now : {X : _} {F : _} {g : _} (setting : Setting) (s : Station X F g) (done : List (Stage × Step)) (shots drawn shown : List Shot) (old new : Cast) (d : Deed) (asked : ℕ) (fates : Vec Fate Global) → CastStands setting s done shots old
     → d ≡ deeds.Draw asked fates → new.editors ≡ old.editors → new.feeder.draws ≡ old.feeder.draws
     → ((lines : List DrawFields) → HasFed s lines old.feeder shots → HasFed s (lines ++ record { asked = asked; fates = fates.items } ∷ []) new.feeder drawn)
     → shown ≡ drawn → length new.readers.items ≡ length old.readers.items
-    → ((k : ℕ) (r : ReaderSeat) → k < length old.readers.items → IsTold drawn (slice_index_or old.readers.items k r) (slice_index_or new.readers.items k r))
+    → ((k : ℕ) (r : ReaderSeat) → k < length old.readers.items → IsKnown drawn (slice_index_or old.readers.items k r) (slice_index_or new.readers.items k r))
     → CastStands setting s (done ++ (Before, view_deed d) ∷ []) shown new
 cast_drew_now setting s done shots drawn shown old new d asked fates st is editors draws fed same count told =
     subst (λ (xs : List Shot). CastStands setting s (done ++ (Before, view_deed d) ∷ []) xs new) (sym same)
@@ -196,7 +196,7 @@ cast_drew_now setting s done shots drawn shown old new d asked fates st is edito
     (λ stands. readers_told setting (done ++ (Before, Draw asked fates.items) ∷ []) shots drawn old.readers.items new.readers.items count told stands))
 
 -- a draw was laid before the feeder
-pub feeder_laid : (s : Station) (done : List (Stage × Step)) (shots : List Shot) (old new : FeederSeat) (line : DrawLine) → new.pass ≡ old.pass → new.downlink ≡ old.downlink → new.fates ≡ old.fates
+pub feeder_laid : {X : _} {F : _} {g : _} (s : Station X F g) (done : List (Stage × Step)) (shots : List Shot) (old new : FeederSeat) (line : DrawLine) → new.pass ≡ old.pass → new.downlink ≡ old.downlink → new.fates ≡ old.fates
     → new.draws.items ≡ old.draws.items ++ line ∷ [] → IsDrawLine line → FeederStands s done shots old → FeederStands s (done ++ (During, Draw line.asked line.fates.items) ∷ []) shots new
 feeder_laid s done shots old new line pass downlink fates laid ranged st =
     let e : Stage × Step = (During, Draw line.asked line.fates.items) in
@@ -206,7 +206,7 @@ feeder_laid s done shots old new line pass downlink fates laid ranged st =
           (record {
             pass = subst (IsStationPass s) (sym pass) st.fed.pass;
             drawings = st.fed.drawings;
-            draws = subst (λ p. Draws (carousel_of s) nothing_seen lines st.fed.drawings (seen_in p)) (sym pass) st.fed.draws;
+            draws = subst (λ p. Draws (carousel_of s) (weights_of s) nothing_seen lines st.fed.drawings (seen_in p)) (sym pass) st.fed.draws;
             shown = subst (λ d. HasShown st.fed.drawings d shots) (sym downlink) st.fed.shown;
             fates = ap (λ fs. map (λ f. f.items) fs.items) fates ∙ st.fed.fates;
           });
@@ -215,7 +215,7 @@ feeder_laid s done shots old new line pass downlink fates laid ranged st =
       in_range = subst (All IsDrawLine) (sym laid) (All-push IsDrawLine old.draws.items line st.in_range ranged);
     }
 
-pub cast_drew_later : (setting : Setting) (s : Station) (done : List (Stage × Step)) (shots : List Shot) (old new : Cast) (d : Deed) (asked : ℕ) (fates : Vec Fate Global) (line : DrawLine) → CastStands setting s done shots old
+pub cast_drew_later : {X : _} {F : _} {g : _} (setting : Setting) (s : Station X F g) (done : List (Stage × Step)) (shots : List Shot) (old new : Cast) (d : Deed) (asked : ℕ) (fates : Vec Fate Global) (line : DrawLine) → CastStands setting s done shots old
     → d ≡ deeds.Draw asked fates → line.asked ≡ asked → line.fates ≡ fates → IsDrawLine line → new.editors ≡ old.editors → new.readers ≡ old.readers
     → new.feeder.pass ≡ old.feeder.pass → new.feeder.downlink ≡ old.feeder.downlink → new.feeder.fates ≡ old.feeder.fates → new.feeder.draws.items ≡ old.feeder.draws.items ++ line ∷ []
     → CastStands setting s (done ++ (During, view_deed d) ∷ []) shots new
@@ -227,7 +227,7 @@ cast_drew_later setting s done shots old new d asked fates line st is a f ranged
     (λ stands. subst (λ (rs : Vec ReaderSeat Global). ReadersStand setting (done ++ e ∷ []) shots rs.items) (sym readers) stands)
 
 -- what is asked of the call that comes next
-pub draw_has_room : (setting : Setting) (s : Station) (done : List (Stage × Step)) (shots : List Shot) (cast : Cast) (d : Deed) (asked : ℕ) (fates : Vec Fate Global) (most : ℕ) → CastStands setting s done shots cast
+pub draw_has_room : {X : _} {F : _} {g : _} (setting : Setting) (s : Station X F g) (done : List (Stage × Step)) (shots : List Shot) (cast : Cast) (d : Deed) (asked : ℕ) (fates : Vec Fate Global) (most : ℕ) → CastStands setting s done shots cast
     → d ≡ deeds.Draw asked fates → IsNext setting done (Before, view_deed d) → most ≡ draws_of setting → length shots ≤ most
 draw_has_room setting s done shots cast d asked fates most st is next same =
     let room = room_to_draw setting done asked fates.items (subst (λ (x : Deed). IsNext setting done (Before, view_deed x)) is next) in

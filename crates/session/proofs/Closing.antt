@@ -17,29 +17,27 @@ use Rattle.history_lock.specs.declared.pass.Pass.{Pass}
 use Rattle.station.specs.declared.kept.Kept.{Kept}
 use Rattle.station.specs.declared.kept.KeptItem.{KeptItem}
 use Rattle.station.specs.declared.station.Station.{Station}
-use Rattle.station.specs.Passes.{IsStationPass, AreAllPasses, pass_count, carousel_of, entries_seen, owners_of}
-use Rattle.generation_catalogue.specs.History.{CatalogueState, IsHistory, drawn, draws_of, current_of, cursor_of, items_drawn}
-use Rattle.generation_catalogue.specs.View.{state}
+use Rattle.station.specs.Passes.{IsStationPass, AreAllPasses, pass_count, carousel_of, weights_of, entries_seen, owners_of}
+use Rattle.generation_catalogue.specs.History.{CatalogueState, IsHistory, with_draw, draws_of, current_of, cursor_of, items_drawn}
 use Rattle.generation_catalogue.specs.Calls.{IsDrawn, BatchFields, view_batch}
-use Rattle.generation_catalogue.specs.declared.catalogue.Catalogue.{Catalogue}
 use Rattle.generation_catalogue.specs.declared.entry.Batch.{Batch}
 use Rattle.generation_catalogue.specs.declared.entry.Entry.{Entry}
 use Rattle.carousel_world.specs.DownView.{DownlinkState}
 use Rattle.carousel_world.specs.Events.{Step, Commit, Draw, Open}
 use Rattle.carousel_world.specs.World.{Drawing, drawing_of}
+use Rattle.session_history.specs.Merges.{fates_view}
 use Rattle.session_actors.specs.Chains.{Seen, seen_in, Commits, Draws, DrawFields, nothing_seen}
 use Rattle.session_actors.specs.Shown.{HasShown}
 use Rattle.session_actors.specs.Seats.{HasCommitted, HasFed, drawing_in}
 use Rattle.session_actors.specs.declared.editor.EditorSeat.{EditorSeat}
 use Rattle.session_actors.specs.declared.feeder.FeederSeat.{FeederSeat}
-use Rattle.session.specs.declared.ending.Closed.{Closed}
 use Rattle.session.specs.declared.ending.LastOpen.{LastOpen}
 use Rattle.session.specs.declared.plan.Deed.{Deed}
 use Rattle.session.specs.declared.plan.Deed.TheVariants as deeds
 use Rattle.session.specs.Lines.{commits_by, draws_in}
 use Rattle.session.specs.Gathering.{AllCommitted, ActorsGather, GatherGrows, IsGathered}
 use Rattle.session.specs.Acting.{view_deed}
-use Rattle.session.specs.Ending.{EditorsDone, HasGathered, IsEnd, drawn_all, open_step, opens_in, steps_of}
+use Rattle.session.specs.Ending.{ClosedFields, EditorsDone, HasGathered, IsEnd, drawn_all, open_step, opens_in, steps_of}
 use Rattle.session.proofs.Staged.{draws_more}
 
 -- ---- the passes
@@ -60,14 +58,14 @@ owners_seen : (place : ℕ) (editors : List EditorSeat) (p : Pass Kept KeptItem)
 owners_seen place [] p = refl
 owners_seen place (e ∷ editors) p = ap (λ (n : ℕ). times place (seen_in e.pass).own + n) (owners_seen place editors p)
 
-all_committed : (s : Station) (events : List Step) (place : ℕ) (numbers : List ℕ) (editors : List EditorSeat) → length editors ≡ length numbers
+all_committed : {X : _} {F : _} {g : _} (s : Station X F g) (events : List Step) (place : ℕ) (numbers : List ℕ) (editors : List EditorSeat) → length editors ≡ length numbers
     → ((k : ℕ) (d : EditorSeat) → k < length editors → HasCommitted s (place + k) (commits_by (slice_index_or numbers k 0) events) (slice_index_or editors k d).pass)
-    → AllCommitted (carousel_of s) place (map (λ (n : ℕ). commits_by n events) numbers) (map seen_by_seat editors)
+    → AllCommitted (carousel_of s) (weights_of s) place (map (λ (n : ℕ). commits_by n events) numbers) (map seen_by_seat editors)
 all_committed s events place [] [] l h = tt
 all_committed s events place [] (e ∷ editors) l h = absurd (omega (arith, l))
 all_committed s events place (n ∷ numbers) [] l h = absurd (omega (arith, l))
 all_committed s events place (n ∷ numbers) (e ∷ editors) l h = (
-  subst (λ (k : ℕ). Commits (carousel_of s) k nothing_seen (commits_by n events) (seen_in e.pass)) (here place) (h 0 e (omega arith)).commits,
+  subst (λ (k : ℕ). Commits (carousel_of s) (weights_of s) k nothing_seen (commits_by n events) (seen_in e.pass)) (here place) (h 0 e (omega arith)).commits,
   all_committed s events (suc place) numbers editors (omega (arith, l))
       (λ k d lt. subst (λ (i : ℕ). HasCommitted s i (commits_by (slice_index_or numbers k 0) events) (slice_index_or editors k d).pass) (later place k) (h (suc k) d (omega (arith, lt)))),
 )
@@ -79,23 +77,26 @@ all_committed s events place (n ∷ numbers) (e ∷ editors) l h = (
     later n k = omega arith
 
 -- what the actors did is gathered in the catalogue
-pub gathered_of : ActorsGather → (s : Station) (editors : List EditorSeat) (feeder : FeederSeat) (passes : List (Pass Kept KeptItem)) (c : Catalogue)
+pub gathered_of : ActorsGather → {X : _} {F : _} {g : _} (s : Station X F g) (editors : List EditorSeat) (feeder : FeederSeat) (passes : List (Pass Kept KeptItem)) (c : CatalogueState)
     → passes ≡ map pass_in editors ++ feeder.pass ∷ []
-    → (state c).carousel ≡ carousel_of s → IsHistory (state c)
-    → histories.Each (λ q. Begins (entries_seen q) (state c).entries) passes
-    → ((place : ℕ) → owners_of place passes ≡ once_within 0 (length (state c).entries) place)
+    → c.carousel ≡ carousel_of s → c.weights ≡ weights_of s → IsHistory c
+    → histories.Each (λ q. Begins (entries_seen q) c.entries) passes
+    → ((place : ℕ) → owners_of place passes ≡ once_within 0 (length c.entries) place)
     → (numbers : List ℕ) (events : List Step) (draws : List DrawFields) (shots : List Shot) → EditorsDone s numbers events editors → HasFed s draws feeder shots
-    → HasGathered (carousel_of s) (map (λ (n : ℕ). commits_by n events) numbers) draws shots (record { catalogue = c; downlink = feeder.downlink; fates = feeder.fates })
-gathered_of law s editors feeder passes c all carousel history seen owned numbers events draws shots done fed =
+    → HasGathered (carousel_of s) (weights_of s) (map (λ (n : ℕ). commits_by n events) numbers) draws shots (record { catalogue = c; downlink = feeder.downlink; fates = map fates_view feeder.fates.items })
+gathered_of law s editors feeder passes c all carousel weighs history seen owned numbers events draws shots done fed =
     let commits = map (λ (n : ℕ). commits_by n events) numbers in
     record {
       carousel = carousel;
+      weighs = weighs;
       drawings = fed.drawings;
-      gathered = law commits draws fed.drawings (state c) (map seen_by_seat editors) (seen_in feeder.pass) history
-          (subst (λ (id : ℕ). AllCommitted id 0 commits (map seen_by_seat editors)) (sym carousel)
-          (all_committed s events 0 numbers editors done.0 (λ k d lt. subst (λ (i : ℕ). HasCommitted s i (commits_by (slice_index_or numbers k 0) events) (slice_index_or editors k d).pass) (from_zero k) (done.1 k d lt))))
-          (subst (λ (id : ℕ). Draws id nothing_seen draws fed.drawings (seen_in feeder.pass)) (sym carousel) fed.draws)
-          (each_seen (state c).entries editors feeder.pass (subst (histories.Each (λ q. Begins (entries_seen q) (state c).entries)) all seen))
+      gathered = law commits draws fed.drawings c (map seen_by_seat editors) (seen_in feeder.pass) history
+          (subst (λ (ws : List ℕ). AllCommitted c.carousel ws 0 commits (map seen_by_seat editors)) (sym weighs)
+          (subst (λ (id : ℕ). AllCommitted id (weights_of s) 0 commits (map seen_by_seat editors)) (sym carousel)
+          (all_committed s events 0 numbers editors done.0 (λ k d lt. subst (λ (i : ℕ). HasCommitted s i (commits_by (slice_index_or numbers k 0) events) (slice_index_or editors k d).pass) (from_zero k) (done.1 k d lt)))))
+          (subst (λ (ws : List ℕ). Draws c.carousel ws nothing_seen draws fed.drawings (seen_in feeder.pass)) (sym weighs)
+          (subst (λ (id : ℕ). Draws id (weights_of s) nothing_seen draws fed.drawings (seen_in feeder.pass)) (sym carousel) fed.draws))
+          (each_seen c.entries editors feeder.pass (subst (histories.Each (λ q. Begins (entries_seen q) c.entries)) all seen))
           (λ place. owners_seen place editors feeder.pass ∙ ap (owners_of place) (sym all) ∙ owned place);
       shown = fed.shown;
       fates = fed.fates;
@@ -116,26 +117,27 @@ below n e = grind (arith, nat_tests)
 abbrev drawing : BatchFields → List Fate → Drawing
 drawing x fates = record { generation = x.generation; items = x.items; fates = fates }
 
-pub one_more : GatherGrows → (old : Closed) (c : Catalogue) (downlink : DownlinkState) (kept : Vec (Vec Fate Global) Global) (asked : ℕ) (fates : Vec Fate Global) (given_fates : List Fate) (b : Batch)
-    (before after : List Shot) → given_fates ≡ fates.items → 1 ≤ asked → asked ≤ 1048576 → IsDrawn (state old.catalogue) asked (Ok b) (state c)
+pub one_more : GatherGrows → (old : ClosedFields) (c : CatalogueState) (downlink : DownlinkState) (earlier kept : List (Vec Fate Global)) (asked : ℕ) (fates : Vec Fate Global) (given_fates : List Fate) (b : Batch)
+    (before after : List Shot) → old.fates ≡ map fates_view earlier → given_fates ≡ fates.items → 1 ≤ asked → asked ≤ 1048576 → IsDrawn old.catalogue asked (Ok b) c
     → ((drawings : List Drawing) → HasShown drawings old.downlink before → HasShown (drawings ++ drawing_in b given_fates ∷ []) downlink after)
-    → kept.items ≡ old.fates.items ++ fates ∷ []
-    → (id : ℕ) (commits : List (List (List Edit))) (draws : List DrawFields) → HasGathered id commits draws before old
-    → HasGathered id commits (draws ++ record { asked = asked; fates = fates.items } ∷ []) after (record { catalogue = c; downlink = downlink; fates = kept })
-one_more law old c downlink kept asked fates given_fates b before after under least most h shows pushed id commits draws g =
-    let from = state old.catalogue in
+    → kept ≡ earlier ++ fates ∷ []
+    → (id : ℕ) (weights : List ℕ) (commits : List (List (List Edit))) (draws : List DrawFields) → HasGathered id weights commits draws before old
+    → HasGathered id weights commits (draws ++ record { asked = asked; fates = fates.items } ∷ []) after (record { catalogue = c; downlink = downlink; fates = map fates_view kept })
+one_more law old c downlink earlier kept asked fates given_fates b before after had under least most h shows pushed id weights commits draws g =
+    let from = old.catalogue in
     let line : DrawFields = record { asked = asked; fates = fates.items } in
     let fields : BatchFields = record { generation = current_of from; first = cursor_of from; items = items_drawn from asked } in
     let parts = given (nat_le 16777216 (draws_of from)) 16777216 fields (view_batch b) h.answer in
     let is : drawing_in b given_fates ≡ drawing_of from asked fates.items = ap (λ (x : BatchFields). drawing x given_fates) (sym parts.1) ∙ ap (drawing fields) under in
     record {
       carousel = ap (λ (x : CatalogueState). x.carousel) h.entry ∙ g.carousel;
+      weighs = ap (λ (x : CatalogueState). x.weights) h.entry ∙ g.weighs;
       drawings = g.drawings ++ drawing_of from asked fates.items ∷ [];
       gathered = subst (λ (x : CatalogueState). IsGathered commits (draws ++ line ∷ []) x (g.drawings ++ drawing_of from asked fates.items ∷ [])) (sym h.entry)
           (law commits draws g.drawings from line g.gathered (below (draws_of from) parts.0) least most);
       shown = subst (λ (x : Drawing). HasShown (g.drawings ++ x ∷ []) downlink after) is (shows g.drawings g.shown);
-      fates = ap (map (λ (v : Vec Fate Global). v.items)) pushed ∙ map-append (λ (v : Vec Fate Global). v.items) old.fates.items (fates ∷ [])
-          ∙ (λ i. g.fates i ++ fates.items ∷ []) ∙ sym (map-append (λ (l : DrawFields). l.fates) draws (line ∷ []));
+      fates = ap (map fates_view) pushed ∙ map-append fates_view earlier (fates ∷ [])
+          ∙ (λ i. (sym had ∙ g.fates) i ++ fates.items ∷ []) ∙ sym (map-append (λ (l : DrawFields). l.fates) draws (line ∷ []));
     }
 
 -- ---- all draws at the end
@@ -155,9 +157,9 @@ draws_next xs x = ap draws_in (steps_after xs (x ∷ [])) ∙ draws_more (steps_
 pub opens_next : (xs : List Deed) (x : Deed) → opens_in (steps_of (xs ++ x ∷ [])) ≡ opens_in (steps_of xs) ++ opens_in (view_deed x ∷ [])
 opens_next xs x = ap opens_in (steps_after xs (x ∷ [])) ∙ opens_after (steps_of xs) (view_deed x ∷ [])
 
-pub drawn_next : (c : CatalogueState) (lines : List DrawFields) (line : DrawFields) → drawn_all c (lines ++ line ∷ []) ≡ drawn (drawn_all c lines) line.asked
+pub drawn_next : (c : CatalogueState) (lines : List DrawFields) (line : DrawFields) → drawn_all c (lines ++ line ∷ []) ≡ with_draw (drawn_all c lines) line.asked
 drawn_next c [] line = refl
-drawn_next c (l ∷ lines) line = drawn_next (drawn c l.asked) lines line
+drawn_next c (l ∷ lines) line = drawn_next (with_draw c l.asked) lines line
 
 -- where a list was gone through up to an element
 pub split_at : {A : Type 0} (all xs : List A) (x : A) → xs ≡ take (length xs) all → length xs < length all → x ≡ get_or all (length xs) x
@@ -190,7 +192,7 @@ is_end all xs x (left, is) h =
     among (z ∷ before) y after all = among before y after (λ k d lt. all (suc k) d (omega (arith, lt)))
 
 -- the passes that go back are all of the station
-pub all_passes : (s : Station) (editors : List EditorSeat) (feeder : FeederSeat) (passes : List (Pass Kept KeptItem)) → passes ≡ map pass_in editors ++ feeder.pass ∷ []
+pub all_passes : {X : _} {F : _} {g : _} (s : Station X F g) (editors : List EditorSeat) (feeder : FeederSeat) (passes : List (Pass Kept KeptItem)) → passes ≡ map pass_in editors ++ feeder.pass ∷ []
     → pass_count s ≡ length editors + 1 → All (λ (seat : EditorSeat). IsStationPass s seat.pass) editors → IsStationPass s feeder.pass → AreAllPasses s passes
 all_passes s editors feeder passes is count each last =
     let P : List (Pass Kept KeptItem) → Type 0 = AreAllPasses s in
@@ -224,17 +226,17 @@ module _ (xs : List Deed) (x : Deed) where
     pub opens_without : opens_in (steps_of (xs ++ x ∷ [])) ≡ opens_in (steps_of xs)
     opens_without = opens_next xs x ∙ ap (λ (y : Deed). opens_in (steps_of xs) ++ opens_in (view_deed y ∷ [])) is ∙ append-nil (opens_in (steps_of xs))
 
-    pub drawn_with : (c d e : CatalogueState) → d ≡ drawn_all c (draws_in (steps_of xs)) → e ≡ drawn d asked → e ≡ drawn_all c (draws_in (steps_of (xs ++ x ∷ [])))
+    pub drawn_with : (c d e : CatalogueState) → d ≡ drawn_all c (draws_in (steps_of xs)) → e ≡ with_draw d asked → e ≡ drawn_all c (draws_in (steps_of (xs ++ x ∷ [])))
     drawn_with c d e h more =
-        more ∙ ap (λ (y : CatalogueState). drawn y asked) h ∙ sym (drawn_next c (draws_in (steps_of xs)) its_line) ∙ ap (drawn_all c) (sym draws_with)
+        more ∙ ap (λ (y : CatalogueState). with_draw y asked) h ∙ sym (drawn_next c (draws_in (steps_of xs)) its_line) ∙ ap (drawn_all c) (sym draws_with)
 
-    pub made_with : (e0 e1 e2 : Closed) (before mid after : List Shot)
-        → ((id : ℕ) (commits : List (List (List Edit))) (draws : List DrawFields) → HasGathered id commits draws before e0 → HasGathered id commits (draws ++ draws_in (steps_of xs)) mid e1)
-        → ((id : ℕ) (commits : List (List (List Edit))) (draws : List DrawFields) → HasGathered id commits draws mid e1 → HasGathered id commits (draws ++ its_line ∷ []) after e2)
-        → (id : ℕ) (commits : List (List (List Edit))) (draws : List DrawFields) → HasGathered id commits draws before e0 → HasGathered id commits (draws ++ draws_in (steps_of (xs ++ x ∷ []))) after e2
-    made_with e0 e1 e2 before mid after h more id commits draws g =
-        subst (λ (ds : List DrawFields). HasGathered id commits ds after e2) (append_assoc draws (draws_in (steps_of xs)) (its_line ∷ []) ∙ ap (λ (ds : List DrawFields). draws ++ ds) (sym draws_with))
-        (more id commits (draws ++ draws_in (steps_of xs)) (h id commits draws g))
+    pub made_with : (e0 e1 e2 : ClosedFields) (before mid after : List Shot)
+        → ((id : ℕ) (weights : List ℕ) (commits : List (List (List Edit))) (draws : List DrawFields) → HasGathered id weights commits draws before e0 → HasGathered id weights commits (draws ++ draws_in (steps_of xs)) mid e1)
+        → ((id : ℕ) (weights : List ℕ) (commits : List (List (List Edit))) (draws : List DrawFields) → HasGathered id weights commits draws mid e1 → HasGathered id weights commits (draws ++ its_line ∷ []) after e2)
+        → (id : ℕ) (weights : List ℕ) (commits : List (List (List Edit))) (draws : List DrawFields) → HasGathered id weights commits draws before e0 → HasGathered id weights commits (draws ++ draws_in (steps_of (xs ++ x ∷ []))) after e2
+    made_with e0 e1 e2 before mid after h more id weights commits draws g =
+        subst (λ (ds : List DrawFields). HasGathered id weights commits ds after e2) (append_assoc draws (draws_in (steps_of xs)) (its_line ∷ []) ∙ ap (λ (ds : List DrawFields). draws ++ ds) (sym draws_with))
+        (more id weights commits (draws ++ draws_in (steps_of xs)) (h id weights commits draws g))
 
   module _ (reader : ℕ) (path : PathNames) (is : x ≡ deeds.Open reader path) where
     pub draws_without : draws_in (steps_of (xs ++ x ∷ [])) ≡ draws_in (steps_of xs)

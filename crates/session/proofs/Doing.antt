@@ -51,7 +51,7 @@ before_is = is_count_by (λ (es : List (Stage × Step)). draw_count (staged_wher
     one (After, Open reader path) es = refl
 
 -- a shot was shown before the first draw, and one after each draw before the start
-pub shots_before : (setting : Setting) (s : Station) (shots : List Shot) (seat : FeederSeat) → FeederStands s setting.events shots seat → length shots ≡ draws_before setting + 1
+pub shots_before : {X : _} {F : _} {g : _} (setting : Setting) (s : Station X F g) (shots : List Shot) (seat : FeederSeat) → FeederStands s setting.events shots seat → length shots ≡ draws_before setting + 1
 shots_before setting s shots seat st =
     let count = shots_count s setting.events shots seat st in let before = before_is setting.events in omega (arith, count, before)
 
@@ -71,7 +71,7 @@ reader_ready setting shots seat st =
     let room = st.room in
     omega (arith, opened, asked, paths, all, room)
 
-pub feeder_ready : (setting : Setting) (s : Station) (shots : List Shot) (seat : FeederSeat) (most : ℕ) → FeederStands s setting.events shots seat → most ≡ draws_of setting → length shots + length seat.draws.items ≤ most + 1
+pub feeder_ready : {X : _} {F : _} {g : _} (setting : Setting) (s : Station X F g) (shots : List Shot) (seat : FeederSeat) (most : ℕ) → FeederStands s setting.events shots seat → most ≡ draws_of setting → length shots + length seat.draws.items ≤ most + 1
 feeder_ready setting s shots seat most st same =
     let count = shots_count s setting.events shots seat st in
     let draws = sym (length-map seat.draws.items draw_of) ∙ ap (λ (ds : List DrawFields). length ds) st.to_come in
@@ -81,7 +81,7 @@ feeder_ready setting s shots seat most st same =
 -- ---- what they did
 
 -- the same actors
-pub same_actors : (s : Station) (old new : Cast) → length new.editors.items ≡ length old.editors.items
+pub same_actors : {X : _} {F : _} {g : _} (s : Station X F g) (old new : Cast) → length new.editors.items ≡ length old.editors.items
     → ((i : ℕ) (d : EditorSeat) → i < length old.editors.items → DidEdit s (slice_index_or old.editors.items i d) (slice_index_or new.editors.items i d))
     → length new.readers.items ≡ length old.readers.items → ((i : ℕ) (d : ReaderSeat) → i < length old.readers.items → DidRead (slice_index_or old.readers.items i d) (slice_index_or new.readers.items i d))
     → AreSameActors old new
@@ -96,7 +96,7 @@ same_actors s old new editors edit readers read = record {
     map_alike f [] (y ∷ ys) count same = absurd (omega (arith, count))
     map_alike f (x ∷ xs) [] count same = absurd (omega (arith, count))
 
-pub cast_done : (setting : Setting) (s : Station) (shots shown : List Shot) (old new : Cast) → CastStands setting s setting.events shots old
+pub cast_done : {X : _} {F : _} {g : _} (setting : Setting) (s : Station X F g) (shots shown : List Shot) (old new : Cast) → CastStands setting s setting.events shots old
     → length new.editors.items ≡ length old.editors.items → ((i : ℕ) (d : EditorSeat) → i < length old.editors.items → DidEdit s (slice_index_or old.editors.items i d) (slice_index_or new.editors.items i d))
     → DidFeed s old.feeder new.feeder shots shown
     → length new.readers.items ≡ length old.readers.items → ((i : ℕ) (d : ReaderSeat) → i < length old.readers.items → DidRead (slice_index_or old.readers.items i d) (slice_index_or new.readers.items i d))
@@ -107,7 +107,7 @@ cast_done setting s shots shown old new st editors edit feed readers read whole 
   read = readers_done setting shots old.readers.items new.readers.items (shots_before setting s shots old.feeder st.feeder) readers st.readers read whole.readers;
 }
 
-pub may_end : (s : Station) (shots shown : List Shot) (old new : Cast) → length new.editors.items ≡ length old.editors.items
+pub may_end : {X : _} {F : _} {g : _} (s : Station X F g) (shots shown : List Shot) (old new : Cast) → length new.editors.items ≡ length old.editors.items
     → ((i : ℕ) (d : EditorSeat) → i < length old.editors.items → DidEdit s (slice_index_or old.editors.items i d) (slice_index_or new.editors.items i d)) → DidFeed s old.feeder new.feeder shots shown → MayEnd s new
 may_end s shots shown old new editors edit feed = record {
   editors = λ k d lt. (edit k d (omega (arith, editors, lt))).pass;

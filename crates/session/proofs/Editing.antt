@@ -25,19 +25,19 @@ use Rattle.session.specs.Acting.{EditorStands, EditorsStand, AreApart, steps_whe
 use Rattle.session.proofs.Staged.{commits_more, next_of, other_of, idle_of}
 
 -- an event that is no commit of the editor
-pub editor_idles : (s : Station) (place : ℕ) (done : List (Stage × Step)) (seat : EditorSeat) (e : Stage × Step) → commits_by seat.number (e.1 ∷ []) ≡ []
+pub editor_idles : {X : _} {F : _} {g : _} (s : Station X F g) (place : ℕ) (done : List (Stage × Step)) (seat : EditorSeat) (e : Stage × Step) → commits_by seat.number (e.1 ∷ []) ≡ []
     → EditorStands s place done seat → EditorStands s place (done ++ e ∷ []) seat
 editor_idles s place done seat e none st = record {
   committed = subst (λ (lines : List (List Edit)). HasCommitted s place lines seat.pass) (sym (idle_of (commits_by seat.number) refl (commits_more seat.number) is_before done e none)) st.committed;
   to_come = st.to_come ∙ sym (idle_of (commits_by seat.number) refl (commits_more seat.number) is_during done e none);
 }
 
-pub editors_idle : (s : Station) (done : List (Stage × Step)) (seats : List EditorSeat) (e : Stage × Step) → ((n : ℕ) → commits_by n (e.1 ∷ []) ≡ [])
+pub editors_idle : {X : _} {F : _} {g : _} (s : Station X F g) (done : List (Stage × Step)) (seats : List EditorSeat) (e : Stage × Step) → ((n : ℕ) → commits_by n (e.1 ∷ []) ≡ [])
     → EditorsStand s done seats → EditorsStand s (done ++ e ∷ []) seats
 editors_idle s done seats e none st = λ place d lt. editor_idles s place done (slice_index_or seats place d) e (none (slice_index_or seats place d).number) (st place d lt)
 
 -- an event after all actors
-pub after_editors : (s : Station) (done : List (Stage × Step)) (seats : List EditorSeat) (e : Step) → EditorsStand s done seats → EditorsStand s (done ++ (After, e) ∷ []) seats
+pub after_editors : {X : _} {F : _} {g : _} (s : Station X F g) (done : List (Stage × Step)) (seats : List EditorSeat) (e : Step) → EditorsStand s done seats → EditorsStand s (done ++ (After, e) ∷ []) seats
 after_editors s done seats e st = λ place d lt.
     let seat = slice_index_or seats place d in
     record {
@@ -52,7 +52,7 @@ pub not_its : (n m : ℕ) (edits : List Edit) → m ≢ n → commits_by n (Comm
 not_its n m edits ne = ap (λ (t : Bool). (if t then edits ∷ [] else []) ++ []) (ne_eqb m n ne)
 
 -- a commit of the editor before the start, which it made
-pub editor_committed : (s : Station) (place : ℕ) (done : List (Stage × Step)) (old new : EditorSeat) (edits : List Edit) → new.number ≡ old.number → new.commits ≡ old.commits
+pub editor_committed : {X : _} {F : _} {g : _} (s : Station X F g) (place : ℕ) (done : List (Stage × Step)) (old new : EditorSeat) (edits : List Edit) → new.number ≡ old.number → new.commits ≡ old.commits
     → EditorStands s place done old → HasCommitted s place (commits_by old.number (steps_where is_before done) ++ edits ∷ []) new.pass
     → EditorStands s place (done ++ (Before, Commit old.number edits) ∷ []) new
 editor_committed s place done old new edits same laid st made =
@@ -68,7 +68,7 @@ editor_committed s place done old new edits same laid st made =
     }
 
 -- a commit of the editor after it, which was laid before it
-pub editor_laid : (s : Station) (place : ℕ) (done : List (Stage × Step)) (old new : EditorSeat) (edits : List Edit) → new.number ≡ old.number → new.pass ≡ old.pass
+pub editor_laid : {X : _} {F : _} {g : _} (s : Station X F g) (place : ℕ) (done : List (Stage × Step)) (old new : EditorSeat) (edits : List Edit) → new.number ≡ old.number → new.pass ≡ old.pass
     → map edits_of new.commits.items ≡ map edits_of old.commits.items ++ edits ∷ []
     → EditorStands s place done old → EditorStands s place (done ++ (During, Commit old.number edits) ∷ []) new
 editor_laid s place done old new edits same pass laid st =
@@ -94,7 +94,7 @@ any_default [] k d e lt = absurd (omega (arith, lt))
 any_default (x ∷ xs) zero d e lt = refl
 any_default (x ∷ xs) (suc k) d e lt = any_default xs k d e (omega (arith, lt))
 
-module _ (s : Station) (seats : List EditorSeat) (place : ℕ) (was new : EditorSeat) (there : place < length seats) (is : was ≡ slice_index_or seats place was) (apart : AreApart (numbers_of seats))
+module _ {X : _} {F : _} {g : _} (s : Station X F g) (seats : List EditorSeat) (place : ℕ) (was new : EditorSeat) (there : place < length seats) (is : was ≡ slice_index_or seats place was) (apart : AreApart (numbers_of seats))
     (same : new.number ≡ was.number) where
   -- a seat is put in the place of one of the same number, and nothing changes for the others
   pub seat_set : (done after : List (Stage × Step)) → EditorStands s place after new
@@ -185,7 +185,7 @@ new_numbers [] (p ∷ ps) ss h = absurd h
 new_numbers (n ∷ ns) [] ss h = absurd h
 new_numbers (n ∷ ns) (p ∷ ps) [] h = absurd h
 
-new_stands : (station : Station) (place : ℕ) (p : Pass Kept KeptItem) (s : EditorSeat) → s.pass ≡ p → s.commits.items ≡ [] → IsStationPass station p → number_of p ≡ place → entries_seen p ≡ [] → own_entries p ≡ []
+new_stands : {X : _} {F : _} {g : _} (station : Station X F g) (place : ℕ) (p : Pass Kept KeptItem) (s : EditorSeat) → s.pass ≡ p → s.commits.items ≡ [] → IsStationPass station p → number_of p ≡ place → entries_seen p ≡ [] → own_entries p ≡ []
     → EditorStands station place [] s
 new_stands station place p s same none pass number entries own = record {
   committed = subst (λ (q : Pass Kept KeptItem). HasCommitted station place [] q) (sym same)
@@ -194,7 +194,7 @@ new_stands station place p s same none pass number entries own = record {
 }
 
 -- seats with the passes that a station is made with
-pub new_at : (station : Station) (first : ℕ) (ns : List ℕ) (ps : List (Pass Kept KeptItem)) (ss : List EditorSeat) → AreNewPasses station first ps → AreNewSeats ns ps ss
+pub new_at : {X : _} {F : _} {g : _} (station : Station X F g) (first : ℕ) (ns : List ℕ) (ps : List (Pass Kept KeptItem)) (ss : List EditorSeat) → AreNewPasses station first ps → AreNewSeats ns ps ss
     → (k : ℕ) (d : EditorSeat) → k < length ss → EditorStands station (first + k) [] (slice_index_or ss k d)
 new_at station first [] [] [] news h k d lt = absurd (omega (arith, lt))
 new_at station first (n ∷ ns) (p ∷ ps) (s ∷ ss) news h zero d lt =

@@ -48,9 +48,9 @@ none_between picked history s t before between rest is come keeps =
 pub goes_on : (history before es : List Entry) (between rest : List Entry) → history ≡ before ++ es → history ≡ (before ++ between) ++ rest → es ≡ between ++ rest
 goes_on history before es between rest a b = cancel before es (between ++ rest) (sym a ∙ b ∙ append_assoc before between rest)
 
-module _ (grow : HistoriesGrow) (id place : ℕ) (itself : (place == place) ≡ true) (history : List Entry) where
-  entered_next : (edits : List Edit) (lines : List (List Edit)) (s t : Seen) (before es : List Entry) → (c : CatalogueState) → GoesOnWith id s c
-      → (outcome : Result ℕ Refusal) → Commits id place (seen_with s c.entries (entries.Commit place edits outcome)) lines t
+module _ (grow : HistoriesGrow) (id : ℕ) (ws : List ℕ) (place : ℕ) (itself : (place == place) ≡ true) (history : List Entry) where
+  entered_next : (edits : List Edit) (lines : List (List Edit)) (s t : Seen) (before es : List Entry) → (c : CatalogueState) → GoesOnWith id ws s c
+      → (outcome : Result ℕ Refusal) → Commits id ws place (seen_with s c.entries (entries.Commit place edits outcome)) lines t
       → Begins t.entries history → Begins before s.entries → history ≡ before ++ es
       → AreToCome (is_commit_at place) history (length before) s t
       → ((between later : List Entry) → c.entries ≡ before ++ between → history ≡ (before ++ between ++ entries.Commit place edits outcome ∷ []) ++ later
@@ -61,7 +61,7 @@ module _ (grow : HistoriesGrow) (id place : ℕ) (itself : (place == place) ≡ 
   entered_next edits lines s t before es c on outcome chain ends begins is come rest =
       let e : Entry = entries.Commit place edits outcome in
       let next : Seen = seen_with s c.entries e in
-      let came = commits_enter id place lines next t itself chain in
+      let came = commits_enter id ws place lines next t itself chain in
       let whole : Begins (c.entries ++ e ∷ []) history = begins_on (c.entries ++ e ∷ []) t.entries history (enters_begins next came.0 t came.1) ends in
       let b = begins_on before s.entries c.entries begins on.begins in
       let between = b.0 in
@@ -90,15 +90,15 @@ module _ (grow : HistoriesGrow) (id place : ℕ) (itself : (place == place) ≡ 
             omega (arith, more, still)),
       )
 
-  missing_next : (edits : List Edit) (lines : List (List Edit)) (s t : Seen) (before es : List Entry) → (c : CatalogueState) → GoesOnWith id s c
-      → is_entered (outcome_of c edits) ≡ false → Commits id place (seen_of s c.entries) lines t
+  missing_next : (edits : List Edit) (lines : List (List Edit)) (s t : Seen) (before es : List Entry) → (c : CatalogueState) → GoesOnWith id ws s c
+      → is_entered (outcome_of c edits) ≡ false → Commits id ws place (seen_of s c.entries) lines t
       → Begins t.entries history → Begins before s.entries → history ≡ before ++ es
       → AreToCome (is_commit_at place) history (length before) s t
       → AreEntered place before lines es
       → AreEntered place before (edits ∷ lines) es
   missing_next edits lines s t before es c on full chain ends begins is come rest =
       let next : Seen = seen_of s c.entries in
-      let came = commits_enter id place lines next t itself chain in
+      let came = commits_enter id ws place lines next t itself chain in
       let whole : Begins c.entries history = begins_on c.entries t.entries history (enters_begins next came.0 t came.1) ends in
       let b = begins_on before s.entries c.entries begins on.begins in
       let between = b.0 in
@@ -112,7 +112,7 @@ module _ (grow : HistoriesGrow) (id place : ℕ) (itself : (place == place) ≡ 
       inr (subst (λ l. IsFullAfter l edits) (sym part) (full_later c.entries (entries_to_next place whole.0) edits (not_entered grow c edits full)), rest)
 
   -- Where the entries up to here hold all that became its own so far, what comes holds its further commits, in order
-  pub are_entered : (lines : List (List Edit)) (s t : Seen) (before es : List Entry) → Commits id place s lines t
+  pub are_entered : (lines : List (List Edit)) (s t : Seen) (before es : List Entry) → Commits id ws place s lines t
       → Begins t.entries history → Begins before s.entries → history ≡ before ++ es
       → AreToCome (is_commit_at place) history (length before) s t
       → AreEntered place before lines es
@@ -123,16 +123,16 @@ module _ (grow : HistoriesGrow) (id place : ℕ) (itself : (place == place) ≡ 
       let same = ap (λ (u : Seen). times (length before + k) u.own) chain in
       omega (arith, less, same))
   are_entered (edits ∷ lines) s t before es chain ends begins is come =
-      by (first_commit id place s edits lines t chain)
+      by (first_commit id ws place s edits lines t chain)
       (λ c between later entry. are_entered lines (seen_with s c entry) t (before ++ between ++ entry ∷ []) later)
       (λ c. are_entered lines (seen_of s c) t before es)
     where
-      by : Commits1 id place s edits lines t chain.0
-          → ((c between later : List Entry) (entry : Entry) → Commits id place (seen_with s c entry) lines t → Begins t.entries history
+      by : Commits1 id ws place s edits lines t chain.0
+          → ((c between later : List Entry) (entry : Entry) → Commits id ws place (seen_with s c entry) lines t → Begins t.entries history
           → Begins (before ++ between ++ entry ∷ []) (c ++ entry ∷ []) → history ≡ (before ++ between ++ entry ∷ []) ++ later
           → AreToCome (is_commit_at place) history (length (before ++ between ++ entry ∷ [])) (seen_with s c entry) t
           → AreEntered place (before ++ between ++ entry ∷ []) lines later)
-          → ((c : List Entry) → Commits id place (seen_of s c) lines t → Begins t.entries history → Begins before c → history ≡ before ++ es
+          → ((c : List Entry) → Commits id ws place (seen_of s c) lines t → Begins t.entries history → Begins before c → history ≡ before ++ es
           → AreToCome (is_commit_at place) history (length before) s t
           → AreEntered place before lines es)
           → AreEntered place before (edits ∷ lines) es
@@ -143,5 +143,5 @@ module _ (grow : HistoriesGrow) (id place : ℕ) (itself : (place == place) ≡ 
           (λ between later cut all first own. entered c.entries between later (entries.Commit place edits outcome) e.1 ends first all own)
       by (inr e) entered missing =
           let c : CatalogueState = chain.0 in
-          let on : GoesOnWith id s c = chain.1 in
+          let on : GoesOnWith id ws s c = chain.1 in
           missing_next edits lines s t before es c on e.0 e.1 ends begins is come (missing c.entries e.1 ends (begins_on before s.entries c.entries begins on.begins) is come)

@@ -4,7 +4,7 @@ use mathlib.Core.Logic.{dite}
 use native.Mathlib.Decide.{ℕ_discrete}
 use Rattle.path_tree.specs.declared.tree.Edit.{Edit}
 use Rattle.history_lock.specs.History.{Begins, times, places}
-use Rattle.generation_catalogue.specs.History.{CatalogueState, committed, drawn, current_of, cursor_of, count_drawn, outcome_of, is_entered, with_entry, is_draw}
+use Rattle.generation_catalogue.specs.History.{CatalogueState, with_commit, with_draw, current_of, cursor_of, count_drawn, outcome_of, is_entered, with_entry, is_draw}
 use Rattle.generation_catalogue.specs.declared.entry.Entry.{Entry}
 use Rattle.generation_catalogue.specs.declared.entry.Entry.TheVariants as entries
 use Rattle.carousel_world.specs.World.{Drawing}
@@ -68,8 +68,8 @@ enters_own P s (e ∷ es) t history h each begins k more =
 
 -- what a commit leaves is seen with its entry, or without one
 pub after_commit : (s : Seen) (c : CatalogueState) (place : ℕ) (edits : List Edit)
-    → ((is_entered (outcome_of c edits) ≡ true) × (seen_after s c (committed c place edits) ≡ seen_with s c.entries (entries.Commit place edits (outcome_of c edits))))
-    ⊎ ((is_entered (outcome_of c edits) ≡ false) × (seen_after s c (committed c place edits) ≡ seen_of s c.entries))
+    → ((is_entered (outcome_of c edits) ≡ true) × (seen_after s c (with_commit c place edits) ≡ seen_with s c.entries (entries.Commit place edits (outcome_of c edits))))
+    ⊎ ((is_entered (outcome_of c edits) ≡ false) × (seen_after s c (with_commit c place edits) ≡ seen_of s c.entries))
 after_commit s c place edits = by (is_entered (outcome_of c edits)) refl
   where
     one : length (c.entries ++ entries.Commit place edits (outcome_of c edits) ∷ []) - length c.entries ≡ 1
@@ -79,8 +79,8 @@ after_commit s c place edits = by (is_entered (outcome_of c edits)) refl
     none = omega arith
 
     by : (b : Bool) → is_entered (outcome_of c edits) ≡ b
-        → ((is_entered (outcome_of c edits) ≡ true) × (seen_after s c (committed c place edits) ≡ seen_with s c.entries (entries.Commit place edits (outcome_of c edits))))
-        ⊎ ((is_entered (outcome_of c edits) ≡ false) × (seen_after s c (committed c place edits) ≡ seen_of s c.entries))
+        → ((is_entered (outcome_of c edits) ≡ true) × (seen_after s c (with_commit c place edits) ≡ seen_with s c.entries (entries.Commit place edits (outcome_of c edits))))
+        ⊎ ((is_entered (outcome_of c edits) ≡ false) × (seen_after s c (with_commit c place edits) ≡ seen_of s c.entries))
     by true is = inl (
       is,
       ap (λ (b : Bool). seen_after s c (cond b (with_entry c (entries.Commit place edits (outcome_of c edits))) c)) is
@@ -94,20 +94,20 @@ after_commit s c place edits = by (is_entered (outcome_of c edits)) refl
     )
 
 -- one commit more: it was entered, or it found no room
-abbrev pub Commits1 : (id place : ℕ) → Seen → List Edit → List (List Edit) → Seen → CatalogueState → Type 0
-Commits1 id place s edits lines t c =
-    ((is_entered (outcome_of c edits) ≡ true) × Commits id place (seen_with s c.entries (entries.Commit place edits (outcome_of c edits))) lines t)
-    ⊎ ((is_entered (outcome_of c edits) ≡ false) × Commits id place (seen_of s c.entries) lines t)
+abbrev pub Commits1 : (id : ℕ) (weights : List ℕ) (place : ℕ) → Seen → List Edit → List (List Edit) → Seen → CatalogueState → Type 0
+Commits1 id ws place s edits lines t c =
+    ((is_entered (outcome_of c edits) ≡ true) × Commits id ws place (seen_with s c.entries (entries.Commit place edits (outcome_of c edits))) lines t)
+    ⊎ ((is_entered (outcome_of c edits) ≡ false) × Commits id ws place (seen_of s c.entries) lines t)
 
-pub first_commit : (id place : ℕ) (s : Seen) (edits : List Edit) (lines : List (List Edit)) (t : Seen) → (h : Commits id place s (edits ∷ lines) t)
-    → Commits1 id place s edits lines t h.0
-first_commit id place s edits lines t h = by (after_commit s h.0 place edits)
+pub first_commit : (id : ℕ) (ws : List ℕ) (place : ℕ) (s : Seen) (edits : List Edit) (lines : List (List Edit)) (t : Seen) → (h : Commits id ws place s (edits ∷ lines) t)
+    → Commits1 id ws place s edits lines t h.0
+first_commit id ws place s edits lines t h = by (after_commit s h.0 place edits)
   where
-    by : ((is_entered (outcome_of h.0 edits) ≡ true) × (seen_after s h.0 (committed h.0 place edits) ≡ seen_with s (h.0).entries (entries.Commit place edits (outcome_of h.0 edits))))
-        ⊎ ((is_entered (outcome_of h.0 edits) ≡ false) × (seen_after s h.0 (committed h.0 place edits) ≡ seen_of s (h.0).entries))
-        → Commits1 id place s edits lines t h.0
-    by (inl e) = inl (e.0, subst (λ (u : Seen). Commits id place u lines t) e.1 h.2)
-    by (inr e) = inr (e.0, subst (λ (u : Seen). Commits id place u lines t) e.1 h.2)
+    by : ((is_entered (outcome_of h.0 edits) ≡ true) × (seen_after s h.0 (with_commit h.0 place edits) ≡ seen_with s (h.0).entries (entries.Commit place edits (outcome_of h.0 edits))))
+        ⊎ ((is_entered (outcome_of h.0 edits) ≡ false) × (seen_after s h.0 (with_commit h.0 place edits) ≡ seen_of s (h.0).entries))
+        → Commits1 id ws place s edits lines t h.0
+    by (inl e) = inl (e.0, subst (λ (u : Seen). Commits id ws place u lines t) e.1 h.2)
+    by (inr e) = inr (e.0, subst (λ (u : Seen). Commits id ws place u lines t) e.1 h.2)
 
 abbrev pub IsCommitAt : ℕ → Entry → Type 0
 IsCommitAt place e = is_commit_at place e ≡ true
@@ -118,17 +118,17 @@ HasEntered P s t = (es : List Entry) × Enters s es t × Each P es
 own_place : (place : ℕ) (e : Entry) (es : List Entry) → is_commit_at place e ≡ true → Each (IsCommitAt place) es → Each (IsCommitAt place) (e ∷ es)
 own_place place e es h k = (h, k)
 
-pub commits_enter : (id place : ℕ) (lines : List (List Edit)) (s t : Seen) → (place == place) ≡ true → Commits id place s lines t → HasEntered (IsCommitAt place) s t
-commits_enter id place [] s t itself h = ([], subst (λ (u : Seen). Enters s [] u) (sym h) (enters_none s), tt)
-commits_enter id place (edits ∷ lines) s t itself h =
-    by (first_commit id place s edits lines t h)
-    (λ r. commits_enter id place lines (seen_with s (h.0).entries (entries.Commit place edits (outcome_of h.0 edits))) t itself r)
-    (λ r. commits_enter id place lines (seen_of s (h.0).entries) t itself r)
+pub commits_enter : (id : ℕ) (ws : List ℕ) (place : ℕ) (lines : List (List Edit)) (s t : Seen) → (place == place) ≡ true → Commits id ws place s lines t → HasEntered (IsCommitAt place) s t
+commits_enter id ws place [] s t itself h = ([], subst (λ (u : Seen). Enters s [] u) (sym h) (enters_none s), tt)
+commits_enter id ws place (edits ∷ lines) s t itself h =
+    by (first_commit id ws place s edits lines t h)
+    (λ r. commits_enter id ws place lines (seen_with s (h.0).entries (entries.Commit place edits (outcome_of h.0 edits))) t itself r)
+    (λ r. commits_enter id ws place lines (seen_of s (h.0).entries) t itself r)
   where
-    by : Commits1 id place s edits lines t h.0
-        → (Commits id place (seen_with s (h.0).entries (entries.Commit place edits (outcome_of h.0 edits))) lines t
+    by : Commits1 id ws place s edits lines t h.0
+        → (Commits id ws place (seen_with s (h.0).entries (entries.Commit place edits (outcome_of h.0 edits))) lines t
         → HasEntered (IsCommitAt place) (seen_with s (h.0).entries (entries.Commit place edits (outcome_of h.0 edits))) t)
-        → (Commits id place (seen_of s (h.0).entries) lines t → HasEntered (IsCommitAt place) (seen_of s (h.0).entries) t)
+        → (Commits id ws place (seen_of s (h.0).entries) lines t → HasEntered (IsCommitAt place) (seen_of s (h.0).entries) t)
         → HasEntered (IsCommitAt place) s t
     by (inl e) with_it without =
         let r = with_it e.1 in
@@ -140,22 +140,22 @@ commits_enter id place (edits ∷ lines) s t itself h =
 abbrev pub draw_entry : CatalogueState → ℕ → Entry
 draw_entry c asked = entries.Draw asked (current_of c).number (cursor_of c) (count_drawn c asked)
 
-pub first_draw : (id : ℕ) (s : Seen) (l : DrawFields) (lines : List DrawFields) (d : Drawing) (ds : List Drawing) (t : Seen) → (h : Draws id s (l ∷ lines) (d ∷ ds) t)
-    → Draws id (seen_with s (h.0).entries (draw_entry h.0 l.asked)) lines ds t
-first_draw id s l lines d ds t h =
+pub first_draw : (id : ℕ) (ws : List ℕ) (s : Seen) (l : DrawFields) (lines : List DrawFields) (d : Drawing) (ds : List Drawing) (t : Seen) → (h : Draws id ws s (l ∷ lines) (d ∷ ds) t)
+    → Draws id ws (seen_with s (h.0).entries (draw_entry h.0 l.asked)) lines ds t
+first_draw id ws s l lines d ds t h =
     let c : CatalogueState = h.0 in
     let one : length (c.entries ++ draw_entry c l.asked ∷ []) - length c.entries ≡ 1 = omega (arith, length-append c.entries (draw_entry c l.asked ∷ [])) in
-    let same : seen_after s c (drawn c l.asked) ≡ seen_with s c.entries (draw_entry c l.asked) =
+    let same : seen_after s c (with_draw c l.asked) ≡ seen_with s c.entries (draw_entry c l.asked) =
     (λ i. record { entries = c.entries ++ draw_entry c l.asked ∷ []; own = s.own ++ places (length c.entries) (one i) }) in
-    subst (λ (u : Seen). Draws id u lines ds t) same h.4
+    subst (λ (u : Seen). Draws id ws u lines ds t) same h.4
 
 abbrev pub IsDrawn : Entry → Type 0
 IsDrawn e = is_draw e ≡ true
 
-pub draws_enter : (id : ℕ) (lines : List DrawFields) (ds : List Drawing) (s t : Seen) → Draws id s lines ds t → HasEntered IsDrawn s t
-draws_enter id [] [] s t h = ([], subst (λ (u : Seen). Enters s [] u) (sym h) (enters_none s), tt)
-draws_enter id [] (d ∷ ds) s t h = absurd h
-draws_enter id (l ∷ lines) [] s t h = absurd h
-draws_enter id (l ∷ lines) (d ∷ ds) s t h =
-    let r = draws_enter id lines ds (seen_with s (h.0).entries (draw_entry h.0 l.asked)) t (first_draw id s l lines d ds t h) in
+pub draws_enter : (id : ℕ) (ws : List ℕ) (lines : List DrawFields) (ds : List Drawing) (s t : Seen) → Draws id ws s lines ds t → HasEntered IsDrawn s t
+draws_enter id ws [] [] s t h = ([], subst (λ (u : Seen). Enters s [] u) (sym h) (enters_none s), tt)
+draws_enter id ws [] (d ∷ ds) s t h = absurd h
+draws_enter id ws (l ∷ lines) [] s t h = absurd h
+draws_enter id ws (l ∷ lines) (d ∷ ds) s t h =
+    let r = draws_enter id ws lines ds (seen_with s (h.0).entries (draw_entry h.0 l.asked)) t (first_draw id ws s l lines d ds t h) in
     (draw_entry h.0 l.asked ∷ r.0, ((h.0).entries, (h.1).begins, r.1), (refl, r.2))

@@ -20,7 +20,7 @@ use Rattle.session.proofs.Reading.{after_readers}
 use Rattle.session.proofs.Staged.{steps_more}
 
 -- the first events happened, or were laid before their actors or after all
-pub record HasActed (s : Station) (events : List (Stage × Step)) (count : ℕ) (shots shown : List Shot) (old new : Cast) (ends : List Deed) : Type 0 where
+pub record HasActed {X : _} {F : _} {g : _} (s : Station X F g) (events : List (Stage × Step)) (count : ℕ) (shots shown : List Shot) (old new : Cast) (ends : List Deed) : Type 0 where
   pub ends_are : map view_deed ends ≡ steps_where is_after (take count events)
   pub stands : (setting : Setting) → setting.events ≡ events → CastStands setting s [] shots old → CastStands setting s (take count events) shown new
 
@@ -42,14 +42,14 @@ one_more items yielded x lt at' =
     ∙ ap (λ (e : Stage × Step). take k es ++ e ∷ []) (get_or-map view_staged items k x (view_staged x) lt ∙ ap view_staged (sym at'))
 
 -- an event that comes after all actors changes no seat
-pub cast_after : (setting : Setting) (s : Station) (done : List (Stage × Step)) (shots : List Shot) (cast : Cast) (e : Step) → CastStands setting s done shots cast → CastStands setting s (done ++ (After, e) ∷ []) shots cast
+pub cast_after : {X : _} {F : _} {g : _} (setting : Setting) (s : Station X F g) (done : List (Stage × Step)) (shots : List Shot) (cast : Cast) (e : Step) → CastStands setting s done shots cast → CastStands setting s (done ++ (After, e) ∷ []) shots cast
 cast_after setting s done shots cast e st = record {
   editors = after_editors s done cast.editors.items e st.editors;
   feeder = after_feeder s done shots cast.feeder e st.feeder;
   readers = after_readers setting done shots cast.readers.items e st.readers;
 }
 
-pub acted_none : (s : Station) (events : List (Stage × Step)) (shots : List Shot) (cast : Cast) → HasActed s events 0 shots shots cast cast []
+pub acted_none : {X : _} {F : _} {g : _} (s : Station X F g) (events : List (Stage × Step)) (shots : List Shot) (cast : Cast) → HasActed s events 0 shots shots cast cast []
 acted_none s events shots cast = record { ends_are = refl; stands = λ setting is st. st }
 
 pub same_twice : (a b c : Cast) → AreSameActors a b → AreSameActors b c → AreSameActors a c
@@ -60,7 +60,7 @@ mentioned_in old new same (Commit editor edits) m = subst (λ (ns : List ℕ). C
 mentioned_in old new same (Draw asked fates) m = m
 mentioned_in old new same (Open reader path) m = subst (λ (ns : List ℕ). Contains ns reader) (sym same.readers) m
 
-module _ (s : Station) (items yielded : List Staged) (x : Staged) (shots shown : List Shot) (old : Cast) (ends : List Deed)
+module _ {X : _} {F : _} {g : _} (s : Station X F g) (items yielded : List Staged) (x : Staged) (shots shown : List Shot) (old : Cast) (ends : List Deed)
     (lt : length yielded < length items) (at' : x ≡ get_or items (length yielded) x) where
   abbrev done : List (Stage × Step)
   done = take (length yielded) (map view_staged items)

@@ -26,36 +26,36 @@ asked_past [] ys h = refl
 asked_past (entries.Commit editor edits outcome ∷ xs) ys h = asked_past xs ys (first_fails is_draw (entries.Commit editor edits outcome) xs h).1
 asked_past (entries.Draw asked generation first count ∷ xs) ys h = let f = (first_fails is_draw (entries.Draw asked generation first count) xs h).0 in absurd (cc)
 
-pub drawings_past : (id : ℕ) (before : List Entry) (fates : List (List Fate)) (xs ys : List Entry) → filter is_draw xs ≡ []
-    → drawings_after id before fates (xs ++ ys) ≡ drawings_after id (before ++ xs) fates ys
-drawings_past id before fates [] ys h = ap (λ l. drawings_after id l fates ys) (sym (append-nil before))
-drawings_past id before fates (entries.Commit editor edits outcome ∷ xs) ys h =
-    drawings_past id (before ++ entries.Commit editor edits outcome ∷ []) fates xs ys (first_fails is_draw (entries.Commit editor edits outcome) xs h).1
-    ∙ ap (λ l. drawings_after id l fates ys) (append_assoc before (entries.Commit editor edits outcome ∷ []) xs)
-drawings_past id before fates (entries.Draw asked generation first count ∷ xs) ys h = let f = (first_fails is_draw (entries.Draw asked generation first count) xs h).0 in absurd (cc)
+pub drawings_past : (id : ℕ) (ws : List ℕ) (before : List Entry) (fates : List (List Fate)) (xs ys : List Entry) → filter is_draw xs ≡ []
+    → drawings_after id ws before fates (xs ++ ys) ≡ drawings_after id ws (before ++ xs) fates ys
+drawings_past id ws before fates [] ys h = ap (λ l. drawings_after id ws l fates ys) (sym (append-nil before))
+drawings_past id ws before fates (entries.Commit editor edits outcome ∷ xs) ys h =
+    drawings_past id ws (before ++ entries.Commit editor edits outcome ∷ []) fates xs ys (first_fails is_draw (entries.Commit editor edits outcome) xs h).1
+    ∙ ap (λ l. drawings_after id ws l fates ys) (append_assoc before (entries.Commit editor edits outcome ∷ []) xs)
+drawings_past id ws before fates (entries.Draw asked generation first count ∷ xs) ys h = let f = (first_fails is_draw (entries.Draw asked generation first count) xs h).0 in absurd (cc)
 
 asked_none : (xs : List Entry) → filter is_draw xs ≡ [] → asked_in xs ≡ []
 asked_none [] h = refl
 asked_none (entries.Commit editor edits outcome ∷ xs) h = asked_none xs (first_fails is_draw (entries.Commit editor edits outcome) xs h).1
 asked_none (entries.Draw asked generation first count ∷ xs) h = let f = (first_fails is_draw (entries.Draw asked generation first count) xs h).0 in absurd (cc)
 
-drawings_none : (id : ℕ) (before : List Entry) (fates : List (List Fate)) (xs : List Entry) → filter is_draw xs ≡ [] → drawings_after id before fates xs ≡ []
-drawings_none id before fates [] h = refl
-drawings_none id before fates (entries.Commit editor edits outcome ∷ xs) h =
-    drawings_none id (before ++ entries.Commit editor edits outcome ∷ []) fates xs (first_fails is_draw (entries.Commit editor edits outcome) xs h).1
-drawings_none id before fates (entries.Draw asked generation first count ∷ xs) h = let f = (first_fails is_draw (entries.Draw asked generation first count) xs h).0 in absurd (cc)
+drawings_none : (id : ℕ) (ws : List ℕ) (before : List Entry) (fates : List (List Fate)) (xs : List Entry) → filter is_draw xs ≡ [] → drawings_after id ws before fates xs ≡ []
+drawings_none id ws before fates [] h = refl
+drawings_none id ws before fates (entries.Commit editor edits outcome ∷ xs) h =
+    drawings_none id ws (before ++ entries.Commit editor edits outcome ∷ []) fates xs (first_fails is_draw (entries.Commit editor edits outcome) xs h).1
+drawings_none id ws before fates (entries.Draw asked generation first count ∷ xs) h = let f = (first_fails is_draw (entries.Draw asked generation first count) xs h).0 in absurd (cc)
 
 -- a draw on a history is a drawing of it
-drawing_on : (id : ℕ) (c : CatalogueState) (before : List Entry) (asked : ℕ) (fates : List Fate) → c.carousel ≡ id → c.entries ≡ before
-    → drawing_of (state_of id before) asked fates ≡ drawing_of c asked fates
-drawing_on id c before asked fates carousel is = sym (λ i. drawing_of (state_of (carousel i) (is i)) asked fates)
+drawing_on : (id : ℕ) (ws : List ℕ) (c : CatalogueState) (before : List Entry) (asked : ℕ) (fates : List Fate) → c.carousel ≡ id → c.weights ≡ ws → c.entries ≡ before
+    → drawing_of (state_of id ws before) asked fates ≡ drawing_of c asked fates
+drawing_on id ws c before asked fates carousel weighs is = sym (λ i. drawing_of (state_of (carousel i) (weighs i) (is i)) asked fates)
 
-module _ (id : ℕ) (history : List Entry) where
+module _ (id : ℕ) (ws : List ℕ) (history : List Entry) where
   abbrev pub AreDrawn : List DrawFields → List Drawing → List Entry → List Entry → Type 0
-  AreDrawn lines ds before es = (asked_in es ≡ asked_by lines) × (drawings_after id before (fates_in lines) es ≡ ds)
+  AreDrawn lines ds before es = (asked_in es ≡ asked_by lines) × (drawings_after id ws before (fates_in lines) es ≡ ds)
 
-  drawn_next : (l : DrawFields) (lines : List DrawFields) (d : Drawing) (ds : List Drawing) (s t : Seen) (before es : List Entry) → (c : CatalogueState) → GoesOnWith id s c
-      → d ≡ drawing_of c l.asked l.fates → Draws id (seen_with s c.entries (draw_entry c l.asked)) lines ds t
+  drawn_next : (l : DrawFields) (lines : List DrawFields) (d : Drawing) (ds : List Drawing) (s t : Seen) (before es : List Entry) → (c : CatalogueState) → GoesOnWith id ws s c
+      → d ≡ drawing_of c l.asked l.fates → Draws id ws (seen_with s c.entries (draw_entry c l.asked)) lines ds t
       → Begins t.entries history → Begins before s.entries → history ≡ before ++ es → AreToCome is_draw history (length before) s t
       → ((later : List Entry) → history ≡ (c.entries ++ draw_entry c l.asked ∷ []) ++ later → AreToCome is_draw history (length (c.entries ++ draw_entry c l.asked ∷ [])) (seen_with s c.entries (draw_entry c l.asked)) t
       → AreDrawn lines ds (c.entries ++ draw_entry c l.asked ∷ []) later)
@@ -63,7 +63,7 @@ module _ (id : ℕ) (history : List Entry) where
   drawn_next l lines d ds s t before es c on drew chain ends begins is come rest =
       let e : Entry = draw_entry c l.asked in
       let next : Seen = seen_with s c.entries e in
-      let came = draws_enter id lines ds next t chain in
+      let came = draws_enter id ws lines ds next t chain in
       let whole : Begins (c.entries ++ e ∷ []) history = begins_on (c.entries ++ e ∷ []) t.entries history (enters_begins next came.0 t came.1) ends in
       let b = begins_on before s.entries c.entries begins on.begins in
       let between = b.0 in
@@ -84,12 +84,12 @@ module _ (id : ℕ) (history : List Entry) where
       let still = still_own s c.entries k (omega (arith, far, long)) in
       omega (arith, more, still)) in (
         ap asked_in parts ∙ asked_past between (e ∷ later) none ∙ ap (λ as'. l.asked ∷ as') r.0,
-        ap (drawings_after id before (fates_in (l ∷ lines))) parts ∙ drawings_past id before (fates_in (l ∷ lines)) between (e ∷ later) none
-            ∙ ap (λ p. drawings_after id p (fates_in (l ∷ lines)) (e ∷ later)) (sym b.1)
-            ∙ (λ i. (drawing_on id c c.entries l.asked l.fates on.carousel refl ∙ sym drew) i ∷ r.1 i),
+        ap (drawings_after id ws before (fates_in (l ∷ lines))) parts ∙ drawings_past id ws before (fates_in (l ∷ lines)) between (e ∷ later) none
+            ∙ ap (λ p. drawings_after id ws p (fates_in (l ∷ lines)) (e ∷ later)) (sym b.1)
+            ∙ (λ i. (drawing_on id ws c c.entries l.asked l.fates on.carousel on.weighs refl ∙ sym drew) i ∷ r.1 i),
       )
 
-  pub are_drawn : (lines : List DrawFields) (ds : List Drawing) (s t : Seen) (before es : List Entry) → Draws id s lines ds t
+  pub are_drawn : (lines : List DrawFields) (ds : List Drawing) (s t : Seen) (before es : List Entry) → Draws id ws s lines ds t
       → Begins t.entries history → Begins before s.entries → history ≡ before ++ es → AreToCome is_draw history (length before) s t → AreDrawn lines ds before es
   are_drawn [] [] s t before es chain ends begins is come =
       let none : filter is_draw es ≡ [] = none_pass is_draw es (λ k e here passes.
@@ -97,12 +97,12 @@ module _ (id : ℕ) (history : List Entry) where
       let less = come (length before + k) e (omega arith) there passes in
       let same = ap (λ (u : Seen). times (length before + k) u.own) chain in
       omega (arith, less, same)) in
-      (asked_none es none, drawings_none id before [] es none)
+      (asked_none es none, drawings_none id ws before [] es none)
   are_drawn [] (d ∷ ds) s t before es chain ends begins is come = absurd chain
   are_drawn (l ∷ lines) [] s t before es chain ends begins is come = absurd chain
   are_drawn (l ∷ lines) (d ∷ ds) s t before es chain ends begins is come =
       let c : CatalogueState = chain.0 in
       let e : Entry = draw_entry c l.asked in
-      let next = first_draw id s l lines d ds t chain in
+      let next = first_draw id ws s l lines d ds t chain in
       drawn_next l lines d ds s t before es c chain.1 chain.3 next ends begins is come
       (λ later cut own. are_drawn lines ds (seen_with s c.entries e) t (c.entries ++ e ∷ []) later next ends ([], sym (append-nil (c.entries ++ e ∷ []))) cut own)

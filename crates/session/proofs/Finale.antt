@@ -13,9 +13,8 @@ use Rattle.logbook.specs.Pages.{Book}
 use Rattle.open_history.specs.Opens.{AllAnswered}
 use Rattle.open_history.specs.declared.entry.OpenEntry.{OpenEntry}
 use Rattle.station.specs.declared.station.Station.{Station}
-use Rattle.station.specs.Passes.{carousel_of}
-use Rattle.generation_catalogue.specs.History.{drawn}
-use Rattle.generation_catalogue.specs.View.{state}
+use Rattle.station.specs.Passes.{carousel_of, weights_of}
+use Rattle.generation_catalogue.specs.History.{with_draw}
 use Rattle.generation_catalogue.specs.declared.entry.Entry.{Entry}
 use Rattle.carousel_world.specs.Events.{Step, Commit, Draw, Open}
 use Rattle.carousel_world.specs.World.{Drawing}
@@ -24,7 +23,7 @@ use Rattle.session_script.specs.Scripts.{Fields, LineFields}
 use Rattle.rehearsal.specs.Lines.{Pending, none_pending, pending_after, events_of_line, events_from, events_of}
 use Rattle.session_history.specs.declared.opens.ReaderOpens.{ReaderOpens}
 use Rattle.session_history.specs.Merging.{merge_of}
-use Rattle.session_history.specs.Merges.{ReaderFields, merging, reader_view, fates_view}
+use Rattle.session_history.specs.Merges.{ReaderFields, session_merge, reader_view, fates_view}
 use Rattle.session_history.specs.Merged.{AreParts}
 use Rattle.session_actors.specs.Chains.{Seen, Draws, DrawFields, seen_after}
 use Rattle.session_actors.specs.Opened.{Asked, AreOpened, HasOpened}
@@ -32,14 +31,13 @@ use Rattle.session_actors.specs.Seats.{HasFed, asked_at}
 use Rattle.session_actors.specs.declared.editor.EditorSeat.{EditorSeat}
 use Rattle.session_actors.specs.declared.feeder.FeederSeat.{FeederSeat}
 use Rattle.session_actors.specs.declared.reader.ReaderSeat.{ReaderSeat}
-use Rattle.session.specs.declared.ending.Closed.{Closed}
 use Rattle.session.specs.declared.ending.LastOpen.{LastOpen}
 use Rattle.session.specs.Lines.{commits_by, draws_in, opens_by, asked_from, asked_of, is_draw_before, least_for, staged_from}
 use Rattle.session.specs.Gathering.{IsGathered}
 use Rattle.session.specs.Played.{IsPlayed, AllRead, PlayedIsASession, fates_of, opens_of}
 use Rattle.session.specs.Sessions.{IsSession}
 use Rattle.session.specs.Acting.{Setting, draws_before, draws_of, readers_of}
-use Rattle.session.specs.Ending.{AllOpenedLast, AreDone, EditorsDone, HasGathered, HasOpenedLast, IsEnd, IsToEnd, MayOpenLast, ReaderDone, at_end, drawn_all, open_step, opens_in, paths_of, steps}
+use Rattle.session.specs.Ending.{AllOpenedLast, AreDone, ClosedFields, EditorsDone, HasGathered, HasOpenedLast, IsEnd, IsToEnd, MayOpenLast, ReaderDone, at_end, drawn_all, open_step, opens_in, paths_of, steps}
 use Rattle.session.proofs.Staged.{asked_more, commits_more, draws_more, opens_more}
 
 -- ---- the events
@@ -175,18 +173,18 @@ module _ (script : Fields) (setting : Setting) (done : List (Stage × Step)) (en
 
   -- ---- all of it
 
-  drawings_count : (id : ℕ) (s : Seen) (lines : List DrawFields) (ds : List Drawing) (x : Seen) → Draws id s lines ds x → length ds ≡ length lines
-  drawings_count id s [] [] x h = refl
-  drawings_count id s [] (d ∷ ds) x h = absurd h
-  drawings_count id s (l ∷ lines) [] x h = absurd h
-  drawings_count id s (l ∷ lines) (d ∷ ds) x h = ap suc (drawings_count id (seen_after s h.0 (drawn h.0 l.asked)) lines ds x h.4)
+  drawings_count : (id : ℕ) (ws : List ℕ) (s : Seen) (lines : List DrawFields) (ds : List Drawing) (x : Seen) → Draws id ws s lines ds x → length ds ≡ length lines
+  drawings_count id ws s [] [] x h = refl
+  drawings_count id ws s [] (d ∷ ds) x h = absurd h
+  drawings_count id ws s (l ∷ lines) [] x h = absurd h
+  drawings_count id ws s (l ∷ lines) (d ∷ ds) x h = ap suc (drawings_count id ws (seen_after s h.0 (with_draw h.0 l.asked)) lines ds x h.4)
 
-  module _ (s : Station) (numbers : List ℕ) (editors : List EditorSeat) (feeder : FeederSeat) (readers : List ReaderSeat) (first : List Shot) (d : AreDone script setting done s numbers editors feeder readers first) where
+  module _ {X : _} {F : _} {g : _} (s : Station X F g) (numbers : List ℕ) (editors : List EditorSeat) (feeder : FeederSeat) (readers : List ReaderSeat) (first : List Shot) (d : AreDone script setting done s numbers editors feeder readers first) where
     -- one shot was shown before the draws and one after each
     pub shown_count : length first ≡ length (draws_in (steps done)) + 1
     shown_count =
         let shots = d.fed.shown.shown.count in
-        let drawings = drawings_count (carousel_of s) _ (draws_in (steps done)) d.fed.drawings _ d.fed.draws in
+        let drawings = drawings_count (carousel_of s) (weights_of s) _ (draws_in (steps done)) d.fed.drawings _ d.fed.draws in
         omega (arith, shots, drawings)
 
     pub may_draw : (most : ℕ) → most ≡ draws_of setting → length first + length (draws_in ends) ≤ most + 1
@@ -202,28 +200,28 @@ module _ (script : Fields) (setting : Setting) (done : List (Stage × Step)) (en
         (subst (λ (rs : List ReaderSeat). All (MayOpenLast board shots opens) rs) (sym lent_is)
         (may_open board shots opens readers (same ∙ is) (all_shown shots shown) opens_are d.read))
 
-    module _ (e0 e1 : Closed) (shots : List Shot) (opens : List LastOpen) (news : List ReaderSeat)
+    module _ (e0 e1 : ClosedFields) (shots : List Shot) (opens : List LastOpen) (news : List ReaderSeat)
         (gathered : (numbers : List ℕ) (events : List Step) (draws : List DrawFields) (shots : List Shot) → EditorsDone s numbers events editors → HasFed s draws feeder shots
-        → HasGathered (carousel_of s) (map (λ (n : ℕ). commits_by n events) numbers) draws shots e0)
-        (drew : state e1.catalogue ≡ drawn_all (state e0.catalogue) (draws_in ends))
-        (went_on : (id : ℕ) (commits : List (List (List Edit))) (draws : List DrawFields) → HasGathered id commits draws first e0 → HasGathered id commits (draws ++ draws_in ends) shots e1)
+        → HasGathered (carousel_of s) (weights_of s) (map (λ (n : ℕ). commits_by n events) numbers) draws shots e0)
+        (drew : e1.catalogue ≡ drawn_all e0.catalogue (draws_in ends))
+        (went_on : (id : ℕ) (weights : List ℕ) (commits : List (List (List Edit))) (draws : List DrawFields) → HasGathered id weights commits draws first e0 → HasGathered id weights commits (draws ++ draws_in ends) shots e1)
         (opens_are : map open_step opens ≡ opens_in ends) (read : AllOpenedLast shots opens readers news)
         (answered : All (λ (seat : ReaderSeat). AllAnswered seat.pass.known seat.pass.opens) news) where
-      all_gathered : HasGathered (carousel_of s) (map (λ (n : ℕ). commits_by n (steps done)) numbers) (draws_in (steps done) ++ draws_in ends) shots e1
-      all_gathered = went_on (carousel_of s) (map (λ (n : ℕ). commits_by n (steps done)) numbers) (draws_in (steps done)) (gathered numbers (steps done) (draws_in (steps done)) first d.committed d.fed)
+      all_gathered : HasGathered (carousel_of s) (weights_of s) (map (λ (n : ℕ). commits_by n (steps done)) numbers) (draws_in (steps done) ++ draws_in ends) shots e1
+      all_gathered = went_on (carousel_of s) (weights_of s) (map (λ (n : ℕ). commits_by n (steps done)) numbers) (draws_in (steps done)) (gathered numbers (steps done) (draws_in (steps done)) first d.committed d.fed)
 
-      is_played : IsPlayed script (state e1.catalogue) all_gathered.drawings shots (map (λ (seat : ReaderSeat). seat.pass) news)
+      is_played : IsPlayed script e1.catalogue all_gathered.drawings shots (map (λ (seat : ReaderSeat). seat.pass) news)
       is_played = record {
         carousel = all_gathered.carousel ∙ d.carousel;
-        gathered = subst (λ (commits : List (List (List Edit))). IsGathered commits (draws_in (events_of script)) (state e1.catalogue) all_gathered.drawings)
+        gathered = subst (λ (commits : List (List (List Edit))). IsGathered commits (draws_in (events_of script)) e1.catalogue all_gathered.drawings)
             (λ i. map (λ (n : ℕ). commits_split n i) (d.numbers_are i))
-            (subst (λ (draws : List DrawFields). IsGathered (map (λ (n : ℕ). commits_by n (steps done)) numbers) draws (state e1.catalogue) all_gathered.drawings) draws_split all_gathered.gathered);
+            (subst (λ (draws : List DrawFields). IsGathered (map (λ (n : ℕ). commits_by n (steps done)) numbers) draws e1.catalogue all_gathered.drawings) draws_split all_gathered.gathered);
         shown = all_gathered.shown.shown;
         read = subst (λ (rs : List ℕ). AllRead script shots rs (map (λ (seat : ReaderSeat). seat.pass) news)) d.readers_are (all_read shots opens readers news opens_are d.read read answered);
-        settled = λ settles. (state e0.catalogue, drew ∙ ap (drawn_all (state e0.catalogue)) (t.settled settles));
+        settled = λ settles. (e0.catalogue, drew ∙ ap (drawn_all e0.catalogue) (t.settled settles));
       }
 
-      fates_are : map fates_view e1.fates.items ≡ fates_of script
+      fates_are : e1.fates ≡ fates_of script
       fates_are = all_gathered.fates ∙ ap (map (λ (line : DrawFields). line.fates)) draws_split
 
       -- the merge of what was read is a session
@@ -236,19 +234,20 @@ module _ (script : Fields) (setting : Setting) (done : List (Stage × Step)) (en
             both [] = refl
             both (x ∷ xs) = ap (λ (zs : List ReaderFields). opens_of x.pass ∷ zs) (both xs)
 
-        pub are_parts : AreParts (state e1.catalogue).entries (map fates_view e1.fates.items) numbers passes
+        pub are_parts : AreParts e1.catalogue.entries e1.fates numbers passes
         are_parts =
-            subst (λ (fs : List (List Fate)). AreParts (state e1.catalogue).entries fs numbers passes) (sym fates_are)
-            (subst (λ (ns : List ℕ). AreParts (state e1.catalogue).entries (fates_of script) ns passes) (sym d.numbers_are)
-            (subst (λ (ps : List ReaderFields). AreParts (state e1.catalogue).entries (fates_of script) script.editors ps) kept
-            (law script (state e1.catalogue) all_gathered.drawings shots (map (λ (seat : ReaderSeat). seat.pass) news) t.arranged is_played).0))
+            subst (λ (fs : List (List Fate)). AreParts e1.catalogue.entries fs numbers passes) (sym fates_are)
+            (subst (λ (ns : List ℕ). AreParts e1.catalogue.entries (fates_of script) ns passes) (sym d.numbers_are)
+            (subst (λ (ps : List ReaderFields). AreParts e1.catalogue.entries (fates_of script) script.editors ps) kept
+            (law script e1.catalogue all_gathered.drawings shots (map (λ (seat : ReaderSeat). seat.pass) news) t.arranged is_played).0))
 
-        pub is_session : IsSession script (merge_of (merging numbers) passes (map fates_view e1.fates.items) (state e1.catalogue).entries)
+        pub is_session : IsSession (weights_of s) script (merge_of (session_merge numbers) passes e1.fates e1.catalogue.entries)
         is_session =
-            subst (λ (fs : List (List Fate)). IsSession script (merge_of (merging numbers) passes fs (state e1.catalogue).entries)) (sym fates_are)
-            (subst (λ (ns : List ℕ). IsSession script (merge_of (merging ns) passes (fates_of script) (state e1.catalogue).entries)) (sym d.numbers_are)
-            (subst (λ (ps : List ReaderFields). IsSession script (merge_of (merging script.editors) ps (fates_of script) (state e1.catalogue).entries)) kept
-            (law script (state e1.catalogue) all_gathered.drawings shots (map (λ (seat : ReaderSeat). seat.pass) news) t.arranged is_played).1))
+            subst (λ (ws : List ℕ). IsSession ws script (merge_of (session_merge numbers) passes e1.fates e1.catalogue.entries)) all_gathered.weighs
+            (subst (λ (fs : List (List Fate)). IsSession e1.catalogue.weights script (merge_of (session_merge numbers) passes fs e1.catalogue.entries)) (sym fates_are)
+            (subst (λ (ns : List ℕ). IsSession e1.catalogue.weights script (merge_of (session_merge ns) passes (fates_of script) e1.catalogue.entries)) (sym d.numbers_are)
+            (subst (λ (ps : List ReaderFields). IsSession e1.catalogue.weights script (merge_of (session_merge script.editors) ps (fates_of script) e1.catalogue.entries)) kept
+            (law script e1.catalogue all_gathered.drawings shots (map (λ (seat : ReaderSeat). seat.pass) news) t.arranged is_played).1)))
 
 pub if_ok_map : {T E : Type 0} {P Q : T → Type 0} (r : Result T E) → ((x : T) → P x → Q x) → IfOk r P → IfOk r Q
 if_ok_map (Ok x) f h = f x h
@@ -259,33 +258,33 @@ pub written_back : {A : Type 0} (n : ℕ) (new lent all : List A) → length new
 written_back n new lent all same is len =
     take_at new (drop (length new) all) n (let l = ap length is in omega (arith, same, l, len))
 
-abbrev pub FitsAndTells : Fields → List ℕ → List Entry → List (Vec Fate Global) → List ReaderOpens → Type 0
-FitsAndTells script numbers entries fates passes =
-    AreParts entries (map fates_view fates) numbers (map reader_view passes)
-    × IsSession script (merge_of (merging numbers) (map reader_view passes) (map fates_view fates) entries)
+abbrev pub FitsAndTells : List ℕ → Fields → List ℕ → List Entry → List (List Fate) → List ReaderOpens → Type 0
+FitsAndTells weights script numbers entries fates passes =
+    AreParts entries fates numbers (map reader_view passes)
+    × IsSession weights script (merge_of (session_merge numbers) (map reader_view passes) fates entries)
 
 -- what is merged fits together, and tells a session
-pub ends_well : PlayedIsASession → (s : Station) (editors : List EditorSeat) (feeder : FeederSeat) (readers lent old new : List ReaderSeat) (first shots : List Shot) (e0 e1 : Closed)
+pub ends_well : PlayedIsASession → {X : _} {F : _} {g : _} (s : Station X F g) (editors : List EditorSeat) (feeder : FeederSeat) (readers lent old new : List ReaderSeat) (first shots : List Shot) (e0 e1 : ClosedFields)
     (opens given : List LastOpen) (kept passes : List ReaderOpens) (fates : List (Vec Fate Global)) (entries : List Entry) (numbers : List ℕ) (ends : List Step)
     → ((numbers : List ℕ) (events : List Step) (draws : List DrawFields) (shots : List Shot) → EditorsDone s numbers events editors → HasFed s draws feeder shots
-    → HasGathered (carousel_of s) (map (λ (n : ℕ). commits_by n events) numbers) draws shots e0)
-    → state e1.catalogue ≡ drawn_all (state e0.catalogue) (draws_in ends)
-    → ((id : ℕ) (commits : List (List (List Edit))) (draws : List DrawFields) → HasGathered id commits draws first e0 → HasGathered id commits (draws ++ draws_in ends) shots e1)
+    → HasGathered (carousel_of s) (weights_of s) (map (λ (n : ℕ). commits_by n events) numbers) draws shots e0)
+    → e1.catalogue ≡ drawn_all e0.catalogue (draws_in ends)
+    → ((id : ℕ) (weights : List ℕ) (commits : List (List (List Edit))) (draws : List DrawFields) → HasGathered id weights commits draws first e0 → HasGathered id weights commits (draws ++ draws_in ends) shots e1)
     → map open_step opens ≡ opens_in ends
     → given ≡ opens → lent ≡ readers → AllOpenedLast shots given lent old → new ≡ old
     → All (λ (seat : ReaderSeat). AllAnswered seat.pass.known seat.pass.opens) new
     → map reader_view kept ≡ map (λ (seat : ReaderSeat). opens_of seat.pass) new
-    → passes ≡ kept → fates ≡ e1.fates.items → entries ≡ (state e1.catalogue).entries
+    → passes ≡ kept → map fates_view fates ≡ e1.fates → entries ≡ e1.catalogue.entries
     → (script : Fields) (setting : Setting) (done : List (Stage × Step)) → IsToEnd script setting done ends → AreDone script setting done s numbers editors feeder readers first
-    → FitsAndTells script numbers entries fates passes
+    → FitsAndTells (weights_of s) script numbers entries (map fates_view fates) passes
 ends_well law s editors feeder readers lent old new first shots e0 e1 opens given kept passes fates entries numbers ends gathered drew went_on opens_are given_is lent_is read new_is answered kept_is
     passes_is fates_is entries_is script setting done t d =
     let all : AllOpenedLast shots opens readers new =
     subst (λ (rs : List ReaderSeat). AllOpenedLast shots opens readers rs) (sym new_is)
     (subst (λ (rs : List ReaderSeat). AllOpenedLast shots opens rs old) lent_is (subst (λ (os : List LastOpen). AllOpenedLast shots os lent old) given_is read)) in
-    subst (λ (es : List Entry). FitsAndTells script numbers es fates passes) (sym entries_is)
-    (subst (λ (fs : List (Vec Fate Global)). FitsAndTells script numbers (state e1.catalogue).entries fs passes) (sym fates_is)
-    (subst (λ (ps : List ReaderOpens). FitsAndTells script numbers (state e1.catalogue).entries e1.fates.items ps) (sym passes_is) (
+    subst (λ (es : List Entry). FitsAndTells (weights_of s) script numbers es (map fates_view fates) passes) (sym entries_is)
+    (subst (λ (fs : List (List Fate)). FitsAndTells (weights_of s) script numbers e1.catalogue.entries fs passes) (sym fates_is)
+    (subst (λ (ps : List ReaderOpens). FitsAndTells (weights_of s) script numbers e1.catalogue.entries e1.fates ps) (sym passes_is) (
       are_parts script setting done ends t s numbers editors feeder readers first d e0 e1 shots opens new gathered drew went_on opens_are all answered law (map reader_view kept) kept_is,
       is_session script setting done ends t s numbers editors feeder readers first d e0 e1 shots opens new gathered drew went_on opens_are all answered law (map reader_view kept) kept_is,
     )))

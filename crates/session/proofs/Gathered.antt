@@ -23,33 +23,33 @@ each_get P (y ∷ ys) (suc k) x h at = each_get P ys k x h.1 at
 
 -- ---- the actors by their places
 
-chain_at : (id first : ℕ) (editors : List (List (List Edit))) (ss : List Seen) → AllCommitted id first editors ss → (place : ℕ) (lines : List (List Edit)) → slice_get editors place ≡ Some lines
-    → (s : Seen) × (slice_get ss place ≡ Some s) × Commits id (first + place) nothing_seen lines s
-chain_at id first [] ss all place lines h = absurd (cc)
-chain_at id first (l ∷ more) [] all place lines h = absurd all
-chain_at id first (l ∷ more) (s ∷ ss) all zero lines h =
+chain_at : (id : ℕ) (ws : List ℕ) (first : ℕ) (editors : List (List (List Edit))) (ss : List Seen) → AllCommitted id ws first editors ss → (place : ℕ) (lines : List (List Edit)) → slice_get editors place ≡ Some lines
+    → (s : Seen) × (slice_get ss place ≡ Some s) × Commits id ws (first + place) nothing_seen lines s
+chain_at id ws first [] ss all place lines h = absurd (cc)
+chain_at id ws first (l ∷ more) [] all place lines h = absurd all
+chain_at id ws first (l ∷ more) (s ∷ ss) all zero lines h =
     let same : l ≡ lines = cc in
     let here : first ≡ first + 0 = omega arith in
-    (s, refl, subst (λ (p : ℕ). Commits id p nothing_seen lines s) here (subst (λ (x : List (List Edit)). Commits id first nothing_seen x s) same all.0))
-chain_at id first (l ∷ more) (s ∷ ss) all (suc place) lines h =
-    let r = chain_at id (suc first) more ss all.1 place lines h in
+    (s, refl, subst (λ (p : ℕ). Commits id ws p nothing_seen lines s) here (subst (λ (x : List (List Edit)). Commits id ws first nothing_seen x s) same all.0))
+chain_at id ws first (l ∷ more) (s ∷ ss) all (suc place) lines h =
+    let r = chain_at id ws (suc first) more ss all.1 place lines h in
     let further : suc first + place ≡ first + suc place = omega arith in
-    (r.0, r.1, subst (λ (p : ℕ). Commits id p nothing_seen lines r.0) further r.2)
+    (r.0, r.1, subst (λ (p : ℕ). Commits id ws p nothing_seen lines r.0) further r.2)
 
-editor_at : (id first : ℕ) (editors : List (List (List Edit))) (ss : List Seen) → AllCommitted id first editors ss → (place : ℕ) (s : Seen) → slice_get ss place ≡ Some s
+editor_at : (id : ℕ) (ws : List ℕ) (first : ℕ) (editors : List (List (List Edit))) (ss : List Seen) → AllCommitted id ws first editors ss → (place : ℕ) (s : Seen) → slice_get ss place ≡ Some s
     → (place < length editors) × HasEntered (IsCommitAt (first + place)) nothing_seen s
-editor_at id first [] [] all place s h = absurd (cc)
-editor_at id first [] (x ∷ ss) all place s h = absurd all
-editor_at id first (l ∷ more) [] all place s h = absurd (cc)
-editor_at id first (l ∷ more) (x ∷ ss) all zero s h =
+editor_at id ws first [] [] all place s h = absurd (cc)
+editor_at id ws first [] (x ∷ ss) all place s h = absurd all
+editor_at id ws first (l ∷ more) [] all place s h = absurd (cc)
+editor_at id ws first (l ∷ more) (x ∷ ss) all zero s h =
     let same : x ≡ s = cc in
     let here : first ≡ first + 0 = omega arith in (
       omega arith,
       subst (λ (p : ℕ). HasEntered (IsCommitAt p) nothing_seen s) here
-          (subst (λ (y : Seen). HasEntered (IsCommitAt first) nothing_seen y) same (commits_enter id first l nothing_seen x (eq-eqb first first refl) all.0)),
+          (subst (λ (y : Seen). HasEntered (IsCommitAt first) nothing_seen y) same (commits_enter id ws first l nothing_seen x (eq-eqb first first refl) all.0)),
     )
-editor_at id first (l ∷ more) (x ∷ ss) all (suc place) s h =
-    let r = editor_at id (suc first) more ss all.1 place s h in
+editor_at id ws first (l ∷ more) (x ∷ ss) all (suc place) s h =
+    let r = editor_at id ws (suc first) more ss all.1 place s h in
     let further : suc first + place ≡ first + suc place = omega arith in
     (omega (arith, r.0), subst (λ (p : ℕ). HasEntered (IsCommitAt p) nothing_seen s) further r.1)
 
@@ -71,8 +71,8 @@ placed_draw n (entries.Draw asked generation first count) h = tt
 
 -- ---- who an entry is of
 
-module _ (id : ℕ) (history : List Entry) (editors : List (List (List Edit))) (editors_seen : List Seen) (feeder : Seen)
-    (all : AllCommitted id 0 editors editors_seen)
+module _ (id : ℕ) (ws : List ℕ) (history : List Entry) (editors : List (List (List Edit))) (editors_seen : List Seen) (feeder : Seen)
+    (all : AllCommitted id ws 0 editors editors_seen)
     (fed : HasEntered IsDrawn nothing_seen feeder)
     (seen : histories.Each (λ (s : Seen). Begins s.entries history) (editors_seen ++ feeder ∷ []))
     (owned : (place : ℕ) → total (λ (s : Seen). times place s.own) (editors_seen ++ feeder ∷ []) ≡ once_within 0 (length history) place) where
@@ -84,7 +84,7 @@ module _ (id : ℕ) (history : List Entry) (editors : List (List (List Edit))) (
 
   by_editor : (k : ℕ) (e : Entry) → slice_get history k ≡ Some e → (i : ℕ) (s : Seen) → Begins s.entries history → 0 < times k s.own → slice_get editors_seen i ≡ Some s → IsEditors k e
   by_editor k e here i s begins more at =
-      let r = editor_at id 0 editors editors_seen all i s at in
+      let r = editor_at id ws 0 editors editors_seen all i s at in
       let itself : 0 + i ≡ i = omega arith in
       let entered : HasEntered (IsCommitAt i) nothing_seen s = subst (λ (p : ℕ). HasEntered (IsCommitAt p) nothing_seen s) itself r.1 in
       let one = enters_own (IsCommitAt i) nothing_seen entered.0 s history entered.1 entered.2 begins k more in
@@ -149,25 +149,25 @@ module _ (id : ℕ) (history : List Entry) (editors : List (List (List Edit))) (
 
   pub editors_lines : HistoriesGrow → (place : ℕ) (lines : List (List Edit)) → slice_get editors place ≡ Some lines → AreEntered place [] lines history
   editors_lines grow place lines at =
-      let r = chain_at id 0 editors editors_seen all place lines at in
+      let r = chain_at id ws 0 editors editors_seen all place lines at in
       let itself : 0 + place ≡ place = omega arith in
       let s : Seen = r.0 in
-      let chain : Commits id place nothing_seen lines s = subst (λ (p : ℕ). Commits id p nothing_seen lines s) itself r.2 in
-      are_entered grow id place (eq-eqb place place refl) history lines nothing_seen s [] history chain (editor_begins place s r.1) ([], refl) refl
+      let chain : Commits id ws place nothing_seen lines s = subst (λ (p : ℕ). Commits id ws p nothing_seen lines s) itself r.2 in
+      are_entered grow id ws place (eq-eqb place place refl) history lines nothing_seen s [] history chain (editor_begins place s r.1) ([], refl) refl
       (λ k e far here passes. editor_owns place k s e r.1 here passes)
 
-  pub feeders_lines : (draws : List DrawFields) (drawings : List Drawing) → Draws id nothing_seen draws drawings feeder → AreDrawn id history draws drawings [] history
+  pub feeders_lines : (draws : List DrawFields) (drawings : List Drawing) → Draws id ws nothing_seen draws drawings feeder → AreDrawn id ws history draws drawings [] history
   feeders_lines draws drawings chain =
-      are_drawn id history draws drawings nothing_seen feeder [] history chain feeder_begins ([], refl) refl (λ k e far here passes. feeder_owns k e here passes)
+      are_drawn id ws history draws drawings nothing_seen feeder [] history chain feeder_begins ([], refl) refl (λ k e far here passes. feeder_owns k e here passes)
 
 pub actors : HistoriesGrow → ActorsGather
 actors grow editors draws drawings c editors_seen feeder is all chain seen owned =
-    let fed = draws_enter c.carousel draws drawings nothing_seen feeder chain in
-    let lines = feeders_lines c.carousel c.entries editors editors_seen feeder all fed seen owned draws drawings chain in
+    let fed = draws_enter c.carousel c.weights draws drawings nothing_seen feeder chain in
+    let lines = feeders_lines c.carousel c.weights c.entries editors editors_seen feeder all fed seen owned draws drawings chain in
     record {
       history = is;
-      placed = each_from_get (IsPlaced (length editors)) c.entries (is_placed c.carousel c.entries editors editors_seen feeder all fed seen owned);
-      commits = editors_lines c.carousel c.entries editors editors_seen feeder all fed seen owned grow;
+      placed = each_from_get (IsPlaced (length editors)) c.entries (is_placed c.carousel c.weights c.entries editors editors_seen feeder all fed seen owned);
+      commits = editors_lines c.carousel c.weights c.entries editors editors_seen feeder all fed seen owned grow;
       asked = lines.0;
       drawn = lines.1;
     }

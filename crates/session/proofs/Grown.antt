@@ -60,19 +60,19 @@ asked_more (entries.Commit editor edits outcome ∷ es) asked generation first c
 asked_more (entries.Draw a g f n ∷ es) asked generation first count = ap (λ l. a ∷ l) (asked_more es asked generation first count)
 
 -- the last draw has the last of the fates
-drawings_more : (id : ℕ) (before : List Entry) (fates : List (List Fate)) (last : List Fate) (es : List Entry) (asked generation first count : ℕ) → length fates ≡ length (asked_in es)
-    → drawings_after id before (fates ++ last ∷ []) (es ++ entries.Draw asked generation first count ∷ [])
-    ≡ drawings_after id before fates es ++ drawing_of (state_of id (before ++ es)) asked last ∷ []
-drawings_more id before [] last [] asked generation first count e = ap (λ l. drawing_of (state_of id l) asked last ∷ []) (sym (append-nil before))
-drawings_more id before (f ∷ fates) last [] asked generation first count e = absurd (omega (arith, e))
-drawings_more id before fates last (entries.Commit editor edits outcome ∷ es) asked generation first count e =
-    drawings_more id (before ++ entries.Commit editor edits outcome ∷ []) fates last es asked generation first count e
-    ∙ ap (λ l. drawings_after id (before ++ entries.Commit editor edits outcome ∷ []) fates es ++ drawing_of (state_of id l) asked last ∷ []) (append_assoc before (entries.Commit editor edits outcome ∷ []) es)
-drawings_more id before [] last (entries.Draw a g n k ∷ es) asked generation first count e = absurd (omega (arith, e))
-drawings_more id before (f ∷ fates) last (entries.Draw a g n k ∷ es) asked generation first count e =
-    ap (λ l. drawing_of (state_of id before) a f ∷ l)
-    (drawings_more id (before ++ entries.Draw a g n k ∷ []) fates last es asked generation first count (omega (arith, e))
-    ∙ ap (λ l. drawings_after id (before ++ entries.Draw a g n k ∷ []) fates es ++ drawing_of (state_of id l) asked last ∷ []) (append_assoc before (entries.Draw a g n k ∷ []) es))
+drawings_more : (id : ℕ) (ws : List ℕ) (before : List Entry) (fates : List (List Fate)) (last : List Fate) (es : List Entry) (asked generation first count : ℕ) → length fates ≡ length (asked_in es)
+    → drawings_after id ws before (fates ++ last ∷ []) (es ++ entries.Draw asked generation first count ∷ [])
+    ≡ drawings_after id ws before fates es ++ drawing_of (state_of id ws (before ++ es)) asked last ∷ []
+drawings_more id ws before [] last [] asked generation first count e = ap (λ l. drawing_of (state_of id ws l) asked last ∷ []) (sym (append-nil before))
+drawings_more id ws before (f ∷ fates) last [] asked generation first count e = absurd (omega (arith, e))
+drawings_more id ws before fates last (entries.Commit editor edits outcome ∷ es) asked generation first count e =
+    drawings_more id ws (before ++ entries.Commit editor edits outcome ∷ []) fates last es asked generation first count e
+    ∙ ap (λ l. drawings_after id ws (before ++ entries.Commit editor edits outcome ∷ []) fates es ++ drawing_of (state_of id ws l) asked last ∷ []) (append_assoc before (entries.Commit editor edits outcome ∷ []) es)
+drawings_more id ws before [] last (entries.Draw a g n k ∷ es) asked generation first count e = absurd (omega (arith, e))
+drawings_more id ws before (f ∷ fates) last (entries.Draw a g n k ∷ es) asked generation first count e =
+    ap (λ l. drawing_of (state_of id ws before) a f ∷ l)
+    (drawings_more id ws (before ++ entries.Draw a g n k ∷ []) fates last es asked generation first count (omega (arith, e))
+    ∙ ap (λ l. drawings_after id ws (before ++ entries.Draw a g n k ∷ []) fates es ++ drawing_of (state_of id ws l) asked last ∷ []) (append_assoc before (entries.Draw a g n k ∷ []) es))
 
 same_count : (lines : List DrawFields) → length (fates_in lines) ≡ length (asked_by lines)
 same_count [] = refl
@@ -88,7 +88,7 @@ grows editors draws drawings c line h room some most =
       placed = each_more (length editors) c.entries (entries.Draw line.asked generation first count) h.placed tt;
       commits = λ place lines at. entered_more place [] lines c.entries line.asked generation first count (h.commits place lines at);
       asked = asked_more c.entries line.asked generation first count ∙ ap (λ l. l ++ line.asked ∷ []) h.asked ∙ sym (map-append (λ (d : DrawFields). d.asked) draws (line ∷ []));
-      drawn = ap (λ l. drawings_after c.carousel [] l (c.entries ++ entries.Draw line.asked generation first count ∷ [])) (map-append (λ (d : DrawFields). d.fates) draws (line ∷ []))
-          ∙ drawings_more c.carousel [] (fates_in draws) line.fates c.entries line.asked generation first count (same_count draws ∙ ap length (sym h.asked))
+      drawn = ap (λ l. drawings_after c.carousel c.weights [] l (c.entries ++ entries.Draw line.asked generation first count ∷ [])) (map-append (λ (d : DrawFields). d.fates) draws (line ∷ []))
+          ∙ drawings_more c.carousel c.weights [] (fates_in draws) line.fates c.entries line.asked generation first count (same_count draws ∙ ap length (sym h.asked))
           ∙ ap (λ l. l ++ drawing_of c line.asked line.fates ∷ []) h.drawn;
     }

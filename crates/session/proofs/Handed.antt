@@ -30,7 +30,7 @@ module _ (setting : Setting) where
   commits_done : (n : ℕ) → commits_by n (steps_where is_before setting.events) ++ commits_by n (steps_where is_during setting.events) ≡ commits_by n (steps (done_in setting))
   commits_done n = sym (ap (commits_by n) steps_done ∙ commits_more n (steps_where is_before setting.events) (steps_where is_during setting.events))
 
-  pub editors_done : (s : Station) (numbers : List ℕ) (old new : List EditorSeat) → numbers_of old ≡ numbers → length new ≡ length old → EditorsStand s setting.events old
+  pub editors_done : {X : _} {F : _} {g : _} (s : Station X F g) (numbers : List ℕ) (old new : List EditorSeat) → numbers_of old ≡ numbers → length new ≡ length old → EditorsStand s setting.events old
       → ((i : ℕ) (d : EditorSeat) → i < length old → DidEdit s (slice_index_or old i d) (slice_index_or new i d)) → All (λ (seat : EditorSeat). seat.whole ≡ true) new
       → EditorsDone s numbers (steps (done_in setting)) new
   editors_done s numbers old new are count st did whole = (
@@ -50,7 +50,7 @@ module _ (setting : Setting) where
       counted [] = refl
       counted (x ∷ xs) = ap suc (counted xs)
 
-  pub feeder_done : (s : Station) (old new : FeederSeat) (before after : List Shot) → FeederStands s setting.events before old → DidFeed s old new before after → new.whole ≡ true
+  pub feeder_done : {X : _} {F : _} {g : _} (s : Station X F g) (old new : FeederSeat) (before after : List Shot) → FeederStands s setting.events before old → DidFeed s old new before after → new.whole ≡ true
       → HasFed s (draws_in (steps (done_in setting))) new after
   feeder_done s old new before after st did whole =
       subst (λ (lines : List DrawFields). HasFed s lines new after)

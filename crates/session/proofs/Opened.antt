@@ -15,14 +15,14 @@ use Rattle.carousel_world.specs.World.{Drawing}
 use Rattle.session_history.specs.declared.opens.Open.{Open}
 use Rattle.session_history.specs.Merging.{Each, opens_by}
 use Rattle.session_history.specs.Laws.{NeverFall}
-use Rattle.session_history.specs.Merges.{ReaderFields, opened_of, merging, candidates_after, IsAnswered, AreAnswered}
+use Rattle.session_history.specs.Merges.{ReaderFields, opened_of, session_merge, candidates_after, IsAnswered, AreAnswered}
 use Rattle.session_history.specs.Merged.{AreNumbers, IsInOrder, AreApart}
 use Rattle.session_script.specs.Scripts.{Fields}
 use Rattle.session_script.specs.Ranges.{IsActor, AreActors}
 use Rattle.session_actors.specs.Shown.{AreShots}
 use Rattle.session_actors.specs.Opened.{Asked, AreOpened, Rises, HasOpened}
 use Rattle.session.specs.Lines.{asked_of}
-use Rattle.session.specs.Sessions.{AreTold}
+use Rattle.session.specs.Sessions.{AreKnown}
 use Rattle.session.specs.Played.{open_of, opens_of, AllRead}
 use Rattle.session.proofs.Committed.{HasNone}
 
@@ -104,7 +104,7 @@ module _ (script : Fields) (drawings : List Drawing) (shots : List Shot) (are : 
   -- ---- what a reader was asked for is told, in order
 
   told_opens : (reader : ℕ) (asked : List Asked) (es : List OpenEntry) → AreOpened asked es → Each (IsHeard drawings) es
-      → AreTold reader asked (map (λ (o : Open). (o.draws, opened_of reader o)) (map open_of es))
+      → AreKnown reader asked (map (λ (o : Open). (o.draws, opened_of reader o)) (map open_of es))
   told_opens reader [] [] h heard = tt
   told_opens reader [] (e ∷ es) h heard = absurd h
   told_opens reader (a ∷ asked) [] h heard = absurd h
@@ -115,7 +115,7 @@ module _ (script : Fields) (drawings : List Drawing) (shots : List Shot) (are : 
 
   pub reader_told : (rs : List ℕ) (vs : List ReaderView) → AllRead script shots rs vs → (p : ℕ) → p < length rs
       → (v : ReaderView) × (slice_get (map opens_of vs) p ≡ Some (opens_of v)) × (v.reader ≡ get_or rs p 0)
-      × AreTold (get_or rs p 0) (asked_of (get_or rs p 0) script) (map (λ (o : Open). (o.draws, opened_of (get_or rs p 0) o)) (map open_of v.opens))
+      × AreKnown (get_or rs p 0) (asked_of (get_or rs p 0) script) (map (λ (o : Open). (o.draws, opened_of (get_or rs p 0) o)) (map open_of v.opens))
   reader_told [] [] h p less = absurd (omega (arith, less))
   reader_told [] (v ∷ vs) h p less = absurd h
   reader_told (r ∷ rs) [] h p less = absurd h
@@ -160,11 +160,11 @@ module _ (script : Fields) (shots : List Shot) where
   are_apart (r ∷ rs) (v ∷ vs) h d = (others r rs vs h.4 (IsDistinct-head nat_eq r rs d) v.reader h.0, are_apart rs vs h.4 (IsDistinct-tail nat_eq r rs d))
 
   -- a number that is no reader's has no opens
-  pub none_opened : (editors rs : List ℕ) (vs : List ReaderView) (reader : ℕ) → AllRead script shots rs vs → HasNone rs reader → opens_by (merging editors) reader (map opens_of vs) ≡ []
+  pub none_opened : (editors rs : List ℕ) (vs : List ReaderView) (reader : ℕ) → AllRead script shots rs vs → HasNone rs reader → opens_by (session_merge editors) reader (map opens_of vs) ≡ []
   none_opened editors [] [] reader h lacks = refl
   none_opened editors [] (v ∷ vs) reader h lacks = absurd h
   none_opened editors (r ∷ rs) [] reader h lacks = absurd h
   none_opened editors (r ∷ rs) (v ∷ vs) reader h lacks =
       let other : (v.reader == reader) ≡ false = ne_eqb v.reader reader (λ e. lacks 0 (omega arith) (sym h.0 ∙ e)) in
-      ap (λ (b : Bool). cond b (map open_of v.opens) [] ++ opens_by (merging editors) reader (map opens_of vs)) other
+      ap (λ (b : Bool). cond b (map open_of v.opens) [] ++ opens_by (session_merge editors) reader (map opens_of vs)) other
       ∙ none_opened editors rs vs reader h.4 (λ p less. lacks (suc p) (omega (arith, less)))

@@ -6,7 +6,7 @@ use Rattle.session_script.specs.declared.script.Stage.{Stage}
 use Rattle.session_script.specs.Scripts.{Act, LineFields}
 use Rattle.session_script.specs.Scripts as acts
 use Rattle.carousel_world.specs.Events.{Step, Commit, Draw, Open}
-use Rattle.rehearsal.specs.Lines.{Pending, pending_after, settling}
+use Rattle.rehearsal.specs.Lines.{Pending, pending_after, settling_step}
 use Rattle.session.specs.Lines.{IsMentioned, staged_from, staged_of}
 
 -- whom the event is of is among the script's editors or readers
@@ -33,5 +33,5 @@ all_named editors readers p (l ∷ ls) h =
     one p stage (acts.Commit editor) m = All-cons (λ (e : Stage × Step). IsNamed editors readers e.1) (stage, Commit editor (p editor)) [] m (none _)
     one p stage (acts.Draw asked fates) m = All-cons (λ (e : Stage × Step). IsNamed editors readers e.1) (stage, Draw asked fates) [] tt (none _)
     one p stage (acts.Open reader path) m = All-cons (λ (e : Stage × Step). IsNamed editors readers e.1) (stage, Open reader path) [] m (none _)
-    one p stage acts.Settle m = All-cons (λ (e : Stage × Step). IsNamed editors readers e.1) (stage, settling) ((stage, settling) ∷ []) tt
-        (All-cons (λ (e : Stage × Step). IsNamed editors readers e.1) (stage, settling) [] tt (none _))
+    one p stage acts.Settle m = All-cons (λ (e : Stage × Step). IsNamed editors readers e.1) (stage, settling_step) ((stage, settling_step) ∷ []) tt
+        (All-cons (λ (e : Stage × Step). IsNamed editors readers e.1) (stage, settling_step) [] tt (none _))

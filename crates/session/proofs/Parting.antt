@@ -7,7 +7,7 @@ use Rattle.session_script.specs.declared.script.Stage.{Stage}
 use Rattle.session_script.specs.declared.script.Stage.TheVariants.{Before, During, After}
 use Rattle.session_script.specs.Scripts.{LineFields, Fields}
 use Rattle.carousel_world.specs.Events.{Step, Open}
-use Rattle.rehearsal.specs.Lines.{Pending, none_pending, pending_after, events_of_line, events_from, settling}
+use Rattle.rehearsal.specs.Lines.{Pending, none_pending, pending_after, events_of_line, events_from, settling_step}
 use Rattle.session.specs.Lines.{draws_in, is_before, staged_of, staged_from, staged_events, IsFinale, AreEnds, IsArranged}
 use Rattle.session.specs.Acting.{Setting, is_during, is_after, staged_where, steps_where}
 use Rattle.session.specs.Ending.{IsEnd, IsToEnd, at_end, steps}
@@ -69,10 +69,10 @@ finale_ends p (l ∷ ls) h =
 all_end : (p : Pending) (ls : List LineFields) → AreEnds ls → All IsEnd (events_from p ls)
 all_end p [] h = λ k d lt. absurd (omega (arith, lt))
 all_end p (l ∷ ls) (inl h) =
-    let here : events_of_line p l.act ≡ settling ∷ settling ∷ [] = ap (events_of_line p) h.1 in
+    let here : events_of_line p l.act ≡ settling_step ∷ settling_step ∷ [] = ap (events_of_line p) h.1 in
     let rest = events_from (pending_after p l.act) ls in
     subst (λ (es : List Step). All IsEnd (es ++ rest)) (sym here)
-    (All-cons IsEnd settling (settling ∷ rest) (omega arith, omega arith) (All-cons IsEnd settling rest (omega arith, omega arith) (finale_ends (pending_after p l.act) ls h.2)))
+    (All-cons IsEnd settling_step (settling_step ∷ rest) (omega arith, omega arith) (All-cons IsEnd settling_step rest (omega arith, omega arith) (finale_ends (pending_after p l.act) ls h.2)))
 all_end p (l ∷ ls) (inr h) = finale_ends p (l ∷ ls) (All-cons IsFinale l ls h.0 h.1)
 
 after_again : (p : Pending) (ls : List LineFields) → All (λ (l : LineFields). l.stage ≡ After) ls → staged_from p ls ≡ at_end (events_from p ls)

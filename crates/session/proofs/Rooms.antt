@@ -1,7 +1,7 @@
 -- When there is no room for a commit.
 use Rattle.std.proofs.Common.{◌≡◌, ℕ, ◌+◌, ◌==◌, Bool, true, false, cond, nat_lt, List, [], ◌∷◌, ◌++◌, length, Option, Some, None, Result, Ok, Err, count_by, ◌⊎◌, inl, inr, sym, ap, ◌∙◌, refl, arith, length-append, eqb-true, ltb-true}
 use Rattle.std.proofs.lemmas.List.Sums.{sum_by-append}
-use Rattle.oc_bytes.specs.Outcome.{capped}
+use Rattle.oc_bytes.specs.Outcome.{cap_at_u64}
 use Rattle.path_tree.specs.Trees.{Tree}
 use Rattle.path_tree.specs.Edits.{apply_all}
 use Rattle.path_tree.specs.declared.tree.Edit.{Edit}
@@ -40,7 +40,7 @@ edit_entered number (Err fault) = refl
 
 -- only what finds no room makes no entry
 by_tests : (season journal : Bool) (number total : ℕ) (edited : Result Tree (ℕ × EditFault))
-    → is_entered (cond season (Err (refusals.SeasonFull 16383)) (cond journal (Err (refusals.JournalFull (capped total))) (unless_edit number edited))) ≡ false
+    → is_entered (cond season (Err (refusals.SeasonFull 16383)) (cond journal (Err (refusals.JournalFull (cap_at_u64 total))) (unless_edit number edited))) ≡ false
     → (season ≡ true) ⊎ (journal ≡ true)
 by_tests true journal number total edited h = inl refl
 by_tests false true number total edited h = inr refl

@@ -15,9 +15,9 @@ use Rattle.carousel_world.specs.World.{Drawing}
 use Rattle.carousel_world.specs.Promises.{MeetsHeadline, world_after}
 use Rattle.carousel_world.specs.Settling.{EverySettledRunIsWhole, EverySettledRunOpens}
 use Rattle.session_history.specs.declared.opens.Open.{Open as OpenFields}
-use Rattle.session_history.specs.Laws.{placed}
+use Rattle.session_history.specs.Laws.{with_draws_before}
 use Rattle.session_history.specs.Merging.{Each, merge_of, drawn_with, opens_by}
-use Rattle.session_history.specs.Merges.{ReaderFields, opened_of, merging, drawings_after, AreAnswered, IsRunOfWorld}
+use Rattle.session_history.specs.Merges.{ReaderFields, opened_of, session_merge, drawings_after, AreAnswered, IsRunOfWorld}
 use Rattle.session_history.specs.Merged.{is_draw_step, is_open_by, IsPlaced, IsInOrder, AreParts, IsReady, IsMerged, EveryMergeIsMerged}
 use Rattle.session_history.proofs.CallerLemmas.{merged_is_published, count_more, count_same}
 use Rattle.session_script.specs.Scripts.{Fields}
@@ -25,7 +25,7 @@ use Rattle.rehearsal.specs.Lines.{events_of}
 use Rattle.session_actors.specs.Chains.{DrawFields}
 use Rattle.session.specs.Lines.{IsArranged, commits_by, draws_in, asked_of, settles}
 use Rattle.session.specs.Gathering.{asked_in}
-use Rattle.session.specs.Sessions.{AreCommitted, AreTold, EndsSettled, IsSession}
+use Rattle.session.specs.Sessions.{AreCommitted, AreKnown, EndsSettled, IsSession}
 use Rattle.session.specs.Played.{open_of, opens_of, IsPlayed, fates_of, PlayedIsASession}
 use Rattle.session.proofs.Feeding.{fates_in, asked_by}
 use Rattle.session.proofs.Telling.{Told, Tells, merge_tells, none_of_other}
@@ -43,7 +43,7 @@ draws_filtered ((Commit editor edits, reply) ∷ told) = draws_filtered told
 draws_filtered ((Draw asked fates, reply) ∷ told) = ap (λ l. record { asked = asked; fates = fates } ∷ l) (draws_filtered told)
 draws_filtered ((Open reader path, reply) ∷ told) = draws_filtered told
 
-draws_with : (editors : List ℕ) (lines : List DrawFields) (es : List Entry) → asked_in es ≡ asked_by lines → draws_in (steps (drawn_with (merging editors) (fates_in lines) (filter is_draw es))) ≡ lines
+draws_with : (editors : List ℕ) (lines : List DrawFields) (es : List Entry) → asked_in es ≡ asked_by lines → draws_in (steps (drawn_with (session_merge editors) (fates_in lines) (filter is_draw es))) ≡ lines
 draws_with editors [] [] h = refl
 draws_with editors (l ∷ lines) [] h = absurd (cc)
 draws_with editors lines (entries.Commit editor edits outcome ∷ es) h = draws_with editors lines es h
@@ -58,12 +58,12 @@ asked_count [] = refl
 asked_count (entries.Commit editor edits outcome ∷ es) = asked_count es ∙ sym (count_same is_draw (entries.Commit editor edits outcome) es refl)
 asked_count (entries.Draw asked generation first count ∷ es) = ap suc (asked_count es) ∙ sym (count_more is_draw (entries.Draw asked generation first count) es refl)
 
-drawings_count : (id : ℕ) (before : List Entry) (fates : List (List Fate)) (es : List Entry) → length (drawings_after id before fates es) ≡ count_by is_draw es
-drawings_count id before fates [] = refl
-drawings_count id before fates (entries.Commit editor edits outcome ∷ es) =
-    drawings_count id (before ++ entries.Commit editor edits outcome ∷ []) fates es ∙ sym (count_same is_draw (entries.Commit editor edits outcome) es refl)
-drawings_count id before fates (entries.Draw asked generation first count ∷ es) =
-    ap suc (drawings_count id (before ++ entries.Draw asked generation first count ∷ []) (drop 1 fates) es) ∙ sym (count_more is_draw (entries.Draw asked generation first count) es refl)
+drawings_count : (id : ℕ) (ws : List ℕ) (before : List Entry) (fates : List (List Fate)) (es : List Entry) → length (drawings_after id ws before fates es) ≡ count_by is_draw es
+drawings_count id ws before fates [] = refl
+drawings_count id ws before fates (entries.Commit editor edits outcome ∷ es) =
+    drawings_count id ws (before ++ entries.Commit editor edits outcome ∷ []) fates es ∙ sym (count_same is_draw (entries.Commit editor edits outcome) es refl)
+drawings_count id ws before fates (entries.Draw asked generation first count ∷ es) =
+    ap suc (drawings_count id ws (before ++ entries.Draw asked generation first count ∷ []) (drop 1 fates) es) ∙ sym (count_more is_draw (entries.Draw asked generation first count) es refl)
 
 -- ---- the parts of what was played
 
@@ -75,10 +75,10 @@ module _ (script : Fields) (c : CatalogueState) (drawings : List Drawing) (shots
   opened = map opens_of readers
 
   abbrev merge : List Told
-  merge = merge_of (merging script.editors) opened (fates_of script) c.entries
+  merge = merge_of (session_merge script.editors) opened (fates_of script) c.entries
 
   drawn_count : length drawings ≡ count_by is_draw c.entries
-  drawn_count = ap length (sym (p.gathered).drawn) ∙ drawings_count c.carousel [] (fates_of script) c.entries
+  drawn_count = ap length (sym (p.gathered).drawn) ∙ drawings_count c.carousel c.weights [] (fates_of script) c.entries
 
   line_count : length lines ≡ count_by is_draw c.entries
   line_count = sym (length-map lines (λ (d : DrawFields). d.asked)) ∙ ap length (sym (p.gathered).asked) ∙ asked_count c.entries
@@ -121,25 +121,25 @@ module _ (script : Fields) (c : CatalogueState) (drawings : List Drawing) (shots
     draws = draws_filtered merge ∙ ap (λ (l : List Told). draws_in (steps l)) m.draws ∙ draws_with script.editors lines c.entries (p.gathered).asked
 
     opens : (reader : ℕ) → 1 ≤ reader → reader ≤ 64
-        → AreTold reader (asked_of reader script) (placed (λ (x : Told). is_open_by reader x.0) (λ (x : Told). is_draw_step x.0) 0 merge)
+        → AreKnown reader (asked_of reader script) (with_draws_before (λ (x : Told). is_open_by reader x.0) (λ (x : Told). is_draw_step x.0) 0 merge)
     opens reader some most = by (find_place script.readers reader)
       where
         by : HasPlace script.readers reader ⊎ HasNone script.readers reader
-            → AreTold reader (asked_of reader script) (placed (λ (x : Told). is_open_by reader x.0) (λ (x : Told). is_draw_step x.0) 0 merge)
+            → AreKnown reader (asked_of reader script) (with_draws_before (λ (x : Told). is_open_by reader x.0) (λ (x : Told). is_draw_step x.0) 0 merge)
         by (inl h) =
             let r = reader_told script drawings shots p.shown script.readers readers p.read h.0 h.1 in
             let v : ReaderView = r.0 in
-            let its : opens_by (merging script.editors) reader opened ≡ map open_of v.opens =
-            ap (λ (n : ℕ). opens_by (merging script.editors) n opened) (sym (r.2 ∙ h.2)) ∙ m.own h.0 (opens_of v) r.1 in
-            let told : AreTold reader (asked_of reader script) (map (λ (o : OpenFields). (o.draws, opened_of reader o)) (map open_of v.opens)) =
-            subst (λ (n : ℕ). AreTold n (asked_of n script) (map (λ (o : OpenFields). (o.draws, opened_of n o)) (map open_of v.opens))) h.2 r.3 in
-            subst (AreTold reader (asked_of reader script))
+            let its : opens_by (session_merge script.editors) reader opened ≡ map open_of v.opens =
+            ap (λ (n : ℕ). opens_by (session_merge script.editors) n opened) (sym (r.2 ∙ h.2)) ∙ m.own h.0 (opens_of v) r.1 in
+            let told : AreKnown reader (asked_of reader script) (map (λ (o : OpenFields). (o.draws, opened_of reader o)) (map open_of v.opens)) =
+            subst (λ (n : ℕ). AreKnown n (asked_of n script) (map (λ (o : OpenFields). (o.draws, opened_of n o)) (map open_of v.opens))) h.2 r.3 in
+            subst (AreKnown reader (asked_of reader script))
             (ap (map (λ (o : OpenFields). (o.draws, opened_of reader o))) (sym its) ∙ sym (m.opens reader some most)) told
         by (inr lacks) =
-            let none : placed (λ (x : Told). is_open_by reader x.0) (λ (x : Told). is_draw_step x.0) 0 merge ≡ [] =
+            let none : with_draws_before (λ (x : Told). is_open_by reader x.0) (λ (x : Told). is_draw_step x.0) 0 merge ≡ [] =
             m.opens reader some most ∙ ap (map (λ (o : OpenFields). (o.draws, opened_of reader o))) (none_opened script shots script.editors script.readers readers reader p.read lacks) in
-            subst (λ asked. AreTold reader asked (placed (λ (x : Told). is_open_by reader x.0) (λ (x : Told). is_draw_step x.0) 0 merge)) (sym (none_of_reader script a reader lacks))
-            (subst (AreTold reader []) (sym none) tt)
+            subst (λ asked. AreKnown reader asked (with_draws_before (λ (x : Told). is_open_by reader x.0) (λ (x : Told). is_draw_step x.0) 0 merge)) (sym (none_of_reader script a reader lacks))
+            (subst (AreKnown reader []) (sym none) tt)
 
     settled : settles script ≡ true → EndsSettled (steps merge)
     settled s = ends_settled script.editors c merge tells (p.settled s) (subst EndsDrawn (sym draws) (settles_last script a s))
@@ -147,29 +147,29 @@ module _ (script : Fields) (c : CatalogueState) (drawings : List Drawing) (shots
     few : length (draws_in (steps merge)) ≤ 16777216
     few = let n = ap length draws in let k = line_count in let most = ((p.gathered).history).draws in omega (arith, n, k, most)
 
-    published : ArePublishable (world_after 1 (steps merge)).catalogue.carousel (trees_of (world_after 1 (steps merge)).catalogue)
+    published : ArePublishable (world_after 1 c.weights (steps merge)).catalogue.carousel (trees_of (world_after 1 c.weights (steps merge)).catalogue)
     published =
-        subst (λ (n : ℕ). ArePublishable (world_after n (steps merge)).catalogue.carousel (trees_of (world_after n (steps merge)).catalogue)) p.carousel
+        subst (λ (n : ℕ). ArePublishable (world_after n c.weights (steps merge)).catalogue.carousel (trees_of (world_after n c.weights (steps merge)).catalogue)) p.carousel
         (merged_is_published c script.editors (fates_of script) opened ready)
 
-    run : IsRunOfWorld 1 merge
-    run = subst (λ (n : ℕ). IsRunOfWorld n merge) p.carousel m.run
+    run : IsRunOfWorld 1 c.weights merge
+    run = subst (λ (n : ℕ). IsRunOfWorld n c.weights merge) p.carousel m.run
 
-    pub session : HistoriesGrow → EverySettledRunIsWhole → EverySettledRunOpens → IsSession script merge
+    pub session : HistoriesGrow → EverySettledRunIsWhole → EverySettledRunOpens → IsSession c.weights script merge
     session grow whole opening = record {
       run = run;
       steps = m.steps;
-      headline = subst (λ (n : ℕ). MeetsHeadline n (steps merge)) p.carousel m.headline;
+      headline = subst (λ (n : ℕ). MeetsHeadline n c.weights (steps merge)) p.carousel m.headline;
       commits = λ editor some most. commits editor;
       draws = draws;
       opens = opens;
       in_place = opens_in_place script.editors opened (fates_of script) c.entries;
       settled = settled;
-      whole = λ s. ends_whole grow whole (steps merge) (settled s) published few;
-      answered = λ s. ends_answered grow opening merge run (settled s) published few;
+      whole = λ s. ends_whole grow whole c.weights (steps merge) ((p.gathered).history).weights (settled s) published few;
+      answered = λ s. ends_answered grow opening c.weights merge ((p.gathered).history).weights run (settled s) published few;
     }
 
-  pub all : EveryMergeIsMerged → HistoriesGrow → EverySettledRunIsWhole → EverySettledRunOpens → AreParts c.entries (fates_of script) script.editors opened × IsSession script merge
+  pub all : EveryMergeIsMerged → HistoriesGrow → EverySettledRunIsWhole → EverySettledRunOpens → AreParts c.entries (fates_of script) script.editors opened × IsSession c.weights script merge
   all merges grow whole opening = (parts, session (merges c script.editors (fates_of script) opened ready) grow whole opening)
 
 pub played : EveryMergeIsMerged → HistoriesGrow → EverySettledRunIsWhole → EverySettledRunOpens → PlayedIsASession

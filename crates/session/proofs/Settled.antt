@@ -6,19 +6,20 @@ use Rattle.ts_packet.specs.declared.Fate.{Fate}
 use Rattle.path_tree.specs.declared.tree.Edit.{Edit}
 use Rattle.path_tree.specs.Paths.{PathNames}
 use Rattle.path_tree.specs.Trees.{node_at}
+use Rattle.cycle_planner.specs.Weights.{AreWeights}
 use Rattle.generation.specs.Lawful.{ArePublishable, tree_at}
 use Rattle.generation_catalogue.specs.Laws.{HistoriesGrow}
-use Rattle.generation_catalogue.specs.History.{CatalogueState, committed, drawn, draws_of, trees_of, current_of, cursor_of, count_drawn, outcome_of, is_entered, with_entry, is_draw}
+use Rattle.generation_catalogue.specs.History.{CatalogueState, with_commit, with_draw, draws_of, trees_of, current_of, cursor_of, count_drawn, outcome_of, is_entered, with_entry, is_draw}
 use Rattle.generation_catalogue.specs.declared.entry.Entry.{Entry}
 use Rattle.generation_catalogue.specs.declared.entry.Entry.TheVariants as entries
 use Rattle.carousel_world.specs.Events.{Step, Commit, Draw, Open}
-use Rattle.carousel_world.specs.World.{WorldState, opening, happens, after_all, drawing_of, candidates_in, reply_to, replies_to}
+use Rattle.carousel_world.specs.World.{WorldState, initial_world, happens, after_all, drawing_of, candidates_in, reply_to, replies_to}
 use Rattle.carousel_world.specs.Premises.{IsWhole}
 use Rattle.carousel_world.specs.Promises.{IsUndamaged, world_after, broadcast_of}
-use Rattle.carousel_world.specs.Settling.{IsOpening, settled, Answers, EverySettledRunIsWhole, EverySettledRunOpens}
+use Rattle.carousel_world.specs.Settling.{IsOpening, with_settling, Answers, EverySettledRunIsWhole, EverySettledRunOpens}
 use Rattle.carousel_world.specs.declared.event.Reply.{Reply}
 use Rattle.carousel_world.proofs.CallerLemmas.{opens_leave, after_all-append, settled_among_opens}
-use Rattle.rehearsal.specs.Lines.{settling}
+use Rattle.rehearsal.specs.Lines.{settling_step}
 use Rattle.session_history.specs.Merging.{Each}
 use Rattle.session_history.specs.Merged.{is_draw_step}
 use Rattle.session_history.specs.Merges.{IsRunOfWorld}
@@ -38,23 +39,23 @@ TreesAre w v = (v.catalogue.carousel ≡ w.catalogue.carousel) × (trees_of v.ca
 same_trees : HistoriesGrow → (w : WorldState) (asked : ℕ) (fates : List Fate) → TreesAre w (happens w (Draw asked fates))
 same_trees grow w asked fates = by (nat_le 16777216 (draws_of w.catalogue))
   where
-    by : (full : Bool) → TreesAre w (cond full w (record { catalogue = drawn w.catalogue asked; drawings = w.drawings ++ drawing_of w.catalogue asked fates ∷ [] }))
+    by : (full : Bool) → TreesAre w (cond full w (record { catalogue = with_draw w.catalogue asked; drawings = w.drawings ++ drawing_of w.catalogue asked fates ∷ [] }))
     by true = (refl, refl)
     by false = (refl, grow.by_draw w.catalogue asked)
 
-published_before : HistoriesGrow → (w : WorldState) → let v = happens (happens w settling) settling in ArePublishable v.catalogue.carousel (trees_of v.catalogue)
+published_before : HistoriesGrow → (w : WorldState) → let v = happens (happens w settling_step) settling_step in ArePublishable v.catalogue.carousel (trees_of v.catalogue)
     → ArePublishable w.catalogue.carousel (trees_of w.catalogue)
 published_before grow w h =
-    let v = happens w settling in
+    let v = happens w settling_step in
     let first = same_trees grow w 1048576 [] in
     let second = same_trees grow v 1048576 [] in
     let middle : ArePublishable v.catalogue.carousel (trees_of v.catalogue) =
-    subst (λ n. ArePublishable n (trees_of v.catalogue)) second.0 (subst (ArePublishable (happens v settling).catalogue.carousel) second.1 h) in
+    subst (λ n. ArePublishable n (trees_of v.catalogue)) second.0 (subst (ArePublishable (happens v settling_step).catalogue.carousel) second.1 h) in
     subst (λ n. ArePublishable n (trees_of w.catalogue)) first.0 (subst (ArePublishable v.catalogue.carousel) first.1 middle)
 
 -- ---- how many draws there are
 
-commit_count : (c : CatalogueState) (editor : ℕ) (edits : List Edit) → draws_of (committed c editor edits) ≡ draws_of c
+commit_count : (c : CatalogueState) (editor : ℕ) (edits : List Edit) → draws_of (with_commit c editor edits) ≡ draws_of c
 commit_count c editor edits = by (is_entered (outcome_of c edits))
   where
     more : draws_of (with_entry c (entries.Commit editor edits (outcome_of c edits))) ≡ draws_of c
@@ -67,10 +68,10 @@ commit_count c editor edits = by (is_entered (outcome_of c edits))
 draw_count : (w : WorldState) (asked : ℕ) (fates : List Fate) → draws_of (happens w (Draw asked fates)).catalogue ≤ draws_of w.catalogue + 1
 draw_count w asked fates = by (nat_le 16777216 (draws_of w.catalogue))
   where
-    more : draws_of (drawn w.catalogue asked) ≡ draws_of w.catalogue + 1
+    more : draws_of (with_draw w.catalogue asked) ≡ draws_of w.catalogue + 1
     more = count_append is_draw w.catalogue.entries (entries.Draw asked (current_of w.catalogue).number (cursor_of w.catalogue) (count_drawn w.catalogue asked) ∷ [])
 
-    by : (full : Bool) → draws_of (cond full w (record { catalogue = drawn w.catalogue asked; drawings = w.drawings ++ drawing_of w.catalogue asked fates ∷ [] })).catalogue ≤ draws_of w.catalogue + 1
+    by : (full : Bool) → draws_of (cond full w (record { catalogue = with_draw w.catalogue asked; drawings = w.drawings ++ drawing_of w.catalogue asked fates ∷ [] })).catalogue ≤ draws_of w.catalogue + 1
     by true = omega arith
     by false = omega (arith, more)
 
@@ -89,39 +90,39 @@ no_open_draws (Open reader path ∷ es) h = no_open_draws es (All-tail IsOpening
 -- ---- a history that settles
 
 -- the world after it is that after its events before the two draws and these draws
-record Settles (events : List Step) : Type 0 where
+record Settles (ws : List ℕ) (events : List Step) : Type 0 where
   before : List Step
-  same : world_after 1 events ≡ world_after 1 (settled before)
-  published : ArePublishable (world_after 1 before).catalogue.carousel (trees_of (world_after 1 before).catalogue)
-  room : draws_of (world_after 1 before).catalogue + 2 ≤ 16777216
+  same : world_after 1 ws events ≡ world_after 1 ws (with_settling before)
+  published : ArePublishable (world_after 1 ws before).catalogue.carousel (trees_of (world_after 1 ws before).catalogue)
+  room : draws_of (world_after 1 ws before).catalogue + 2 ≤ 16777216
 
-settles_so : HistoriesGrow → (events : List Step) → EndsSettled events
-    → ArePublishable (world_after 1 events).catalogue.carousel (trees_of (world_after 1 events).catalogue) → length (draws_in events) ≤ 16777216 → Settles events
-settles_so grow events ends published few =
+settles_so : HistoriesGrow → (ws : List ℕ) (events : List Step) → EndsSettled events
+    → ArePublishable (world_after 1 ws events).catalogue.carousel (trees_of (world_after 1 ws events).catalogue) → length (draws_in events) ≤ 16777216 → Settles ws events
+settles_so grow ws events ends published few =
     let before : List Step = ends.0 in
-    let w : WorldState = world_after 1 (settled before) in
-    let same : world_after 1 events ≡ w = ap (world_after 1) ends.3 ∙ settled_among_opens 1 before ends.1 ends.2 ends.4 ends.5 in
-    let twice : w ≡ happens (happens (world_after 1 before) settling) settling = after_all-append (opening 1) before (settling ∷ settling ∷ []) in
+    let w : WorldState = world_after 1 ws (with_settling before) in
+    let same : world_after 1 ws events ≡ w = ap (world_after 1 ws) ends.3 ∙ settled_among_opens 1 ws before ends.1 ends.2 ends.4 ends.5 in
+    let twice : w ≡ happens (happens (world_after 1 ws before) settling_step) settling_step = after_all-append (initial_world 1 ws) before (settling_step ∷ settling_step ∷ []) in
     let IsGood : WorldState → Type 0 = λ v. ArePublishable v.catalogue.carousel (trees_of v.catalogue) in
     let parts : draws_in events ≡ draws_in before ++ settling_draw ∷ (draws_in ends.1 ++ settling_draw ∷ draws_in ends.2) =
-    ap draws_in ends.3 ∙ draws_append before (settling ∷ (ends.1 ++ settling ∷ ends.2)) ∙ ap (λ l. draws_in before ++ settling_draw ∷ l) (draws_append ends.1 (settling ∷ ends.2)) in
+    ap draws_in ends.3 ∙ draws_append before (settling_step ∷ (ends.1 ++ settling_step ∷ ends.2)) ∙ ap (λ l. draws_in before ++ settling_draw ∷ l) (draws_append ends.1 (settling_step ∷ ends.2)) in
     let counted = ap length parts in
     let outer = length-append (draws_in before) (settling_draw ∷ (draws_in ends.1 ++ settling_draw ∷ draws_in ends.2)) in
     let inner = length-append (draws_in ends.1) (settling_draw ∷ draws_in ends.2) in
-    let bound = draws_few (opening 1) before in
+    let bound = draws_few (initial_world 1 ws) before in
     record {
       before = before;
       same = same;
-      published = published_before grow (world_after 1 before) (subst IsGood (same ∙ twice) published);
+      published = published_before grow (world_after 1 ws before) (subst IsGood (same ∙ twice) published);
       room = omega (arith, counted, outer, inner, bound, few);
     }
 
-pub ends_whole : HistoriesGrow → EverySettledRunIsWhole → (events : List Step) → EndsSettled events
-    → ArePublishable (world_after 1 events).catalogue.carousel (trees_of (world_after 1 events).catalogue) → length (draws_in events) ≤ 16777216
-    → EndsWhole events
-ends_whole grow law events ends published few =
-    let s = settles_so grow events ends published few in
-    subst (λ (v : WorldState). IsWhole 1 (broadcast_of v).layouts (length (trees_of v.catalogue)) (candidates_in v)) (sym s.same) (law 1 s.before s.published s.room)
+pub ends_whole : HistoriesGrow → EverySettledRunIsWhole → (ws : List ℕ) (events : List Step) → AreWeights ws → EndsSettled events
+    → ArePublishable (world_after 1 ws events).catalogue.carousel (trees_of (world_after 1 ws events).catalogue) → length (draws_in events) ≤ 16777216
+    → EndsWhole ws events
+ends_whole grow law ws events weigh ends published few =
+    let s = settles_so grow ws events ends published few in
+    subst (λ (v : WorldState). IsWhole 1 (broadcast_of v).layouts (length (trees_of v.catalogue)) (candidates_in v)) (sym s.same) (law 1 ws s.before weigh s.published s.room)
 
 abbrev pub steps : List Told → List Step
 steps told = map (λ (x : Told). x.0) told
@@ -143,32 +144,32 @@ all_behind [] a e h = All-tail IsOpening e a h
 all_behind (x ∷ b) a e h = all_behind b a e (All-tail IsOpening x (b ++ e ∷ a) h)
 
 -- after an open that no draw follows there are opens alone
-opens_last : (xs z b a : List Step) (reader : ℕ) (path : PathNames) → xs ++ settling ∷ z ≡ b ++ Open reader path ∷ a → All IsOpening z → draws_in a ≡ [] → All IsOpening a
+opens_last : (xs z b a : List Step) (reader : ℕ) (path : PathNames) → xs ++ settling_step ∷ z ≡ b ++ Open reader path ∷ a → All IsOpening z → draws_in a ≡ [] → All IsOpening a
 opens_last [] z [] a reader path h opens none = absurd (cc)
 opens_last [] z (y ∷ b) a reader path h opens none = let e : z ≡ b ++ Open reader path ∷ a = cc in all_behind b a (Open reader path) (subst (All IsOpening) e opens)
 opens_last (x ∷ xs) z [] a reader path h opens none =
-    let e : xs ++ settling ∷ z ≡ a = cc in
-    let some = ap length (sym (draws_append xs (settling ∷ z)) ∙ ap draws_in e ∙ none) in
+    let e : xs ++ settling_step ∷ z ≡ a = cc in
+    let some = ap length (sym (draws_append xs (settling_step ∷ z)) ∙ ap draws_in e ∙ none) in
     let size = length-append (draws_in xs) (settling_draw ∷ draws_in z) in
     absurd (omega (arith, some, size))
 opens_last (x ∷ xs) z (y ∷ b) a reader path h opens none = opens_last xs z b a reader path (cc) opens none
 
-pub ends_answered : HistoriesGrow → EverySettledRunOpens → (told : List Told) → IsRunOfWorld 1 told → EndsSettled (steps told)
-    → ArePublishable (world_after 1 (steps told)).catalogue.carousel (trees_of (world_after 1 (steps told)).catalogue) → length (draws_in (steps told)) ≤ 16777216
-    → EndsAnswered told
-ends_answered grow law told run ends published few undamaged before after reader path reply cut none =
-    let s = settles_so grow (steps told) ends published few in
-    let all : WorldState = world_after 1 (steps told) in
-    let here : WorldState = world_after 1 (steps before) in
+pub ends_answered : HistoriesGrow → EverySettledRunOpens → (ws : List ℕ) (told : List Told) → AreWeights ws → IsRunOfWorld 1 ws told → EndsSettled (steps told)
+    → ArePublishable (world_after 1 ws (steps told)).catalogue.carousel (trees_of (world_after 1 ws (steps told)).catalogue) → length (draws_in (steps told)) ≤ 16777216
+    → EndsAnswered ws told
+ends_answered grow law ws told weigh run ends published few undamaged before after reader path reply cut none =
+    let s = settles_so grow ws (steps told) ends published few in
+    let all : WorldState = world_after 1 ws (steps told) in
+    let here : WorldState = world_after 1 ws (steps before) in
     let Looks : WorldState → WorldState → Type 0 = λ u v. Answers (reply_to u (Open reader path)) (node_at (tree_at (broadcast_of v).trees (length (trees_of v.catalogue))) path) in
-    let last : Looks all all = subst (λ v. Looks v v) (sym s.same) (law 1 s.before s.published s.room (subst IsUndamaged s.same undamaged) reader path) in
+    let last : Looks all all = subst (λ v. Looks v v) (sym s.same) (law 1 ws s.before weigh s.published s.room (subst IsUndamaged s.same undamaged) reader path) in
     let parts : steps told ≡ steps before ++ Open reader path ∷ steps after = ap steps cut ∙ map-append (λ (x : Told). x.0) before ((Open reader path, reply) ∷ after) in
     let opens : All IsOpening (steps after) =
-    opens_last (ends.0 ++ settling ∷ ends.1) ends.2 (steps before) (steps after) reader path
-    (append_assoc ends.0 (settling ∷ ends.1) (settling ∷ ends.2) ∙ sym ends.3 ∙ parts) ends.5 (no_draws after none) in
-    let same : all ≡ here = ap (world_after 1) parts ∙ after_all-append (opening 1) (steps before) (Open reader path ∷ steps after) ∙ opens_leave here (steps after) opens in
+    opens_last (ends.0 ++ settling_step ∷ ends.1) ends.2 (steps before) (steps after) reader path
+    (append_assoc ends.0 (settling_step ∷ ends.1) (settling_step ∷ ends.2) ∙ sym ends.3 ∙ parts) ends.5 (no_draws after none) in
+    let same : all ≡ here = ap (world_after 1 ws) parts ∙ after_all-append (initial_world 1 ws) (steps before) (Open reader path ∷ steps after) ∙ opens_leave here (steps after) opens in
     let is : reply ≡ reply_to here (Open reader path) =
-    reply_at (opening 1) before after (Open reader path) reply (subst (λ l. map (λ (x : Told). x.1) l ≡ replies_to (opening 1) (steps l)) cut run) in
+    reply_at (initial_world 1 ws) before after (Open reader path) reply (subst (λ l. map (λ (x : Told). x.1) l ≡ replies_to (initial_world 1 ws) (steps l)) cut run) in
     subst (λ r. Answers r (node_at (tree_at (broadcast_of all).trees (length (trees_of all.catalogue))) path)) (sym is) (subst (λ u. Looks u all) same last)
 
 -- ---- where the catalogue's last entries are two draws, so are the last events but opens
@@ -204,7 +205,7 @@ ends_by a b z events f g cut opens later drew =
     let inner = last_same (draws_in a) drew.0 (draw_of f) settling_draw outer.0 in
     let first : f ≡ [] = ap (λ (d : DrawFields). d.fates) inner.1 in
     let second : g ≡ [] = ap (λ (d : DrawFields). d.fates) outer.1 in
-    (a, b, z, cut ∙ (λ i. a ++ Draw 1048576 (first i) ∷ b ++ Draw 1048576 (second i) ∷ z) ∙ append_assoc a (settling ∷ b) (settling ∷ z), opens, later)
+    (a, b, z, cut ∙ (λ i. a ++ Draw 1048576 (first i) ∷ b ++ Draw 1048576 (second i) ∷ z) ∙ append_assoc a (settling_step ∷ b) (settling_step ∷ z), opens, later)
 
 -- what is told of two draws that come last
 cut_twice : (a b z : List Told) (x y : Told) (f g : List Fate) → x.0 ≡ Draw 1048576 f → y.0 ≡ Draw 1048576 g → steps ((a ++ x ∷ b) ++ y ∷ z) ≡ steps a ++ Draw 1048576 f ∷ steps b ++ Draw 1048576 g ∷ steps z
@@ -222,7 +223,7 @@ ends_told a b z l told x y f g late early one two opens later drew =
 pub ends_settled : (editors : List ℕ) (c : CatalogueState) (told : List Told) → Tells editors c.entries told → IsSettled c → EndsDrawn (draws_in (steps told)) → EndsSettled (steps told)
 ends_settled editors c told h settled drew =
     let old : CatalogueState = settled.0 in
-    let mid : CatalogueState = drawn old 1048576 in
+    let mid : CatalogueState = with_draw old 1048576 in
     let first : Entry = entries.Draw 1048576 (current_of old).number (cursor_of old) (count_drawn old 1048576) in
     let second : Entry = entries.Draw 1048576 (current_of mid).number (cursor_of mid) (count_drawn mid 1048576) in
     let all : c.entries ≡ (old.entries ++ first ∷ []) ++ second ∷ [] = ap (λ (d : CatalogueState). d.entries) settled.1 in

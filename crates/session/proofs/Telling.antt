@@ -10,8 +10,8 @@ use Rattle.generation_catalogue.specs.History.{is_draw}
 use Rattle.carousel_world.specs.Events.{Step}
 use Rattle.carousel_world.specs.declared.event.Reply.{Reply}
 use Rattle.session_history.specs.declared.opens.Open.{Open}
-use Rattle.session_history.specs.Merging.{Each, opens_by, opens_of, opens_at, merged, merge_of}
-use Rattle.session_history.specs.Merges.{ReaderFields, event_of, opened_of, merging}
+use Rattle.session_history.specs.Merging.{Each, opens_by, opens_of, opens_at, merge_entries, merge_of}
+use Rattle.session_history.specs.Merges.{ReaderFields, event_of, opened_of, session_merge}
 use Rattle.session_history.specs.Merged.{IsPlaced, AreNumbers, is_commit_at, is_commit_of}
 use Rattle.session.specs.Gathering.{entries_to_next}
 use Rattle.session.specs.Sessions.{up_to_next}
@@ -76,31 +76,31 @@ module _ (editors : List ℕ) where
   opened_told reader [] = tt
   opened_told reader (o ∷ os) = ((reader, o, refl), opened_told reader os)
 
-  opens_told : (readers : List ReaderFields) (k : ℕ) (rs : List ℕ) → Each IsOpenTold (flat_map (opens_of (merging editors) readers k) rs)
+  opens_told : (readers : List ReaderFields) (k : ℕ) (rs : List ℕ) → Each IsOpenTold (flat_map (opens_of (session_merge editors) readers k) rs)
   opens_told readers k [] = tt
   opens_told readers k (r ∷ rs) =
-      each_append IsOpenTold (opens_of (merging editors) readers k r) (flat_map (opens_of (merging editors) readers k) rs)
-      (opened_told r (filter (λ o. o.draws == k) (opens_by (merging editors) r readers))) (opens_told readers k rs)
+      each_append IsOpenTold (opens_of (session_merge editors) readers k r) (flat_map (opens_of (session_merge editors) readers k) rs)
+      (opened_told r (filter (λ o. o.draws == k) (opens_by (session_merge editors) r readers))) (opens_told readers k rs)
 
-  all_told : (readers : List ReaderFields) (k : ℕ) → Each IsOpenTold (opens_at (merging editors) readers k)
+  all_told : (readers : List ReaderFields) (k : ℕ) → Each IsOpenTold (opens_at (session_merge editors) readers k)
   all_told readers k = opens_told readers k (range_with_len 1 64)
 
   either : (es : List Entry) (a b : List Told) → Tells es a → Tells es b → (c : Bool) → Tells es (if c then a else b)
   either es a b h k true = h
   either es a b h k false = k
 
-  tells_entries : (readers : List ReaderFields) (k : ℕ) (fates : List (List Fate)) (es : List Entry) → Each (IsPlaced (length editors)) es → Tells es (merged (merging editors) readers k fates es)
+  tells_entries : (readers : List ReaderFields) (k : ℕ) (fates : List (List Fate)) (es : List Entry) → Each (IsPlaced (length editors)) es → Tells es (merge_entries (session_merge editors) readers k fates es)
   tells_entries readers k fates [] h = refl
   tells_entries readers k fates (e ∷ es) h =
-      let m = merging editors in
-      let later = merged m readers (suc k) (drop 1 fates) es in
-      either (e ∷ es) (event_of editors e (get_or fates 0 []) ∷ opens_at m readers (suc k) ++ later) (event_of editors e [] ∷ merged m readers k fates es)
+      let m = session_merge editors in
+      let later = merge_entries m readers (suc k) (drop 1 fates) es in
+      either (e ∷ es) (event_of editors e (get_or fates 0 []) ∷ opens_at m readers (suc k) ++ later) (event_of editors e [] ∷ merge_entries m readers k fates es)
       (inr (e, es, refl, (get_or fates 0 [], refl, h.0), behind_opens es (opens_at m readers (suc k)) later (all_told readers (suc k)) (tells_entries readers (suc k) (drop 1 fates) es h.1)))
       (inr (e, es, refl, ([], refl, h.0), tells_entries readers k fates es h.1)) (is_draw e)
 
-  pub merge_tells : (readers : List ReaderFields) (fates : List (List Fate)) (es : List Entry) → Each (IsPlaced (length editors)) es → Tells es (merge_of (merging editors) readers fates es)
+  pub merge_tells : (readers : List ReaderFields) (fates : List (List Fate)) (es : List Entry) → Each (IsPlaced (length editors)) es → Tells es (merge_of (session_merge editors) readers fates es)
   merge_tells readers fates es h =
-      behind_opens es (opens_at (merging editors) readers 0) (merged (merging editors) readers 0 fates es) (all_told readers 0) (tells_entries readers 0 fates es h)
+      behind_opens es (opens_at (session_merge editors) readers 0) (merge_entries (session_merge editors) readers 0 fates es) (all_told readers 0) (tells_entries readers 0 fates es h)
 
   -- ---- sums
 

@@ -83,14 +83,14 @@ IsNext setting done e = (left : List (Stage × Step)) × (setting.events ≡ don
 
 -- ---- seats, after some of the events: those before `start` happened, and those after it lie before their actors
 
-pub record EditorStands (s : Station) (place : ℕ) (done : List (Stage × Step)) (seat : EditorSeat) : Type 0 where
+pub record EditorStands {X : _} {F : _} {g : _} (s : Station X F g) (place : ℕ) (done : List (Stage × Step)) (seat : EditorSeat) : Type 0 where
   pub committed : HasCommitted s place (commits_by seat.number (steps_where is_before done)) seat.pass
   pub to_come : map edits_of seat.commits.items ≡ commits_by seat.number (steps_where is_during done)
 
-abbrev pub EditorsStand : Station → List (Stage × Step) → List EditorSeat → Type 0
+abbrev pub EditorsStand : {X : _} {F : _} {g : _} → Station X F g → List (Stage × Step) → List EditorSeat → Type 0
 EditorsStand s done seats = (place : ℕ) (d : EditorSeat) → place < length seats → EditorStands s place done (slice_index_or seats place d)
 
-pub record FeederStands (s : Station) (done : List (Stage × Step)) (shots : List Shot) (seat : FeederSeat) : Type 0 where
+pub record FeederStands {X : _} {F : _} {g : _} (s : Station X F g) (done : List (Stage × Step)) (shots : List Shot) (seat : FeederSeat) : Type 0 where
   pub fed : HasFed s (draws_in (steps_where is_before done)) seat shots
   pub to_come : map draw_of seat.draws.items ≡ draws_in (steps_where is_during done)
   pub in_range : All IsDrawLine seat.draws.items
@@ -109,7 +109,7 @@ abbrev pub ReadersStand : Setting → List (Stage × Step) → List Shot → Lis
 ReadersStand setting done shots seats = All (ReaderStands setting done shots) seats
 
 -- the reader was told of all these shots, and nothing else changed
-pub record IsTold (shots : List Shot) (old new : ReaderSeat) : Type 0 where
+pub record IsKnown (shots : List Shot) (old new : ReaderSeat) : Type 0 where
   pub same : IsSameReader old.pass new.pass
   pub known : new.pass.known ≡ old.pass.known
   pub opens : new.pass.opens ≡ old.pass.opens

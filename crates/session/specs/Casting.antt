@@ -14,7 +14,7 @@ use Rattle.session.specs.declared.cast.Cast.{Cast}
 use Rattle.session.specs.Acting.{AreApart, EditorsStand, FeederStands, ReadersStand, Setting, draws_of, numbers_of, readers_of}
 
 -- no two editors and no two readers share a number, and each editor's pass is one of the station
-pub record IsCast (s : Station) (cast : Cast) : Type 0 where
+pub record IsCast {X : _} {F : _} {g : _} (s : Station X F g) (cast : Cast) : Type 0 where
   pub editors : AreApart (numbers_of cast.editors.items)
   pub readers : AreApart (readers_of cast.readers.items)
   pub passes : All (IsEditorSeat s) cast.editors.items
@@ -29,7 +29,7 @@ abbrev pub AllMentionedIn : Cast → List (Stage × Step) → Type 0
 AllMentionedIn cast events = All (λ (e : Stage × Step). IsMentionedIn cast e.1) events
 
 -- after these of the setting's events: those before `start` happened, after each draw a shot was shown, and those after it lie before their actors
-pub record CastStands (setting : Setting) (s : Station) (done : List (Stage × Step)) (shots : List Shot) (cast : Cast) : Type 0 where
+pub record CastStands {X : _} {F : _} {g : _} (setting : Setting) (s : Station X F g) (done : List (Stage × Step)) (shots : List Shot) (cast : Cast) : Type 0 where
   pub editors : EditorsStand s done cast.editors.items
   pub feeder : FeederStands s done shots cast.feeder
   pub readers : ReadersStand setting done shots cast.readers.items

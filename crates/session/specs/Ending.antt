@@ -1,8 +1,6 @@
 -- What is left of a session once its threads are done, and what comes of it.
 use Rattle.std.specs.Prelude.{◌≡◌, ℕ, ◌+◌, ◌<◌, ◌≤◌, true, List, [], ◌∷◌, ◌++◌, map, length, slice_index_or}
 use Rattle.std.specs.List.{All}
-use Rattle.std.specs.declared.vec.Vec.{Vec}
-use Rattle.std.specs.declared.alloc.Global.{Global}
 use Rattle.path_tree.specs.Paths.{PathNames}
 use Rattle.path_tree.specs.declared.tree.Edit.{Edit}
 use Rattle.ts_packet.specs.declared.Fate.{Fate}
@@ -11,13 +9,15 @@ use Rattle.logbook.specs.Pages.{Book}
 use Rattle.open_history.specs.Opens.{ReaderView, IsSameReader}
 use Rattle.station.specs.declared.station.Station.{Station}
 use Rattle.station.specs.Passes.{carousel_of, pass_count}
-use Rattle.generation_catalogue.specs.History.{CatalogueState, drawn}
+use Rattle.generation_catalogue.specs.History.{CatalogueState, with_draw}
 use Rattle.generation_catalogue.specs.View.{state}
+use Rattle.carousel_world.specs.DownView.{DownlinkState}
 use Rattle.carousel_world.specs.Events.{Step, Commit, Draw, Open}
 use Rattle.carousel_world.specs.World.{Drawing}
 use Rattle.session_script.specs.declared.script.Stage.{Stage}
 use Rattle.session_script.specs.declared.script.Stage.TheVariants.{After}
 use Rattle.session_script.specs.Scripts.{Fields}
+use Rattle.session_history.specs.Merges.{fates_view}
 use Rattle.session_actors.specs.Chains.{DrawFields}
 use Rattle.session_actors.specs.Shown.{HasShown}
 use Rattle.session_actors.specs.Opened.{Asked, HasOpened}
@@ -50,7 +50,7 @@ abbrev pub settling_line : DrawFields
 settling_line = record { asked = 1048576; fates = [] }
 
 -- each editor, of the number at its place, made all its commits among these events
-abbrev pub EditorsDone : Station → List ℕ → List Step → List EditorSeat → Type 0
+abbrev pub EditorsDone : {X : _} {F : _} {g : _} → Station X F g → List ℕ → List Step → List EditorSeat → Type 0
 EditorsDone s numbers events seats = (length seats ≡ length numbers) × ((place : ℕ) (d : EditorSeat) → place < length seats
     → HasCommitted s place (commits_by (slice_index_or numbers place 0) events) (slice_index_or seats place d).pass)
 
@@ -71,7 +71,7 @@ pub record IsToEnd (script : Fields) (setting : Setting) (done : List (Stage × 
   pub settled : settles script ≡ true → draws_in ends ≡ settling_line ∷ settling_line ∷ []
 
 -- all seats of the script's actors, once their threads are done, and the editors' numbers
-pub record AreDone (script : Fields) (setting : Setting) (done : List (Stage × Step)) (s : Station)
+pub record AreDone {X : _} {F : _} {g : _} (script : Fields) (setting : Setting) (done : List (Stage × Step)) (s : Station X F g)
     (numbers : List ℕ) (editors : List EditorSeat) (feeder : FeederSeat) (readers : List ReaderSeat) (shots : List Shot) : Type 0 where
   pub carousel : carousel_of s ≡ 1
   pub passes : pass_count s ≡ length editors + 1
@@ -83,18 +83,28 @@ pub record AreDone (script : Fields) (setting : Setting) (done : List (Stage × 
 
 -- ---- what comes after them
 
--- this was gathered and shown of so many editors' commits and of the draws
-pub record HasGathered (id : ℕ) (commits : List (List (List Edit))) (lines : List DrawFields) (shots : List Shot) (e : Closed) : Type 0 where
-  pub carousel : (state e.catalogue).carousel ≡ id
+-- the catalogue once all passes are back, the feeder's downlink, and the fates of all draws
+pub record ClosedFields : Type 0 where
+  pub catalogue : CatalogueState
+  pub downlink : DownlinkState
+  pub fates : List (List Fate)
+
+abbrev pub view_closed : {X : _} {F : _} {g : _} → Closed X F g → ClosedFields
+view_closed e = record { catalogue = state e.catalogue; downlink = e.downlink; fates = map fates_view e.fates.items }
+
+-- this was gathered and shown of so many editors' commits and of the draws, of a carousel of this id and of these weights
+pub record HasGathered (id : ℕ) (weights : List ℕ) (commits : List (List (List Edit))) (lines : List DrawFields) (shots : List Shot) (e : ClosedFields) : Type 0 where
+  pub carousel : e.catalogue.carousel ≡ id
+  pub weighs : e.catalogue.weights ≡ weights
   pub drawings : List Drawing
-  pub gathered : IsGathered commits lines (state e.catalogue) drawings
+  pub gathered : IsGathered commits lines e.catalogue drawings
   pub shown : HasShown drawings e.downlink shots
-  pub fates : map (λ (fates : Vec Fate Global). fates.items) e.fates.items ≡ map (λ (line : DrawFields). line.fates) lines
+  pub fates : e.fates ≡ map (λ (line : DrawFields). line.fates) lines
 
 -- the catalogue after further draws
 abbrev pub drawn_all : CatalogueState → List DrawFields → CatalogueState
 drawn_all c [] = c
-drawn_all c (line ∷ lines) = drawn_all (drawn c line.asked) lines
+drawn_all c (line ∷ lines) = drawn_all (with_draw c line.asked) lines
 
 -- an open as an event
 abbrev pub open_step : LastOpen → Step

@@ -4,7 +4,7 @@ use Rattle.std.specs.List.{filter, count_by, sum_by}
 use Rattle.path_tree.specs.declared.tree.Edit.{Edit}
 use Rattle.history_lock.specs.History.{Begins, total, times, once_within}
 use Rattle.history_lock.specs.History as histories
-use Rattle.generation_catalogue.specs.History.{CatalogueState, IsHistory, put_bytes, put_bytes_of, drawn, draws_of}
+use Rattle.generation_catalogue.specs.History.{CatalogueState, IsHistory, put_bytes, put_bytes_of, with_draw, draws_of}
 use Rattle.generation_catalogue.specs.declared.entry.Entry.{Entry}
 use Rattle.generation_catalogue.specs.declared.entry.Entry.TheVariants as entries
 use Rattle.generation_catalogue.specs.declared.entry.Refusal.{Refusal}
@@ -51,18 +51,18 @@ pub record IsGathered (editors : List (List (List Edit))) (draws : List DrawFiel
   pub drawn : drawings_of c (map (λ (d : DrawFields). d.fates) draws) ≡ drawings
 
 -- the actors at these places and further ones made these commits, and have seen this much
-abbrev pub AllCommitted : (id place : ℕ) → List (List (List Edit)) → List Seen → Type 0
-AllCommitted id place [] [] = Unit {0}
-AllCommitted id place [] (s ∷ ss) = ⊥
-AllCommitted id place (lines ∷ more) [] = ⊥
-AllCommitted id place (lines ∷ more) (s ∷ ss) = Commits id place nothing_seen lines s × AllCommitted id (suc place) more ss
+abbrev pub AllCommitted : (id : ℕ) (weights : List ℕ) (place : ℕ) → List (List (List Edit)) → List Seen → Type 0
+AllCommitted id weights place [] [] = Unit {0}
+AllCommitted id weights place [] (s ∷ ss) = ⊥
+AllCommitted id weights place (lines ∷ more) [] = ⊥
+AllCommitted id weights place (lines ∷ more) (s ∷ ss) = Commits id weights place nothing_seen lines s × AllCommitted id weights (suc place) more ss
 
 -- What all passes have seen begins the history, and each entry is one pass's own. Then the history is gathered of what the actors did.
 abbrev pub ActorsGather : Type 0
 ActorsGather = (editors : List (List (List Edit))) (draws : List DrawFields) (drawings : List Drawing) (c : CatalogueState) (editors_seen : List Seen) (feeder_seen : Seen)
     → IsHistory c
-    → AllCommitted c.carousel 0 editors editors_seen
-    → Draws c.carousel nothing_seen draws drawings feeder_seen
+    → AllCommitted c.carousel c.weights 0 editors editors_seen
+    → Draws c.carousel c.weights nothing_seen draws drawings feeder_seen
     → histories.Each (λ (s : Seen). Begins s.entries c.entries) (editors_seen ++ feeder_seen ∷ [])
     → ((place : ℕ) → total (λ (s : Seen). times place s.own) (editors_seen ++ feeder_seen ∷ []) ≡ once_within 0 (length c.entries) place)
     → IsGathered editors draws c drawings
@@ -71,4 +71,4 @@ ActorsGather = (editors : List (List (List Edit))) (draws : List DrawFields) (dr
 abbrev pub GatherGrows : Type 0
 GatherGrows = (editors : List (List (List Edit))) (draws : List DrawFields) (drawings : List Drawing) (c : CatalogueState) (line : DrawFields)
     → IsGathered editors draws c drawings → draws_of c < 16777216 → 1 ≤ line.asked → line.asked ≤ 1048576
-    → IsGathered editors (draws ++ line ∷ []) (drawn c line.asked) (drawings ++ drawing_of c line.asked line.fates ∷ [])
+    → IsGathered editors (draws ++ line ∷ []) (with_draw c line.asked) (drawings ++ drawing_of c line.asked line.fates ∷ [])

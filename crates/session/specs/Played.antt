@@ -4,11 +4,11 @@ use Rattle.ts_packet.specs.declared.Fate.{Fate}
 use Rattle.path_resolver.specs.declared.shot.Shot.{Shot}
 use Rattle.open_history.specs.Opens.{ReaderView, AllAnswered}
 use Rattle.open_history.specs.declared.entry.OpenEntry.{OpenEntry}
-use Rattle.generation_catalogue.specs.History.{CatalogueState, drawn}
+use Rattle.generation_catalogue.specs.History.{CatalogueState, with_draw}
 use Rattle.carousel_world.specs.World.{Drawing}
 use Rattle.session_history.specs.declared.opens.Open.{Open}
 use Rattle.session_history.specs.Merging.{merge_of}
-use Rattle.session_history.specs.Merges.{ReaderFields, merging}
+use Rattle.session_history.specs.Merges.{ReaderFields, session_merge}
 use Rattle.session_history.specs.Merged.{AreParts}
 use Rattle.session_script.specs.Scripts.{Fields}
 use Rattle.rehearsal.specs.Lines.{events_of}
@@ -36,7 +36,7 @@ AllRead script shots (r ∷ rs) (v ∷ vs) =
 
 -- the last two entries are the draws of `settle`
 abbrev pub IsSettled : CatalogueState → Type 0
-IsSettled c = (before : CatalogueState) × (c ≡ drawn (drawn before 1048576) 1048576)
+IsSettled c = (before : CatalogueState) × (c ≡ with_draw (with_draw before 1048576) 1048576)
 
 -- the script was played: this is the catalogue at the end, and what was drawn, shown and opened
 pub record IsPlayed (script : Fields) (c : CatalogueState) (drawings : List Drawing) (shots : List Shot) (readers : List ReaderView) : Type 0 where
@@ -54,4 +54,4 @@ abbrev pub PlayedIsASession : Type 0
 PlayedIsASession = (script : Fields) (c : CatalogueState) (drawings : List Drawing) (shots : List Shot) (readers : List ReaderView)
     → IsArranged script → IsPlayed script c drawings shots readers
     → AreParts c.entries (fates_of script) script.editors (map opens_of readers)
-    × IsSession script (merge_of (merging script.editors) (map opens_of readers) (fates_of script) c.entries)
+    × IsSession c.weights script (merge_of (session_merge script.editors) (map opens_of readers) (fates_of script) c.entries)

@@ -13,11 +13,11 @@ use Rattle.carousel_world.specs.Promises.{MeetsHeadline, IsUndamaged, world_afte
 use Rattle.carousel_world.specs.Settling.{IsOpening, Answers}
 use Rattle.carousel_world.specs.declared.event.Reply.{Reply}
 use Rattle.carousel_world.specs.declared.event.Reply.TheVariants as replies
-use Rattle.session_history.specs.Laws.{placed}
+use Rattle.session_history.specs.Laws.{with_draws_before}
 use Rattle.session_history.specs.Merged.{is_draw_step, is_commit_of, is_open_by}
 use Rattle.session_history.specs.Merges.{IsRunOfWorld}
 use Rattle.session_script.specs.Scripts.{Fields}
-use Rattle.rehearsal.specs.Lines.{events_of, settling}
+use Rattle.rehearsal.specs.Lines.{events_of, settling_step}
 use Rattle.session_actors.specs.Opened.{Asked}
 use Rattle.session.specs.Lines.{commits_by, draws_in, asked_of, settles}
 
@@ -63,11 +63,11 @@ AreCommitted editor before (edits ∷ lines) told =
 -- ---- opens
 
 -- each path that a reader is asked for is opened, in order, after at least so many draws
-abbrev pub AreTold : ℕ → List Asked → List (ℕ × (Step × Reply)) → Type 0
-AreTold reader [] [] = Unit {0}
-AreTold reader [] (x ∷ xs) = ⊥
-AreTold reader (a ∷ asked) [] = ⊥
-AreTold reader (a ∷ asked) (x ∷ xs) = (x.1.0 ≡ Open reader a.path) × (a.least ≤ x.0) × AreTold reader asked xs
+abbrev pub AreKnown : ℕ → List Asked → List (ℕ × (Step × Reply)) → Type 0
+AreKnown reader [] [] = Unit {0}
+AreKnown reader [] (x ∷ xs) = ⊥
+AreKnown reader (a ∷ asked) [] = ⊥
+AreKnown reader (a ∷ asked) (x ∷ xs) = (x.1.0 ≡ Open reader a.path) × (a.least ≤ x.0) × AreKnown reader asked xs
 
 -- The opens stand right after the last draw that they answer by, or before all else: none right after a commit, and those after one draw
 -- in the order of their readers' numbers. Only a reader of `least` or above may open at the front; 65 is above all readers.
@@ -81,18 +81,19 @@ OpensInPlace least (Open reader path ∷ steps) = (least ≤ reader) × OpensInP
 
 -- the last events but opens are the two draws of `settle`
 abbrev pub EndsSettled : List Step → Type 0
-EndsSettled events = (before : List Step) × (between : List Step) × (after : List Step) × (events ≡ before ++ settling ∷ (between ++ settling ∷ after))
+EndsSettled events = (before : List Step) × (between : List Step) × (after : List Step) × (events ≡ before ++ settling_step ∷ (between ++ settling_step ∷ after))
     × All IsOpening between × All IsOpening after
 
 -- the last generation was heard whole
-abbrev pub EndsWhole : List Step → Type 0
-EndsWhole events =
-    IsWhole 1 (broadcast_of (world_after 1 events)).layouts (length (trees_of (world_after 1 events).catalogue)) (candidates_in (world_after 1 events))
+abbrev pub EndsWhole : List ℕ → List Step → Type 0
+EndsWhole weights events =
+    let w = world_after 1 weights events in
+    IsWhole 1 (broadcast_of w).layouts (length (trees_of w.catalogue)) (candidates_in w)
 
 -- so each open after all draws answers the path's lookup in the last generation, if damaged sections failed their CRC and blocks are near
-abbrev pub EndsAnswered : List (Step × Reply) → Type 0
-EndsAnswered told =
-    let w = world_after 1 (map (λ (x : Step × Reply). x.0) told) in
+abbrev pub EndsAnswered : List ℕ → List (Step × Reply) → Type 0
+EndsAnswered weights told =
+    let w = world_after 1 weights (map (λ (x : Step × Reply). x.0) told) in
     IsUndamaged w → (before after : List (Step × Reply)) (reader : ℕ) (path : PathNames) (reply : Reply) → told ≡ before ++ (Open reader path, reply) ∷ after
     → filter (λ (x : Step × Reply). is_draw_step x.0) after ≡ []
     → Answers reply (node_at (tree_at (broadcast_of w).trees (length (trees_of w.catalogue))) path)
@@ -100,17 +101,17 @@ EndsAnswered told =
 -- The events are those of the script: each editor's commits in written order, but for those that found no room; the draws in written
 -- order; each reader's opens in written order, an open above `start` after the draws above it, one below `start` after those above
 -- `start`, and a finale after all. Each open stands right after the draw that it answers by, in the order of the readers' numbers. The
--- draws of `settle` are the last events but opens. Together they are one run of a world of carousel 1, which keeps what is promised of
--- every run; and after `settle` the last generation was heard whole, and finales answer it.
-pub record IsSession (script : Fields) (told : List (Step × Reply)) : Type 0 where
-  pub run : IsRunOfWorld 1 told
+-- draws of `settle` are the last events but opens. Together they are one run of a world of carousel 1 with these weights, which keeps
+-- what is promised of every run; and after `settle` the last generation was heard whole, and finales answer it.
+pub record IsSession (weights : List ℕ) (script : Fields) (told : List (Step × Reply)) : Type 0 where
+  pub run : IsRunOfWorld 1 weights told
   pub steps : All InRange (map (λ (x : Step × Reply). x.0) told)
-  pub headline : MeetsHeadline 1 (map (λ (x : Step × Reply). x.0) told)
+  pub headline : MeetsHeadline 1 weights (map (λ (x : Step × Reply). x.0) told)
   pub commits : (editor : ℕ) → 1 ≤ editor → editor ≤ 64 → AreCommitted editor [] (commits_by editor (events_of script)) told
   pub draws : draws_in (map (λ (x : Step × Reply). x.0) told) ≡ draws_in (events_of script)
   pub opens : (reader : ℕ) → 1 ≤ reader → reader ≤ 64
-      → AreTold reader (asked_of reader script) (placed (λ (x : Step × Reply). is_open_by reader x.0) (λ (x : Step × Reply). is_draw_step x.0) 0 told)
+      → AreKnown reader (asked_of reader script) (with_draws_before (λ (x : Step × Reply). is_open_by reader x.0) (λ (x : Step × Reply). is_draw_step x.0) 0 told)
   pub in_place : OpensInPlace 0 (map (λ (x : Step × Reply). x.0) told)
   pub settled : settles script ≡ true → EndsSettled (map (λ (x : Step × Reply). x.0) told)
-  pub whole : settles script ≡ true → EndsWhole (map (λ (x : Step × Reply). x.0) told)
-  pub answered : settles script ≡ true → EndsAnswered told
+  pub whole : settles script ≡ true → EndsWhole weights (map (λ (x : Step × Reply). x.0) told)
+  pub answered : settles script ≡ true → EndsAnswered weights told

@@ -21,7 +21,7 @@ pub record IsWhole (cast : Cast) : Type 0 where
   pub readers : All (λ (seat : ReaderSeat). seat.whole ≡ true) cast.readers.items
 
 -- the passes are the station's
-pub record MayEnd (s : Station) (cast : Cast) : Type 0 where
+pub record MayEnd {X : _} {F : _} {g : _} (s : Station X F g) (cast : Cast) : Type 0 where
   pub editors : All (IsEditorSeat s) cast.editors.items
   pub feeder : IsStationPass s cast.feeder.pass
 
@@ -30,7 +30,7 @@ abbrev pub done_in : Setting → List (Stage × Step)
 done_in setting = staged_where is_before setting.events ++ staged_where is_during setting.events
 
 -- all of these are done
-pub record CastDone (setting : Setting) (s : Station) (shots : List Shot) (cast : Cast) : Type 0 where
+pub record CastDone {X : _} {F : _} {g : _} (setting : Setting) (s : Station X F g) (shots : List Shot) (cast : Cast) : Type 0 where
   pub committed : EditorsDone s (numbers_of cast.editors.items) (steps (done_in setting)) cast.editors.items
   pub fed : HasFed s (draws_in (steps (done_in setting))) cast.feeder shots
   pub read : All (ReaderDone setting (done_in setting)) cast.readers.items

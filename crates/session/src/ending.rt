@@ -4,21 +4,21 @@ ghost use Rattle.std.specs.List.{All};
 ghost use Rattle.path_resolver.specs.declared.shot.Shot.{Shot as ShotFields};
 ghost use Rattle.path_tree.specs.declared.tree.Edit.{Edit as EditFields};
 ghost use Rattle.open_history.specs.Opens.{AllAnswered};
-ghost use Rattle.station.specs.Passes.{IsStationPass, carousel_of, pass_count};
-ghost use Rattle.generation_catalogue.specs.History.{drawn};
+ghost use Rattle.station.specs.Passes.{IsStationPass, carousel_of, pass_count, weights_of};
+ghost use Rattle.generation_catalogue.specs.History.{with_draw};
 ghost use Rattle.generation_catalogue.specs.View.{state};
 ghost use Rattle.session_script.specs.Scripts.{Fields};
 ghost use Rattle.session_script.specs.declared.script.Stage.{Stage};
 ghost use Rattle.carousel_world.specs.Events.{Step};
 ghost use Rattle.shot_board.specs.Showers.{shown_by, shower_board, most_by, IsSameBoard};
-ghost use Rattle.session_history.specs.Merges.{told_view, reader_view};
+ghost use Rattle.session_history.specs.Merges.{known_view, reader_view};
 ghost use Rattle.session_actors.specs.Chains.{DrawFields};
 ghost use Rattle.session_actors.specs.Seats.{HasFed, IsEditorSeat};
 ghost use Rattle.session.specs.Lines.{commits_by, draws_in};
 ghost use Rattle.session.specs.Acting.{Setting, draws_of};
 ghost use Rattle.session.specs.Played.{open_of, opens_of as opens_in_history};
 ghost use Rattle.session.specs.Sessions.{IsSession};
-ghost use Rattle.session.specs.Ending.{EditorsDone, HasGathered, HasOpenedLast, AllOpenedLast, MayOpenLast, IsEnd, IsToEnd, AreDone, drawn_all, open_step, opens_in, paths_of, steps_of};
+ghost use Rattle.session.specs.Ending.{EditorsDone, HasGathered, HasOpenedLast, AllOpenedLast, MayOpenLast, IsEnd, IsToEnd, AreDone, drawn_all, open_step, opens_in, paths_of, steps_of, view_closed};
 
 use crate::laws::{actors_gather, gathers_grow, played_is_a_session};
 use crate::plan::Deed;
@@ -76,7 +76,7 @@ fn end_of_threads(
     requires count { pass_count station ≡ length editors.items + 1 }
     ensures gathered { IfOk result (λ closed. (numbers : List ℕ) (events : List Step) (draws : List DrawFields) (shots : List ShotFields)
         → EditorsDone station numbers events editors.items → HasFed station draws feeder shots
-        → HasGathered (carousel_of station) (map (λ editor. commits_by editor events) numbers) draws shots closed) }
+        → HasGathered (carousel_of station) (weights_of station) (map (λ editor. commits_by editor events) numbers) draws shots (view_closed closed)) }
 {
     let FeederSeat {
         pass,
@@ -112,10 +112,10 @@ impl Closed {
         requires room { length (shown_by shower.old) ≤ most_by shower.old }
         ensures board { IsSameBoard shower.old shower.new }
         ensures count { OnOk result (length (shown_by shower.new) ≡ length (shown_by shower.old) + 1) }
-        ensures drawn { OnOk result (state self.new.catalogue ≡ drawn (state self.old.catalogue) asked) }
-        ensures gathered { OnOk result ((id : ℕ) (commits : List (List (List EditFields))) (draws : List DrawFields)
-            → HasGathered id commits draws (shown_by shower.old) self.old
-            → HasGathered id commits (draws ++ record { asked = asked; fates = fates.items } ∷ []) (shown_by shower.new) self.new) }
+        ensures drawn { OnOk result (state self.new.catalogue ≡ with_draw (state self.old.catalogue) asked) }
+        ensures gathered { OnOk result ((id : ℕ) (weights : List ℕ) (commits : List (List (List EditFields))) (draws : List DrawFields)
+            → HasGathered id weights commits draws (shown_by shower.old) (view_closed self.old)
+            → HasGathered id weights commits (draws ++ record { asked = asked; fates = fates.items } ∷ []) (shown_by shower.new) (view_closed self.new)) }
     {
         let Ok(batch) = self.catalogue.draw(asked) else {
             return Err(AllocError);
@@ -141,9 +141,9 @@ impl Closed {
         ensures count { OnOk result (length (shown_by shower.new) ≡ length (shown_by shower.old) + length (draws_in (steps_of ends.items))) }
         ensures opens { IfOk result (λ opens. map open_step opens.items ≡ opens_in (steps_of ends.items)) }
         ensures drawn { OnOk result (state self.new.catalogue ≡ drawn_all (state self.old.catalogue) (draws_in (steps_of ends.items))) }
-        ensures gathered { OnOk result ((id : ℕ) (commits : List (List (List EditFields))) (draws : List DrawFields)
-            → HasGathered id commits draws (shown_by shower.old) self.old
-            → HasGathered id commits (draws ++ draws_in (steps_of ends.items)) (shown_by shower.new) self.new) }
+        ensures gathered { OnOk result ((id : ℕ) (weights : List ℕ) (commits : List (List (List EditFields))) (draws : List DrawFields)
+            → HasGathered id weights commits draws (shown_by shower.old) (view_closed self.old)
+            → HasGathered id weights commits (draws ++ draws_in (steps_of ends.items)) (shown_by shower.new) (view_closed self.new)) }
     {
         let mut opens = Vec::new(alloc);
         for deed in ends {
@@ -263,7 +263,7 @@ pub(crate) fn end<R: Threads + Wait + Sync, G: Gate>(
         × (shower_board shower.old ≡ setting.board) × (most_by shower.old ≡ draws_of setting) }
     ensures board { IsSameBoard shower.old shower.new }
     ensures session { IfOk result (λ told. (script : Fields) (setting : Setting) (done : List (Stage × Step)) → IsToEnd script setting done (steps_of ends.items)
-        → AreDone script setting done station numbers.now editors.items feeder readers.items (shown_by shower.old) → IsSession script (map told_view told.items)) }
+        → AreDone script setting done station numbers.now editors.items feeder readers.items (shown_by shower.old) → IsSession (weights_of station) script (map known_view told.items)) }
 {
     let mut closed = end_of_threads(alloc, station, editors, feeder)?;
     let opens = closed.draw_all(rt, alloc, gate, shower, ends)?;

@@ -5,7 +5,7 @@ ghost use Rattle.session_script.specs.Scripts.{LineFields, view_action, view_lin
 ghost use Rattle.session_script.specs.Ranges.{IsActor, IsInRange};
 ghost use Rattle.carousel_world.specs.World.{InRange};
 ghost use Rattle.carousel_world.specs.Events.{Step, Commit};
-ghost use Rattle.rehearsal.specs.Lines.{Pending, none_pending, pending_after, with_edit, without, settling};
+ghost use Rattle.rehearsal.specs.Lines.{Pending, none_pending, pending_after, with_edit, without, settling_step};
 ghost use Rattle.session.specs.Lines.{staged_from, staged_of};
 ghost use Rattle.session.specs.Acting.{view_staged, AreInRange};
 
@@ -125,7 +125,7 @@ impl Staging {
     /// Two settling draws.
     fn settle(&mut self, stage: Stage) -> Result<(), NoMemory>
         ensures { OnOk result ((before : List (_ × Step)) (p : Pending) → Stages self.old before p
-            → Stages self.new (before ++ (stage, settling) ∷ (stage, settling) ∷ []) p) }
+            → Stages self.new (before ++ (stage, settling_step) ∷ (stage, settling_step) ∷ []) p) }
     {
         self.settling_draw(stage)?;
         self.settling_draw(stage)
@@ -133,7 +133,7 @@ impl Staging {
 
     fn settling_draw(&mut self, stage: Stage) -> Result<(), NoMemory>
         ensures { OnOk result ((before : List (_ × Step)) (p : Pending) → Stages self.old before p
-            → Stages self.new (before ++ (stage, settling) ∷ []) p) }
+            → Stages self.new (before ++ (stage, settling_step) ∷ []) p) }
     {
         let fates = Vec::new(self.alloc);
         self.stage(stage, 1, Deed::Draw(SETTLING, fates))

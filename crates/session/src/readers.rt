@@ -8,7 +8,7 @@ ghost use Rattle.session_script.specs.declared.script.Stage.TheVariants.{Before,
 ghost use Rattle.session_script.specs.declared.script.Stage.{Stage};
 ghost use Rattle.carousel_world.specs.Events.{Step, Open};
 ghost use Rattle.shot_board.specs.Showers.{shown_by, shower_board, most_by, IsSameBoard};
-ghost use Rattle.session.specs.Acting.{AreApart, IsTold, Setting, ReadersStand, IsNext, readers_of, steps_where};
+ghost use Rattle.session.specs.Acting.{AreApart, IsKnown, Setting, ReadersStand, IsNext, readers_of, steps_where};
 ghost use Rattle.session.specs.Lines.{draws_in, is_before};
 
 use oc_bytes::NoMemory;
@@ -61,7 +61,7 @@ pub(crate) fn lay_open(seats: &mut Vec<ReaderSeat>, reader: u32, path: Path) -> 
 pub(crate) fn tell(seats: &mut Vec<ReaderSeat>, shower: &mut Shower<Shot>)
     requires { All (λ seat. seat.pass.board ≡ shower_board shower.old) seats.old.items }
     ensures board { (shown_by shower.new ≡ shown_by shower.old) × IsSameBoard shower.old shower.new }
-    ensures told { (length seats.new.items ≡ length seats.old.items) × ((k : ℕ) (d : _) → k < length seats.old.items → IsTold (shown_by shower.old) (slice_index_or seats.old.items k d) (slice_index_or seats.new.items k d)) }
+    ensures told { (length seats.new.items ≡ length seats.old.items) × ((k : ℕ) (d : _) → k < length seats.old.items → IsKnown (shown_by shower.old) (slice_index_or seats.old.items k d) (slice_index_or seats.new.items k d)) }
 {
     for place in 0..seats.len() {
         tell_one(&mut seats[place], shower);
@@ -72,7 +72,7 @@ pub(crate) fn tell(seats: &mut Vec<ReaderSeat>, shower: &mut Shower<Shot>)
 fn tell_one(seat: &mut ReaderSeat, shower: &mut Shower<Shot>)
     requires { seat.old.pass.board ≡ shower_board shower.old }
     ensures board { (shown_by shower.new ≡ shown_by shower.old) × IsSameBoard shower.old shower.new }
-    ensures told { IsTold (shown_by shower.old) seat.old seat.new }
+    ensures told { IsKnown (shown_by shower.old) seat.old seat.new }
 {
     seat.pass.learn(shower.front());
 }

@@ -1,7 +1,7 @@
 //! A whole session.
 ghost use Rattle.std.specs.Prelude.{◌≡◌, map, length, IfOk};
 ghost use Rattle.session_script.specs.Scripts.{view, Fields};
-ghost use Rattle.session_history.specs.Merges.{told_view};
+ghost use Rattle.session_history.specs.Merges.{known_view};
 ghost use Rattle.shot_board.specs.Showers.{shown_by};
 ghost use Rattle.session.specs.Lines.{IsArranged};
 ghost use Rattle.session.specs.Sessions.{IsSession};
@@ -17,6 +17,7 @@ use crate::plan::{Staged, deeds_of};
 use crate::seating::{count_draws, reader_seats};
 use crate::threads::run_all;
 use carousel_world::{Downlink, Event, Reply};
+use cycle_planner::Weigh;
 use oc_bytes::NoMemory;
 use path_resolver::Shot;
 use section_workers::Gate;
@@ -34,7 +35,7 @@ const PID: u16 = 256;
 /// The carousel of a session.
 const CAROUSEL: u32 = 1;
 
-/// Runs a script's session of carousel 1, and gives its history.
+/// Runs a script's session of carousel 1, each of whose modules is sent as often a cycle as it weighs, and gives its history.
 ///
 /// - The lines above `start` are run in written order by the calling thread. After each draw each reader is told of all shots.
 /// - One thread for each editor, one for the feeder and one for each reader run the other lines, each in the written order of that
@@ -49,9 +50,10 @@ pub fn play<R: Threads + Wait + Sync, G: Gate>(
     alloc: Global,
     script: Script,
     gate: &G,
+    weigh: Weigh,
 ) -> Result<Vec<(Event, Reply)>, NoMemory>
     requires { IsArranged (view script) }
-    ensures { IfOk result (λ told. IsSession (view script) (map told_view told.items)) }
+    ensures { IfOk result (λ told. IsSession weigh.weights (view script) (map known_view told.items)) }
 {
     let Script {
         editors,
@@ -70,7 +72,7 @@ pub fn play<R: Threads + Wait + Sync, G: Gate>(
         downlink,
         viewers,
     };
-    let told = perform(rt, alloc, gate, &mut shower, start);
+    let told = perform(rt, alloc, gate, &mut shower, start, weigh);
     shower.close(rt);
     told
 }
@@ -93,12 +95,13 @@ fn perform<R: Threads + Wait + Sync, G: Gate>(
     gate: &G,
     shower: &mut Shower<Shot>,
     start: Start,
+    weigh: Weigh,
 ) -> Result<Vec<(Event, Reply)>, NoMemory>
     requires set_up { (script : Fields) × (setting : Setting) × IsBegun script setting (shown_by shower.old) start × IsBoardOf setting shower.old }
     requires range { AreInRange (map view_staged start.events.items) }
     requires readers { length start.viewers.items ≡ length start.readers.items }
     ensures { IfOk result (λ told. (script : Fields) (setting : Setting) → IsBegun script setting (shown_by shower.old) start → IsBoardOf setting shower.old
-        → IsSession script (map told_view told.items)) }
+        → IsSession weigh.weights script (map known_view told.items)) }
 {
     let Start {
         events,
@@ -107,7 +110,7 @@ fn perform<R: Threads + Wait + Sync, G: Gate>(
         downlink,
         viewers,
     } = start;
-    let (station, mut passes) = Station::new(alloc, editors.len() as u32, CAROUSEL)?;
+    let (station, mut passes) = Station::new(alloc, editors.len() as u32, CAROUSEL, weigh)?;
     let Some(pass) = passes.pop() else {
         unreachable!()
     };

@@ -1,5 +1,5 @@
 -- One shot more.
-use Rattle.std.proofs.Common.{◌≡◌, ◌⊎◌, inl, inr, ℕ, zero, suc, ◌+◌, ◌<◌, ◌≤◌, List, [], ◌∷◌, ◌++◌, map, length, take, Some, slice_get, Result, Ok, Err, OnOk, refl, ap, sym, ◌∙◌, subst, length-append, arith}
+use Rattle.std.proofs.Common.{◌≡◌, ◌⊎◌, inl, inr, ℕ, zero, suc, ◌<◌, List, [], ◌∷◌, ◌++◌, map, length, Some, slice_get, Result, Ok, Err, OnOk, refl, ap, sym, ◌∙◌, subst, length-append, arith}
 use Rattle.std.specs.Arc.{arc_value}
 use Rattle.std.proofs.lemmas.List.{take-append-le, take_all}
 use Rattle.path_tree.specs.Paths.{Bytes}
@@ -15,7 +15,7 @@ use Rattle.section_stream.specs.Groups.{packets_of_group}
 use Rattle.tuner_core.specs.LookBack.{snapshot_after}
 use Rattle.carousel_world.specs.DownView.{DownlinkState, DownlinkStands}
 use Rattle.carousel_world.specs.Fates.{received_under}
-use Rattle.carousel_world.specs.World.{WorldState, Drawing, sections_of, groups_sent, arrivals, opening}
+use Rattle.carousel_world.specs.World.{WorldState, Drawing, sections_of, groups_sent, arrivals, initial_world}
 use Rattle.carousel_world.proofs.CallerLemmas.{stands_after_draw}
 use Rattle.session_history.specs.Merges.{candidates_after}
 use Rattle.session_actors.specs.Shown.{AreShots, HasShown}
@@ -62,7 +62,7 @@ pub one_shot_more : (drawings : List Drawing) (d : Drawing) (old new : DownlinkS
     → n ≡ length before → after ≡ before ++ shot ∷ []
     → HasShown drawings old before → HasShown (drawings ++ d ∷ []) new after
 one_shot_more drawings d old new before after shot n carry look number shown has =
-    let w : WorldState = record { catalogue = (opening 0).catalogue; drawings = drawings } in
+    let w : WorldState = record { catalogue = (initial_world 0 []).catalogue; drawings = drawings } in
     let stands = stands_after_draw w d old new has.carried (carry 256 (groups_sent drawings) (map (λ a. a.1) (arrivals drawings)) has.carried) in
     let all = map (λ a. a.1) (arrivals (drawings ++ d ∷ [])) in
     let is : view shot ≡ snapshot_after (length before) (length before) (candidates 256 all) =

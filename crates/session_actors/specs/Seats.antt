@@ -1,7 +1,6 @@
 -- What actors did, by their seats.
-use Rattle.std.specs.Prelude.{◌≡◌, ℕ, true, List, [], ◌∷◌, ◌++◌, map, length, ◌≤◌, ◌+◌}
+use Rattle.std.specs.Prelude.{◌≡◌, ℕ, true, List, ◌++◌, map, length, ◌≤◌, ◌+◌}
 use mathlib.Core.List.{IsPrefix}
-use Rattle.std.specs.List.{All}
 use Rattle.std.specs.declared.vec.Vec.{Vec}
 use Rattle.std.specs.declared.alloc.Global.{Global}
 use Rattle.path_tree.specs.Paths.{PathNames}
@@ -12,13 +11,13 @@ use Rattle.history_lock.specs.declared.pass.Pass.{Pass}
 use Rattle.station.specs.declared.kept.Kept.{Kept}
 use Rattle.station.specs.declared.kept.KeptItem.{KeptItem}
 use Rattle.station.specs.declared.station.Station.{Station}
-use Rattle.station.specs.Passes.{IsStationPass, carousel_of}
+use Rattle.station.specs.Passes.{IsStationPass, carousel_of, weights_of}
 use Rattle.std.specs.Arc.{arc_value}
 use Rattle.ts_packet.specs.declared.Fate.{Fate}
 use Rattle.generation_catalogue.specs.History.{CatalogueState, outcome_of, is_entered}
 use Rattle.generation_catalogue.specs.declared.entry.Batch.{Batch}
 use Rattle.carousel_world.specs.World.{Drawing}
-use Rattle.open_history.specs.Opens.{ReaderView, IsSameReader}
+use Rattle.open_history.specs.Opens.{IsSameReader}
 use Rattle.session_actors.specs.declared.editor.CommitLine.{CommitLine}
 use Rattle.session_actors.specs.declared.editor.EditorSeat.{EditorSeat}
 use Rattle.session_actors.specs.declared.feeder.DrawLine.{DrawLine}
@@ -34,17 +33,17 @@ abbrev pub edits_of : CommitLine → List Edit
 edits_of line = line.edits.items
 
 -- a commit of these edits would be entered, on a history that goes on with what the pass has seen
-abbrev pub WouldBeEntered : Station → Pass Kept KeptItem → List Edit → Type 0
-WouldBeEntered s p edits = (c : CatalogueState) × (GoesOnWith (carousel_of s) (seen_in p) c) × (is_entered (outcome_of c edits) ≡ true)
+abbrev pub WouldBeEntered : {X : _} {F : _} {g : _} → Station X F g → Pass Kept KeptItem → List Edit → Type 0
+WouldBeEntered s p edits = (c : CatalogueState) × (GoesOnWith (carousel_of s) (weights_of s) (seen_in p) c) × (is_entered (outcome_of c edits) ≡ true)
 
 -- the editor of this place made these commits, in order, and no others
-pub record HasCommitted (s : Station) (place : ℕ) (lines : List (List Edit)) (p : Pass Kept KeptItem) : Type 0 where
+pub record HasCommitted {X : _} {F : _} {g : _} (s : Station X F g) (place : ℕ) (lines : List (List Edit)) (p : Pass Kept KeptItem) : Type 0 where
   pub pass : IsStationPass s p
   pub number : number_of p ≡ place
-  pub commits : Commits (carousel_of s) place nothing_seen lines (seen_in p)
+  pub commits : Commits (carousel_of s) (weights_of s) place nothing_seen lines (seen_in p)
 
 -- if it is whole, it made all the commits that lay before it, after those that it had made
-pub record DidEdit (s : Station) (before after : EditorSeat) : Type 0 where
+pub record DidEdit {X : _} {F : _} {g : _} (s : Station X F g) (before after : EditorSeat) : Type 0 where
   pub pass : IsStationPass s after.pass
   pub editor : after.number ≡ before.number
   pub whole : after.whole ≡ true → (place : ℕ) (lines : List (List Edit)) → HasCommitted s place lines before.pass
@@ -56,15 +55,15 @@ abbrev pub draw_of : DrawLine → DrawFields
 draw_of line = record { asked = line.asked; fates = line.fates.items }
 
 -- the feeder made these draws, in order, and no others; each was carried, and a shot was shown after it
-pub record HasFed (s : Station) (lines : List DrawFields) (seat : FeederSeat) (shots : List Shot) : Type 0 where
+pub record HasFed {X : _} {F : _} {g : _} (s : Station X F g) (lines : List DrawFields) (seat : FeederSeat) (shots : List Shot) : Type 0 where
   pub pass : IsStationPass s seat.pass
   pub drawings : List Drawing
-  pub draws : Draws (carousel_of s) nothing_seen lines drawings (seen_in seat.pass)
+  pub draws : Draws (carousel_of s) (weights_of s) nothing_seen lines drawings (seen_in seat.pass)
   pub shown : HasShown drawings seat.downlink shots
   pub fates : map (λ (fates : Vec _ Global). fates.items) seat.fates.items ≡ map (λ (line : DrawFields). line.fates) lines
 
 -- if it is whole, it made all the draws that lay before it, after those that it had made
-pub record DidFeed (s : Station) (before after : FeederSeat) (shots shots_after : List Shot) : Type 0 where
+pub record DidFeed {X : _} {F : _} {g : _} (s : Station X F g) (before after : FeederSeat) (shots shots_after : List Shot) : Type 0 where
   pub pass : IsStationPass s after.pass
   pub whole : after.whole ≡ true → (lines : List DrawFields) → HasFed s lines before shots
       → HasFed s (lines ++ map draw_of before.draws.items) after shots_after
@@ -88,7 +87,7 @@ pub record DidRead (before after : ReaderSeat) : Type 0 where
 
 -- ---- what is asked of seats before their threads begin
 
-abbrev pub IsEditorSeat : Station → EditorSeat → Type 0
+abbrev pub IsEditorSeat : {X : _} {F : _} {g : _} → Station X F g → EditorSeat → Type 0
 IsEditorSeat s seat = IsStationPass s seat.pass
 
 abbrev pub IsDrawLine : DrawLine → Type 0

@@ -55,22 +55,41 @@ pub fn run_actors<R: Threads + Wait + Sync, G: Gate>(
             ensures feeder { DidFeed station.entry.now feeder.entry.now feeder.exit.now (shown_by shower.entry.now) (shown_by shower.exit.now) }
             ensures board { IsSameBoard shower.entry.now shower.exit.now }
             ensures readers { (i : ℕ) (d : _) → i < length readers.entry.now → DidRead (slice_index_or readers.entry.now i d) (slice_index_or readers.exit.now i d) }
-        {
-            join_mut(
-                rt,
-                &mut ||
-                    requires pass { IsStationPass station.now feeder.now.pass }
-                    requires lines { All IsDrawLine feeder.now.draws.items }
-                    requires room { length (shown_by shower.now) + length feeder.now.draws.items ≤ most_by shower.now + 1 }
-                    ensures feeder { DidFeed station.entry.now feeder.entry.now feeder.exit.now (shown_by shower.entry.now) (shown_by shower.exit.now) }
-                    ensures board { IsSameBoard shower.entry.now shower.exit.now }
-                { feed(rt, alloc, station, gate, shower, feeder) },
-                &mut ||
-                    requires { All IsReaderSeat readers.now }
-                    ensures { (i : ℕ) (d : _) → i < length readers.entry.now → DidRead (slice_index_or readers.entry.now i d) (slice_index_or readers.exit.now i d) }
-                { read_all(rt, alloc, gate, readers) },
-            );
-        },
+        { feed_and_read(rt, alloc, station, gate, shower, feeder, readers) },
+    );
+}
+
+/// The feeder and the readers at once.
+fn feed_and_read<R: Threads + Wait + Sync, G: Gate>(
+    rt: &R,
+    alloc: Global,
+    station: &Station,
+    gate: &G,
+    shower: &mut Shower<Shot>,
+    feeder: &mut FeederSeat,
+    readers: &mut [ReaderSeat],
+)
+    requires pass { IsStationPass station.now feeder.old.pass }
+    requires lines { All IsDrawLine feeder.old.draws.items }
+    requires room { length (shown_by shower.old) + length feeder.old.draws.items ≤ most_by shower.old + 1 }
+    requires readers { All IsReaderSeat readers.old }
+    ensures feeder { DidFeed station.now feeder.old feeder.new (shown_by shower.old) (shown_by shower.new) }
+    ensures board { IsSameBoard shower.old shower.new }
+    ensures readers { (i : ℕ) (d : _) → i < length readers.old → DidRead (slice_index_or readers.old i d) (slice_index_or readers.new i d) }
+{
+    join_mut(
+        rt,
+        &mut ||
+            requires { All IsReaderSeat readers.now }
+            ensures { (i : ℕ) (d : _) → i < length readers.entry.now → DidRead (slice_index_or readers.entry.now i d) (slice_index_or readers.exit.now i d) }
+        { read_all(rt, alloc, gate, readers) },
+        &mut ||
+            requires pass { IsStationPass station.now feeder.now.pass }
+            requires lines { All IsDrawLine feeder.now.draws.items }
+            requires room { length (shown_by shower.now) + length feeder.now.draws.items ≤ most_by shower.now + 1 }
+            ensures feeder { DidFeed station.entry.now feeder.entry.now feeder.exit.now (shown_by shower.entry.now) (shown_by shower.exit.now) }
+            ensures board { IsSameBoard shower.entry.now shower.exit.now }
+        { feed(rt, alloc, station, gate, shower, feeder) },
     );
 }
 

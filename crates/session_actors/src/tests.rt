@@ -6,6 +6,7 @@ ghost use Rattle.session_actors.specs.Seats.{IsDrawLine, IsEditorSeat, IsReaderS
 
 use crate::{CommitLine, DrawLine, EditorSeat, FeederSeat, ReaderSeat, run_actors};
 use carousel_world::Downlink;
+use cycle_planner::{GREATEST_ID, Weigh};
 use open_history::ReaderPass;
 use path_resolver::Shot;
 use path_tree::Path;
@@ -140,7 +141,7 @@ fn all_read(readers: &[ReaderSeat]) -> bool {
     readers.iter().all(|seat| seat.whole)
 }
 
-/// Two editors, the feeder and two readers at once. Answers whether all are whole.
+/// Two editors, the feeder and two readers at once; each module weighs 1. Answers whether all are whole.
 fn meet<R: Threads + Wait + Sync>(
     rt: &R,
     alloc: Global,
@@ -150,7 +151,14 @@ fn meet<R: Threads + Wait + Sync>(
 ) -> Result<bool, Fail>
     requires { length (shown_by shower.old) ≤ most_by shower.old }
 {
-    let (station, mut passes) = Station::new(alloc, 2, 7)?;
+    let call = Box::new(
+        alloc,
+        |_id: u16| -> u8
+            ensures { result ≡ 1 }
+        { 1 },
+    )?;
+    let weigh = Weigh::new([1; GREATEST_ID], call);
+    let (station, mut passes) = Station::new(alloc, 2, 7, weigh)?;
     let mut feeder = feeder_seat(alloc, &station, next_pass(&station, &mut passes)?)?;
     let second = editor_seat(alloc, &station, 2, next_pass(&station, &mut passes)?)?;
     let first = editor_seat(alloc, &station, 1, next_pass(&station, &mut passes)?)?;

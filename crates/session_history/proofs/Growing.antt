@@ -2,7 +2,7 @@
 use Rattle.std.proofs.Common.{◌≡◌, ℕ, zero, suc, ◌+◌, ◌≤◌, Bool, true, false, cond, List, [], ◌∷◌, ◌++◌, map, filter, drop, get_or, sym, ap, ◌∙◌, refl, arith, append_assoc}
 use Rattle.std.specs.Prelude.{◌==◌, if◌then◌else◌}
 use Rattle.std.specs.List.{flat_map, range_with_len, count_by, All}
-use Rattle.session_history.specs.Merging.{Merging, Each, opens_by, opens_of, opens_at, merged, merge_of}
+use Rattle.session_history.specs.Merging.{Merging, Each, opens_by, opens_of, opens_at, merge_entries, merge_of}
 use Rattle.session_history.specs.Laws.{MergedOnwards, EachIsMerged}
 use Rattle.session_history.proofs.Placing.{count_more, count_same}
 use Rattle.session_history.proofs.Running.{each_append}
@@ -19,26 +19,26 @@ drop_more n (x ∷ xs) = refl
 
 module _ {E F O P X : Type 0} (m : Merging E F O P X) where
   grown : (passes : List P) (k : ℕ) (fates : List F) (e : E) (es more : List E)
-      → merged m passes (suc k) (drop 1 fates) (es ++ more) ≡ merged m passes (suc k) (drop 1 fates) es ++ merged m passes (suc k + count_by m.is_draw es) (drop (count_by m.is_draw es) (drop 1 fates)) more
-      → merged m passes k fates (es ++ more) ≡ merged m passes k fates es ++ merged m passes (k + count_by m.is_draw es) (drop (count_by m.is_draw es) fates) more
+      → merge_entries m passes (suc k) (drop 1 fates) (es ++ more) ≡ merge_entries m passes (suc k) (drop 1 fates) es ++ merge_entries m passes (suc k + count_by m.is_draw es) (drop (count_by m.is_draw es) (drop 1 fates)) more
+      → merge_entries m passes k fates (es ++ more) ≡ merge_entries m passes k fates es ++ merge_entries m passes (k + count_by m.is_draw es) (drop (count_by m.is_draw es) fates) more
       → (b : Bool) → m.is_draw e ≡ b
-      → (if b then m.event e (get_or fates 0 m.none) ∷ opens_at m passes (suc k) ++ merged m passes (suc k) (drop 1 fates) (es ++ more) else m.event e m.none ∷ merged m passes k fates (es ++ more))
-      ≡ (if b then m.event e (get_or fates 0 m.none) ∷ opens_at m passes (suc k) ++ merged m passes (suc k) (drop 1 fates) es else m.event e m.none ∷ merged m passes k fates es)
-      ++ merged m passes (k + count_by m.is_draw (e ∷ es)) (drop (count_by m.is_draw (e ∷ es)) fates) more
+      → (if b then m.event e (get_or fates 0 m.none) ∷ opens_at m passes (suc k) ++ merge_entries m passes (suc k) (drop 1 fates) (es ++ more) else m.event e m.none ∷ merge_entries m passes k fates (es ++ more))
+      ≡ (if b then m.event e (get_or fates 0 m.none) ∷ opens_at m passes (suc k) ++ merge_entries m passes (suc k) (drop 1 fates) es else m.event e m.none ∷ merge_entries m passes k fates es)
+      ++ merge_entries m passes (k + count_by m.is_draw (e ∷ es)) (drop (count_by m.is_draw (e ∷ es)) fates) more
   grown passes k fates e es more h g true is =
       let n = count_by m.is_draw es in
       let c : suc k + n ≡ k + count_by m.is_draw (e ∷ es) = let o = count_more m.is_draw e es is in omega arith in
       let f : drop n (drop 1 fates) ≡ drop (count_by m.is_draw (e ∷ es)) fates = drop_more n fates ∙ ap (λ (j : ℕ). drop j fates) (sym (count_more m.is_draw e es is)) in
       ap (λ (l : List X). m.event e (get_or fates 0 m.none) ∷ l)
-      (ap (λ (l : List X). opens_at m passes (suc k) ++ l) (h ∙ (λ i. merged m passes (suc k) (drop 1 fates) es ++ merged m passes (c i) (f i) more))
-      ∙ sym (append_assoc (opens_at m passes (suc k)) (merged m passes (suc k) (drop 1 fates) es) (merged m passes (k + count_by m.is_draw (e ∷ es)) (drop (count_by m.is_draw (e ∷ es)) fates) more)))
+      (ap (λ (l : List X). opens_at m passes (suc k) ++ l) (h ∙ (λ i. merge_entries m passes (suc k) (drop 1 fates) es ++ merge_entries m passes (c i) (f i) more))
+      ∙ sym (append_assoc (opens_at m passes (suc k)) (merge_entries m passes (suc k) (drop 1 fates) es) (merge_entries m passes (k + count_by m.is_draw (e ∷ es)) (drop (count_by m.is_draw (e ∷ es)) fates) more)))
   grown passes k fates e es more h g false is =
       ap (λ (l : List X). m.event e m.none ∷ l)
-      (g ∙ (λ i. merged m passes k fates es ++ merged m passes (k + sym (count_same m.is_draw e es is) i) (drop (sym (count_same m.is_draw e es is) i) fates) more))
+      (g ∙ (λ i. merge_entries m passes k fates es ++ merge_entries m passes (k + sym (count_same m.is_draw e es is) i) (drop (sym (count_same m.is_draw e es is) i) fates) more))
 
   onwards_from : (passes : List P) (k : ℕ) (fates : List F) (es more : List E)
-      → merged m passes k fates (es ++ more) ≡ merged m passes k fates es ++ merged m passes (k + count_by m.is_draw es) (drop (count_by m.is_draw es) fates) more
-  onwards_from passes k fates [] more = λ i. merged m passes (same i) fates more
+      → merge_entries m passes k fates (es ++ more) ≡ merge_entries m passes k fates es ++ merge_entries m passes (k + count_by m.is_draw es) (drop (count_by m.is_draw es) fates) more
+  onwards_from passes k fates [] more = λ i. merge_entries m passes (same i) fates more
     where
       same : k ≡ k + 0
       same = omega arith
@@ -47,8 +47,8 @@ module _ {E F O P X : Type 0} (m : Merging E F O P X) where
   pub onwards : MergedOnwards m
   onwards passes fates es more =
       ap (λ (l : List X). opens_at m passes 0 ++ l) (onwards_from passes 0 fates es more)
-      ∙ sym (append_assoc (opens_at m passes 0) (merged m passes 0 fates es) (merged m passes (0 + count_by m.is_draw es) (drop (count_by m.is_draw es) fates) more))
-      ∙ (λ i. merge_of m passes fates es ++ merged m passes (zero_more i) (drop (count_by m.is_draw es) fates) more)
+      ∙ sym (append_assoc (opens_at m passes 0) (merge_entries m passes 0 fates es) (merge_entries m passes (0 + count_by m.is_draw es) (drop (count_by m.is_draw es) fates) more))
+      ∙ (λ i. merge_of m passes fates es ++ merge_entries m passes (zero_more i) (drop (count_by m.is_draw es) fates) more)
     where
       zero_more : 0 + count_by m.is_draw es ≡ count_by m.is_draw es
       zero_more = omega arith
@@ -71,13 +71,13 @@ module _ {E F O P X : Type 0} (m : Merging E F O P X) where
     either A B h g true = h
     either A B h g false = g
 
-    of_entries : (k : ℕ) (fates : List F) (es : List E) → Each (λ e. (f : F) → Q (m.event e f)) es → Each Q (merged m passes k fates es)
+    of_entries : (k : ℕ) (fates : List F) (es : List E) → Each (λ e. (f : F) → Q (m.event e f)) es → Each Q (merge_entries m passes k fates es)
     of_entries k fates [] h = tt
     of_entries k fates (e ∷ es) h =
-        let rest = merged m passes (suc k) (drop 1 fates) es in
-        either (m.event e (get_or fates 0 m.none) ∷ opens_at m passes (suc k) ++ rest) (m.event e m.none ∷ merged m passes k fates es)
+        let rest = merge_entries m passes (suc k) (drop 1 fates) es in
+        either (m.event e (get_or fates 0 m.none) ∷ opens_at m passes (suc k) ++ rest) (m.event e m.none ∷ merge_entries m passes k fates es)
         ((h.0 (get_or fates 0 m.none), each_append Q (opens_at m passes (suc k)) rest (of_readers (suc k) 1 64 (omega arith) (omega arith)) (of_entries (suc k) (drop 1 fates) es h.1)))
         ((h.0 m.none, of_entries k fates es h.1)) (m.is_draw e)
 
   pub each_merged : EachIsMerged m
-  each_merged Q passes fates es opens events = each_append Q (opens_at m passes 0) (merged m passes 0 fates es) (of_readers Q passes opens 0 1 64 (omega arith) (omega arith)) (of_entries Q passes opens 0 fates es events)
+  each_merged Q passes fates es opens events = each_append Q (opens_at m passes 0) (merge_entries m passes 0 fates es) (of_readers Q passes opens 0 1 64 (omega arith) (omega arith)) (of_entries Q passes opens 0 fates es events)

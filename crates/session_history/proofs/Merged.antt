@@ -11,14 +11,14 @@ use Rattle.generation_catalogue.specs.declared.entry.Entry.TheVariants as entrie
 use Rattle.std.specs.List.{All}
 use Rattle.generation.specs.Lawful.{ArePublishable}
 use Rattle.carousel_world.specs.Promises.{EveryRunMeetsTheHeadline}
-use Rattle.carousel_world.specs.World.{InRange, opening, after_all}
+use Rattle.carousel_world.specs.World.{InRange, initial_world, after_all}
 use Rattle.session_history.proofs.Growing.{all_of_each, each_merged}
 use Rattle.session_history.specs.declared.opens.Open.{Open}
 use Rattle.session_history.specs.Merging.{Each, opens_by, merge_of}
 use Rattle.session_history.specs.Laws.{Telling}
 use Rattle.session_history.proofs.Ordering.{picked_stand, draws_stand}
 use Rattle.session_history.proofs.Placing.{opens_stand}
-use Rattle.session_history.specs.Merges.{state_of, event_of, opened_of, merging}
+use Rattle.session_history.specs.Merges.{state_of, event_of, opened_of, session_merge}
 use Rattle.session_history.specs.Merged.{is_draw_step, is_commit_of, is_open_by, is_commit_at, IsPlaced, AreNumbers, EveryMergeIsMerged}
 use Rattle.session_history.proofs.Numbers.{numbered, trees_same}
 use Rattle.session_history.proofs.Parts.{rising_by, own_of}
@@ -32,7 +32,7 @@ never_opened : (editors : List ℕ) (r : ℕ) (e : Entry) (f : List Fate) → is
 never_opened editors r (entries.Commit editor edits outcome) f = refl
 never_opened editors r (entries.Draw asked generation first count) f = refl
 
-abbrev telling : (editors : List ℕ) → Telling (merging editors)
+abbrev telling : (editors : List ℕ) → Telling (session_merge editors)
 telling editors = record {
   is_drawn = λ x. is_draw_step x.0;
   is_opened_by = λ r x. is_open_by r x.0;
@@ -78,20 +78,20 @@ open_steps : (r : ℕ) → 1 ≤ r → r ≤ 64 → (os : List Open) → Each (�
 open_steps r low high [] = tt
 open_steps r low high (o ∷ os) = ((low, high), open_steps r low high os)
 
-published_at_end : (c : CatalogueState) (editors : List ℕ) (s : CatalogueState) → s ≡ state_of c.carousel (map (numbered editors) c.entries) → ArePublishable c.carousel (trees_of c) → ArePublishable s.carousel (trees_of s)
+published_at_end : (c : CatalogueState) (editors : List ℕ) (s : CatalogueState) → s ≡ state_of c.carousel c.weights (map (numbered editors) c.entries) → ArePublishable c.carousel (trees_of c) → ArePublishable s.carousel (trees_of s)
 published_at_end c editors s is h =
     subst (λ (s : CatalogueState). ArePublishable s.carousel (trees_of s)) (sym is) (subst (ArePublishable c.carousel) (sym (trees_same editors [] c.entries)) h)
 
 pub every : EveryRunMeetsTheHeadline → EveryMergeIsMerged
 every headline c editors fates readers ready =
-    let m = merging editors in
+    let m = session_merge editors in
     record {
       run = run_of c ready.history ready.history.draws editors fates readers ready.answered;
       steps = all_of_each InRange (map (λ x. x.0) (merge_of m readers fates c.entries)) (each_first InRange (merge_of m readers fates c.entries)
           (each_merged m (λ x. InRange x.0) readers fates c.entries (λ r low high. open_steps r low high (opens_by m r readers))
           (steps_of editors ready.numbers c.entries (each_of_all IsEntered c.entries ready.history.entered) ready.parts.placed)));
-      headline = headline c.carousel (map (λ x. x.0) (merge_of m readers fates c.entries))
-          (published_at_end c editors (after_all (opening c.carousel) (map (λ x. x.0) (merge_of m readers fates c.entries))).catalogue
+      headline = headline c.carousel c.weights (map (λ x. x.0) (merge_of m readers fates c.entries))
+          (published_at_end c editors (after_all (initial_world c.carousel c.weights) (map (λ x. x.0) (merge_of m readers fates c.entries))).catalogue
           (catalogue_at_end c ready.history ready.history.draws editors fates readers ready.answered) ready.history.published);
       drawings = drawings_at_end c ready.history ready.history.draws editors fates readers ready.answered;
       commits = λ place within. picked_stand m readers fates c.entries (λ x. is_commit_of (get_or editors place 0) x.0) (is_commit_at place)

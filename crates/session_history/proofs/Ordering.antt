@@ -3,7 +3,7 @@ use Rattle.std.proofs.Common.{◌≡◌, ℕ, suc, Bool, true, false, cond, List
 use Rattle.std.specs.Prelude.{◌==◌, if◌then◌else◌}
 use Rattle.std.specs.List.{flat_map, range_with_len}
 use Rattle.std.proofs.lemmas.List.Elements.{filter-append}
-use Rattle.session_history.specs.Merging.{Merging, opens_by, opens_of, opens_at, merged, events_of, drawn_with}
+use Rattle.session_history.specs.Merging.{Merging, opens_by, opens_of, opens_at, merge_entries, events_of, drawn_with}
 use Rattle.session_history.specs.Laws.{EntriesStandInOrder, PickedStandInOrder, DrawsStandInOrder}
 use Rattle.session_history.proofs.Cutting.{filter_takes, filter_skips}
 
@@ -30,16 +30,16 @@ module _ {E F O P X : Type 0} (m : Merging E F O P X) where
     past_opens : (passes : List P) (k : ℕ) (xs : List X) → filter picked (opens_at m passes k ++ xs) ≡ filter picked xs
     past_opens passes k xs = filter-append picked (opens_at m passes k) xs ∙ ap (λ (l : List X). l ++ filter picked xs) (no_opens passes k (range_with_len 1 64))
 
-    merged_entries : (passes : List P) (k : ℕ) (fates : List F) (entries : List E) → filter picked (merged m passes k fates entries) ≡ filter picked (events_of m fates entries)
+    merged_entries : (passes : List P) (k : ℕ) (fates : List F) (entries : List E) → filter picked (merge_entries m passes k fates entries) ≡ filter picked (events_of m fates entries)
     merged_entries passes k fates [] = refl
     merged_entries passes k fates (e ∷ es) =
         let f = get_or fates 0 m.none in
         either picked (m.is_draw e)
-        (m.event e f ∷ opens_at m passes (suc k) ++ merged m passes (suc k) (drop 1 fates) es)
-        (m.event e m.none ∷ merged m passes k fates es)
+        (m.event e f ∷ opens_at m passes (suc k) ++ merge_entries m passes (suc k) (drop 1 fates) es)
+        (m.event e m.none ∷ merge_entries m passes k fates es)
         (m.event e f ∷ events_of m (drop 1 fates) es)
         (m.event e m.none ∷ events_of m fates es)
-        (ap (λ (l : List X). cond (picked (m.event e f)) (m.event e f ∷ l) l) (past_opens passes (suc k) (merged m passes (suc k) (drop 1 fates) es) ∙ merged_entries passes (suc k) (drop 1 fates) es))
+        (ap (λ (l : List X). cond (picked (m.event e f)) (m.event e f ∷ l) l) (past_opens passes (suc k) (merge_entries m passes (suc k) (drop 1 fates) es) ∙ merged_entries passes (suc k) (drop 1 fates) es))
         (ap (λ (l : List X). cond (picked (m.event e m.none)) (m.event e m.none ∷ l) l) (merged_entries passes k fates es))
 
     module _ (wanted : E → Bool) (same : (e : E) (f : F) → picked (m.event e f) ≡ wanted e) (no_draw : (e : E) → wanted e ≡ true → m.is_draw e ≡ false) where
@@ -74,7 +74,7 @@ module _ {E F O P X : Type 0} (m : Merging E F O P X) where
     drawn_events fates (e ∷ es) = draw_one e es fates (events_of m (drop 1 fates) es) (events_of m fates es) (drawn_events (drop 1 fates) es) (drawn_events fates es) (m.is_draw e) refl
 
   pub entries_stand : EntriesStandInOrder m
-  entries_stand passes fates entries picked not_opens = past_opens picked not_opens passes 0 (merged m passes 0 fates entries) ∙ merged_entries picked not_opens passes 0 fates entries
+  entries_stand passes fates entries picked not_opens = past_opens picked not_opens passes 0 (merge_entries m passes 0 fates entries) ∙ merged_entries picked not_opens passes 0 fates entries
 
   pub picked_stand : PickedStandInOrder m
   picked_stand passes fates entries picked wanted not_opens same no_draw = entries_stand passes fates entries picked not_opens ∙ picked_events picked not_opens wanted same no_draw fates entries

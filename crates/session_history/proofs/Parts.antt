@@ -6,7 +6,7 @@ use native.Mathlib.Decide.{ℕ_discrete}
 use Rattle.session_history.specs.declared.opens.Open.{Open}
 use Rattle.session_history.specs.Merging.{Each, opens_by}
 use Rattle.session_history.specs.Laws.{NeverFall}
-use Rattle.session_history.specs.Merges.{ReaderFields, merging}
+use Rattle.session_history.specs.Merges.{ReaderFields, session_merge}
 use Rattle.session_history.specs.Merged.{IsInOrder, AreApart}
 use Rattle.session_history.proofs.Placing.{none_by}
 
@@ -16,21 +16,21 @@ each_at Q (y ∷ ys) zero x h e = let s : y ≡ x = cc in subst Q s h.0
 each_at Q (y ∷ ys) (suc k) x h e = each_at Q ys k x h.1 e
 
 module _ (editors : List ℕ) where
-  own_first : (p : ReaderFields) (ps : List ReaderFields) (r : ℕ) → p.reader ≡ r → Each (λ q. q.reader ≢ p.reader) ps → opens_by (merging editors) r (p ∷ ps) ≡ p.opens
+  own_first : (p : ReaderFields) (ps : List ReaderFields) (r : ℕ) → p.reader ≡ r → Each (λ q. q.reader ≢ p.reader) ps → opens_by (session_merge editors) r (p ∷ ps) ≡ p.opens
   own_first p ps r e apart =
-      let none : opens_by (merging editors) r ps ≡ [] = none_by (merging editors) r ps (subst (λ (s : ℕ). Each (λ q. q.reader ≢ s) ps) e apart) in
+      let none : opens_by (session_merge editors) r ps ≡ [] = none_by (session_merge editors) r ps (subst (λ (s : ℕ). Each (λ q. q.reader ≢ s) ps) e apart) in
       (λ i. (if eq-eqb p.reader r e i then p.opens else []) ++ none i) ∙ append-nil p.opens
 
-  own_later : (p : ReaderFields) (ps : List ReaderFields) (r : ℕ) → p.reader ≢ r → opens_by (merging editors) r (p ∷ ps) ≡ opens_by (merging editors) r ps
-  own_later p ps r ne = λ i. (if ne_eqb p.reader r ne i then p.opens else []) ++ opens_by (merging editors) r ps
+  own_later : (p : ReaderFields) (ps : List ReaderFields) (r : ℕ) → p.reader ≢ r → opens_by (session_merge editors) r (p ∷ ps) ≡ opens_by (session_merge editors) r ps
+  own_later p ps r ne = λ i. (if ne_eqb p.reader r ne i then p.opens else []) ++ opens_by (session_merge editors) r ps
 
-  pub own_of : (ps : List ReaderFields) (place : ℕ) (p : ReaderFields) → AreApart ps → slice_get ps place ≡ Some p → opens_by (merging editors) p.reader ps ≡ p.opens
+  pub own_of : (ps : List ReaderFields) (place : ℕ) (p : ReaderFields) → AreApart ps → slice_get ps place ≡ Some p → opens_by (session_merge editors) p.reader ps ≡ p.opens
   own_of [] place p apart h = absurd (cc)
-  own_of (q ∷ qs) zero p apart h = let s : q ≡ p = cc in subst (λ (x : ReaderFields). opens_by (merging editors) x.reader (q ∷ qs) ≡ x.opens) s (own_first q qs q.reader refl apart.0)
+  own_of (q ∷ qs) zero p apart h = let s : q ≡ p = cc in subst (λ (x : ReaderFields). opens_by (session_merge editors) x.reader (q ∷ qs) ≡ x.opens) s (own_first q qs q.reader refl apart.0)
   own_of (q ∷ qs) (suc k) p apart h =
       own_later q qs p.reader (λ e. each_at (λ x. x.reader ≢ q.reader) qs k p apart.0 h (sym e)) ∙ own_of qs k p apart.1 h
 
-  pub rising_by : (r last : ℕ) (ps : List ReaderFields) → AreApart ps → Each (IsInOrder last) ps → NeverFall (λ (o : Open). o.draws) 0 last (opens_by (merging editors) r ps)
+  pub rising_by : (r last : ℕ) (ps : List ReaderFields) → AreApart ps → Each (IsInOrder last) ps → NeverFall (λ (o : Open). o.draws) 0 last (opens_by (session_merge editors) r ps)
   rising_by r last [] apart h = tt
   rising_by r last (p ∷ ps) apart h = dite (ℕ_discrete p.reader r)
       (λ e. subst (NeverFall (λ (o : Open). o.draws) 0 last) (sym (own_first p ps r e apart.0)) h.0.rising)

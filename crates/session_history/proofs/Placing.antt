@@ -6,8 +6,8 @@ use mathlib.Core.Logic.{dite}
 use mathlib.Core.List.{map-append}
 use Rattle.std.proofs.lemmas.List.Sums.{sum_by-append}
 use native.Mathlib.Decide.{ℕ_discrete}
-use Rattle.session_history.specs.Merging.{Merging, Each, opens_by, opens_of, opens_at, merged}
-use Rattle.session_history.specs.Laws.{Telling, placed, PlacedStands, LastStands, OpensAreOwn, OpensStandBehindTheirDraws}
+use Rattle.session_history.specs.Merging.{Merging, Each, opens_by, opens_of, opens_at, merge_entries}
+use Rattle.session_history.specs.Laws.{Telling, with_draws_before, PlacedStands, LastStands, OpensAreOwn, OpensStandAfterTheirDraws}
 use Rattle.session_history.proofs.Cutting.{filter_takes, filter_skips, cuts, cuts_all}
 
 module _ {X : Type 0} (p : X → Bool) where
@@ -18,18 +18,18 @@ module _ {X : Type 0} (p : X → Bool) where
   count_same x xs h = let a = sum_by-append (λ (y : X). cond {A = ℕ} (p y) 1 0) (x ∷ []) xs in let b : cond {A = ℕ} (p x) 1 0 ≡ 0 = ap (λ (c : Bool). cond {A = ℕ} c 1 0) h in omega arith
 
 module _ {X : Type 0} (p d : X → Bool) where
-  pub placed_takes : (n : ℕ) (x : X) (xs : List X) → p x ≡ true → d x ≡ false → placed p d n (x ∷ xs) ≡ (n, x) ∷ placed p d n xs
-  placed_takes n x xs h k = λ i. (if h i then (n, x) ∷ [] else []) ++ placed p d (if k i then suc n else n) xs
+  pub placed_takes : (n : ℕ) (x : X) (xs : List X) → p x ≡ true → d x ≡ false → with_draws_before p d n (x ∷ xs) ≡ (n, x) ∷ with_draws_before p d n xs
+  placed_takes n x xs h k = λ i. (if h i then (n, x) ∷ [] else []) ++ with_draws_before p d (if k i then suc n else n) xs
 
-  pub placed_skips : (n : ℕ) (x : X) (xs : List X) → p x ≡ false → d x ≡ false → placed p d n (x ∷ xs) ≡ placed p d n xs
-  placed_skips n x xs h k = λ i. (if h i then (n, x) ∷ [] else []) ++ placed p d (if k i then suc n else n) xs
+  pub placed_skips : (n : ℕ) (x : X) (xs : List X) → p x ≡ false → d x ≡ false → with_draws_before p d n (x ∷ xs) ≡ with_draws_before p d n xs
+  placed_skips n x xs h k = λ i. (if h i then (n, x) ∷ [] else []) ++ with_draws_before p d (if k i then suc n else n) xs
 
-  pub placed_draw : (n : ℕ) (x : X) (xs : List X) → p x ≡ false → d x ≡ true → placed p d n (x ∷ xs) ≡ placed p d (suc n) xs
-  placed_draw n x xs h k = λ i. (if h i then (n, x) ∷ [] else []) ++ placed p d (if k i then suc n else n) xs
+  pub placed_draw : (n : ℕ) (x : X) (xs : List X) → p x ≡ false → d x ≡ true → with_draws_before p d n (x ∷ xs) ≡ with_draws_before p d (suc n) xs
+  placed_draw n x xs h k = λ i. (if h i then (n, x) ∷ [] else []) ++ with_draws_before p d (if k i then suc n else n) xs
 
 module _ {E F O P X : Type 0} (m : Merging E F O P X) (t : Telling m) (passes : List P) (r : ℕ) where
   abbrev here : ℕ → List X → List (ℕ × X)
-  here n xs = placed (t.is_opened_by r) t.is_drawn n xs
+  here n xs = with_draws_before (t.is_opened_by r) t.is_drawn n xs
 
   abbrev mine : List O
   mine = opens_by m r passes
@@ -96,17 +96,17 @@ module _ {E F O P X : Type 0} (m : Merging E F O P X) (t : Telling m) (passes : 
         placed_skips (t.is_opened_by r) t.is_drawn k (m.event e m.none) B (t.entry_not_opened r e m.none) (t.entry_drawn e m.none ∙ is) ∙ g
         ∙ ap (λ (n : ℕ). map told (cuts m.draws mine (suc k) n)) (sym (count_same m.is_draw e es is))
 
-    all_merged : (k : ℕ) (fates : List F) (entries : List E) → here k (merged m passes k fates entries) ≡ map told (cuts m.draws mine (suc k) (count_by m.is_draw entries))
+    all_merged : (k : ℕ) (fates : List F) (entries : List E) → here k (merge_entries m passes k fates entries) ≡ map told (cuts m.draws mine (suc k) (count_by m.is_draw entries))
     all_merged k fates [] = refl
-    all_merged k fates (e ∷ es) = next k es e (get_or fates 0 m.none) (merged m passes (suc k) (drop 1 fates) es) (merged m passes k fates es)
+    all_merged k fates (e ∷ es) = next k es e (get_or fates 0 m.none) (merge_entries m passes (suc k) (drop 1 fates) es) (merge_entries m passes k fates es)
         (all_merged (suc k) (drop 1 fates) es) (all_merged k fates es) (m.is_draw e) refl
 
-pub opens_stand : {E F O P X : Type 0} (m : Merging E F O P X) → OpensStandBehindTheirDraws m
+pub opens_stand : {E F O P X : Type 0} (m : Merging E F O P X) → OpensStandAfterTheirDraws m
 opens_stand m t passes fates entries r low high never =
     let d = count_by m.is_draw entries in
     let os = opens_by m r passes in
     let g = told m t passes r in
-    group m t passes r low high 0 (merged m passes 0 fates entries)
+    group m t passes r low high 0 (merge_entries m passes 0 fates entries)
     ∙ ap (λ l. map g (filter (λ o. m.draws o == 0) os) ++ l) (all_merged m t passes r low high 0 fates entries)
     ∙ sym (map-append g (filter (λ o. m.draws o == 0) os) (cuts m.draws os 1 d))
     ∙ ap (map g) (cuts_all m.draws os 0 d (suc d) never (omega arith))
@@ -129,18 +129,18 @@ module _ {X : Type 0} (p d : X → Bool) where
       (y ∷ f.0, f.1, ap (λ (l : List X). y ∷ l) f.2, (let a = f.3 in let c = count_same d y f.0 is in omega arith), filter_takes p y f.0 is_p ∙ (λ i. sym same i ∷ f.4 i))
 
   split : (n : ℕ) (y : X) (ys : List X) (early late : List (ℕ × X)) (k : ℕ) (x : X)
-      → ((early : List (ℕ × X)) → placed p d (if d y then suc n else n) ys ≡ early ++ (k, x) ∷ late → Found (if d y then suc n else n) ys early k x)
-      → (b : Bool) → p y ≡ b → (if b then (n, y) ∷ [] else []) ++ placed p d (if d y then suc n else n) ys ≡ early ++ (k, x) ∷ late → Found n (y ∷ ys) early k x
+      → ((early : List (ℕ × X)) → with_draws_before p d (if d y then suc n else n) ys ≡ early ++ (k, x) ∷ late → Found (if d y then suc n else n) ys early k x)
+      → (b : Bool) → p y ≡ b → (if b then (n, y) ∷ [] else []) ++ with_draws_before p d (if d y then suc n else n) ys ≡ early ++ (k, x) ∷ late → Found n (y ∷ ys) early k x
   split n y ys early late k x rest false no_p h = push_skip n y ys early k x no_p (d y) refl (rest early h)
   split n y ys [] late k x rest true is_p h =
       let same : (n, y) ≡ (k, x) = cc in
       ([], ys, ap (λ (z : X). z ∷ ys) (ap (λ (q : ℕ × X). q.1) same), (let e : n ≡ k = ap (λ (q : ℕ × X). q.0) same in omega arith), refl)
   split n y ys (z ∷ early) late k x rest true is_p h =
       let same : (n, y) ≡ z = cc in
-      let tail : placed p d (if d y then suc n else n) ys ≡ early ++ (k, x) ∷ late = cc in
+      let tail : with_draws_before p d (if d y then suc n else n) ys ≡ early ++ (k, x) ∷ late = cc in
       push_take n y ys early k x z is_p (sym (ap (λ (q : ℕ × X). q.1) same)) (d y) refl (rest early tail)
 
-  pub stands : (n : ℕ) (xs : List X) (early late : List (ℕ × X)) (k : ℕ) (x : X) → placed p d n xs ≡ early ++ (k, x) ∷ late → Found n xs early k x
+  pub stands : (n : ℕ) (xs : List X) (early late : List (ℕ × X)) (k : ℕ) (x : X) → with_draws_before p d n xs ≡ early ++ (k, x) ∷ late → Found n xs early k x
   stands n [] [] late k x h = absurd (cc)
   stands n [] (z ∷ early) late k x h = absurd (cc)
   stands n (y ∷ ys) early late k x h = split n y ys early late k x (λ l g. stands (if d y then suc n else n) ys l late k x g) (p y) refl h

@@ -8,21 +8,21 @@ use mathlib.Core.List.{map-append}
 use Rattle.std.proofs.lemmas.Bool.{lt-leb}
 use Rattle.path_tree.specs.declared.tree.Edit.{Edit}
 use Rattle.ts_packet.specs.declared.Fate.{Fate}
-use Rattle.generation_catalogue.specs.History.{CatalogueState, IsHistory, IsEntered, entry_after, is_draw, is_entered, draws_of, drawn, current_of, cursor_of, count_drawn, items_drawn, outcome_of, with_entry}
+use Rattle.generation_catalogue.specs.History.{CatalogueState, IsHistory, IsEntered, entry_after, is_draw, is_entered, draws_of, with_draw, current_of, cursor_of, count_drawn, items_drawn, outcome_of, with_entry}
 use Rattle.generation_catalogue.specs.declared.entry.Refusal.{Refusal}
 use Rattle.generation_catalogue.specs.declared.entry.Entry.{Entry}
 use Rattle.generation_catalogue.specs.declared.entry.Entry.TheVariants as entries
 use Rattle.carousel_world.specs.Events.{Step, Commit, Draw}
 use Rattle.carousel_world.specs.Receptions.{label_after}
 use Rattle.tuner_core.specs.LookBack.{answer_after}
-use Rattle.carousel_world.specs.World.{Drawing, WorldState, arrivals, candidates_in, commit_reply, opening, after_all, replies_to, reply_to, happens}
+use Rattle.carousel_world.specs.World.{Drawing, WorldState, arrivals, candidates_in, commit_reply, initial_world, after_all, replies_to, reply_to, happens}
 use Rattle.section_stream.specs.Cuts.{candidates}
 use Rattle.carousel_world.specs.declared.event.Reply.{Reply}
 use Rattle.carousel_world.specs.declared.event.Reply.TheVariants as replies
 use Rattle.session_history.specs.declared.opens.Open.{Open}
 use Rattle.session_history.specs.Merging.{Each, IsRun, opens_by, merge_of}
 use Rattle.session_history.proofs.Running.{each_append, Machine, IsReplied, IsRunTo, to_run, Ends, merge_runs}
-use Rattle.session_history.specs.Merges.{ReaderFields, event_of, merging, state_of, drawings_after, drawings_of, candidates_after, IsAnswered, AreAnswered, IsRunOfWorld}
+use Rattle.session_history.specs.Merges.{ReaderFields, event_of, session_merge, state_of, drawings_after, drawings_of, candidates_after, IsAnswered, AreAnswered, IsRunOfWorld}
 use Rattle.session_history.proofs.Numbers.{numbered, outcome_same, draws_same, current_same, cursor_same, count_drawn_same, items_same}
 
 as_replies : (w : WorldState) (xs : List (Step × Reply)) → IsRun reply_to happens w xs → map (λ x. x.1) xs ≡ replies_to w (map (λ x. x.0) xs)
@@ -47,10 +47,10 @@ reply_in (entries.Draw asked generation first count) = replies.Drawn generation 
 
 -- what the history says of its next entry
 module _ (c : CatalogueState) (history : IsHistory c) where
-  next_is : (before : List Entry) (e : Entry) (es : List Entry) → c.entries ≡ before ++ e ∷ es → e ≡ entry_after (state_of c.carousel before) e
+  next_is : (before : List Entry) (e : Entry) (es : List Entry) → c.entries ≡ before ++ e ∷ es → e ≡ entry_after (state_of c.carousel c.weights before) e
   next_is before e es all =
       history.each (length before) e (ap (λ (l : List Entry). slice_get l (length before)) all ∙ get_next before es e)
-      ∙ ap (λ (l : List Entry). entry_after (state_of c.carousel l) e) (ap (take (length before)) all ∙ take-append_seam before (e ∷ es))
+      ∙ ap (λ (l : List Entry). entry_after (state_of c.carousel c.weights l) e) (ap (take (length before)) all ∙ take-append_seam before (e ∷ es))
 
   next_entered : (before : List Entry) (e : Entry) (es : List Entry) → c.entries ≡ before ++ e ∷ es → IsEntered e
   next_entered before e es all =
@@ -62,7 +62,7 @@ module _ (c : CatalogueState) (history : IsHistory c) (few : draws_of c ≤ 1677
   all = drawings_of c all_fates
 
   abbrev stored : List Entry → CatalogueState
-  stored before = state_of c.carousel (map (numbered editors) before)
+  stored before = state_of c.carousel c.weights (map (numbered editors) before)
 
   abbrev world_at : List Entry → List Drawing → WorldState
   world_at before ds = record { catalogue = stored before; drawings = ds }
@@ -73,18 +73,18 @@ module _ (c : CatalogueState) (history : IsHistory c) (few : draws_of c ≤ 1677
     entries : c.entries ≡ before ++ es
     is : w ≡ world_at before drawn
     many : length drawn ≡ k
-    rest : all ≡ drawn ++ drawings_after c.carousel before fates es
+    rest : all ≡ drawn ++ drawings_after c.carousel c.weights before fates es
 
   further : (before es : List Entry) (e : Entry) → c.entries ≡ before ++ e ∷ es → c.entries ≡ (before ++ e ∷ []) ++ es
   further before es e h = h ∙ sym (append_assoc before (e ∷ []) es)
 
-  stored_next : (before : List Entry) (e : Entry) → record { carousel = c.carousel; entries = map (numbered editors) before ++ numbered editors e ∷ [] } ≡ stored (before ++ e ∷ [])
-  stored_next before e = ap (state_of c.carousel) (sym (map-append (numbered editors) before (e ∷ [])))
+  stored_next : (before : List Entry) (e : Entry) → record { carousel = c.carousel; weights = c.weights; entries = map (numbered editors) before ++ numbered editors e ∷ [] } ≡ stored (before ++ e ∷ [])
+  stored_next before e = ap (state_of c.carousel c.weights) (sym (map-append (numbered editors) before (e ∷ [])))
 
   -- a commit
   same_outcome : (before : List Entry) (editor : ℕ) (edits : List Edit) (outcome : Result ℕ Refusal) (es : List Entry) → c.entries ≡ before ++ entries.Commit editor edits outcome ∷ es → outcome ≡ outcome_of (stored before) edits
   same_outcome before editor edits outcome es h =
-      ap (λ e. outcome_in e outcome) (next_is c history before (entries.Commit editor edits outcome) es h) ∙ sym (outcome_same editors c.carousel before edits)
+      ap (λ e. outcome_in e outcome) (next_is c history before (entries.Commit editor edits outcome) es h) ∙ sym (outcome_same editors c.carousel c.weights before edits)
 
   after_commit : (before : List Entry) (ds : List Drawing) (editor : ℕ) (edits : List Edit) (outcome : Result ℕ Refusal) → outcome ≡ outcome_of (stored before) edits → is_entered outcome ≡ true
       → happens (world_at before ds) (Commit (get_or editors editor 0) edits) ≡ world_at (before ++ entries.Commit editor edits outcome ∷ []) ds
@@ -121,20 +121,20 @@ module _ (c : CatalogueState) (history : IsHistory c) (few : draws_of c ≤ 1677
     this = entries.Draw asked generation first count
 
     abbrev plain : CatalogueState
-    plain = state_of c.carousel before
+    plain = state_of c.carousel c.weights before
 
     abbrev given : CatalogueState → Entry
     given s = entries.Draw asked (current_of s).number (cursor_of s) (count_drawn s asked)
 
     same_entry : given (stored before) ≡ this
     same_entry =
-        (λ i. entries.Draw asked (current_same editors c.carousel before i).number (cursor_same editors c.carousel before i) (count_drawn_same editors c.carousel before asked i))
+        (λ i. entries.Draw asked (current_same editors c.carousel c.weights before i).number (cursor_same editors c.carousel c.weights before i) (count_drawn_same editors c.carousel c.weights before asked i))
         ∙ sym (next_is c history before this es all_entries)
 
     fewer : draws_of (stored before) < 16777216
     fewer =
         let f : Entry → ℕ = λ e. cond {A = ℕ} (is_draw e) 1 0 in
-        let a : draws_of (stored before) ≡ sum_by f before = draws_same editors c.carousel before in
+        let a : draws_of (stored before) ≡ sum_by f before = draws_same editors c.carousel c.weights before in
         let b : draws_of c ≡ sum_by f before + sum_by f (this ∷ es) = ap (sum_by f) all_entries ∙ sum_by-append f before (this ∷ es) in
         let d : sum_by f (this ∷ es) ≡ 1 + sum_by f es = sum_by-cons f this es in
         omega arith
@@ -151,12 +151,12 @@ module _ (c : CatalogueState) (history : IsHistory c) (few : draws_of c ≤ 1677
         ≡ world_at (before ++ this ∷ []) (ds ++ record { generation = current_of plain; items = items_drawn plain asked; fates = fs } ∷ [])
     after_draw ds fs =
         ap (λ (b : Bool). if b then world_at before ds else record {
-          catalogue = drawn (stored before) asked;
+          catalogue = with_draw (stored before) asked;
           drawings = ds ++ record { generation = current_of (stored before); items = items_drawn (stored before) asked; fates = fs } ∷ [];
         }) not_full
         ∙ (λ i. record {
           catalogue = with_entry (stored before) (same_entry i);
-          drawings = ds ++ record { generation = current_same editors c.carousel before i; items = items_same editors c.carousel before asked i; fates = fs } ∷ [];
+          drawings = ds ++ record { generation = current_same editors c.carousel c.weights before i; items = items_same editors c.carousel c.weights before asked i; fates = fs } ∷ [];
         })
         ∙ (λ i. record {
           catalogue = stored_next before this i;
@@ -169,7 +169,7 @@ module _ (c : CatalogueState) (history : IsHistory c) (few : draws_of c ≤ 1677
   on_draw w k fates (entries.Draw asked generation first count) es s is =
       let e = entries.Draw asked generation first count in
       let fs = get_or fates 0 [] in
-      let plain = state_of c.carousel s.before in
+      let plain = state_of c.carousel c.weights s.before in
       let now : Drawing = record { generation = current_of plain; items = items_drawn plain asked; fates = fs } in (
         reply_of_draw s.before asked generation first count es s.entries s.drawn fs ∙ ap (λ v. reply_to v (Draw asked fs)) (sym s.is),
         record {
@@ -178,56 +178,56 @@ module _ (c : CatalogueState) (history : IsHistory c) (few : draws_of c ≤ 1677
           entries = further s.before es e s.entries;
           is = ap (λ v. happens v (Draw asked fs)) s.is ∙ after_draw s.before asked generation first count es s.entries s.drawn fs;
           many = (let n = length-append s.drawn (now ∷ []) in let m = s.many in omega arith);
-          rest = s.rest ∙ sym (append_assoc s.drawn (now ∷ []) (drawings_after c.carousel (s.before ++ e ∷ []) (drop 1 fates) es));
+          rest = s.rest ∙ sym (append_assoc s.drawn (now ∷ []) (drawings_after c.carousel c.weights (s.before ++ e ∷ []) (drop 1 fates) es));
         },
       )
 
   -- opens
-  by_reader : (r : ℕ) (readers : List ReaderFields) → AreAnswered all readers → Each (IsAnswered all) (opens_by (merging editors) r readers)
+  by_reader : (r : ℕ) (readers : List ReaderFields) → AreAnswered all readers → Each (IsAnswered all) (opens_by (session_merge editors) r readers)
   by_reader r [] h = tt
-  by_reader r (p ∷ ps) h = each_append (IsAnswered all) (if p.reader == r then p.opens else []) (opens_by (merging editors) r ps) (chosen (p.reader == r)) (by_reader r ps h.1)
+  by_reader r (p ∷ ps) h = each_append (IsAnswered all) (if p.reader == r then p.opens else []) (opens_by (session_merge editors) r ps) (chosen (p.reader == r)) (by_reader r ps h.1)
     where
       chosen : (b : Bool) → Each (IsAnswered all) (if b then p.opens else [])
       chosen true = h.0
       chosen false = tt
 
-  on_open : (w : WorldState) (k : ℕ) (fates : List (List Fate)) (es : List Entry) → Stands w k fates es → (r : ℕ) (o : Open) → IsAnswered all o → o.draws ≡ k → IsReplied reply_to happens (merging editors) w r o
+  on_open : (w : WorldState) (k : ℕ) (fates : List (List Fate)) (es : List Entry) → Stands w k fates es → (r : ℕ) (o : Open) → IsAnswered all o → o.draws ≡ k → IsReplied reply_to happens (session_merge editors) w r o
   on_open w k fates es s r o h e =
-      let cut : take o.draws all ≡ s.drawn = (λ i. take (e i) (s.rest i)) ∙ ap (λ n. take n (s.drawn ++ drawings_after c.carousel s.before fates es)) (sym s.many) ∙ take-append_seam s.drawn (drawings_after c.carousel s.before fates es) in
+      let cut : take o.draws all ≡ s.drawn = (λ i. take (e i) (s.rest i)) ∙ ap (λ n. take n (s.drawn ++ drawings_after c.carousel c.weights s.before fates es)) (sym s.many) ∙ take-append_seam s.drawn (drawings_after c.carousel c.weights s.before fates es) in
       let heard : candidates_after all o.draws ≡ candidates_in w = ap (λ ds. candidates 256 (map (λ a. a.1) (arrivals ds))) cut ∙ ap candidates_in (sym s.is) in
       let label : o.label ≡ label_after (candidates_in w) = h.0 ∙ ap label_after heard in
       let answer : o.answer ≡ answer_after (candidates_in w) o.path = h.1 ∙ ap (λ cs. answer_after cs o.path) heard in
       (λ i. replies.Opened (label i) (answer i), refl)
 
-  each_open : (w : WorldState) (k : ℕ) (fates : List (List Fate)) (es : List Entry) → Stands w k fates es → (r : ℕ) (os : List Open) → Each (IsAnswered all) os → Each (λ o. o.draws ≡ k → IsReplied reply_to happens (merging editors) w r o) os
+  each_open : (w : WorldState) (k : ℕ) (fates : List (List Fate)) (es : List Entry) → Stands w k fates es → (r : ℕ) (os : List Open) → Each (IsAnswered all) os → Each (λ o. o.draws ≡ k → IsReplied reply_to happens (session_merge editors) w r o) os
   each_open w k fates es s r [] h = tt
   each_open w k fates es s r (o ∷ os) h = (on_open w k fates es s r o h.0, each_open w k fates es s r os h.1)
 
   module _ (readers : List ReaderFields) (answered : AreAnswered all readers) where
-    abbrev machine : Machine reply_to happens (merging editors) readers Stands
-    machine = record { commit = on_commit; draw = on_draw; open_of = λ w k fates es s r. each_open w k fates es s r (opens_by (merging editors) r readers) (by_reader r readers answered) }
+    abbrev machine : Machine reply_to happens (session_merge editors) readers Stands
+    machine = record { commit = on_commit; draw = on_draw; open_of = λ w k fates es s r. each_open w k fates es s r (opens_by (session_merge editors) r readers) (by_reader r readers answered) }
 
     abbrev end_of : WorldState → Type 0
-    end_of = Ends reply_to happens (merging editors) readers Stands machine
+    end_of = Ends reply_to happens (session_merge editors) readers Stands machine
 
-    runs : IsRunTo reply_to happens end_of (opening c.carousel) (merge_of (merging editors) readers all_fates c.entries)
-    runs = merge_runs reply_to happens (merging editors) readers Stands machine (opening c.carousel) all_fates c.entries
+    runs : IsRunTo reply_to happens end_of (initial_world c.carousel c.weights) (merge_of (session_merge editors) readers all_fates c.entries)
+    runs = merge_runs reply_to happens (session_merge editors) readers Stands machine (initial_world c.carousel c.weights) all_fates c.entries
         (record { before = []; drawn = []; entries = refl; is = refl; many = refl; rest = refl })
 
-    pub run_of : IsRunOfWorld c.carousel (merge_of (merging editors) readers all_fates c.entries)
-    run_of = as_replies (opening c.carousel) (merge_of (merging editors) readers all_fates c.entries)
-        (to_run reply_to happens end_of (opening c.carousel) (merge_of (merging editors) readers all_fates c.entries) runs)
+    pub run_of : IsRunOfWorld c.carousel c.weights (merge_of (session_merge editors) readers all_fates c.entries)
+    run_of = as_replies (initial_world c.carousel c.weights) (merge_of (session_merge editors) readers all_fates c.entries)
+        (to_run reply_to happens end_of (initial_world c.carousel c.weights) (merge_of (session_merge editors) readers all_fates c.entries) runs)
 
     at_end : (w : WorldState) (xs : List (Step × Reply)) → IsRunTo reply_to happens end_of w xs → end_of (after_all w (map (λ x. x.0) xs))
     at_end w [] h = h
     at_end w (x ∷ xs) h = at_end (happens w x.0) xs h.1
 
-    pub drawings_at_end : (after_all (opening c.carousel) (map (λ x. x.0) (merge_of (merging editors) readers all_fates c.entries))).drawings ≡ all
+    pub drawings_at_end : (after_all (initial_world c.carousel c.weights) (map (λ x. x.0) (merge_of (session_merge editors) readers all_fates c.entries))).drawings ≡ all
     drawings_at_end =
-        let s = (at_end (opening c.carousel) (merge_of (merging editors) readers all_fates c.entries) runs).2 in
+        let s = (at_end (initial_world c.carousel c.weights) (merge_of (session_merge editors) readers all_fates c.entries) runs).2 in
         ap (λ (w : WorldState). w.drawings) s.is ∙ sym (append-nil s.drawn) ∙ sym s.rest
 
-    pub catalogue_at_end : (after_all (opening c.carousel) (map (λ x. x.0) (merge_of (merging editors) readers all_fates c.entries))).catalogue ≡ state_of c.carousel (map (numbered editors) c.entries)
+    pub catalogue_at_end : (after_all (initial_world c.carousel c.weights) (map (λ x. x.0) (merge_of (session_merge editors) readers all_fates c.entries))).catalogue ≡ state_of c.carousel c.weights (map (numbered editors) c.entries)
     catalogue_at_end =
-        let s = (at_end (opening c.carousel) (merge_of (merging editors) readers all_fates c.entries) runs).2 in
-        ap (λ (w : WorldState). w.catalogue) s.is ∙ ap (λ (l : List Entry). state_of c.carousel (map (numbered editors) l)) (sym (append-nil s.before) ∙ sym s.entries)
+        let s = (at_end (initial_world c.carousel c.weights) (merge_of (session_merge editors) readers all_fates c.entries) runs).2 in
+        ap (λ (w : WorldState). w.catalogue) s.is ∙ ap (λ (l : List Entry). state_of c.carousel c.weights (map (numbered editors) l)) (sym (append-nil s.before) ∙ sym s.entries)

@@ -2,7 +2,7 @@
 use Rattle.std.proofs.Common.{◌≡◌, ℕ, suc, Bool, true, false, cond, List, [], ◌∷◌, ◌++◌, map, filter, drop, get_or, sym, refl, subst, append_assoc, eqb-true}
 use Rattle.std.specs.Prelude.{◌==◌, if◌then◌else◌}
 use Rattle.std.specs.List.{flat_map, range_with_len}
-use Rattle.session_history.specs.Merging.{Merging, opens_by, opens_of, opens_at, merged, merge_of, IsRun, Each}
+use Rattle.session_history.specs.Merging.{Merging, opens_by, opens_of, opens_at, merge_entries, merge_of, IsRun, Each}
 
 pub each_append : {A : Type 0} (Q : A → Type 0) (xs ys : List A) → Each Q xs → Each Q ys → Each Q (xs ++ ys)
 each_append Q [] ys h k = k
@@ -56,19 +56,19 @@ module _ {W S R E F O P : Type 0} (reply : W → S → R) (happens : W → S →
         (of_one w k r (opens_by m r passes) (flat_map (opens_of m passes k) rs ++ ys) (h r) (of_all w k rs ys h run))
 
     choose : (w : W) (k : ℕ) (fates : List F) (e : E) (es : List E) → Stands w k fates (e ∷ es)
-        → ((v : W) → Stands v (suc k) (drop 1 fates) es → Runs v (merged m passes (suc k) (drop 1 fates) es))
-        → ((v : W) → Stands v k fates es → Runs v (merged m passes k fates es))
-        → (b : Bool) → m.is_draw e ≡ b → Runs w (if b then m.event e (get_or fates 0 m.none) ∷ opens_at m passes (suc k) ++ merged m passes (suc k) (drop 1 fates) es else m.event e m.none ∷ merged m passes k fates es)
+        → ((v : W) → Stands v (suc k) (drop 1 fates) es → Runs v (merge_entries m passes (suc k) (drop 1 fates) es))
+        → ((v : W) → Stands v k fates es → Runs v (merge_entries m passes k fates es))
+        → (b : Bool) → m.is_draw e ≡ b → Runs w (if b then m.event e (get_or fates 0 m.none) ∷ opens_at m passes (suc k) ++ merge_entries m passes (suc k) (drop 1 fates) es else m.event e m.none ∷ merge_entries m passes k fates es)
     choose w k fates e es s draws commits true is =
         let q = laws.draw w k fates e es s is in
         let v = happens w (m.event e (get_or fates 0 m.none)).0 in
-        (q.0, of_all v (suc k) (range_with_len 1 64) (merged m passes (suc k) (drop 1 fates) es) (laws.open_of v (suc k) (drop 1 fates) es q.1) (draws v q.1))
+        (q.0, of_all v (suc k) (range_with_len 1 64) (merge_entries m passes (suc k) (drop 1 fates) es) (laws.open_of v (suc k) (drop 1 fates) es q.1) (draws v q.1))
     choose w k fates e es s draws commits false is =
         let q = laws.commit w k fates e es s is in (q.0, commits (happens w (m.event e m.none).0) q.1)
 
-    runs_on : (w : W) (k : ℕ) (fates : List F) (es : List E) → Stands w k fates es → Runs w (merged m passes k fates es)
+    runs_on : (w : W) (k : ℕ) (fates : List F) (es : List E) → Stands w k fates es → Runs w (merge_entries m passes k fates es)
     runs_on w k fates [] s = (k, fates, s)
     runs_on w k fates (e ∷ es) s = choose w k fates e es s (λ v. runs_on v (suc k) (drop 1 fates) es) (λ v. runs_on v k fates es) (m.is_draw e) refl
 
     pub merge_runs : (w : W) (fates : List F) (es : List E) → Stands w 0 fates es → IsRunTo reply happens Ends w (merge_of m passes fates es)
-    merge_runs w fates es s = of_all w 0 (range_with_len 1 64) (merged m passes 0 fates es) (laws.open_of w 0 fates es s) (runs_on w 0 fates es s)
+    merge_runs w fates es s = of_all w 0 (range_with_len 1 64) (merge_entries m passes 0 fates es) (laws.open_of w 0 fates es s) (runs_on w 0 fates es s)

@@ -11,9 +11,9 @@ use Rattle.generation_catalogue.specs.declared.entry.Entry.TheVariants as entrie
 use Rattle.carousel_world.specs.Events.{Step, Draw}
 use Rattle.carousel_world.specs.declared.event.Reply.{Reply}
 use Rattle.carousel_world.specs.declared.event.Reply.TheVariants as replies
-use Rattle.session_history.specs.Merging.{Each, opens_at, merged, merge_of}
+use Rattle.session_history.specs.Merging.{Each, opens_at, merge_entries, merge_of}
 use Rattle.session_history.specs.Laws.{NeverFall}
-use Rattle.session_history.specs.Merges.{ReaderFields, event_of, merging}
+use Rattle.session_history.specs.Merges.{ReaderFields, event_of, session_merge}
 use Rattle.session_history.specs.Merged.{IsPlaced, IsInOrder, AreParts}
 use Rattle.session_history.specs.Waiting.{waited_by, opened_at, AllClimb, AreLeft}
 use Rattle.session_history.proofs.Placing.{count_more, count_same}
@@ -32,16 +32,16 @@ none_left (suc i) (x ∷ xs) h = none_left i xs (omega arith)
 
 module _ (es : List Entry) (fates : List (List Fate)) (editors : List ℕ) (readers : List ReaderFields) where
   abbrev rest : ℕ → ℕ → List (Step × Reply)
-  rest k i = merged (merging editors) readers k (drop k fates) (drop i es)
+  rest k i = merge_entries (session_merge editors) readers k (drop k fates) (drop i es)
 
   -- the entries before this one are told, with the opens after each draw among them
   pub record IsMerging (i k : ℕ) (waiting : List ReaderFields) (told : List (Step × Reply)) : Type 0 where
-    pub so_far : told ++ rest k i ≡ merge_of (merging editors) readers fates es
+    pub so_far : told ++ rest k i ≡ merge_of (session_merge editors) readers fates es
     pub drawn : k + count_by is_draw (drop i es) ≡ length fates
     pub few : k ≤ i
     pub placed : Each (IsPlaced (length editors)) (drop i es)
     pub climb : AllClimb (suc k) waiting
-    pub later : (j : ℕ) → k < j → flat_map (opened_at j) waiting ≡ opens_at (merging editors) readers j
+    pub later : (j : ℕ) → k < j → flat_map (opened_at j) waiting ≡ opens_at (session_merge editors) readers j
 
   orders : (last : ℕ) (ps : List ReaderFields) → Each (IsInOrder last) ps → AllClimb 0 ps
   orders last ps h = all_never last ps (never ps h)
@@ -64,7 +64,7 @@ module _ (es : List Entry) (fates : List (List Fate)) (editors : List ℕ) (read
     later = λ j less. left.later j less ∙ at j;
   }
     where
-      at : (j : ℕ) → flat_map (opened_at j) before ≡ opens_at (merging editors) readers j
+      at : (j : ℕ) → flat_map (opened_at j) before ≡ opens_at (session_merge editors) readers j
       at j = ap (flat_map (opened_at j)) is ∙ all_by editors j readers (range_with_len 1 64)
 
   pub placed_at : (i k : ℕ) (waiting : List ReaderFields) (told : List (Step × Reply)) (e : Entry) → i < length es → e ≡ get_or es i e → IsMerging i k waiting told → IsPlaced (length editors) e
@@ -87,7 +87,7 @@ module _ (es : List Entry) (fates : List (List Fate)) (editors : List ℕ) (read
       let here : Each (IsPlaced (length editors)) (e ∷ drop (i + 1) es) = subst (Each (IsPlaced (length editors))) next h.placed in
       record {
         so_far = ap (λ l. l ++ rest k (i + 1)) n ∙ append_assoc told (x ∷ []) (rest k (i + 1)) ∙ ap (λ y. told ++ y ∷ rest k (i + 1)) same
-            ∙ ap (λ l. told ++ merged (merging editors) readers k (drop k fates) l) (sym next) ∙ h.so_far;
+            ∙ ap (λ l. told ++ merge_entries (session_merge editors) readers k (drop k fates) l) (sym next) ∙ h.so_far;
         drawn = omega arith;
         few = omega arith;
         placed = here.1;
@@ -109,15 +109,15 @@ module _ (es : List Entry) (fates : List (List Fate)) (editors : List ℕ) (read
       let flat : k ≡ k + 0 = omega arith in
       let cut : drop (k + 1) fates ≡ drop 1 (drop k fates) = ap (λ (n : ℕ). drop n fates) more ∙ drops k fates in
       let own : fs ≡ get_or (drop k fates) 0 [] = under ∙ ap (λ (n : ℕ). get_or fates n []) flat ∙ sym (get_or-drop k fates 0 []) in
-      let ops : List (Step × Reply) = opens_at (merging editors) readers (k + 1) in
+      let ops : List (Step × Reply) = opens_at (session_merge editors) readers (k + 1) in
       let drawn : List (Step × Reply) = (Draw asked fs, replies.Drawn generation first count) ∷ [] in
       let opened : flat_map (opened_at (k + 1)) waiting ≡ ops = h.later (k + 1) (omega arith) in
       let here : Each (IsPlaced (length editors)) (e ∷ drop (i + 1) es) = subst (Each (IsPlaced (length editors))) next h.placed in
       record {
         so_far = ap (λ l. l ++ rest (k + 1) (i + 1)) (n ∙ (λ j. m j ++ opened j))
             ∙ append_assoc (told ++ drawn) ops (rest (k + 1) (i + 1)) ∙ append_assoc told drawn (ops ++ rest (k + 1) (i + 1))
-            ∙ (λ j. told ++ (Draw asked (own j), replies.Drawn generation first count) ∷ (opens_at (merging editors) readers (more j) ++ merged (merging editors) readers (more j) (cut j) (drop (i + 1) es)))
-            ∙ ap (λ l. told ++ merged (merging editors) readers k (drop k fates) l) (sym next) ∙ h.so_far;
+            ∙ (λ j. told ++ (Draw asked (own j), replies.Drawn generation first count) ∷ (opens_at (session_merge editors) readers (more j) ++ merge_entries (session_merge editors) readers (more j) (cut j) (drop (i + 1) es)))
+            ∙ ap (λ l. told ++ merge_entries (session_merge editors) readers k (drop k fates) l) (sym next) ∙ h.so_far;
         drawn = omega arith;
         few = omega arith;
         placed = here.1;
@@ -128,6 +128,6 @@ module _ (es : List Entry) (fates : List (List Fate)) (editors : List ℕ) (read
   pub moved : (i k k' : ℕ) (ws ws' : List ReaderFields) (told : List (Step × Reply)) → k' ≡ k → ws' ≡ ws → IsMerging i k ws told → IsMerging i k' ws' told
   moved i k k' ws ws' told a b h = subst (λ (n : ℕ). IsMerging i n ws' told) (sym a) (subst (λ (l : List ReaderFields). IsMerging i k l told) (sym b) h)
 
-  pub all_merged : (i k : ℕ) (waiting : List ReaderFields) (told : List (Step × Reply)) → length es ≤ i → IsMerging i k waiting told → told ≡ merge_of (merging editors) readers fates es
+  pub all_merged : (i k : ℕ) (waiting : List ReaderFields) (told : List (Step × Reply)) → length es ≤ i → IsMerging i k waiting told → told ≡ merge_of (session_merge editors) readers fates es
   all_merged i k waiting told past h =
-      sym (append-nil told) ∙ ap (λ l. told ++ merged (merging editors) readers k (drop k fates) l) (sym (none_left i es past)) ∙ h.so_far
+      sym (append-nil told) ∙ ap (λ l. told ++ merge_entries (session_merge editors) readers k (drop k fates) l) (sym (none_left i es past)) ∙ h.so_far

@@ -14,8 +14,8 @@ use Rattle.session_history.specs.declared.opens.ReaderOpens.{ReaderOpens}
 use Rattle.session_history.specs.declared.waiting.Waiting.{Waiting}
 use Rattle.session_history.specs.Merging.{Each, opens_by, opens_of}
 use Rattle.session_history.specs.Laws.{NeverFall}
-use Rattle.session_history.specs.Merges.{ReaderFields, reader_view, opened_of, merging}
-use Rattle.session_history.specs.Waiting.{waited, waited_by, opened_at, front, Climb, IsLeft, AllClimb, AreLeft}
+use Rattle.session_history.specs.Merges.{ReaderFields, reader_view, opened_of, session_merge}
+use Rattle.session_history.specs.Waiting.{as_reader, waited_by, opened_at, count_first_opens, Climb, IsLeft, AllClimb, AreLeft}
 use Rattle.session_history.proofs.Cutting.{filter_takes, filter_skips}
 use Rattle.session_history.proofs.Running.{each_append}
 
@@ -45,29 +45,29 @@ to_end n xs = let e = length-drop n xs in take_all (length xs - n) (drop n xs) (
 -- ---- the first opens
 
 module _ (k : ℕ) where
-  front_more : (o : Open) (os : List Open) → o.draws ≡ k → front k (o ∷ os) ≡ suc (front k os)
-  front_more o os e = λ i. if eq-eqb o.draws k e i then suc (front k os) else 0
+  front_more : (o : Open) (os : List Open) → o.draws ≡ k → count_first_opens k (o ∷ os) ≡ suc (count_first_opens k os)
+  front_more o os e = λ i. if eq-eqb o.draws k e i then suc (count_first_opens k os) else 0
 
-  front_none : (o : Open) (os : List Open) → o.draws ≢ k → front k (o ∷ os) ≡ 0
-  front_none o os ne = λ i. if ne_eqb o.draws k ne i then suc (front k os) else 0
+  front_none : (o : Open) (os : List Open) → o.draws ≢ k → count_first_opens k (o ∷ os) ≡ 0
+  front_none o os ne = λ i. if ne_eqb o.draws k ne i then suc (count_first_opens k os) else 0
 
-  pub front_here : (os : List Open) (i : ℕ) (o : Open) (total : ℕ) → i < length os → o ≡ get_or os i o → o.draws ≢ k → i + front k (drop i os) ≡ total → i ≡ total
+  pub front_here : (os : List Open) (i : ℕ) (o : Open) (total : ℕ) → i < length os → o ≡ get_or os i o → o.draws ≢ k → i + count_first_opens k (drop i os) ≡ total → i ≡ total
   front_here os i o total less is ne h =
-      let none : front k (drop i os) ≡ 0 = ap (front k) (left_at os i o less is) ∙ front_none o (drop (i + 1) os) ne in omega arith
+      let none : count_first_opens k (drop i os) ≡ 0 = ap (count_first_opens k) (left_at os i o less is) ∙ front_none o (drop (i + 1) os) ne in omega arith
 
-  pub front_on : (os : List Open) (i : ℕ) (o : Open) (total : ℕ) → i < length os → o ≡ get_or os i o → o.draws ≡ k → i + front k (drop i os) ≡ total → (i + 1) + front k (drop (i + 1) os) ≡ total
+  pub front_on : (os : List Open) (i : ℕ) (o : Open) (total : ℕ) → i < length os → o ≡ get_or os i o → o.draws ≡ k → i + count_first_opens k (drop i os) ≡ total → (i + 1) + count_first_opens k (drop (i + 1) os) ≡ total
   front_on os i o total less is e h =
-      let more : front k (drop i os) ≡ suc (front k (drop (i + 1) os)) = ap (front k) (left_at os i o less is) ∙ front_more o (drop (i + 1) os) e in omega arith
+      let more : count_first_opens k (drop i os) ≡ suc (count_first_opens k (drop (i + 1) os)) = ap (count_first_opens k) (left_at os i o less is) ∙ front_more o (drop (i + 1) os) e in omega arith
 
-  pub front_all : (os : List Open) (i total : ℕ) → length os ≤ i → i ≤ length os → i + front k (drop i os) ≡ total → length os ≡ total
-  front_all os i total past within h = let none : front k (drop i os) ≡ 0 = ap (front k) (none_left i os past) in omega arith
+  pub front_all : (os : List Open) (i total : ℕ) → length os ≤ i → i ≤ length os → i + count_first_opens k (drop i os) ≡ total → length os ≡ total
+  front_all os i total past within h = let none : count_first_opens k (drop i os) ≡ 0 = ap (count_first_opens k) (none_left i os past) in omega arith
 
   none_in : (b : ℕ) (os : List Open) → Climb b os → k < b → filter (λ o. o.draws == k) os ≡ []
   none_in b [] h less = refl
   none_in b (o ∷ os) h less =
       let first = h.0 in filter_skips (λ (o : Open). o.draws == k) o os (ne_eqb o.draws k (λ e. omega arith)) ∙ none_in o.draws os h.1 (omega arith)
 
-  pub front_takes : (os : List Open) → Climb k os → take (front k os) os ≡ filter (λ o. o.draws == k) os
+  pub front_takes : (os : List Open) → Climb k os → take (count_first_opens k os) os ≡ filter (λ o. o.draws == k) os
   front_takes [] h = refl
   front_takes (o ∷ os) h = dite (ℕ_discrete o.draws k)
       (λ e. (λ i. take (front_more o os e i) (o ∷ os)) ∙ ap (λ (l : List Open). o ∷ l) (front_takes os (subst (λ (n : ℕ). Climb n os) e h.1))
@@ -75,20 +75,20 @@ module _ (k : ℕ) where
       (λ ne. let low = h.0 in
       (λ i. take (front_none o os ne i) (o ∷ os)) ∙ sym (filter_skips (λ (o : Open). o.draws == k) o os (ne_eqb o.draws k ne) ∙ none_in o.draws os h.1 (omega arith)))
 
-  pub front_climbs : (os : List Open) → Climb k os → Climb (suc k) (drop (front k os) os)
+  pub front_climbs : (os : List Open) → Climb k os → Climb (suc k) (drop (count_first_opens k os) os)
   front_climbs [] h = tt
   front_climbs (o ∷ os) h = dite (ℕ_discrete o.draws k)
       (λ e. subst (λ (n : ℕ). Climb (suc k) (drop n (o ∷ os))) (sym (front_more o os e)) (front_climbs os (subst (λ (n : ℕ). Climb n os) e h.1)))
       (λ ne. let low = h.0 in subst (λ (n : ℕ). Climb (suc k) (drop n (o ∷ os))) (sym (front_none o os ne)) (omega arith, h.1))
 
-  pub front_later : (j : ℕ) → k < j → (os : List Open) → Climb k os → filter (λ o. o.draws == j) (drop (front k os) os) ≡ filter (λ o. o.draws == j) os
+  pub front_later : (j : ℕ) → k < j → (os : List Open) → Climb k os → filter (λ o. o.draws == j) (drop (count_first_opens k os) os) ≡ filter (λ o. o.draws == j) os
   front_later j less [] h = refl
   front_later j less (o ∷ os) h = dite (ℕ_discrete o.draws k)
       (λ e. (λ i. filter (λ o. o.draws == j) (drop (front_more o os e i) (o ∷ os))) ∙ front_later j less os (subst (λ (n : ℕ). Climb n os) e h.1)
       ∙ sym (filter_skips (λ (o : Open). o.draws == j) o os (ne_eqb o.draws j (λ f. omega arith))))
       (λ ne. λ i. filter (λ o. o.draws == j) (drop (front_none o os ne i) (o ∷ os)))
 
-  pub is_left : (r : ℕ) (os now : List Open) → now ≡ drop (front k os) os → Climb k os → IsLeft k (record { reader = r; opens = os }) (record { reader = r; opens = now })
+  pub is_left : (r : ℕ) (os now : List Open) → now ≡ drop (count_first_opens k os) os → Climb k os → IsLeft k (record { reader = r; opens = os }) (record { reader = r; opens = now })
   is_left r os now e h = record {
     climb = subst (Climb (suc k)) (sym e) (front_climbs os h);
     later = λ j less. ap (map (opened_of r)) (ap (filter (λ o. o.draws == j)) e ∙ front_later j less os h);
@@ -141,19 +141,19 @@ map_set f (x ∷ xs) zero v = refl
 map_set f (x ∷ xs) (suc i) v = ap (λ l. f x ∷ l) (map_set f xs i v)
 
 -- the reader at a place, and those after it
-pub reader_at : (ws : List Waiting) (i : ℕ) (d : Waiting) → i < length ws → drop i (map waited ws) ≡ waited (get_or ws i d) ∷ drop (i + 1) (map waited ws)
+pub reader_at : (ws : List Waiting) (i : ℕ) (d : Waiting) → i < length ws → drop i (map as_reader ws) ≡ as_reader (get_or ws i d) ∷ drop (i + 1) (map as_reader ws)
 reader_at ws i d less =
     let one : suc i ≡ i + 1 = omega arith in
-    drop-cons (map waited ws) i (waited d) (omega (arith, length-map ws waited, less)) ∙ (λ j. get_or-map waited ws i d (waited d) less j ∷ drop (one j) (map waited ws))
+    drop-cons (map as_reader ws) i (as_reader d) (omega (arith, length-map ws as_reader, less)) ∙ (λ j. get_or-map as_reader ws i d (as_reader d) less j ∷ drop (one j) (map as_reader ws))
 
-pub reader_climbs : (k i : ℕ) (ws : List Waiting) (d : Waiting) → i < length ws → AllClimb k (drop i (map waited ws)) → Climb k (get_or ws i d).opens.now
-reader_climbs k i ws d less h = let here : AllClimb k (waited (get_or ws i d) ∷ drop (i + 1) (map waited ws)) = subst (AllClimb k) (reader_at ws i d less) h in here.0
+pub reader_climbs : (k i : ℕ) (ws : List Waiting) (d : Waiting) → i < length ws → AllClimb k (drop i (map as_reader ws)) → Climb k (get_or ws i d).opens.now
+reader_climbs k i ws d less h = let here : AllClimb k (as_reader (get_or ws i d) ∷ drop (i + 1) (map as_reader ws)) = subst (AllClimb k) (reader_at ws i d less) h in here.0
 
-pub reader_told : (k i : ℕ) (ws : List Waiting) (was : List ReaderFields) (told all new : List (Step × Reply)) (d v : Waiting) → i < length ws → IsLeft k (waited (get_or ws i d)) (waited v)
-    → new ≡ told ++ opened_at k (waited (get_or ws i d)) → IsTelling k i (map waited ws) was told all → IsTelling k (i + 1) (map waited (set ws i v)) was new all
+pub reader_told : (k i : ℕ) (ws : List Waiting) (was : List ReaderFields) (told all new : List (Step × Reply)) (d v : Waiting) → i < length ws → IsLeft k (as_reader (get_or ws i d)) (as_reader v)
+    → new ≡ told ++ opened_at k (as_reader (get_or ws i d)) → IsTelling k i (map as_reader ws) was told all → IsTelling k (i + 1) (map as_reader (set ws i v)) was new all
 reader_told k i ws was told all new d v less left n h =
-    subst (λ (l : List ReaderFields). IsTelling k (i + 1) l was new all) (sym (map_set waited ws i v))
-    (tell_next k i (map waited ws) was told all new (waited (get_or ws i d)) (waited v) (omega (arith, length-map ws waited, less)) (reader_at ws i d less) left n h)
+    subst (λ (l : List ReaderFields). IsTelling k (i + 1) l was new all) (sym (map_set as_reader ws i v))
+    (tell_next k i (map as_reader ws) was told all new (as_reader (get_or ws i d)) (as_reader v) (omega (arith, length-map ws as_reader, less)) (reader_at ws i d less) left n h)
 
 -- ---- by number
 
@@ -185,11 +185,11 @@ flat_map_more f [] ys = refl
 flat_map_more f (x ∷ xs) ys = ap (λ l. f x ++ l) (flat_map_more f xs ys) ∙ sym (append_assoc (f x) (flat_map f xs) (flat_map f ys))
 
 module _ (editors : List ℕ) (k : ℕ) where
-  one_by : (r : ℕ) (readers : List ReaderFields) → flat_map (opened_at k) (waited_by readers r) ≡ opens_of (merging editors) readers k r
+  one_by : (r : ℕ) (readers : List ReaderFields) → flat_map (opened_at k) (waited_by readers r) ≡ opens_of (session_merge editors) readers k r
   one_by r [] = refl
   one_by r (p ∷ ps) =
       let at : Open → Bool = λ o. o.draws == k in
-      let rest : List Open = opens_by (merging editors) r ps in
+      let rest : List Open = opens_by (session_merge editors) r ps in
       dite (ℕ_discrete p.reader r)
       (λ e. ap (flat_map (opened_at k)) (filter_takes (λ (q : ReaderFields). q.reader == r) p ps (eq-eqb p.reader r e))
       ∙ (λ i. map (opened_of (e i)) (filter at p.opens) ++ one_by r ps i)
@@ -198,7 +198,7 @@ module _ (editors : List ℕ) (k : ℕ) where
       (λ ne. ap (flat_map (opened_at k)) (filter_skips (λ (q : ReaderFields). q.reader == r) p ps (ne_eqb p.reader r ne))
       ∙ one_by r ps ∙ sym (ap (λ (b : Bool). map (opened_of r) (filter at ((if b then p.opens else []) ++ rest))) (ne_eqb p.reader r ne)))
 
-  pub all_by : (readers : List ReaderFields) (rs : List ℕ) → flat_map (opened_at k) (flat_map (waited_by readers) rs) ≡ flat_map (opens_of (merging editors) readers k) rs
+  pub all_by : (readers : List ReaderFields) (rs : List ℕ) → flat_map (opened_at k) (flat_map (waited_by readers) rs) ≡ flat_map (opens_of (session_merge editors) readers k) rs
   all_by readers [] = refl
   all_by readers (r ∷ rs) = flat_map_more (opened_at k) (waited_by readers r) (flat_map (waited_by readers) rs) ∙ (λ i. one_by r readers i ++ all_by readers rs i)
 

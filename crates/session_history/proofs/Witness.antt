@@ -16,8 +16,9 @@ use Rattle.generation.specs.Lawful.{ArePublishable}
 use Rattle.generation_catalogue.specs.History.{CatalogueState, IsHistory, IsEntered, entry_after, trees_of}
 use Rattle.generation_catalogue.specs.declared.entry.Entry.{Entry}
 use Rattle.generation_catalogue.specs.declared.entry.Entry.TheVariants as entries
+use Rattle.cycle_planner.proofs.CallerLemmas.{are_ones}
 use Rattle.carousel_world.specs.World.{Drawing}
-use Rattle.carousel_world.specs.Runs.{RunIsPremised, the_path, puts}
+use Rattle.carousel_world.specs.Runs.{ones, RunIsPremised, the_path, puts}
 use Rattle.carousel_world.proofs.CallerLemmas.{generation_with}
 use Rattle.session_history.specs.declared.opens.Open.{Open}
 use Rattle.session_history.specs.Merges.{ReaderFields, state_of, drawings_of, AreAnswered}
@@ -29,7 +30,7 @@ those =
     ∷ entries.Draw 1048576 2 0 3 ∷ entries.Draw 1048576 2 0 3 ∷ []
 
 abbrev kept : CatalogueState
-kept = state_of 1 those
+kept = state_of 1 ones those
 
 abbrev all_fates : List (List Fate)
 all_fates = (Flip 800 ∷ Keep ∷ Lose ∷ []) ∷ (Keep ∷ Flip 800 ∷ Keep ∷ []) ∷ [] ∷ []
@@ -44,31 +45,31 @@ second_opens = record { draws = 3; label = Some 2; path = the_path; answer = ans
 abbrev readers : List ReaderFields
 readers = record { reader = 1; opens = first_opens } ∷ record { reader = 2; opens = second_opens } ∷ []
 
-at : (k : ℕ) (x e : Entry) → Some x ≡ Some e → x ≡ entry_after (state_of 1 (take k those)) x → e ≡ entry_after (state_of 1 (take k those)) e
-at k x e h is = let s : x ≡ e = cc in subst (λ (y : Entry). y ≡ entry_after (state_of 1 (take k those)) y) s is
+at : (k : ℕ) (x e : Entry) → Some x ≡ Some e → x ≡ entry_after (state_of 1 ones (take k those)) x → e ≡ entry_after (state_of 1 ones (take k those)) e
+at k x e h is = let s : x ≡ e = cc in subst (λ (y : Entry). y ≡ entry_after (state_of 1 ones (take k those)) y) s is
 
 -- each entry is what the rules give after those before it
-first_commit : entries.Commit 0 (puts (1 ∷ 2 ∷ 3 ∷ [])) (Ok 1) ≡ entry_after (state_of 1 (take 0 those)) (entries.Commit 0 (puts (1 ∷ 2 ∷ 3 ∷ [])) (Ok 1))
-unfolding placement.kept placement.least_with
+first_commit : entries.Commit 0 (puts (1 ∷ 2 ∷ 3 ∷ [])) (Ok 1) ≡ entry_after (state_of 1 ones (take 0 those)) (entries.Commit 0 (puts (1 ∷ 2 ∷ 3 ∷ [])) (Ok 1))
+unfolding placement.kept_modules placement.least_with
 first_commit = refl
 
-first_draw : entries.Draw 1048576 1 0 3 ≡ entry_after (state_of 1 (take 1 those)) (entries.Draw 1048576 1 0 3)
-unfolding placement.kept placement.least_with
+first_draw : entries.Draw 1048576 1 0 3 ≡ entry_after (state_of 1 ones (take 1 those)) (entries.Draw 1048576 1 0 3)
+unfolding placement.kept_modules placement.least_with
 first_draw = refl
 
-second_commit : entries.Commit 1 (puts (4 ∷ 5 ∷ 6 ∷ [])) (Ok 2) ≡ entry_after (state_of 1 (take 2 those)) (entries.Commit 1 (puts (4 ∷ 5 ∷ 6 ∷ [])) (Ok 2))
-unfolding placement.kept placement.least_with
+second_commit : entries.Commit 1 (puts (4 ∷ 5 ∷ 6 ∷ [])) (Ok 2) ≡ entry_after (state_of 1 ones (take 2 those)) (entries.Commit 1 (puts (4 ∷ 5 ∷ 6 ∷ [])) (Ok 2))
+unfolding placement.kept_modules placement.least_with
 second_commit = refl
 
-second_draw : entries.Draw 1048576 2 0 3 ≡ entry_after (state_of 1 (take 3 those)) (entries.Draw 1048576 2 0 3)
-unfolding placement.kept placement.least_with
+second_draw : entries.Draw 1048576 2 0 3 ≡ entry_after (state_of 1 ones (take 3 those)) (entries.Draw 1048576 2 0 3)
+unfolding placement.kept_modules placement.least_with
 second_draw = refl
 
-last_draw : entries.Draw 1048576 2 0 3 ≡ entry_after (state_of 1 (take 4 those)) (entries.Draw 1048576 2 0 3)
-unfolding placement.kept placement.least_with
+last_draw : entries.Draw 1048576 2 0 3 ≡ entry_after (state_of 1 ones (take 4 those)) (entries.Draw 1048576 2 0 3)
+unfolding placement.kept_modules placement.least_with
 last_draw = refl
 
-each_in : (k : ℕ) (e : Entry) → slice_get those k ≡ Some e → e ≡ entry_after (state_of 1 (take k those)) e
+each_in : (k : ℕ) (e : Entry) → slice_get those k ≡ Some e → e ≡ entry_after (state_of 1 ones (take k those)) e
 each_in zero e h = at 0 (entries.Commit 0 (puts (1 ∷ 2 ∷ 3 ∷ [])) (Ok 1)) e h first_commit
 each_in (suc zero) e h = at 1 (entries.Draw 1048576 1 0 3) e h first_draw
 each_in (suc (suc zero)) e h = at 2 (entries.Commit 1 (puts (4 ∷ 5 ∷ 6 ∷ [])) (Ok 2)) e h second_commit
@@ -85,7 +86,7 @@ entered_in (suc (suc (suc (suc zero)))) d h = (omega arith, omega arith)
 entered_in (suc (suc (suc (suc (suc k))))) d h = absurd (omega arith)
 
 history : ArePublishable 1 (trees_of kept) → IsHistory kept
-history published = record { entered = entered_in; each = each_in; draws = omega arith; published = published }
+history published = record { weights = are_ones; entered = entered_in; each = each_in; draws = omega arith; published = published }
 
 abbrev numbers : List ℕ
 numbers = 1 ∷ 2 ∷ []
@@ -130,7 +131,7 @@ drawn =
     ∷ cycle_drawn (generation_with 2 (4 ∷ 5 ∷ 6 ∷ []) 2) (Keep ∷ Flip 800 ∷ Keep ∷ []) ∷ cycle_drawn (generation_with 2 (4 ∷ 5 ∷ 6 ∷ []) 2) [] ∷ []
 
 drawn_is : drawn ≡ drawings_of kept all_fates
-unfolding placement.kept placement.least_with
+unfolding placement.kept_modules placement.least_with
 drawn_is = refl
 
 answered : AreAnswered drawn readers

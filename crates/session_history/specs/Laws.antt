@@ -1,7 +1,7 @@
 -- What holds of every merge.
 use Rattle.std.specs.Prelude.{◌≡◌, ◌≢◌, ℕ, suc, ◌≤◌, ◌==◌, Bool, true, false, List, [], ◌∷◌, ◌++◌, map, drop, if◌then◌else◌}
 use Rattle.std.specs.List.{filter, count_by}
-use Rattle.session_history.specs.Merging.{Merging, Each, opens_by, merged, merge_of, events_of, drawn_with}
+use Rattle.session_history.specs.Merging.{Merging, Each, opens_by, merge_entries, merge_of, events_of, drawn_with}
 
 -- Tests of events: a draw's, and an open's of the reader of this number
 pub record Telling {E F O P X : Type 0} (m : Merging E F O P X) : Type 0 where
@@ -14,19 +14,19 @@ pub record Telling {E F O P X : Type 0} (m : Merging E F O P X) : Type 0 where
 
 module _ {X : Type 0} where
   -- the events at which `picked` holds, each with how many before it are draws: n were drawn before the list
-  abbrev pub placed : (picked drawn : X → Bool) → ℕ → List X → List (ℕ × X)
-  placed picked drawn n [] = []
-  placed picked drawn n (x ∷ xs) =
-      (if picked x then (n, x) ∷ [] else []) ++ placed picked drawn (if drawn x then suc n else n) xs
+  abbrev pub with_draws_before : (picked drawn : X → Bool) → ℕ → List X → List (ℕ × X)
+  with_draws_before picked drawn n [] = []
+  with_draws_before picked drawn n (x ∷ xs) =
+      (if picked x then (n, x) ∷ [] else []) ++ with_draws_before picked drawn (if drawn x then suc n else n) xs
 
   -- what stands at a place of `placed` stands in the list, with so many draws before it, and what was picked before it is before it
   abbrev pub PlacedStands : (picked drawn : X → Bool) → Type 0
-  PlacedStands picked drawn = (xs : List X) (early late : List (ℕ × X)) (k : ℕ) (x : X) → placed picked drawn 0 xs ≡ early ++ (k, x) ∷ late
+  PlacedStands picked drawn = (xs : List X) (early late : List (ℕ × X)) (k : ℕ) (x : X) → with_draws_before picked drawn 0 xs ≡ early ++ (k, x) ∷ late
       → (before : List X) × (after : List X) × (xs ≡ before ++ x ∷ after) × (count_by drawn before ≡ k) × (filter picked before ≡ map (λ y. y.1) early)
 
   -- what has all draws of the list before it has none after it
   abbrev pub LastStands : (picked drawn : X → Bool) → Type 0
-  LastStands picked drawn = (xs : List X) (early late : List (ℕ × X)) (k : ℕ) (x : X) → placed picked drawn 0 xs ≡ early ++ (k, x) ∷ late → count_by drawn xs ≡ k
+  LastStands picked drawn = (xs : List X) (early late : List (ℕ × X)) (k : ℕ) (x : X) → with_draws_before picked drawn 0 xs ≡ early ++ (k, x) ∷ late → count_by drawn xs ≡ k
       → (before : List X) × (after : List X) × (xs ≡ before ++ x ∷ after) × (filter drawn (x ∷ after) ≡ [])
 
 module _ {O : Type 0} where
@@ -57,10 +57,10 @@ module _ {E F O P X : Type 0} where
       → filter t.is_drawn (merge_of m passes fates entries) ≡ drawn_with m fates (filter m.is_draw entries)
 
   -- each reader's opens are its pass's opens in their order, each once, each with as many draws before it as its shot had heard
-  abbrev pub OpensStandBehindTheirDraws : Merging E F O P X → Type 0
-  OpensStandBehindTheirDraws m = (t : Telling m) (passes : List P) (fates : List F) (entries : List E) (r : ℕ)
+  abbrev pub OpensStandAfterTheirDraws : Merging E F O P X → Type 0
+  OpensStandAfterTheirDraws m = (t : Telling m) (passes : List P) (fates : List F) (entries : List E) (r : ℕ)
       → 1 ≤ r → r ≤ 64 → NeverFall m.draws 0 (count_by m.is_draw entries) (opens_by m r passes)
-      → placed (t.is_opened_by r) t.is_drawn 0 (merge_of m passes fates entries) ≡ map (λ o. (m.draws o, m.opened r o)) (opens_by m r passes)
+      → with_draws_before (t.is_opened_by r) t.is_drawn 0 (merge_of m passes fates entries) ≡ map (λ o. (m.draws o, m.opened r o)) (opens_by m r passes)
 
   -- a reader that is alone in its number has just its own opens
   abbrev pub OpensAreOwn : Merging E F O P X → Type 0
@@ -71,7 +71,7 @@ module _ {E F O P X : Type 0} where
   -- more entries come after a merge, with the opens after their draws
   abbrev pub MergedOnwards : Merging E F O P X → Type 0
   MergedOnwards m = (passes : List P) (fates : List F) (entries more : List E)
-      → merge_of m passes fates (entries ++ more) ≡ merge_of m passes fates entries ++ merged m passes (count_by m.is_draw entries) (drop (count_by m.is_draw entries) fates) more
+      → merge_of m passes fates (entries ++ more) ≡ merge_of m passes fates entries ++ merge_entries m passes (count_by m.is_draw entries) (drop (count_by m.is_draw entries) fates) more
 
   -- what is true of each entry's event and of each open's is true of each of a merge
   abbrev pub EachIsMerged : Merging E F O P X → Type 1
@@ -84,7 +84,7 @@ module _ {E F O P X : Type 0} where
     pub entries : EntriesStandInOrder m
     pub picked : PickedStandInOrder m
     pub draws : DrawsStandInOrder m
-    pub opens : OpensStandBehindTheirDraws m
+    pub opens : OpensStandAfterTheirDraws m
     pub own : OpensAreOwn m
     pub onwards : MergedOnwards m
     pub stand : (p d : X → Bool) → PlacedStands p d

@@ -7,13 +7,13 @@ use Rattle.generation_catalogue.specs.declared.entry.Entry.{Entry}
 use Rattle.generation_catalogue.specs.declared.entry.Entry.TheVariants as entries
 use Rattle.carousel_world.specs.Events.{Step, Commit, Draw}
 use Rattle.carousel_world.specs.Events.{Open as Opens}
-use Rattle.carousel_world.specs.World.{opening, after_all, InRange}
+use Rattle.carousel_world.specs.World.{initial_world, after_all, InRange}
 use Rattle.carousel_world.specs.Promises.{MeetsHeadline}
 use Rattle.carousel_world.specs.Runs.{lossy_run}
 use Rattle.carousel_world.specs.declared.event.Reply.{Reply}
 use Rattle.session_history.specs.Merging.{Each, opens_by, merge_of, drawn_with}
-use Rattle.session_history.specs.Laws.{NeverFall, placed, MergedOnwards, PlacedStands, LastStands}
-use Rattle.session_history.specs.Merges.{ReaderFields, event_of, opened_of, merging, drawings_of, AreAnswered, IsRunOfWorld}
+use Rattle.session_history.specs.Laws.{NeverFall, with_draws_before, MergedOnwards, PlacedStands, LastStands}
+use Rattle.session_history.specs.Merges.{ReaderFields, event_of, opened_of, session_merge, drawings_of, AreAnswered, IsRunOfWorld}
 
 abbrev pub is_draw_step : Step → Bool
 is_draw_step (Draw asked fates) = true
@@ -72,37 +72,37 @@ pub record IsReady (c : CatalogueState) (editors : List ℕ) (fates : List (List
   pub answered : AreAnswered (drawings_of c fates) readers
 
 pub record IsMerged (c : CatalogueState) (editors : List ℕ) (fates : List (List Fate)) (readers : List ReaderFields) (told : List (Step × Reply)) : Type 0 where
-  pub run : IsRunOfWorld c.carousel told
+  pub run : IsRunOfWorld c.carousel c.weights told
   -- its events are such as every run of the world may have
   pub steps : All InRange (map (λ x. x.0) told)
   -- it keeps what every run of the world keeps
-  pub headline : MeetsHeadline c.carousel (map (λ x. x.0) told)
+  pub headline : MeetsHeadline c.carousel c.weights (map (λ x. x.0) told)
   -- what was drawn is what the catalogue's entries drew
-  pub drawings : (after_all (opening c.carousel) (map (λ x. x.0) told)).drawings ≡ drawings_of c fates
+  pub drawings : (after_all (initial_world c.carousel c.weights) (map (λ x. x.0) told)).drawings ≡ drawings_of c fates
   -- the commits under an editor's number are the entries of its place, in their order, each once
   pub commits : (place : ℕ) → place < length editors
       → filter (λ x. is_commit_of (get_or editors place 0) x.0) told ≡ map (λ e. event_of editors e []) (filter (is_commit_at place) c.entries)
   -- the draws are all draw entries in their order, each once, each under its own fates
-  pub draws : filter (λ x. is_draw_step x.0) told ≡ drawn_with (merging editors) fates (filter is_draw c.entries)
+  pub draws : filter (λ x. is_draw_step x.0) told ≡ drawn_with (session_merge editors) fates (filter is_draw c.entries)
   -- the opens under a reader's number are its own in their order, each once, each with as many draws before it as its shot had heard
   pub opens : (reader : ℕ) → 1 ≤ reader → reader ≤ 64
-      → placed (λ x. is_open_by reader x.0) (λ x. is_draw_step x.0) 0 told ≡ map (λ o. (o.draws, opened_of reader o)) (opens_by (merging editors) reader readers)
+      → with_draws_before (λ x. is_open_by reader x.0) (λ x. is_draw_step x.0) 0 told ≡ map (λ o. (o.draws, opened_of reader o)) (opens_by (session_merge editors) reader readers)
   -- and a reader's own opens are those of its pass
-  pub own : (place : ℕ) (p : ReaderFields) → slice_get readers place ≡ Some p → opens_by (merging editors) p.reader readers ≡ p.opens
+  pub own : (place : ℕ) (p : ReaderFields) → slice_get readers place ≡ Some p → opens_by (session_merge editors) p.reader readers ≡ p.opens
 
 abbrev pub EveryMergeIsMerged : Type 0
 EveryMergeIsMerged = (c : CatalogueState) (editors : List ℕ) (fates : List (List Fate)) (readers : List ReaderFields)
     → IsReady c editors fates readers
-    → IsMerged c editors fates readers (merge_of (merging editors) readers fates c.entries)
+    → IsMerged c editors fates readers (merge_of (session_merge editors) readers fates c.entries)
 
 -- two editors' commits, draws of which packets are lost and damaged, and two readers' opens; their merge is a known run of the world
 abbrev pub AMergeIsReady : Type 0
 AMergeIsReady = (c : CatalogueState) × (editors : List ℕ) × (fates : List (List Fate)) × (readers : List ReaderFields)
-    × IsReady c editors fates readers × (map (λ x. x.0) (merge_of (merging editors) readers fates c.entries) ≡ lossy_run)
+    × IsReady c editors fates readers × (map (λ x. x.0) (merge_of (session_merge editors) readers fates c.entries) ≡ lossy_run)
 
 -- more entries come after the merge of the first
 abbrev pub MergesGrow : Type 0
-MergesGrow = (editors : List ℕ) → MergedOnwards (merging editors)
+MergesGrow = (editors : List ℕ) → MergedOnwards (session_merge editors)
 
 -- An open that stands at a place of a reader's list stands in the history with as many draws before it, and its reader's earlier
 -- opens are before it. One that has all draws of the history before it has none after it.

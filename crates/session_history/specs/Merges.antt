@@ -13,7 +13,7 @@ use Rattle.carousel_world.specs.Events.{Open as Opens}
 use Rattle.carousel_world.specs.declared.event.Event.{Event}
 use Rattle.carousel_world.specs.Receptions.{label_after}
 use Rattle.tuner_core.specs.LookBack.{answer_after}
-use Rattle.carousel_world.specs.World.{Drawing, arrivals, commit_reply, opening, replies_to}
+use Rattle.carousel_world.specs.World.{Drawing, arrivals, commit_reply, initial_world, replies_to}
 use Rattle.carousel_world.specs.declared.event.Reply.{Reply}
 use Rattle.carousel_world.specs.declared.event.Reply.TheVariants as replies
 use Rattle.session_history.specs.declared.opens.Open.{Open}
@@ -21,8 +21,8 @@ use Rattle.session_history.specs.declared.opens.ReaderOpens.{ReaderOpens}
 use Rattle.session_history.specs.Merging.{Merging, Each}
 
 -- an event and its reply, without where the fates lie in memory
-abbrev pub told_view : Event × Reply → Step × Reply
-told_view x = (view x.0, x.1)
+abbrev pub known_view : Event × Reply → Step × Reply
+known_view x = (view x.0, x.1)
 
 abbrev pub fates_view : Vec Fate Global → List Fate
 fates_view v = v.items
@@ -43,8 +43,8 @@ event_of editors (entries.Draw asked generation first count) fates = (Draw asked
 abbrev pub opened_of : ℕ → Open → Step × Reply
 opened_of reader o = (Opens reader o.path, replies.Opened o.label o.answer)
 
-abbrev pub merging : List ℕ → Merging Entry (List Fate) Open ReaderFields (Step × Reply)
-merging editors = record {
+abbrev pub session_merge : List ℕ → Merging Entry (List Fate) Open ReaderFields (Step × Reply)
+session_merge editors = record {
   is_draw = is_draw;
   event = event_of editors;
   none = [];
@@ -54,20 +54,20 @@ merging editors = record {
   opened = opened_of;
 }
 
-abbrev pub state_of : ℕ → List Entry → CatalogueState
-state_of carousel entries = record { carousel = carousel; entries = entries }
+abbrev pub state_of : ℕ → List ℕ → List Entry → CatalogueState
+state_of carousel weights entries = record { carousel = carousel; weights = weights; entries = entries }
 
 -- the drawings that further entries make, each under its own fates
-abbrev pub drawings_after : ℕ → List Entry → List (List Fate) → List Entry → List Drawing
-drawings_after carousel before fates [] = []
-drawings_after carousel before fates (entries.Commit editor edits outcome ∷ es) =
-    drawings_after carousel (before ++ entries.Commit editor edits outcome ∷ []) fates es
-drawings_after carousel before fates (entries.Draw asked generation first count ∷ es) =
-    record { generation = current_of (state_of carousel before); items = items_drawn (state_of carousel before) asked; fates = get_or fates 0 [] }
-    ∷ drawings_after carousel (before ++ entries.Draw asked generation first count ∷ []) (drop 1 fates) es
+abbrev pub drawings_after : ℕ → List ℕ → List Entry → List (List Fate) → List Entry → List Drawing
+drawings_after carousel weights before fates [] = []
+drawings_after carousel weights before fates (entries.Commit editor edits outcome ∷ es) =
+    drawings_after carousel weights (before ++ entries.Commit editor edits outcome ∷ []) fates es
+drawings_after carousel weights before fates (entries.Draw asked generation first count ∷ es) =
+    record { generation = current_of (state_of carousel weights before); items = items_drawn (state_of carousel weights before) asked; fates = get_or fates 0 [] }
+    ∷ drawings_after carousel weights (before ++ entries.Draw asked generation first count ∷ []) (drop 1 fates) es
 
 abbrev pub drawings_of : CatalogueState → List (List Fate) → List Drawing
-drawings_of c fates = drawings_after c.carousel [] fates c.entries
+drawings_of c fates = drawings_after c.carousel c.weights [] fates c.entries
 
 -- what is heard of the first k of the drawings
 abbrev pub candidates_after : List Drawing → ℕ → List Bytes
@@ -82,5 +82,5 @@ abbrev pub AreAnswered : List Drawing → List ReaderFields → Type 0
 AreAnswered drawings readers = Each (λ p. Each (IsAnswered drawings) p.opens) readers
 
 -- the replies are those that the world gives
-abbrev pub IsRunOfWorld : ℕ → List (Step × Reply) → Type 0
-IsRunOfWorld carousel told = map (λ x. x.1) told ≡ replies_to (opening carousel) (map (λ x. x.0) told)
+abbrev pub IsRunOfWorld : ℕ → List ℕ → List (Step × Reply) → Type 0
+IsRunOfWorld carousel weights told = map (λ x. x.1) told ≡ replies_to (initial_world carousel weights) (map (λ x. x.0) told)

@@ -31,14 +31,14 @@ module _ {E F O P X : Type 0} where
   opens_at m passes k = flat_map (opens_of m passes k) (range_with_len 1 64)
 
   -- the entries after the first k draws, the next draw being under the first of the fates; after each draw come its opens
-  abbrev pub merged : Merging E F O P X → List P → ℕ → List F → List E → List X
-  merged m passes k fates [] = []
-  merged m passes k fates (e ∷ es) =
-      if m.is_draw e then m.event e (get_or fates 0 m.none) ∷ opens_at m passes (suc k) ++ merged m passes (suc k) (drop 1 fates) es
-      else m.event e m.none ∷ merged m passes k fates es
+  abbrev pub merge_entries : Merging E F O P X → List P → ℕ → List F → List E → List X
+  merge_entries m passes k fates [] = []
+  merge_entries m passes k fates (e ∷ es) =
+      if m.is_draw e then m.event e (get_or fates 0 m.none) ∷ opens_at m passes (suc k) ++ merge_entries m passes (suc k) (drop 1 fates) es
+      else m.event e m.none ∷ merge_entries m passes k fates es
 
   abbrev pub merge_of : Merging E F O P X → List P → List F → List E → List X
-  merge_of m passes fates entries = opens_at m passes 0 ++ merged m passes 0 fates entries
+  merge_of m passes fates entries = opens_at m passes 0 ++ merge_entries m passes 0 fates entries
 
   -- the entries alone, as events
   abbrev pub events_of : Merging E F O P X → List F → List E → List X

@@ -8,8 +8,8 @@ use Rattle.session_history.specs.declared.waiting.Waiting.{Waiting}
 use Rattle.session_history.specs.Merging.{Each}
 use Rattle.session_history.specs.Merges.{ReaderFields, opened_of}
 
-abbrev pub waited : Waiting → ReaderFields
-waited w = record { reader = w.reader; opens = w.opens.now }
+abbrev pub as_reader : Waiting → ReaderFields
+as_reader w = record { reader = w.reader; opens = w.opens.now }
 
 -- the readers of this number
 abbrev pub waited_by : List ReaderFields → ℕ → List ReaderFields
@@ -25,9 +25,9 @@ Climb k [] = Unit {0}
 Climb k (o ∷ os) = (k ≤ o.draws) × Climb o.draws os
 
 -- how many of the first opens are of shots that had heard so many draws
-abbrev pub front : ℕ → List Open → ℕ
-front k [] = 0
-front k (o ∷ os) = if o.draws == k then suc (front k os) else 0
+abbrev pub count_first_opens : ℕ → List Open → ℕ
+count_first_opens k [] = 0
+count_first_opens k (o ∷ os) = if o.draws == k then suc (count_first_opens k os) else 0
 
 -- the opens of so many draws are taken off, and no other
 pub record IsLeft (k : ℕ) (old new : ReaderFields) : Type 0 where

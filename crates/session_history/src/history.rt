@@ -2,7 +2,7 @@ ghost use Rattle.std.specs.Prelude.{◌≡◌, [], List, ℕ, IfOk, map, get_or}
 ghost use Rattle.generation_catalogue.specs.declared.entry.Entry.TheVariants as entry;
 ghost use Rattle.carousel_world.specs.Events.{Draw};
 ghost use Rattle.session_history.specs.Merging.{merge_of};
-ghost use Rattle.session_history.specs.Merges.{told_view, event_of, merging, fates_view, reader_view};
+ghost use Rattle.session_history.specs.Merges.{known_view, event_of, session_merge, fates_view, reader_view};
 ghost use Rattle.session_history.specs.Merged.{AreParts};
 
 use crate::again::{edits_again, reply_again};
@@ -21,7 +21,7 @@ fn told_commit(
     edits: &Edits,
     outcome: &Result<u64, Refusal>,
 ) -> Result<(Event, Reply), NoMemory>
-    ensures { IfOk result (λ x. (editors : List ℕ) (place : ℕ) → editor ≡ get_or editors place 0 → told_view x ≡ event_of editors (entry.Commit place edits.now outcome.now) []) }
+    ensures { IfOk result (λ x. (editors : List ℕ) (place : ℕ) → editor ≡ get_or editors place 0 → known_view x ≡ event_of editors (entry.Commit place edits.now outcome.now) []) }
 {
     let event = Event::Commit {
         editor,
@@ -32,7 +32,7 @@ fn told_commit(
 
 /// A draw of so many items, under these fates, as an event and its reply.
 fn told_draw(asked: u32, fates: &Vec<Fate>, reply: Reply) -> Result<(Event, Reply), NoMemory>
-    ensures { IfOk result (λ x. told_view x ≡ (Draw asked fates.now.items, reply)) }
+    ensures { IfOk result (λ x. known_view x ≡ (Draw asked fates.now.items, reply)) }
 {
     let event = Event::Draw {
         asked,
@@ -60,7 +60,7 @@ pub fn merge(
     passes: &[ReaderOpens],
 ) -> Result<Vec<(Event, Reply)>, NoMemory>
     requires { AreParts entries.now (map fates_view fates.now) editors.now (map reader_view passes.now) }
-    ensures { IfOk result (λ told. map told_view told.items ≡ merge_of (merging editors.now) (map reader_view passes.now) (map fates_view fates.now) entries.now) }
+    ensures { IfOk result (λ told. map known_view told.items ≡ merge_of (session_merge editors.now) (map reader_view passes.now) (map fates_view fates.now) entries.now) }
 {
     let mut waiting = by_number(alloc, passes)?;
     let mut told = tell_all(Vec::new(alloc), &mut waiting, 0)?;

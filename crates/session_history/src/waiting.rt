@@ -1,8 +1,8 @@
 //! The opens that stand in no history yet.
 ghost use Rattle.std.specs.Prelude.{◌≡◌, ◌≤◌, ◌++◌, IfOk, OnOk, length, map};
 ghost use Rattle.std.specs.List.{flat_map, range_with_len};
-ghost use Rattle.session_history.specs.Merges.{told_view, reader_view, opened_of};
-ghost use Rattle.session_history.specs.Waiting.{waited, waited_by, opened_at, front, Climb, IsLeft, AllClimb, AreLeft};
+ghost use Rattle.session_history.specs.Merges.{known_view, reader_view, opened_of};
+ghost use Rattle.session_history.specs.Waiting.{as_reader, waited_by, opened_at, count_first_opens, Climb, IsLeft, AllClimb, AreLeft};
 
 use crate::again::answer_again;
 use crate::opens::{Open, ReaderOpens};
@@ -25,8 +25,8 @@ impl<'a> Waiting<'a> {
         draws: u64,
     ) -> Result<Vec<(Event, Reply)>, NoMemory>
         requires { Climb draws self.old.opens.now }
-        ensures told { IfOk result (λ new. map told_view new.items ≡ map told_view told.items ++ opened_at draws (waited self.old)) }
-        ensures left { IsLeft draws (waited self.old) (waited self.new) }
+        ensures told { IfOk result (λ new. map known_view new.items ≡ map known_view told.items ++ opened_at draws (as_reader self.old)) }
+        ensures left { IsLeft draws (as_reader self.old) (as_reader self.new) }
     {
         let opens = self.opens;
         let front = front_of(opens, draws);
@@ -37,7 +37,7 @@ impl<'a> Waiting<'a> {
 
 /// How many of the first opens are of shots that had heard so many draws.
 fn front_of(opens: &[Open], draws: u64) -> usize
-    ensures front { result ≡ front draws opens.now }
+    ensures front { result ≡ count_first_opens draws opens.now }
     ensures within { result ≤ length opens.now }
 {
     for (place, later) in opens.iter().enumerate() {
@@ -50,7 +50,7 @@ fn front_of(opens: &[Open], draws: u64) -> usize
 
 /// An open as an event and its reply.
 fn told_open(reader: u32, opened: &Open) -> Result<(Event, Reply), NoMemory>
-    ensures { IfOk result (λ x. told_view x ≡ opened_of reader opened.now) }
+    ensures { IfOk result (λ x. known_view x ≡ opened_of reader opened.now) }
 {
     let event = Event::Open {
         reader,
@@ -69,7 +69,7 @@ fn tell_opens(
     reader: u32,
     opens: &[Open],
 ) -> Result<Vec<(Event, Reply)>, NoMemory>
-    ensures { IfOk result (λ new. map told_view new.items ≡ map told_view told.items ++ map (opened_of reader) opens.now) }
+    ensures { IfOk result (λ new. map known_view new.items ≡ map known_view told.items ++ map (opened_of reader) opens.now) }
 {
     for opened in opens {
         told.push(told_open(reader, opened)?)?;
@@ -83,9 +83,9 @@ pub(crate) fn tell_all(
     waiting: &mut [Waiting<'_>],
     draws: u64,
 ) -> Result<Vec<(Event, Reply)>, NoMemory>
-    requires { AllClimb draws (map waited waiting.old) }
-    ensures told { IfOk result (λ new. map told_view new.items ≡ map told_view told.items ++ flat_map (opened_at draws) (map waited waiting.old)) }
-    ensures left { OnOk result (AreLeft draws (map waited waiting.old) (map waited waiting.new)) }
+    requires { AllClimb draws (map as_reader waiting.old) }
+    ensures told { IfOk result (λ new. map known_view new.items ≡ map known_view told.items ++ flat_map (opened_at draws) (map as_reader waiting.old)) }
+    ensures left { OnOk result (AreLeft draws (map as_reader waiting.old) (map as_reader waiting.new)) }
 {
     for reader in waiting.iter_mut() {
         told = reader.tell(told, draws)?;
@@ -99,7 +99,7 @@ fn push_reader<'a>(
     passes: &'a [ReaderOpens],
     number: u32,
 ) -> Result<Vec<Waiting<'a>>, NoMemory>
-    ensures { IfOk result (λ new. map waited new.items ≡ map waited waiting.entry.items ++ waited_by (map reader_view passes.now) number) }
+    ensures { IfOk result (λ new. map as_reader new.items ≡ map as_reader waiting.entry.items ++ waited_by (map reader_view passes.now) number) }
 {
     for pass in passes {
         if pass.reader == number {
@@ -117,7 +117,7 @@ pub(crate) fn by_number<'a>(
     alloc: Global,
     passes: &'a [ReaderOpens],
 ) -> Result<Vec<Waiting<'a>>, NoMemory>
-    ensures { IfOk result (λ new. map waited new.items ≡ flat_map (waited_by (map reader_view passes.now)) (range_with_len 1 64)) }
+    ensures { IfOk result (λ new. map as_reader new.items ≡ flat_map (waited_by (map reader_view passes.now)) (range_with_len 1 64)) }
 {
     let mut waiting = Vec::with_capacity(alloc, passes.len())?;
     for number in 1..65u32 {

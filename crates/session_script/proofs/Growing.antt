@@ -10,7 +10,7 @@ use Rattle.session_script.specs.declared.line.Part.TheVariants.{Opening, Running
 use Rattle.session_script.specs.declared.script.Stage.TheVariants.{Before, During}
 use Rattle.session_script.specs.Scripts.{Act}
 use Rattle.session_script.specs.Grammar.{Saying, Passed, Starts, Does, Ends, is_start, is_end, part_of, who, first_mentions, actors, stage_above, lines_from}
-use Rattle.session_script.specs.Mentions.{mentioned}
+use Rattle.session_script.specs.Mentions.{with_mention}
 use Rattle.session_script.specs.Readings.{as_before}
 
 or_false : (b : Bool) → (b || false) ≡ b
@@ -136,11 +136,11 @@ first_more : (ns : List ℕ) (m : ℕ) → first_mentions (ns ++ m ∷ []) ≡ i
 first_more [] m = refl
 first_more (n ∷ ns) m = cons_eq n (ap (filter (λ k. not (eqb k n))) (first_more ns m)) ∙ first_by m n (first_mentions ns) (eqb m n) refl
 
-mention_by : (ns : List ℕ) (o : Option ℕ) → first_mentions (ns ++ filter_map (λ x. x) (o ∷ [])) ≡ mentioned o (first_mentions ns)
+mention_by : (ns : List ℕ) (o : Option ℕ) → first_mentions (ns ++ filter_map (λ x. x) (o ∷ [])) ≡ with_mention o (first_mentions ns)
 mention_by ns (Some m) = first_more ns m
 mention_by ns None = ap first_mentions (append-nil ns)
 
 -- an actor that a line mentions goes last, unless it is there
-pub actors_more : (actor : Act → Option ℕ) (above : List Saying) (saying : Saying) → actors actor (above ++ saying ∷ []) ≡ mentioned (who actor saying) (actors actor above)
+pub actors_more : (actor : Act → Option ℕ) (above : List Saying) (saying : Saying) → actors actor (above ++ saying ∷ []) ≡ with_mention (who actor saying) (actors actor above)
 actors_more actor above saying =
     ap first_mentions (filter_map-append (who actor) above (saying ∷ [])) ∙ mention_by (filter_map (who actor) above) (who actor saying)

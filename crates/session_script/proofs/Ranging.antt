@@ -15,8 +15,8 @@ use Rattle.session_script.specs.declared.script.LineCause.{LineCause}
 use Rattle.session_script.specs.declared.script.LineCause.TheVariants.{Order, BadNumber, BadPath, BadHex, BadFate}
 use Rattle.session_script.specs.Scripts.{Act, Put, Fill, Remove, Commit, Draw, Open, Settle, Fields}
 use Rattle.session_script.specs.Keywords.{keyword_of}
-use Rattle.session_script.specs.Values.{actor_of, path_in, content_in, all_fates, limited, fates_of}
-use Rattle.session_script.specs.Grammar.{Saying, Passed, Starts, Does, Ends, ◌>>=◌, or_cause, word_by, no_more, put_by, fill_by, remove_by, commit_by, draw_by, open_by, said, said_by, may_stand, in_order, in_words, words_in, line_by, lines_in, part_of, or_bad_line, sayings, who, editor_of, reader_of, first_mentions, lines_from, script_of, meaning_of}
+use Rattle.session_script.specs.Values.{actor_of, path_in, content_in, all_fates, if_within_limit, fates_of}
+use Rattle.session_script.specs.Grammar.{Saying, Passed, Starts, Does, Ends, ◌>>=◌, or_cause, word_by, no_more, put_by, fill_by, remove_by, commit_by, draw_by, open_by, as_saying, said_by, may_stand, in_order, in_words, words_in, line_by, lines_in, part_of, or_bad_line, sayings, who, editor_of, reader_of, first_mentions, lines_from, script_of, meaning_of}
 use Rattle.session_script.specs.Ranges.{IsActor, IsInRange, AreActors, IsInRanges}
 
 -- ---- numbers in words
@@ -92,7 +92,7 @@ within_range : (b : Bool) (fates others : List Fate) → cond b (Some fates) Non
 within_range true fates others h = let e : fates ≡ others = cc in (refl, e)
 within_range false fates others h = cc
 
-few_fates : (o : Option (List Fate)) (fates : List Fate) → limited o ≡ Some fates → length fates ≤ 65536
+few_fates : (o : Option (List Fate)) (fates : List Fate) → if_within_limit o ≡ Some fates → length fates ≤ 65536
 few_fates (Some all) fates h =
     let p = within_range (nat_le (length all) 65536) all fates h in
     let l : length all ≤ 65536 = leb-true (length all) 65536 p.0 in
@@ -128,11 +128,11 @@ SaysInRange Starts = Unit {0}
 SaysInRange (Does act) = IsInRange act
 SaysInRange (Ends act) = IsInRange act
 
-does_range : (r : Result Act LineCause) (s : Saying) → ((act : Act) → r ≡ Ok act → IsInRange act) → said Does r ≡ Ok s → SaysInRange s
+does_range : (r : Result Act LineCause) (s : Saying) → ((act : Act) → r ≡ Ok act → IsInRange act) → as_saying Does r ≡ Ok s → SaysInRange s
 does_range (Ok act) s f h = let e : Does act ≡ s = cc in subst SaysInRange e (f act refl)
 does_range (Err fault) s f h = cc
 
-ends_range : (r : Result Act LineCause) (s : Saying) → ((act : Act) → r ≡ Ok act → IsInRange act) → said Ends r ≡ Ok s → SaysInRange s
+ends_range : (r : Result Act LineCause) (s : Saying) → ((act : Act) → r ≡ Ok act → IsInRange act) → as_saying Ends r ≡ Ok s → SaysInRange s
 ends_range (Ok act) s f h = let e : Ends act ≡ s = cc in subst SaysInRange e (f act refl)
 ends_range (Err fault) s f h = cc
 

@@ -1,6 +1,6 @@
 -- What a reading stands for after one line more.
 use Rattle.std.proofs.Common.{◌≡◌, ℕ, ◌+◌, ◌-◌, ◌^◌, min, Bool, true, false, cond, eqb, List, [], ◌∷◌, ◌++◌, length, Option, Some, None, Result, Ok, Err, refl, ap, arith, ◌∙◌, sym, length-append, append-nil}
-use Rattle.oc_bytes.specs.Outcome.{capped32}
+use Rattle.oc_bytes.specs.Outcome.{cap_at_u32}
 use Rattle.path_tree.specs.Paths.{Bytes}
 use Rattle.session_script.specs.declared.keyword.Keyword.{Keyword}
 use Rattle.session_script.specs.declared.keyword.Keyword.TheVariants as keywords
@@ -11,22 +11,22 @@ use Rattle.session_script.specs.declared.script.LineCause.TheVariants.{Order}
 use Rattle.session_script.specs.declared.reading.Reading.{Reading}
 use Rattle.session_script.specs.Scripts.{Act, Settle}
 use Rattle.session_script.specs.Keywords.{keyword_of}
-use Rattle.session_script.specs.Grammar.{Saying, Passed, Starts, Does, Ends, no_more, said, said_by, may_stand, in_order, in_words, words_in, line_by, part_of, lines_from, editor_of, reader_of, who}
+use Rattle.session_script.specs.Grammar.{Saying, Passed, Starts, Does, Ends, no_more, as_saying, said_by, may_stand, in_order, in_words, words_in, line_by, part_of, lines_from, editor_of, reader_of, who}
 use Rattle.session_script.specs.Readings.{StandsFor, Adds, part_after, lines_after}
-use Rattle.session_script.specs.Mentions.{mentioned}
+use Rattle.session_script.specs.Mentions.{with_mention}
 use Rattle.session_script.specs.declared.script.Stage.TheVariants.{During, After}
 use Rattle.session_script.proofs.Growing.{part_passed, part_does, part_ends, part_starts, lines_more, lines_started, actors_more}
 
 -- ---- `start` stands in the opening part alone
 
-not_said : {A : Type 0} (says : A → Saying) (r : Result A LineCause) → ((x : A) → says x ≡ Starts → ⊥) → said says r ≡ Ok Starts → ⊥
+not_said : {A : Type 0} (says : A → Saying) (r : Result A LineCause) → ((x : A) → says x ≡ Starts → ⊥) → as_saying says r ≡ Ok Starts → ⊥
 not_said says (Ok x) other h = other x cc
 not_said says (Err fault) other h = cc
 
-not_does : (r : Result Act LineCause) → said Does r ≡ Ok Starts → ⊥
+not_does : (r : Result Act LineCause) → as_saying Does r ≡ Ok Starts → ⊥
 not_does r h = not_said Does r (λ x e. cc) h
 
-not_ends : (r : Result Act LineCause) → said Ends r ≡ Ok Starts → ⊥
+not_ends : (r : Result Act LineCause) → as_saying Ends r ≡ Ok Starts → ⊥
 not_ends r h = not_said Ends r (λ x e. cc) h
 
 not_settle : (words : List Bytes) → no_more (Ends Settle) words ≡ Ok Starts → ⊥
@@ -73,7 +73,7 @@ line_starts part (c ∷ cs) h = line_by_cases part (eqb c 35) (words_in (c ∷ c
 
 -- ---- one line more
 
-next_number : (n k : ℕ) → n ≡ capped32 k → min (n + 1) (2 ^ 32 - 1) ≡ capped32 (k + 1)
+next_number : (n k : ℕ) → n ≡ cap_at_u32 k → min (n + 1) (2 ^ 32 - 1) ≡ cap_at_u32 (k + 1)
 next_number n k h = omega arith
 
 one_more : (above : List Saying) (saying : Saying) → length above + 1 ≡ length (above ++ saying ∷ [])
@@ -85,14 +85,14 @@ add_comm n = omega arith
 pub grows : (old new : Reading) (n : ℕ) (above : List Saying) (saying : Saying) → StandsFor old above → n ≡ min (old.number + 1) (2 ^ 32 - 1)
     → (saying ≡ Starts → part_of above ≡ Opening) → Adds (record old { number = n }) new saying → StandsFor new (above ++ saying ∷ [])
 grows old new n above saying stands is first adds = record {
-  number = adds.number ∙ capped ∙ ap capped32 (one_more above saying);
+  number = adds.number ∙ capped ∙ ap cap_at_u32 (one_more above saying);
   part = part_grows saying first adds.part;
-  editors = adds.editors ∙ ap (mentioned (who editor_of saying)) stands.editors ∙ sym (actors_more editor_of above saying);
-  readers = adds.readers ∙ ap (mentioned (who reader_of saying)) stands.readers ∙ sym (actors_more reader_of above saying);
+  editors = adds.editors ∙ ap (with_mention (who editor_of saying)) stands.editors ∙ sym (actors_more editor_of above saying);
+  readers = adds.readers ∙ ap (with_mention (who reader_of saying)) stands.readers ∙ sym (actors_more reader_of above saying);
   lines = adds.lines ∙ ap (lines_after n saying) stands.lines ∙ lines_grow saying first;
 }
   where
-    capped : n ≡ capped32 (length above + 1)
+    capped : n ≡ cap_at_u32 (length above + 1)
     capped = is ∙ next_number old.number (length above) stands.number
 
     part_grows : (s : Saying) → (s ≡ Starts → part_of above ≡ Opening) → new.part ≡ part_after s old.part → new.part ≡ part_of (above ++ s ∷ [])

@@ -8,7 +8,7 @@ use denote.Ref.{Bor}
 use Rattle.std.proofs.lemmas.Iterator.Splits.{YieldsList-from_slice_split}
 use Rattle.std.proofs.lemmas.Iterator.Consumers.{YieldsList-at, YieldsList-turn, YieldsList-end}
 use Rattle.std.proofs.lemmas.List.{take_more, drop_more, take_all, take-append-drop}
-use Rattle.oc_bytes.specs.Outcome.{Gives, capped32}
+use Rattle.oc_bytes.specs.Outcome.{Gives, cap_at_u32}
 use Rattle.path_tree.specs.Paths.{Bytes}
 use Rattle.session_script.specs.declared.reading.Reading.{Reading}
 use Rattle.session_script.specs.declared.script.LineCause.{LineCause}
@@ -37,7 +37,7 @@ sayings-append a b (line ∷ xs) ys h = append_by a b (length a + 1) xs ys (line
 one_fits : (said : List Saying) (line : Bytes) (s : Saying) → line_by (part_of said) line ≡ Ok s → sayings said (line ∷ []) ≡ Ok (said ++ s ∷ [])
 one_fits said line s h = ap (or_bad_line (length said + 1) (λ x. Ok (said ++ x ∷ []))) h
 
-one_fails : (said : List Saying) (line : Bytes) (below : List Bytes) (fault : LineCause) → line_by (part_of said) line ≡ Err fault → sayings said (line ∷ below) ≡ Err (capped32 (length said + 1), fault)
+one_fails : (said : List Saying) (line : Bytes) (below : List Bytes) (fault : LineCause) → line_by (part_of said) line ≡ Err fault → sayings said (line ∷ below) ≡ Err (cap_at_u32 (length said + 1), fault)
 one_fails said line below fault h = ap (or_bad_line (length said + 1) (λ x. sayings (said ++ x ∷ []) below)) h
 
 -- ---- what is known once n lines were read
@@ -98,7 +98,7 @@ walks text n old new line w next reads = record {
 
 -- the first line that doesn't fit
 pub fails : (text : Bytes) (n : ℕ) (r : Reading) (line : Bytes) (w : Walked text n r) → IsNext text n line → (number : ℕ) (fault : LineCause)
-    → (number ≡ capped32 (length w.said + 1)) × (line_by (part_of w.said) line ≡ Err fault) → meaning_of text ≡ Err (number, fault)
+    → (number ≡ cap_at_u32 (length w.said + 1)) × (line_by (part_of w.said) line ≡ Err fault) → meaning_of text ≡ Err (number, fault)
 fails text n r line w next number fault h =
     ap (λ all. all >>= λ all. Ok (script_of all))
     (ap (sayings []) (cut_at_line text n line next) ∙ sayings-append [] w.said (take n (lines_in text)) _ w.fits ∙ one_fails w.said line (drop (n + 1) (lines_in text)) fault h.1

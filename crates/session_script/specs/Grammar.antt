@@ -1,7 +1,7 @@
 -- The grammar of scripts: what a line says, which lines may stand where, and the first line that doesn't fit.
 use Rattle.std.specs.Prelude.{ℕ, ◌+◌, Bool, true, false, ◌==◌, not, List, [], ◌∷◌, ◌++◌, length, filter, Option, Some, None, Result, Ok, Err, if◌then◌else◌}
 use Rattle.std.specs.List.{list_any, filter_map, slice_split}
-use Rattle.oc_bytes.specs.Outcome.{capped32}
+use Rattle.oc_bytes.specs.Outcome.{cap_at_u32}
 use Rattle.oc_bytes.specs.Decimals.{decimal_in}
 use Rattle.path_tree.specs.Paths.{Bytes}
 use Rattle.session_script.specs.declared.keyword.Keyword.{Keyword}
@@ -81,21 +81,21 @@ open_by words = do
   path ← word_by path_in BadPath reader.1
   no_more (Open reader.0 path.0) path.1
 
-abbrev pub said : {A : Type 0} → (A → Saying) → Result A LineCause → Result Saying LineCause
-said says (Ok x) = Ok (says x)
-said says (Err fault) = Err fault
+abbrev pub as_saying : {A : Type 0} → (A → Saying) → Result A LineCause → Result Saying LineCause
+as_saying says (Ok x) = Ok (says x)
+as_saying says (Err fault) = Err fault
 
 -- what the words after a line's first one say
 abbrev pub said_by : Keyword → List Bytes → Result Saying LineCause
-said_by keywords.Put words = said Does (put_by words)
-said_by keywords.Fill words = said Does (fill_by words)
-said_by keywords.Remove words = said Does (remove_by words)
-said_by keywords.Commit words = said Does (commit_by words)
-said_by keywords.Draw words = said Does (draw_by words)
-said_by keywords.Open words = said Does (open_by words)
+said_by keywords.Put words = as_saying Does (put_by words)
+said_by keywords.Fill words = as_saying Does (fill_by words)
+said_by keywords.Remove words = as_saying Does (remove_by words)
+said_by keywords.Commit words = as_saying Does (commit_by words)
+said_by keywords.Draw words = as_saying Does (draw_by words)
+said_by keywords.Open words = as_saying Does (open_by words)
 said_by keywords.Start words = no_more Starts words
 said_by keywords.Settle words = no_more (Ends Settle) words
-said_by keywords.Finale words = said Ends (open_by words)
+said_by keywords.Finale words = as_saying Ends (open_by words)
 
 -- ---- which lines may stand where
 
@@ -151,7 +151,7 @@ lines_in text = slice_split is_feed text
 
 abbrev pub or_bad_line : ℕ → (Saying → Result (List Saying) (ℕ × LineCause)) → Result Saying LineCause → Result (List Saying) (ℕ × LineCause)
 or_bad_line number below (Ok saying) = below saying
-or_bad_line number below (Err fault) = Err (capped32 number, fault)
+or_bad_line number below (Err fault) = Err (cap_at_u32 number, fault)
 
 -- What all lines say, where some say `above` and these follow them; or the number of the first of these that doesn't fit
 -- below the lines above it, and its first cause.
@@ -194,8 +194,8 @@ abbrev pub lines_from : ℕ → List Saying → List LineFields
 lines_from n [] = []
 lines_from n (Passed ∷ below) = lines_from (n + 1) below
 lines_from n (Starts ∷ below) = lines_from (n + 1) below
-lines_from n (Does act ∷ below) = record { number = capped32 n; stage = stage_above below; act = act } ∷ lines_from (n + 1) below
-lines_from n (Ends act ∷ below) = record { number = capped32 n; stage = After; act = act } ∷ lines_from (n + 1) below
+lines_from n (Does act ∷ below) = record { number = cap_at_u32 n; stage = stage_above below; act = act } ∷ lines_from (n + 1) below
+lines_from n (Ends act ∷ below) = record { number = cap_at_u32 n; stage = After; act = act } ∷ lines_from (n + 1) below
 
 abbrev pub script_of : List Saying → Fields
 script_of all = record { editors = actors editor_of all; readers = actors reader_of all; lines = lines_from 1 all }

@@ -1,6 +1,6 @@
 -- What a reading stands for: what the lines say that were read.
 use Rattle.std.specs.Prelude.{◌≡◌, ℕ, ◌+◌, List, [], ◌∷◌, ◌++◌, length, map, Result, Ok, Err}
-use Rattle.oc_bytes.specs.Outcome.{capped32}
+use Rattle.oc_bytes.specs.Outcome.{cap_at_u32}
 use Rattle.path_tree.specs.Paths.{Bytes}
 use Rattle.session_script.specs.declared.reading.Reading.{Reading}
 use Rattle.session_script.specs.declared.script.ScriptFault.{ScriptFault}
@@ -9,7 +9,7 @@ use Rattle.session_script.specs.declared.line.Part.{Part}
 use Rattle.session_script.specs.declared.line.Part.TheVariants.{Running, Closing}
 use Rattle.session_script.specs.declared.script.Stage.{Stage}
 use Rattle.session_script.specs.declared.script.Stage.TheVariants.{Before, During, After}
-use Rattle.session_script.specs.Mentions.{mentioned}
+use Rattle.session_script.specs.Mentions.{with_mention}
 use Rattle.session_script.specs.Scripts.{LineFields, Act, view_line}
 use Rattle.session_script.specs.Grammar.{Saying, Passed, Starts, Does, Ends, part_of, line_by, editor_of, reader_of, who, actors, lines_from}
 
@@ -17,7 +17,7 @@ abbrev pub as_before : LineFields → LineFields
 as_before line = record line { stage = Before }
 
 pub record StandsFor (r : Reading) (above : List Saying) : Type 0 where
-  pub number : r.number ≡ capped32 (length above)
+  pub number : r.number ≡ cap_at_u32 (length above)
   pub part : r.part ≡ part_of above
   pub editors : r.editors.keys ≡ actors editor_of above
   pub readers : r.readers.keys ≡ actors reader_of above
@@ -39,21 +39,21 @@ lines_after number (Ends act) lines = lines ++ record { number = number; stage =
 pub record Keeps (old new : Reading) (stage : Stage) (act : Act) : Type 0 where
   pub number : new.number ≡ old.number
   pub part : new.part ≡ old.part
-  pub editors : new.editors.keys ≡ mentioned (editor_of act) old.editors.keys
-  pub readers : new.readers.keys ≡ mentioned (reader_of act) old.readers.keys
+  pub editors : new.editors.keys ≡ with_mention (editor_of act) old.editors.keys
+  pub readers : new.readers.keys ≡ with_mention (reader_of act) old.readers.keys
   pub lines : map view_line new.lines.items ≡ map view_line old.lines.items ++ record { number = old.number; stage = stage; act = act } ∷ []
 
 -- what the line says whose number stands was added
 pub record Adds (old new : Reading) (saying : Saying) : Type 0 where
   pub number : new.number ≡ old.number
   pub part : new.part ≡ part_after saying old.part
-  pub editors : new.editors.keys ≡ mentioned (who editor_of saying) old.editors.keys
-  pub readers : new.readers.keys ≡ mentioned (who reader_of saying) old.readers.keys
+  pub editors : new.editors.keys ≡ with_mention (who editor_of saying) old.editors.keys
+  pub readers : new.readers.keys ≡ with_mention (who reader_of saying) old.readers.keys
   pub lines : map view_line new.lines.items ≡ lines_after old.number saying (map view_line old.lines.items)
 
 -- One line more was read, and its saying follows the others; or the line doesn't fit below them, and its number and its cause
 -- are those of the answer; or there was no memory.
 abbrev pub Reads : {X : Type 0} → Result X ScriptFault → List Saying → Bytes → Reading → Type 0
 Reads (Ok _) above line new = (saying : Saying) × (line_by (part_of above) line ≡ Ok saying) × StandsFor new (above ++ saying ∷ [])
-Reads (Err (BadLine number fault)) above line new = (number ≡ capped32 (length above + 1)) × (line_by (part_of above) line ≡ Err fault)
+Reads (Err (BadLine number fault)) above line new = (number ≡ cap_at_u32 (length above + 1)) × (line_by (part_of above) line ≡ Err fault)
 Reads (Err NoMemory) above line new = Unit {0}

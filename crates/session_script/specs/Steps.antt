@@ -17,8 +17,8 @@ words_of_rest None = []
 words_of_rest (Some rest) = words_in rest
 
 -- the words that weren't taken yet
-abbrev pub left : Words → List Bytes
-left words = words_of_rest (option_map (λ r. r.now) words.rest)
+abbrev pub words_left : Words → List Bytes
+words_left words = words_of_rest (option_map (λ r. r.now) words.rest)
 
 abbrev pub line_cause : LineFault → Option LineCause
 line_cause (faults.Bad c) = Some c

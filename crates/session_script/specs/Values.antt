@@ -42,10 +42,10 @@ all_fates (word ∷ words) = fates_onto (fates_in word) (all_fates words)
 abbrev pub within_limit : List Fate → Option (List Fate)
 within_limit fates = if nat_le (length fates) 65536 then Some fates else None
 
-abbrev pub limited : Option (List Fate) → Option (List Fate)
-limited (Some fates) = within_limit fates
-limited None = None
+abbrev pub if_within_limit : Option (List Fate) → Option (List Fate)
+if_within_limit (Some fates) = within_limit fates
+if_within_limit None = None
 
 -- the fates of a draw, where each word is one and they aren't too many
 abbrev pub fates_of : List Bytes → Option (List Fate)
-fates_of words = limited (all_fates words)
+fates_of words = if_within_limit (all_fates words)

@@ -5,7 +5,7 @@ ghost use Rattle.session_script.specs.Scripts.{view_action};
 ghost use Rattle.session_script.specs.Grammar.{put_by, fill_by, remove_by, commit_by, draw_by, open_by, said_by, may_stand, in_words, line_by, Ends, Starts};
 ghost use Rattle.session_script.specs.Grammar as grammar;
 ghost use Rattle.session_script.specs.Memory.{reaches_path, asks_by, asks_in_words, line_asks};
-ghost use Rattle.session_script.specs.Steps.{left, line_cause, view_said};
+ghost use Rattle.session_script.specs.Steps.{words_left, line_cause, view_said};
 
 use crate::keyword::Keyword;
 use crate::script::{Action, LineCause};
@@ -45,8 +45,8 @@ pub enum Said {
 
 /// `EDITOR PATH HEX`
 fn put(alloc: Global, mut words: Words) -> Result<Action, LineFault>
-    ensures gives { Gives view_action line_cause result (put_by (left words.entry)) }
-    ensures memory { result ≡ Err LineFault.NoMemory → reaches_path (left words.entry) ≡ true }
+    ensures gives { Gives view_action line_cause result (put_by (words_left words.entry)) }
+    ensures memory { result ≡ Err LineFault.NoMemory → reaches_path (words_left words.entry) ≡ true }
 {
     let editor = actor(&mut words)?;
     let path = path(alloc, &mut words)?;
@@ -57,8 +57,8 @@ fn put(alloc: Global, mut words: Words) -> Result<Action, LineFault>
 
 /// `EDITOR PATH LENGTH FROM`
 fn fill(alloc: Global, mut words: Words) -> Result<Action, LineFault>
-    ensures gives { Gives view_action line_cause result (fill_by (left words.entry)) }
-    ensures memory { result ≡ Err LineFault.NoMemory → reaches_path (left words.entry) ≡ true }
+    ensures gives { Gives view_action line_cause result (fill_by (words_left words.entry)) }
+    ensures memory { result ≡ Err LineFault.NoMemory → reaches_path (words_left words.entry) ≡ true }
 {
     let editor = actor(&mut words)?;
     let path = path(alloc, &mut words)?;
@@ -70,8 +70,8 @@ fn fill(alloc: Global, mut words: Words) -> Result<Action, LineFault>
 
 /// `EDITOR PATH`
 fn remove(alloc: Global, mut words: Words) -> Result<Action, LineFault>
-    ensures gives { Gives view_action line_cause result (remove_by (left words.entry)) }
-    ensures memory { result ≡ Err LineFault.NoMemory → reaches_path (left words.entry) ≡ true }
+    ensures gives { Gives view_action line_cause result (remove_by (words_left words.entry)) }
+    ensures memory { result ≡ Err LineFault.NoMemory → reaches_path (words_left words.entry) ≡ true }
 {
     let editor = actor(&mut words)?;
     let path = path(alloc, &mut words)?;
@@ -81,7 +81,7 @@ fn remove(alloc: Global, mut words: Words) -> Result<Action, LineFault>
 
 /// `EDITOR`
 fn commit(mut words: Words) -> Result<Action, LineFault>
-    ensures gives { Gives view_action line_cause result (commit_by (left words.entry)) }
+    ensures gives { Gives view_action line_cause result (commit_by (words_left words.entry)) }
     ensures plain { result ≡ Err LineFault.NoMemory → ⊥ }
 {
     let editor = actor(&mut words)?;
@@ -91,8 +91,8 @@ fn commit(mut words: Words) -> Result<Action, LineFault>
 
 /// `N FATE..`
 fn draw(alloc: Global, mut words: Words) -> Result<Action, LineFault>
-    ensures gives { Gives view_action line_cause result (draw_by (left words.entry)) }
-    ensures memory { result ≡ Err LineFault.NoMemory → is_ok (draw_by (left words.entry)) ≡ true }
+    ensures gives { Gives view_action line_cause result (draw_by (words_left words.entry)) }
+    ensures memory { result ≡ Err LineFault.NoMemory → is_ok (draw_by (words_left words.entry)) ≡ true }
 {
     let asked = number(&mut words, 1, MOST_ASKED)?;
     let fates = fates(alloc, words)?;
@@ -101,8 +101,8 @@ fn draw(alloc: Global, mut words: Words) -> Result<Action, LineFault>
 
 /// `READER PATH`
 fn open(alloc: Global, mut words: Words) -> Result<Action, LineFault>
-    ensures gives { Gives view_action line_cause result (open_by (left words.entry)) }
-    ensures memory { result ≡ Err LineFault.NoMemory → reaches_path (left words.entry) ≡ true }
+    ensures gives { Gives view_action line_cause result (open_by (words_left words.entry)) }
+    ensures memory { result ≡ Err LineFault.NoMemory → reaches_path (words_left words.entry) ≡ true }
 {
     let reader = actor(&mut words)?;
     let path = path(alloc, &mut words)?;
@@ -112,8 +112,8 @@ fn open(alloc: Global, mut words: Words) -> Result<Action, LineFault>
 
 /// What the words after a line's first one say.
 fn say(alloc: Global, keyword: Keyword, mut words: Words) -> Result<Said, LineFault>
-    ensures gives { Gives view_said line_cause result (said_by keyword (left words.entry)) }
-    ensures memory { result ≡ Err LineFault.NoMemory → asks_by keyword (left words.entry) ≡ true }
+    ensures gives { Gives view_said line_cause result (said_by keyword (words_left words.entry)) }
+    ensures memory { result ≡ Err LineFault.NoMemory → asks_by keyword (words_left words.entry) ≡ true }
 {
     match keyword {
         Keyword::Put => Ok(Said::Does(put(alloc, words)?)),
@@ -147,8 +147,8 @@ fn may_stand(part: Part, keyword: Keyword) -> bool
 
 /// What the words of a line say that isn't passed over.
 fn say_all(alloc: Global, part: Part, mut words: Words) -> Result<Said, LineFault>
-    ensures gives { Gives view_said line_cause result (in_words part (left words.entry)) }
-    ensures memory { result ≡ Err LineFault.NoMemory → asks_in_words part (left words.entry) ≡ true }
+    ensures gives { Gives view_said line_cause result (in_words part (words_left words.entry)) }
+    ensures memory { result ≡ Err LineFault.NoMemory → asks_in_words part (words_left words.entry) ≡ true }
 {
     let Some(first) = words.next() else {
         return Ok(Said::Passed);

@@ -1,7 +1,7 @@
 //! A script, read line by line.
 ghost use Rattle.std.specs.Prelude.{◌≡◌, ◌+◌, ◌<◌, true, Ok, Err, [], List, length, map, IfOk, OnOk, OnErr, IsErrOf};
 ghost use Rattle.oc_bytes.specs.Outcome.{Gives};
-ghost use Rattle.session_script.specs.Mentions.{mentioned};
+ghost use Rattle.session_script.specs.Mentions.{with_mention};
 ghost use Rattle.session_script.specs.Scripts.{cause};
 ghost use Rattle.session_script.specs.Scripts as scripts;
 ghost use Rattle.session_script.specs.Grammar.{meaning_of};
@@ -130,7 +130,7 @@ impl Reading {
 
 /// Puts an actor last that isn't there.
 fn mention(actors: &mut IndexSet<u32>, actor: Option<u32>) -> Result<(), NoMemory>
-    ensures { OnOk result (actors.new.keys ≡ mentioned actor actors.old.keys) }
+    ensures { OnOk result (actors.new.keys ≡ with_mention actor actors.old.keys) }
 {
     if let Some(actor) = actor {
         actors.insert(actor)?;

@@ -5,6 +5,7 @@ use oc_bytes::Blob;
 use path_tree::Path;
 use std::alloc::{AllocError, AllocFailed};
 use std::fmt;
+use thiserror::Error;
 use ts_packet::Fate;
 
 /// Why a line doesn't fit. Of one line the first that holds counts, from the left to the right.
@@ -49,12 +50,16 @@ impl fmt::Display for LineCause {
     }
 }
 
+impl std::error::Error for LineCause {}
+
 /// Why a text gives no script.
-#[derive(Clone, Copy, Debug, PartialEq, Eq)]
+#[derive(Clone, Copy, Debug, PartialEq, Eq, Error)]
 pub enum ScriptFault {
     /// The number of the first line that doesn't fit, counted from 1 and at most the greatest `u32`, and its first cause.
+    #[error("line {0}: {1}")]
     BadLine(u32, LineCause),
     /// No memory was found.
+    #[error("out of memory")]
     NoMemory,
 }
 

@@ -258,3 +258,10 @@ fn words_of_draws_and_opens(rt: HostRuntime) -> Result<(), Fail> {
     ];
     refuses(&rt, rt.alloc(), &texts)
 }
+
+#[test]
+fn faults_as_text(rt: HostRuntime) -> Result<(), Fail> {
+    let text = format!(in rt.alloc(); "{}", ScriptFault::BadLine(7, LineCause::BadHex))?;
+    assert_eq!(rt; text.as_str(), "line 7: bad hex");
+    Ok(())
+}

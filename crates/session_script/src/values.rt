@@ -6,7 +6,7 @@ ghost use Rattle.oc_bytes.specs.Decimals.{decimal_in};
 ghost use Rattle.hex.specs.Hex.{decode_of};
 ghost use Rattle.session_script.specs.Values.{actor_of, path_in, content_in, fates_in, fates_of};
 ghost use Rattle.session_script.specs.Grammar.{word_by};
-ghost use Rattle.session_script.specs.Steps.{left, line_cause, or_bad, Takes};
+ghost use Rattle.session_script.specs.Steps.{words_left, line_cause, or_bad, Takes};
 
 use crate::number::decimal;
 use crate::script::LineCause;
@@ -28,7 +28,7 @@ const LAST_BIT: u32 = 1_503;
 
 /// Takes a number of a range.
 pub fn number(words: &mut Words, least: u32, greatest: u32) -> Result<u32, LineFault>
-    ensures takes { Takes (λ n. n) result (left words.new) (word_by (decimal_in least greatest) LineCause.BadNumber (left words.old)) }
+    ensures takes { Takes (λ n. n) result (words_left words.new) (word_by (decimal_in least greatest) LineCause.BadNumber (words_left words.old)) }
     ensures most { IfOk result (λ n. n ≤ greatest) }
     ensures plain { result ≡ Err LineFault.NoMemory → ⊥ }
 {
@@ -41,7 +41,7 @@ pub fn number(words: &mut Words, least: u32, greatest: u32) -> Result<u32, LineF
 
 /// Takes the number of an editor or of a reader, 1 to 64.
 pub fn actor(words: &mut Words) -> Result<u32, LineFault>
-    ensures takes { Takes (λ n. n) result (left words.new) (word_by actor_of LineCause.BadNumber (left words.old)) }
+    ensures takes { Takes (λ n. n) result (words_left words.new) (word_by actor_of LineCause.BadNumber (words_left words.old)) }
     ensures plain { result ≡ Err LineFault.NoMemory → ⊥ }
 {
     number(words, 1, MOST_ACTORS)
@@ -49,8 +49,8 @@ pub fn actor(words: &mut Words) -> Result<u32, LineFault>
 
 /// Takes a path.
 pub fn path(alloc: Global, words: &mut Words) -> Result<Path, LineFault>
-    ensures takes { Takes (λ path. path) result (left words.new) (word_by path_in LineCause.BadPath (left words.old)) }
-    ensures memory { result ≡ Err LineFault.NoMemory → 0 < length (left words.old) }
+    ensures takes { Takes (λ path. path) result (words_left words.new) (word_by path_in LineCause.BadPath (words_left words.old)) }
+    ensures memory { result ≡ Err LineFault.NoMemory → 0 < length (words_left words.old) }
 {
     let word = words.word()?;
     match Path::parse(alloc, word) {
@@ -62,7 +62,7 @@ pub fn path(alloc: Global, words: &mut Words) -> Result<Path, LineFault>
 
 /// Takes a file's bytes: `-` for none, else two hexadecimal digits for each.
 pub fn content(alloc: Global, words: &mut Words) -> Result<Blob, LineFault>
-    ensures takes { Takes (λ blob. blob) result (left words.new) (word_by content_in LineCause.BadHex (left words.old)) }
+    ensures takes { Takes (λ blob. blob) result (words_left words.new) (word_by content_in LineCause.BadHex (words_left words.old)) }
 {
     let word = words.word()?;
     let bytes = match word {
@@ -108,7 +108,7 @@ fn packets(count: &[u8]) -> Option<usize>
 
 /// How many fates the words that are left make, 0 to 65,536, where each word makes some.
 fn fate_count(mut words: Words) -> Option<usize>
-    ensures count { result ≡ option_map length (fates_of (left words.entry)) }
+    ensures count { result ≡ option_map length (fates_of (words_left words.entry)) }
     ensures most { IfSome result (λ n. n ≤ 65536) }
 {
     let mut count = 0;
@@ -124,8 +124,8 @@ fn fate_count(mut words: Words) -> Option<usize>
 
 /// The fates that the words that are left make. Memory is asked for once they are known to fit.
 pub fn fates(alloc: Global, mut words: Words) -> Result<Vec<Fate>, LineFault>
-    ensures gives { Gives (λ fates. fates.items) line_cause result (or_bad LineCause.BadFate (fates_of (left words.entry))) }
-    ensures memory { result ≡ Err LineFault.NoMemory → IsSome (fates_of (left words.entry)) }
+    ensures gives { Gives (λ fates. fates.items) line_cause result (or_bad LineCause.BadFate (fates_of (words_left words.entry))) }
+    ensures memory { result ≡ Err LineFault.NoMemory → IsSome (fates_of (words_left words.entry)) }
 {
     let Some(count) = fate_count(words) else {
         return Err(LineFault::Bad(LineCause::BadFate));

@@ -5,13 +5,16 @@ ghost use Rattle.session_script.specs.Steps.{words_of_rest};
 
 use crate::script::LineCause;
 use std::alloc::{AllocError, AllocFailed};
+use thiserror::Error;
 
 /// Why a line can't be read.
-#[derive(Clone, Copy, Debug, PartialEq, Eq)]
+#[derive(Clone, Copy, Debug, PartialEq, Eq, Error)]
 pub enum LineFault {
     /// It doesn't fit, for this cause.
+    #[error(transparent)]
     Bad(LineCause),
     /// No memory was found.
+    #[error("out of memory")]
     NoMemory,
 }
 
@@ -34,18 +37,18 @@ pub struct Words<'a> {
 }
 
 impl<'a> Words<'a> {
-    ghost use Rattle.session_script.specs.Steps.{left, TakesWord};
+    ghost use Rattle.session_script.specs.Steps.{words_left, TakesWord};
 
     /// All words of a line. Even an empty line has one, the empty word.
     pub fn of(line: &'a [u8]) -> Words<'a>
-        ensures { left result ≡ words_in line.now }
+        ensures { words_left result ≡ words_in line.now }
     {
         Words { rest: Some(line) }
     }
 
     /// Takes the next word, where there is one.
     pub fn next(&mut self) -> Option<&'a [u8]>
-        ensures { MatchOption result ((left self.old ≡ []) × (left self.new ≡ [])) (λ word. left self.old ≡ word.now ∷ left self.new) }
+        ensures { MatchOption result ((words_left self.old ≡ []) × (words_left self.new ≡ [])) (λ word. words_left self.old ≡ word.now ∷ words_left self.new) }
     {
         let text = self.rest?;
         let (word, rest) = first_word(text);
@@ -55,7 +58,7 @@ impl<'a> Words<'a> {
 
     /// Takes the next word, which has to be there.
     pub fn word(&mut self) -> Result<&'a [u8], LineFault>
-        ensures { TakesWord (λ word. word.now) result (left self.old) (left self.new) }
+        ensures { TakesWord (λ word. word.now) result (words_left self.old) (words_left self.new) }
     {
         match self.next() {
             Some(word) => Ok(word),
@@ -65,8 +68,8 @@ impl<'a> Words<'a> {
 
     /// Refuses a word that is left.
     pub fn end(&mut self) -> Result<(), LineFault>
-        ensures fits { OnOk result (left self.old ≡ []) }
-        ensures extra { IfErr result (λ e. (e ≡ LineFault.Bad LineCause.Extra) × (0 < length (left self.old))) }
+        ensures fits { OnOk result (words_left self.old ≡ []) }
+        ensures extra { IfErr result (λ e. (e ≡ LineFault.Bad LineCause.Extra) × (0 < length (words_left self.old))) }
     {
         match self.next() {
             Some(_) => Err(LineFault::Bad(LineCause::Extra)),

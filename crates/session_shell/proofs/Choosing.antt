@@ -1,5 +1,5 @@
 -- Which words name a session, by the first of them.
-use Rattle.std.proofs.Common.{◌≡◌, ℕ, Bool, true, false, List, [], ◌∷◌, ◌||◌, Option, Some, None, Result, Ok, Err, ◌⊎◌, inl, inr, refl, sym, ap, ◌∙◌, subst}
+use Rattle.std.proofs.Common.{◌≡◌, ℕ, Bool, true, false, List, [], ◌∷◌, ◌||◌, Option, Some, None, Result, Ok, Err, inl, inr, refl, sym, ap, ◌∙◌, subst}
 use Rattle.std.specs.Prelude.{if◌then◌else◌, codes}
 use Rattle.std.specs.List.{list_any, find}
 use Rattle.std.specs.Option.{option_map}
@@ -7,7 +7,7 @@ use Rattle.std.specs.Str.{bytes_eq}
 use Rattle.std.proofs.lemmas.Bool.{true≢false}
 use Rattle.std.proofs.lemmas.Slice.Eq.{bytes_eq-Decides}
 use Rattle.oc_bytes.specs.Decimals.{decimal_in}
-use Rattle.oc_bytes.specs.Outcome.{Told}
+use Rattle.oc_bytes.specs.Outcome.{Known}
 use Rattle.path_tree.specs.Paths.{Bytes, PathNames}
 use Rattle.folder_store.specs.Folders.{FolderTree}
 use Rattle.shell_words.specs.Words as commands
@@ -96,7 +96,7 @@ among : (word : Bytes) (words : List Bytes) (cs : List Reader) → NoneSays word
 among word words [] h = refl
 among word words (c ∷ cs) h = one_of (bytes_eq word c.0) words c (find (λ (c : Reader). bytes_eq word c.0) cs) h.0 (among word words cs h.1)
 
-named : (word : Bytes) (words : List Bytes) → bytes_eq word (codes "session") ≡ false → bytes_eq word (codes "big") ≡ false → says_session (commands.named word words) ≡ false
+named : (word : Bytes) (words : List Bytes) → bytes_eq word (codes "session") ≡ false → bytes_eq word (codes "big") ≡ false → says_session (commands.command_named word words) ≡ false
 named word words other small = among word words commands.commands (
   λ e. assemble words,
   (
@@ -138,23 +138,23 @@ neither_second false b h = h
 
 pub not_named : (words : List Bytes) → begins_session words ≡ false → names_session (command_of words) ≡ false
 not_named [] other = refl
-not_named (word ∷ words) other = fitting (list_any begins_with_dash (word ∷ words)) (commands.named word words)
+not_named (word ∷ words) other = fitting (list_any begins_with_dash (word ∷ words)) (commands.command_named word words)
     (named word words (neither_first (bytes_eq word (codes "session")) (bytes_eq word (codes "big")) other) (neither_second (bytes_eq word (codes "session")) (bytes_eq word (codes "big")) other))
 
 -- ---- what is promised
 
 takes_nothing : (source : Over Bytes) → IsUntouched source → TakesPrefix source
-takes_nothing source e = let P : Option Bytes → Type 0 = λ a. Told source.before a IsRear in subst P (sym e) (told_same source.before (λ x. record { taken = []; whole = refl }))
+takes_nothing source e = let P : Option Bytes → Type 0 = λ a. Known source.before a IsRear in subst P (sym e) (told_same source.before (λ x. record { taken = []; whole = refl }))
 
-keeps_by : (b : Bool) (r : Result Named Misfit) (s : Status) (source sink : Over Bytes) (folders : Over FolderTree) → b ≡ false → Keeps r s source sink folders
-    → PlaysOrKeeps b r s source sink folders
-keeps_by true r s source sink folders other k = absurd (true≢false other)
-keeps_by false r s source sink folders other k = k
+keeps_by : (ws : List ℕ) (b : Bool) (r : Result Named Misfit) (s : Status) (source sink : Over Bytes) (folders : Over FolderTree) → b ≡ false → Keeps ws r s source sink folders
+    → PlaysOrKeeps ws b r s source sink folders
+keeps_by ws true r s source sink folders other k = absurd (true≢false other)
+keeps_by ws false r s source sink folders other k = k
 
 -- where the first word is another one
-pub keeps_plain : (words : List Bytes) (s : Status) (source sink : Over Bytes) (folders : Over FolderTree) → begins_session words ≡ false
-    → Keeps (command_of words) s source sink folders → KeepsAll (command_of words) s source sink folders
-keeps_plain words s source sink folders other k = keeps_by (names_session (command_of words)) (command_of words) s source sink folders (not_named words other) k
+pub keeps_plain : (ws : List ℕ) (words : List Bytes) (s : Status) (source sink : Over Bytes) (folders : Over FolderTree) → begins_session words ≡ false
+    → Keeps ws (command_of words) s source sink folders → KeepsAll ws (command_of words) s source sink folders
+keeps_plain ws words s source sink folders other k = keeps_by ws (names_session (command_of words)) (command_of words) s source sink folders (not_named words other) k
 
 -- whether they name a session or nothing
 abbrev is_session_or_none : Result Named Misfit → Bool
@@ -189,50 +189,50 @@ behind false true word words e f h =
     subst (λ (w : Bytes). is_session_or_none (command_of (w ∷ words)) ≡ true) (sym is) (behind_big words)
 behind false false word words e f h = absurd (true≢false (sym h))
 
-by_session : (b : Bool) (c : Named) (s : Status) (source sink : Over Bytes) (folders : Over FolderTree) → b ≡ true → KeepsSession (Ok c) s source sink
-    → PlaysOrKeeps b (Ok c) s source sink folders
-by_session true c s source sink folders e k = k
-by_session false c s source sink folders e k = absurd (true≢false (sym e))
+by_session : (ws : List ℕ) (b : Bool) (c : Named) (s : Status) (source sink : Over Bytes) (folders : Over FolderTree) → b ≡ true → KeepsSession ws (Ok c) s source sink
+    → PlaysOrKeeps ws b (Ok c) s source sink folders
+by_session ws true c s source sink folders e k = k
+by_session ws false c s source sink folders e k = absurd (true≢false (sym e))
 
-by_words : (r : Result Named Misfit) (s : Status) (source sink : Over Bytes) (folders : Over FolderTree) → is_session_or_none r ≡ true → KeepsSession r s source sink
-    → KeepsAll r s source sink folders
-by_words (Ok c) s source sink folders e k = by_session (is_session c) c s source sink folders e k
-by_words (Err misfit) s source sink folders e k = k
+by_words : (ws : List ℕ) (r : Result Named Misfit) (s : Status) (source sink : Over Bytes) (folders : Over FolderTree) → is_session_or_none r ≡ true → KeepsSession ws r s source sink
+    → KeepsAll ws r s source sink folders
+by_words ws (Ok c) s source sink folders e k = by_session ws (is_session c) c s source sink folders e k
+by_words ws (Err misfit) s source sink folders e k = k
 
 -- where the first word is that of a session
-pub keeps_session : (words : List Bytes) (s : Status) (source sink : Over Bytes) (folders : Over FolderTree) → begins_session words ≡ true → KeepsSession (command_of words) s source sink
-    → KeepsAll (command_of words) s source sink folders
-keeps_session [] s source sink folders first k = absurd (true≢false (sym first))
-keeps_session (word ∷ words) s source sink folders first k =
-    by_words (command_of (word ∷ words)) s source sink folders (behind (bytes_eq word (codes "session")) (bytes_eq word (codes "big")) word words refl refl first) k
+pub keeps_session : (ws : List ℕ) (words : List Bytes) (s : Status) (source sink : Over Bytes) (folders : Over FolderTree) → begins_session words ≡ true → KeepsSession ws (command_of words) s source sink
+    → KeepsAll ws (command_of words) s source sink folders
+keeps_session ws [] s source sink folders first k = absurd (true≢false (sym first))
+keeps_session ws (word ∷ words) s source sink folders first k =
+    by_words ws (command_of (word ∷ words)) s source sink folders (behind (bytes_eq word (codes "session")) (bytes_eq word (codes "big")) word words refl refl first) k
 
 -- the words name nothing, so nothing was done
-pub words_decline : (r : Result Named Misfit) (misfit : Misfit) (source sink : Over Bytes) → r ≡ Err misfit → IsUntouched source → IsUntouched sink → KeepsSession r status.Words source sink
-words_decline r misfit source sink is e f =
-    subst (λ (q : Result Named Misfit). KeepsSession q status.Words source sink) (sym is) (record { ends = inl refl; unread = e; unwritten = f })
+pub words_decline : (ws : List ℕ) (r : Result Named Misfit) (misfit : Misfit) (source sink : Over Bytes) → r ≡ Err misfit → IsUntouched source → IsUntouched sink → KeepsSession ws r status.Words source sink
+words_decline ws r misfit source sink is e f =
+    subst (λ (q : Result Named Misfit). KeepsSession ws q status.Words source sink) (sym is) (record { ends = inl refl; unread = e; unwritten = f })
 
 -- a command of another kind names no session
-pub others_decline : (command : Command) (source sink : Over Bytes) → (command ≡ code.Session → ⊥) → ((size : ℕ) → command ≡ code.Big size → ⊥) → IsUntouched source → IsUntouched sink
-    → PromisesSession (commands.view command) status.Words source sink
-others_decline (code.Assemble id version size download) source sink other small e f = record { ends = inl refl; unread = e; unwritten = f }
-others_decline (code.OpenSections paths) source sink other small e f = record { ends = inl refl; unread = e; unwritten = f }
-others_decline (code.Open pid paths) source sink other small e f = record { ends = inl refl; unread = e; unwritten = f }
-others_decline (code.Record pid) source sink other small e f = record { ends = inl refl; unread = e; unwritten = f }
-others_decline (code.List pid) source sink other small e f = record { ends = inl refl; unread = e; unwritten = f }
-others_decline (code.Publish folder carousel cycles) source sink other small e f = record { ends = inl refl; unread = e; unwritten = f }
-others_decline code.Rehearse source sink other small e f = record { ends = inl refl; unread = e; unwritten = f }
-others_decline code.Session source sink other small e f = absurd (other refl)
-others_decline (code.Big size) source sink other small e f = absurd (small size refl)
-others_decline (code.Find carousel) source sink other small e f = record { ends = inl refl; unread = e; unwritten = f }
-others_decline (code.OpenId carousel paths) source sink other small e f = record { ends = inl refl; unread = e; unwritten = f }
-others_decline (code.PublishPsi folder carousel cycles) source sink other small e f = record { ends = inl refl; unread = e; unwritten = f }
+pub others_decline : (ws : List ℕ) (command : Command) (source sink : Over Bytes) → (command ≡ code.Session → ⊥) → ((size : ℕ) → command ≡ code.Big size → ⊥) → IsUntouched source → IsUntouched sink
+    → PromisesSession ws (commands.view command) status.Words source sink
+others_decline ws (code.Assemble id version size download) source sink other small e f = record { ends = inl refl; unread = e; unwritten = f }
+others_decline ws (code.OpenSections paths) source sink other small e f = record { ends = inl refl; unread = e; unwritten = f }
+others_decline ws (code.Open pid paths) source sink other small e f = record { ends = inl refl; unread = e; unwritten = f }
+others_decline ws (code.Record pid) source sink other small e f = record { ends = inl refl; unread = e; unwritten = f }
+others_decline ws (code.List pid) source sink other small e f = record { ends = inl refl; unread = e; unwritten = f }
+others_decline ws (code.Publish folder carousel cycles) source sink other small e f = record { ends = inl refl; unread = e; unwritten = f }
+others_decline ws code.Rehearse source sink other small e f = record { ends = inl refl; unread = e; unwritten = f }
+others_decline ws code.Session source sink other small e f = absurd (other refl)
+others_decline ws (code.Big size) source sink other small e f = absurd (small size refl)
+others_decline ws (code.Find carousel) source sink other small e f = record { ends = inl refl; unread = e; unwritten = f }
+others_decline ws (code.OpenId carousel paths) source sink other small e f = record { ends = inl refl; unread = e; unwritten = f }
+others_decline ws (code.PublishPsi folder carousel cycles) source sink other small e f = record { ends = inl refl; unread = e; unwritten = f }
 
 -- there was no memory before a session began
-pub memory_declines : (r : Result Named Misfit) (source sink : Over Bytes) → IsUntouched source → IsUntouched sink → KeepsSession r status.NoMemory source sink
-memory_declines (Err misfit) source sink e f = record { ends = inr refl; unread = e; unwritten = f }
-memory_declines (Ok command) source sink e f = by command
+pub memory_declines : (ws : List ℕ) (r : Result Named Misfit) (source sink : Over Bytes) → IsUntouched source → IsUntouched sink → KeepsSession ws r status.NoMemory source sink
+memory_declines ws (Err misfit) source sink e f = record { ends = inr refl; unread = e; unwritten = f }
+memory_declines ws (Ok command) source sink e f = by command
   where
-    by : (command : Named) → KeepsSession (Ok command) status.NoMemory source sink
+    by : (command : Named) → KeepsSession ws (Ok command) status.NoMemory source sink
     by (commands.Assemble id version size download) = record { ends = inr refl; unread = e; unwritten = f }
     by (commands.OpenSections paths) = record { ends = inr refl; unread = e; unwritten = f }
     by (commands.Open pid paths) = record { ends = inr refl; unread = e; unwritten = f }
@@ -247,11 +247,11 @@ memory_declines (Ok command) source sink e f = by command
     by (commands.PublishPsi folder carousel cycles) = record { ends = inr refl; unread = e; unwritten = f }
 
 -- the sink that the output lends is the one that was handed in
-pub promises_over : {X : Type 0} (c : Named) (s : Status) (source : Over Bytes) (content : X → Option Bytes) (faults : X → ℕ) (begin end first last : X) → begin ≡ first → end ≡ last
-    → PromisesSession c s source (over content faults begin end) → PromisesSession c s source (over content faults first last)
-promises_over {X} c s source content faults begin end first last a b p =
-    let P : X → Type 0 = λ x. PromisesSession c s source (over content faults x end) in
-    let Q : X → Type 0 = λ x. PromisesSession c s source (over content faults first x) in
+pub promises_over : {X : Type 0} (ws : List ℕ) (c : Named) (s : Status) (source : Over Bytes) (content : X → Option Bytes) (faults : X → ℕ) (begin end first last : X) → begin ≡ first → end ≡ last
+    → PromisesSession ws c s source (over content faults begin end) → PromisesSession ws c s source (over content faults first last)
+promises_over {X} ws c s source content faults begin end first last a b p =
+    let P : X → Type 0 = λ x. PromisesSession ws c s source (over content faults x end) in
+    let Q : X → Type 0 = λ x. PromisesSession ws c s source (over content faults first x) in
     subst Q b (subst P a p)
 
 -- nor is a write tried there after one that failed

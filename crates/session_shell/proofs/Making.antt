@@ -7,19 +7,19 @@ use Rattle.big_script.specs.Generated.{generated_script}
 use Rattle.shell_streams.specs.Sending.{OutputState, Puts}
 use Rattle.shell_streams.specs.declared.output.OutputFault.{OutputFault}
 use Rattle.shell_streams.specs.declared.output.OutputFault.TheVariants as outputs
-use Rattle.carousel_shell.specs.Over.{sent}
+use Rattle.carousel_shell.specs.Over.{sink_over}
 use Rattle.carousel_shell.specs.Statuses.{output_status}
 use Rattle.carousel_shell.specs.declared.status.Status.TheVariants as status
 use Rattle.session_shell.specs.Big.{big_line, PlaysBig}
 use Rattle.session_shell.proofs.Playing.{writes_all, writes_prefix}
 
 -- the session was played, and its line was put
-pub counts_all : {x : Unit {0}} (size : ℕ) (old new : OutputState) (told : List (Step × Reply)) → IsSession (generated_script size) told → old.pending ≡ [] → new.pending ≡ []
-    → Puts (Ok x) old new (big_line size told) → PlaysBig size status.Done (sent old new)
-counts_all size old new told session begin empty puts = record { told = told; session = session; writes = writes_all begin empty puts }
+pub counts_all : {x : Unit {0}} (ws : List ℕ) (size : ℕ) (old new : OutputState) (told : List (Step × Reply)) → IsSession ws (generated_script size) told → old.pending ≡ [] → new.pending ≡ []
+    → Puts (Ok x) old new (big_line size told) → PlaysBig ws size status.Done (sink_over old new)
+counts_all ws size old new told session begin empty puts = record { told = told; session = session; writes = writes_all begin empty puts }
 
 -- a fault stopped its line
-pub counts_part : (size : ℕ) (old new : OutputState) (told : List (Step × Reply)) (fault : OutputFault) → IsSession (generated_script size) told → old.pending ≡ []
-    → Puts {T = Unit {0}} (Err fault) old new (big_line size told) → PlaysBig size (output_status fault) (sent old new)
-counts_part size old new told outputs.Failed session begin puts = (puts.cause refl, record { told = told; session = session; writes = writes_prefix begin puts })
-counts_part size old new told outputs.NoMemory session begin puts = inr (record { told = told; session = session; writes = writes_prefix begin puts })
+pub counts_part : (ws : List ℕ) (size : ℕ) (old new : OutputState) (told : List (Step × Reply)) (fault : OutputFault) → IsSession ws (generated_script size) told → old.pending ≡ []
+    → Puts {T = Unit {0}} (Err fault) old new (big_line size told) → PlaysBig ws size (output_status fault) (sink_over old new)
+counts_part ws size old new told outputs.Failed session begin puts = (puts.cause refl, record { told = told; session = session; writes = writes_prefix begin puts })
+counts_part ws size old new told outputs.NoMemory session begin puts = inr (record { told = told; session = session; writes = writes_prefix begin puts })

@@ -41,13 +41,13 @@ length_in x = reply_length x.1
 abbrev pub finale_lengths : List (Step × Reply) → List ℕ
 finale_lengths told = filter_map length_in (finales_in told)
 
-abbrev pub listed : Option ℕ → List ℕ
-listed (Some n) = n ∷ []
-listed None = []
+abbrev pub option_list : Option ℕ → List ℕ
+option_list (Some n) = n ∷ []
+option_list None = []
 
 -- what one event more adds to them, where reader 1 made so many opens above it
 abbrev pub length_more : ℕ → Step × Reply → List ℕ
-length_more opens x = if nat_lt opens 64 || not (is_first x) then [] else listed (length_in x)
+length_more opens x = if nat_lt opens 64 || not (is_first x) then [] else option_list (length_in x)
 
 -- the line of these counts
 abbrev pub counts_line : (size commits files bytes : ℕ) → Bytes
@@ -61,20 +61,20 @@ big_line size told = counts_line size (accepted_in told) (length (finale_lengths
 
 -- ---- how it ends
 
--- all of the session happened, and the whole line was written
-pub record Counted (size : ℕ) (sink : Over Bytes) : Type 0 where
+-- all of the session happened with these weights, and the whole line was written
+pub record Counted (weights : List ℕ) (size : ℕ) (sink : Over Bytes) : Type 0 where
   pub told : List (Step × Reply)
-  pub session : IsSession (generated_script size) told
+  pub session : IsSession weights (generated_script size) told
   pub writes : WritesAll sink (big_line size told)
 
 -- it did, and a prefix of the line was written
-pub record Counting (size : ℕ) (sink : Over Bytes) : Type 0 where
+pub record Counting (weights : List ℕ) (size : ℕ) (sink : Over Bytes) : Type 0 where
   pub told : List (Step × Reply)
-  pub session : IsSession (generated_script size) told
+  pub session : IsSession weights (generated_script size) told
   pub writes : WritesPrefix sink (big_line size told)
 
-abbrev pub PlaysBig : ℕ → Status → Over Bytes → Type 0
-PlaysBig size status.Done sink = Counted size sink
-PlaysBig size status.WriteFault sink = Failed sink × Counting size sink
-PlaysBig size status.NoMemory sink = IsUntouched sink ⊎ Counting size sink
-PlaysBig size _ sink = ⊥
+abbrev pub PlaysBig : List ℕ → ℕ → Status → Over Bytes → Type 0
+PlaysBig weights size status.Done sink = Counted weights size sink
+PlaysBig weights size status.WriteFault sink = Failed sink × Counting weights size sink
+PlaysBig weights size status.NoMemory sink = IsUntouched sink ⊎ Counting weights size sink
+PlaysBig weights size _ sink = ⊥

@@ -1,6 +1,6 @@
 -- What is promised of all commands: of `session` and `big` what their own pages say, and of every other one what a run without threads
 -- promises.
-use Rattle.std.specs.Prelude.{Bool, true, false, ◌||◌, List, [], ◌∷◌, Result, Ok, Err, codes}
+use Rattle.std.specs.Prelude.{ℕ, Bool, true, false, ◌||◌, List, [], ◌∷◌, Result, Ok, Err, codes}
 use Rattle.std.specs.Str.{bytes_eq}
 use Rattle.folder_store.specs.Folders.{FolderTree}
 use Rattle.shell_words.specs.Words as commands
@@ -29,22 +29,22 @@ begins_session (word ∷ words) = bytes_eq word (codes "session") || bytes_eq wo
 
 -- ---- what is promised of sessions alone
 
-abbrev pub PromisesSession : commands.Named → Status → Over Bytes → Over Bytes → Type 0
-PromisesSession commands.Session s source sink = Plays s source sink
-PromisesSession (commands.Big size) s source sink = WithoutInput source (PlaysBig size s sink)
-PromisesSession _ s source sink = Declines s source sink
+abbrev pub PromisesSession : List ℕ → commands.Named → Status → Over Bytes → Over Bytes → Type 0
+PromisesSession weights commands.Session s source sink = Plays weights s source sink
+PromisesSession weights (commands.Big size) s source sink = WithoutInput source (PlaysBig weights size s sink)
+PromisesSession weights _ s source sink = Declines s source sink
 
--- the words name a session, or nothing is read or written
-abbrev pub KeepsSession : Result commands.Named commands.Misfit → Status → Over Bytes → Over Bytes → Type 0
-KeepsSession (Ok command) s source sink = PromisesSession command s source sink
-KeepsSession (Err misfit) s source sink = Declines s source sink
+-- the words name a session, which is played with these weights, or nothing is read or written
+abbrev pub KeepsSession : List ℕ → Result commands.Named commands.Misfit → Status → Over Bytes → Over Bytes → Type 0
+KeepsSession weights (Ok command) s source sink = PromisesSession weights command s source sink
+KeepsSession weights (Err misfit) s source sink = Declines s source sink
 
 -- ---- what is promised of all words
 
-abbrev pub PlaysOrKeeps : Bool → Result commands.Named commands.Misfit → Status → Over Bytes → Over Bytes → Over FolderTree → Type 0
-PlaysOrKeeps true words s source sink folders = KeepsSession words s source sink
-PlaysOrKeeps false words s source sink folders = Keeps words s source sink folders
+abbrev pub PlaysOrKeeps : List ℕ → Bool → Result commands.Named commands.Misfit → Status → Over Bytes → Over Bytes → Over FolderTree → Type 0
+PlaysOrKeeps weights true words s source sink folders = KeepsSession weights words s source sink
+PlaysOrKeeps weights false words s source sink folders = Keeps weights words s source sink folders
 
 -- the words name a session, or what they name runs without threads
-abbrev pub KeepsAll : Result commands.Named commands.Misfit → Status → Over Bytes → Over Bytes → Over FolderTree → Type 0
-KeepsAll words s source sink folders = PlaysOrKeeps (names_session words) words s source sink folders
+abbrev pub KeepsAll : List ℕ → Result commands.Named commands.Misfit → Status → Over Bytes → Over Bytes → Over FolderTree → Type 0
+KeepsAll weights words s source sink folders = PlaysOrKeeps weights (names_session words) words s source sink folders

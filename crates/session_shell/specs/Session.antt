@@ -1,6 +1,6 @@
 -- What `session` promises: the input is a script, whose actors run it side by side, and the report of one history of what they did is
 -- written. The language of scripts and the lines are this project's own.
-use Rattle.std.specs.Prelude.{◌⊎◌, List, map}
+use Rattle.std.specs.Prelude.{◌⊎◌, ℕ, List, map}
 use Rattle.session_script.specs.Scripts.{Fields}
 use Rattle.carousel_world.specs.Events.{Step}
 use Rattle.carousel_world.specs.declared.event.Reply.{Reply}
@@ -13,36 +13,36 @@ use Rattle.carousel_shell.specs.declared.status.Status.{Status}
 use Rattle.carousel_shell.specs.declared.status.Status.TheVariants as status
 
 -- the report of events, each with its reply
-abbrev pub report_of_told : List (Step × Reply) → Bytes
-report_of_told told = report (map (λ (x : Step × Reply). x.0) told) (map (λ (x : Step × Reply). x.1) told)
+abbrev pub report_of_known : List (Step × Reply) → Bytes
+report_of_known told = report (map (λ (x : Step × Reply). x.0) told) (map (λ (x : Step × Reply). x.1) told)
 
 -- ---- how it ends
 
--- all of the script's session happened, and the whole report of it was written
-pub record Played (source sink : Over Bytes) : Type 0 where
+-- all of the script's session happened with these weights, and the whole report of it was written
+pub record Played (weights : List ℕ) (source sink : Over Bytes) : Type 0 where
   pub script : Fields
   pub read : ReadsScript source script
   pub told : List (Step × Reply)
-  pub session : IsSession script told
-  pub writes : WritesAll sink (report_of_told told)
+  pub session : IsSession weights script told
+  pub writes : WritesAll sink (report_of_known told)
 
 -- it did, and a prefix of the report was written
-pub record Playing (source sink : Over Bytes) : Type 0 where
+pub record Playing (weights : List ℕ) (source sink : Over Bytes) : Type 0 where
   pub script : Fields
   pub read : ReadsScript source script
   pub told : List (Step × Reply)
-  pub session : IsSession script told
-  pub writes : WritesPrefix sink (report_of_told told)
+  pub session : IsSession weights script told
+  pub writes : WritesPrefix sink (report_of_known told)
 
-abbrev pub EndsSession : Over Bytes → Over Bytes → Status → Type 0
-EndsSession source sink status.Done = Played source sink
-EndsSession source sink (status.BadLine number cause) = ReadsBadLine source number cause × IsUntouched sink
-EndsSession source sink status.ReadFault = Failed source × IsUntouched sink
-EndsSession source sink status.InputTooLong = GoesOn source × IsUntouched sink
-EndsSession source sink status.WriteFault = Failed sink × Playing source sink
-EndsSession source sink status.NoMemory = IsUntouched sink ⊎ Playing source sink
-EndsSession source sink _ = ⊥
+abbrev pub EndsSession : List ℕ → Over Bytes → Over Bytes → Status → Type 0
+EndsSession weights source sink status.Done = Played weights source sink
+EndsSession weights source sink (status.BadLine number cause) = ReadsBadLine source number cause × IsUntouched sink
+EndsSession weights source sink status.ReadFault = Failed source × IsUntouched sink
+EndsSession weights source sink status.InputTooLong = GoesOn source × IsUntouched sink
+EndsSession weights source sink status.WriteFault = Failed sink × Playing weights source sink
+EndsSession weights source sink status.NoMemory = IsUntouched sink ⊎ Playing weights source sink
+EndsSession weights source sink _ = ⊥
 
-pub record Plays (s : Status) (source sink : Over Bytes) : Type 0 where
-  pub ends : EndsSession source sink s
+pub record Plays (weights : List ℕ) (s : Status) (source sink : Over Bytes) : Type 0 where
+  pub ends : EndsSession weights source sink s
   pub takes : TakesPrefix source

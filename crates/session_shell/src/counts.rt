@@ -3,7 +3,7 @@ ghost use Rattle.std.specs.Prelude.{◌≡◌, ◌+◌, ◌<◌, ◌^◌, ◌++�
 ghost use Rattle.std.specs.List.{sum};
 ghost use Rattle.std.specs.String.{string_bytes};
 ghost use Rattle.carousel_world.specs.Events.{view};
-ghost use Rattle.session_history.specs.Merges.{told_view};
+ghost use Rattle.session_history.specs.Merges.{known_view};
 ghost use Rattle.session_history.specs.Merged.{is_open_by};
 ghost use Rattle.session.specs.Sessions.{accepted_in, is_accepted as is_accepted_by_name};
 ghost use Rattle.session_shell.specs.Big as specs;
@@ -23,7 +23,7 @@ pub(crate) fn big_line(
     size: u32,
     told: &[(Event, Reply)],
 ) -> Result<String, NoMemory>
-    ensures { IfOk result (λ line. string_bytes line ≡ specs.big_line size (map told_view told.now)) }
+    ensures { IfOk result (λ line. string_bytes line ≡ specs.big_line size (map known_view told.now)) }
 {
     let commits = accepted(told);
     let lengths = finale_lengths(alloc, told)?;
@@ -47,7 +47,7 @@ fn counts_line(
 
 /// How many commits were accepted.
 fn accepted(told: &[(Event, Reply)]) -> u64
-    ensures { result ≡ accepted_in (map told_view told.now) }
+    ensures { result ≡ accepted_in (map known_view told.now) }
 {
     let mut commits = 0;
     for one in told {
@@ -66,7 +66,7 @@ fn is_accepted(reply: &Reply) -> bool
 
 /// How many bytes each file has that a finale answered.
 fn finale_lengths(alloc: Global, told: &[(Event, Reply)]) -> Result<Vec<u64>, NoMemory>
-    ensures { IfOk result (λ lengths. lengths.items ≡ specs.finale_lengths (map told_view told.now)) }
+    ensures { IfOk result (λ lengths. lengths.items ≡ specs.finale_lengths (map known_view told.now)) }
 {
     let mut lengths = Vec::new(alloc);
     let mut opens = 0;
@@ -79,7 +79,7 @@ fn finale_lengths(alloc: Global, told: &[(Event, Reply)]) -> Result<Vec<u64>, No
 
 /// Adds the length of a finale's file, where the first reader made so many opens above it.
 fn push_length(lengths: &mut Vec<u64>, opens: u64, one: &(Event, Reply)) -> Result<(), NoMemory>
-    ensures { OnOk result (lengths.new.items ≡ lengths.old.items ++ specs.length_more opens (told_view one.now)) }
+    ensures { OnOk result (lengths.new.items ≡ lengths.old.items ++ specs.length_more opens (known_view one.now)) }
 {
     if opens < FIRST_OPENS || !is_first(&one.0) {
         return Ok(());

@@ -1,11 +1,12 @@
 ghost use Rattle.std.specs.Prelude.{◌≡◌, ◌≤◌, [], OnOk};
 ghost use Rattle.shell_streams.specs.Sending.{IsInTime, Puts};
-ghost use Rattle.carousel_shell.specs.Over.{sent};
+ghost use Rattle.carousel_shell.specs.Over.{sink_over};
 ghost use Rattle.session_shell.specs.Big.{PlaysBig};
 
 use crate::counts::big_line;
 use big_script::{generated, generated_is_arranged};
 use carousel_shell::Status;
+use cycle_planner::Weigh;
 use section_workers::Gate;
 use session::play;
 use shell_streams::{Output, OutputFault};
@@ -27,11 +28,12 @@ pub(crate) fn play_generated<R: Threads + Wait + Sync, O: Output, G: Gate>(
     size: u32,
     out: &mut O,
     gate: &G,
+    weigh: Weigh,
 ) -> Status
     requires least { 1 ≤ size }
     requires most { size ≤ 16 }
     requires empty { (O.state out.old).pending ≡ [] }
-    ensures plays { PlaysBig size result (sent (O.state out.old) (O.state out.new)) }
+    ensures plays { PlaysBig weigh.weights size result (sink_over (O.state out.old) (O.state out.new)) }
     ensures same { (O.state out.new).name ≡ (O.state out.old).name }
     ensures in_time { IsInTime (O.state out.old) (O.state out.new) }
 {
@@ -40,7 +42,7 @@ pub(crate) fn play_generated<R: Threads + Wait + Sync, O: Output, G: Gate>(
         Ok(script) => script,
         Err(_) => return Status::NoMemory,
     };
-    let told = match play(rt, alloc, script, gate) {
+    let told = match play(rt, alloc, script, gate, weigh) {
         Ok(told) => told,
         Err(_) => return Status::NoMemory,
     };
@@ -59,8 +61,6 @@ fn put_all<O: Output>(bytes: &[u8], out: &mut O) -> Result<(), OutputFault>
     ensures puts { Puts result (O.state out.old) (O.state out.new) bytes.now }
     ensures empty { OnOk result ((O.state out.new).pending ≡ []) }
 {
-    match out.put(bytes) {
-        Ok(()) => out.flush(),
-        Err(fault) => Err(fault),
-    }
+    out.put(bytes)?;
+    out.flush()
 }

@@ -1,9 +1,10 @@
 ghost use Rattle.std.specs.Prelude.{◌≡◌, []};
 ghost use Rattle.shell_streams.specs.Sending.{IsInTime};
-ghost use Rattle.carousel_shell.specs.Over.{over, sent};
+ghost use Rattle.carousel_shell.specs.Over.{over, sink_over};
 ghost use Rattle.session_shell.specs.Session.{Plays};
 
 use carousel_shell::Status;
+use cycle_planner::Weigh;
 use oc_bytes::Source;
 use rehearsal::put_report;
 use section_workers::Gate;
@@ -17,8 +18,8 @@ use std::thread::Threads;
 /// The most bytes of a script.
 const MOST_BYTES: usize = 16_777_216;
 
-/// Reads a script, plays its session, and writes a line for each commit, draw and open of it, in one order in which they happened. The
-/// language, the order in which actors run and the lines are this project's own.
+/// Reads a script, plays its session, in which each module is sent as often a cycle as it weighs, and writes a line for each commit, draw
+/// and open of it, in one order in which they happened. The language, the order in which actors run and the lines are this project's own.
 ///
 /// `ReadFault` comes where the source fails, and `InputTooLong` exactly where at least a byte more than 16,777,216 is read. The whole
 /// input is read before anything else is done. `BadLine` comes exactly where it is no script; it names the first line that doesn't fit,
@@ -33,9 +34,10 @@ pub(crate) fn play_session<R: Threads + Wait + Sync, S: Source, O: Output, G: Ga
     source: &mut S,
     out: &mut O,
     gate: &G,
+    weigh: Weigh,
 ) -> Status
     requires { (O.state out.old).pending ≡ [] }
-    ensures plays { Plays result (over S.left S.faults source.old source.new) (sent (O.state out.old) (O.state out.new)) }
+    ensures plays { Plays weigh.weights result (over S.left S.faults source.old source.new) (sink_over (O.state out.old) (O.state out.new)) }
     ensures same { (O.state out.new).name ≡ (O.state out.old).name }
     ensures in_time { IsInTime (O.state out.old) (O.state out.new) }
 {
@@ -50,7 +52,7 @@ pub(crate) fn play_session<R: Threads + Wait + Sync, S: Source, O: Output, G: Ga
     };
     // The text is of no use any more, and may be large.
     drop(text);
-    let told = match play(rt, alloc, script, gate) {
+    let told = match play(rt, alloc, script, gate, weigh) {
         Ok(told) => told,
         Err(_) => return Status::NoMemory,
     };

@@ -1,5 +1,8 @@
+ghost use Rattle.std.specs.Prelude.{◌≡◌};
+
 use super::*;
 use carousel_shell::Status;
+use cycle_planner::{GREATEST_ID, Weigh};
 use folder_store::MemFolders;
 use oc_bytes::{MemSink, MemSource};
 use section_workers::{Actor, Gate, NoGate};
@@ -100,7 +103,8 @@ fn calls(alloc: Global, failing: Option<u64>) -> Result<Vec<u64>, Fail> {
     Ok(calls)
 }
 
-/// How the command of these words ends on an input that comes in pieces of 20 bytes, and what is written in pieces of 100.
+/// How the command of these words ends on an input that comes in pieces of 20 bytes, where each module is sent once a cycle, and what is
+/// written in pieces of 100.
 fn outcome<R: Threads + Wait + Sync, G: Gate>(
     rt: &R,
     alloc: Global,
@@ -117,6 +121,13 @@ fn outcome<R: Threads + Wait + Sync, G: Gate>(
     let mut source = MemSource::new(Vec::from_slice(alloc, script)?, reads, 20);
     let mut sink = MemSink::new(alloc, calls(alloc, failing.write)?, 100);
     let mut folders = MemFolders::new(Vec::new(alloc), Vec::new(alloc));
+    let call = Box::new(
+        alloc,
+        |_id: u16| -> u8
+            ensures { result ≡ 1 }
+        { 1 },
+    )?;
+    let weigh = Weigh::new([1; GREATEST_ID], call);
     let status = run(
         rt,
         alloc,
@@ -125,6 +136,7 @@ fn outcome<R: Threads + Wait + Sync, G: Gate>(
         &mut sink,
         &mut folders,
         gate,
+        weigh,
     );
     Ok((status, sink))
 }
@@ -194,16 +206,26 @@ fn each_failing_call_ends_the_session(rt: HostRuntime) -> Result<(), Fail> {
     Ok(())
 }
 
-/// The counts come from sums by hand: 32 files, of which the shortest has 1,000 bytes and each next one 500 more.
+/// The counts of size 1 come from sums by hand: 32 files, of which the shortest has 1,000 bytes and each next one 500 more. Those of
+/// size 16 are an independent model's.
 #[test]
 fn a_generated_session_is_counted(rt: HostRuntime) -> Result<(), Fail> {
     let alloc = rt.alloc();
-    let (status, sink) = outcome(&rt, alloc, "big 1", WORKED, NONE, &NoGate)?;
-    assert_eq!(rt; status.code(), 0);
-    assert_eq!(rt;
-        sink.written(),
-        b"big 1 editors 1 commits 4 files 32 bytes 280000\n".as_slice()
-    );
+    let rows = [
+        (
+            "big 1",
+            b"big 1 editors 1 commits 4 files 32 bytes 280000\n".as_slice(),
+        ),
+        (
+            "big 16",
+            b"big 16 editors 16 commits 64 files 512 bytes 5680000\n".as_slice(),
+        ),
+    ];
+    for (line, counts) in rows {
+        let (status, sink) = outcome(&rt, alloc, line, WORKED, NONE, &NoGate)?;
+        assert_eq!(rt; status.code(), 0, "of {line}");
+        assert_eq!(rt; sink.written(), counts, "of {line}");
+    }
 
     let failing = Failing {
         read: Some(0),

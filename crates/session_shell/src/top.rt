@@ -2,12 +2,13 @@ ghost use Rattle.std.specs.Prelude.{◌≡◌, false, [], map};
 ghost use Rattle.std.specs.String.{string_bytes};
 ghost use Rattle.shell_words.specs.Words as commands;
 ghost use Rattle.shell_streams.specs.Sending.{IsInTime};
-ghost use Rattle.carousel_shell.specs.Over.{over, sent};
+ghost use Rattle.carousel_shell.specs.Over.{over, sink_over};
 ghost use Rattle.session_shell.specs.Commands.{KeepsAll, KeepsSession, PromisesSession, begins_session};
 
 use crate::generated::play_generated;
 use crate::sessions::play_session;
 use carousel_shell::{Status, run_plain};
+use cycle_planner::Weigh;
 use folder_store::Folders;
 use oc_bytes::{Sink, Source};
 use section_workers::Gate;
@@ -21,8 +22,8 @@ use std::thread::Threads;
 /// and every other command by `run_plain`, which says what each of them answers. The first word alone decides between the two.
 ///
 /// The input comes from the source, the output goes to the sink, and the folders are those that `publish` and `publish-psi` read. Each
-/// actor of a session passes the gate before each of its steps. A write that fails is the last one that is tried, where none had failed
-/// before. These rules are this project's own.
+/// actor of a session passes the gate before each of its steps. Each module is sent as often a cycle as it weighs. A write that fails is
+/// the last one that is tried, where none had failed before. These rules are this project's own.
 pub fn run<R: Threads + Wait + Sync, S: Source, K: Sink, F: Folders, G: Gate>(
     rt: &R,
     alloc: Global,
@@ -31,15 +32,16 @@ pub fn run<R: Threads + Wait + Sync, S: Source, K: Sink, F: Folders, G: Gate>(
     sink: &mut K,
     folders: &mut F,
     gate: &G,
+    weigh: Weigh,
 ) -> Status
-    ensures keeps { KeepsAll (commands.command_of (map string_bytes words.now)) result (over S.left S.faults source.old source.new)
+    ensures keeps { KeepsAll weigh.weights (commands.command_of (map string_bytes words.now)) result (over S.left S.faults source.old source.new)
         (over K.written K.faults sink.old sink.new) (over F.tree F.faults folders.old folders.new) }
     ensures in_time { K.failed sink.old ≡ false → K.late sink.new ≡ K.late sink.old }
 {
     if begins_a_session(words) {
-        run_session(rt, alloc, words, source, sink, gate)
+        run_session(rt, alloc, words, source, sink, gate, weigh)
     } else {
-        run_plain(alloc, words, source, sink, folders)
+        run_plain(alloc, words, source, sink, folders, weigh)
     }
 }
 
@@ -60,7 +62,7 @@ pub fn run<R: Threads + Wait + Sync, S: Source, K: Sink, F: Folders, G: Gate>(
 /// - `NoMemory` comes where there is no memory, at any of these steps. Nothing was written, or a prefix of what `Done` stands for.
 ///
 /// Below `start` each editor, the feeder and each reader passes the gate before each of its lines, with steps counted from 0; the two
-/// workers that make a draw's sections pass it too. What was written stands after what the sink had. A write that
+/// workers that make a draw's sections pass it too. Each module is sent as often a cycle as it weighs. What was written stands after what the sink had. A write that
 /// fails is the last one that is tried, where none had failed before. These rules are this project's own.
 pub fn run_session<R: Threads + Wait + Sync, S: Source, K: Sink, G: Gate>(
     rt: &R,
@@ -69,8 +71,9 @@ pub fn run_session<R: Threads + Wait + Sync, S: Source, K: Sink, G: Gate>(
     source: &mut S,
     sink: &mut K,
     gate: &G,
+    weigh: Weigh,
 ) -> Status
-    ensures keeps { KeepsSession (commands.command_of (map string_bytes words.now)) result (over S.left S.faults source.old source.new)
+    ensures keeps { KeepsSession weigh.weights (commands.command_of (map string_bytes words.now)) result (over S.left S.faults source.old source.new)
         (over K.written K.faults sink.old sink.new) }
     ensures in_time { K.failed sink.old ≡ false → K.late sink.new ≡ K.late sink.old }
 {
@@ -83,7 +86,7 @@ pub fn run_session<R: Threads + Wait + Sync, S: Source, K: Sink, G: Gate>(
         return Status::NoMemory;
     };
     let mut out = Buffered::new(sink, &mut room);
-    play_command(rt, alloc, &command, source, &mut out, gate)
+    play_command(rt, alloc, &command, source, &mut out, gate, weigh)
 }
 
 /// Plays the session that the command names; every other command names none.
@@ -94,16 +97,17 @@ fn play_command<R: Threads + Wait + Sync, S: Source, O: Output, G: Gate>(
     source: &mut S,
     out: &mut O,
     gate: &G,
+    weigh: Weigh,
 ) -> Status
     requires sized { commands.IsSized command.now }
     requires pending { (O.state out.old).pending ≡ [] }
-    ensures promises { PromisesSession (commands.view command.now) result (over S.left S.faults source.old source.new) (sent (O.state out.old) (O.state out.new)) }
+    ensures promises { PromisesSession weigh.weights (commands.view command.now) result (over S.left S.faults source.old source.new) (sink_over (O.state out.old) (O.state out.new)) }
     ensures same { (O.state out.new).name ≡ (O.state out.old).name }
     ensures in_time { IsInTime (O.state out.old) (O.state out.new) }
 {
     match command {
-        Command::Session => play_session(rt, alloc, source, out, gate),
-        Command::Big(size) => play_generated(rt, alloc, *size, out, gate),
+        Command::Session => play_session(rt, alloc, source, out, gate, weigh),
+        Command::Big(size) => play_generated(rt, alloc, *size, out, gate, weigh),
         _ => Status::Words,
     }
 }

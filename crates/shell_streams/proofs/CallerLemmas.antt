@@ -3,7 +3,7 @@ use Rattle.std.proofs.Common.{◌≡◌, ◌≤◌, ℕ, [], ◌++◌, Result, O
 use Rattle.std.specs.Option.{is_some}
 use Rattle.std.proofs.lemmas.Bool.{true≢false}
 use Rattle.std.proofs.lemmas.Option.{same_Some}
-use Rattle.oc_bytes.specs.Outcome.{Rose, Told}
+use Rattle.oc_bytes.specs.Outcome.{Rose, Known}
 use Rattle.section_stream.specs.Cuts.{Bytes}
 use Rattle.shell_streams.specs.Held.{AllTaken, IsRear}
 use Rattle.shell_streams.specs.Sending.{OutputState, Sends, Puts, IsInTime}
@@ -12,19 +12,19 @@ use Rattle.shell_streams.specs.declared.output.OutputFault.TheVariants as faults
 
 -- ---- content that is known
 
-pub told_weaker : {A : Type 0} {P Q : A → A → Type 0} {a b : Option A} → Told a b P → ((x y : A) → P x y → Q x y) → Told a b Q
+pub told_weaker : {A : Type 0} {P Q : A → A → Type 0} {a b : Option A} → Known a b P → ((x y : A) → P x y → Q x y) → Known a b Q
 told_weaker t f = record { kept = t.kept; each = λ x y e g. f x y (t.each x y e g) }
 
 -- over two calls
-pub told_then : {P Q R : Bytes → Bytes → Type 0} {a b c : Option Bytes} → Told a b P → Told b c Q → ((x y z : Bytes) → P x y → Q y z → R x z) → Told a c R
+pub told_then : {P Q R : Bytes → Bytes → Type 0} {a b c : Option Bytes} → Known a b P → Known b c Q → ((x y z : Bytes) → P x y → Q y z → R x z) → Known a c R
 told_then {P} {Q} {R} {a} {b} {c} p q f = record { kept = q.kept ∙ p.kept; each = λ x z i o. each b x z i o p q }
   where
-    each : (b : Option Bytes) (x z : Bytes) → a ≡ Some x → c ≡ Some z → Told a b P → Told b c Q → R x z
+    each : (b : Option Bytes) (x z : Bytes) → a ≡ Some x → c ≡ Some z → Known a b P → Known b c Q → R x z
     each (Some y) x z i o p q = f x y z (p.each x y i refl) (q.each y z refl o)
     each None x z i o p q = absurd (true≢false (sym (p.kept ∙ ap is_some i)))
 
 -- nothing happened
-pub told_same : {P : Bytes → Bytes → Type 0} (a : Option Bytes) → ((x : Bytes) → P x x) → Told a a P
+pub told_same : {P : Bytes → Bytes → Type 0} (a : Option Bytes) → ((x : Bytes) → P x x) → Known a a P
 told_same {P} a f = record { kept = refl; each = λ x y i o. subst (λ (z : Bytes). P x z) (same_Some x y (sym i ∙ o)) (f x) }
 
 -- ---- counts of faults
@@ -128,12 +128,12 @@ puts_as {r = r} {a = a} {b = b} e p = let P : Bytes → Type 0 = λ bs. Puts r a
 -- ---- what was read
 
 -- content that is known before is told after
-pub told_here : {A : Type 0} {P : A → A → Type 0} (a b : Option A) (x : A) → Told a b P → a ≡ Some x → (y : A) × (b ≡ Some y) × P x y
+pub told_here : {A : Type 0} {P : A → A → Type 0} (a b : Option A) (x : A) → Known a b P → a ≡ Some x → (y : A) × (b ≡ Some y) × P x y
 told_here a (Some y) x t i = (y, refl, t.each x y i refl)
 told_here a None x t i = absurd (true≢false (sym (t.kept ∙ ap is_some i)))
 
 -- an input that was read to its end left a rear of it, which is empty
-pub all_rear : {A : Type 0} {f : Bytes → A} {over : Bytes → Bool} {taken : A} {a b : Option Bytes} → Told a b (AllTaken f over taken) → Told a b IsRear
+pub all_rear : {A : Type 0} {f : Bytes → A} {over : Bytes → Bool} {taken : A} {a b : Option Bytes} → Known a b (AllTaken f over taken) → Known a b IsRear
 all_rear t = record {
   kept = t.kept;
   each = λ x y i o. let r = t.each x y i o in record { taken = x; whole = sym (ap (λ bs. x ++ bs) r.to_end ∙ append-nil x) };

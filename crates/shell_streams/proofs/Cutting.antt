@@ -6,9 +6,9 @@ use Rattle.std.proofs.lemmas.Bool.{and_parts, and_from, cond-true, cond-false, l
 use Rattle.std.proofs.lemmas.Option.{cond_some, same_Some}
 use Rattle.std.proofs.lemmas.List.{get_or_append_left, take-append-le, drop-append-le, take-append-drop, take_at, take_all}
 use Rattle.std.proofs.lemmas.List.Folds.{concat-append}
-use Rattle.oc_bytes.specs.Outcome.{Told}
+use Rattle.oc_bytes.specs.Outcome.{Known}
 use Rattle.shell_streams.proofs.CallerLemmas.{told_here}
-use Rattle.shell_streams.specs.Cuts.{Bytes, back_to_back_in, back_to_back, front_len}
+use Rattle.shell_streams.specs.Cuts.{Bytes, back_to_back_in, back_to_back, prefix_length}
 use Rattle.shell_streams.specs.Held.{onto_left, IsDry, AreCut, IsRear, AllTaken, is_over_sections, Stopped}
 use Rattle.shell_streams.specs.declared.input.InputFault.{InputFault}
 use Rattle.shell_streams.specs.declared.input.InputFault.TheVariants as faults
@@ -41,7 +41,7 @@ pub record Front (bytes : Bytes) (n : ℕ) : Type 0 where
   pub is_span : span bytes ≡ n
   pub within : n ≤ length bytes
 
-front_from : (bytes : Bytes) (n : ℕ) → front_len bytes ≡ Some n → Front bytes n
+front_from : (bytes : Bytes) (n : ℕ) → prefix_length bytes ≡ Some n → Front bytes n
 front_from bytes n e =
     let p = cond_some (has_front bytes) (span bytes) n e in
     let q = and_parts _ _ p.0 in
@@ -61,14 +61,14 @@ cut_some (c ∷ cs) n f =
     shorter : (c : ℕ) (cs : Bytes) (n : ℕ) → Front (c ∷ cs) n → length (drop n (c ∷ cs)) ≤ length cs
     shorter c cs n f = omega (arith, length-drop n (c ∷ cs), f.is_span)
 
-front_false : (bytes : Bytes) → front_len bytes ≡ None → has_front bytes ≡ false
+front_false : (bytes : Bytes) → prefix_length bytes ≡ None → has_front bytes ≡ false
 front_false bytes e = none (has_front bytes) (span bytes) e
   where
     none : (b : Bool) (n : ℕ) → cond b (Some n) None ≡ None → b ≡ false
     none true n e = cc
     none false n e = refl
 
-pub cut_none : (bytes : Bytes) → front_len bytes ≡ None → back_to_back bytes ≡ []
+pub cut_none : (bytes : Bytes) → prefix_length bytes ≡ None → back_to_back bytes ≡ []
 cut_none [] e = refl
 cut_none (c ∷ cs) e =
     let bytes : Bytes = c ∷ cs in
@@ -88,7 +88,7 @@ front_append held rest n f = record {
         let two : 2 < length held = omega arith in
         rw (get_or_append_left held rest 0 1 one, get_or_append_left held rest 0 2 two) refl
 
-pub cut_next : (sections : List Bytes) (input held rest : Bytes) (n : ℕ) → front_len held ≡ Some n → AreCut sections input (held ++ rest)
+pub cut_next : (sections : List Bytes) (input held rest : Bytes) (n : ℕ) → prefix_length held ≡ Some n → AreCut sections input (held ++ rest)
     → AreCut (sections ++ take n held ∷ []) input (drop n held ++ rest)
 cut_next sections input held rest n e c =
     let f = front_from held n e in
@@ -111,21 +111,21 @@ told_both : (a : Option Bytes) (held : Bytes) (left : Option Bytes) → is_some 
 told_both a held (Some l) = refl
 told_both a held None = refl
 
-pub told_begin : (a : Option Bytes) → Told a (onto_left [] a) (AreCut [])
+pub told_begin : (a : Option Bytes) → Known a (onto_left [] a) (AreCut [])
 told_begin a = record { kept = told_both a [] a; each = λ x y e g. begin a x y e g }
   where
     begin : (a : Option Bytes) (x y : Bytes) → a ≡ Some x → onto_left [] a ≡ Some y → AreCut [] x y
     begin (Some l) x y e g = let h : y ≡ x = sym (same_Some l y g) ∙ same_Some l x e in rw h (cut_begin x)
     begin None x y e g = cc
 
-pub told_next : (a : Option Bytes) (held : Bytes) (left : Option Bytes) (sections : List Bytes) (n : ℕ) → front_len held ≡ Some n
-    → Told a (onto_left held left) (AreCut sections) → Told a (onto_left (drop n held) left) (AreCut (sections ++ take n held ∷ []))
+pub told_next : (a : Option Bytes) (held : Bytes) (left : Option Bytes) (sections : List Bytes) (n : ℕ) → prefix_length held ≡ Some n
+    → Known a (onto_left held left) (AreCut sections) → Known a (onto_left (drop n held) left) (AreCut (sections ++ take n held ∷ []))
 told_next a held left sections n e t = record {
   kept = told_both a (drop n held) left ∙ sym (told_both a held left) ∙ t.kept;
   each = λ x y i o. next left x y i o t;
 }
   where
-    next : (left : Option Bytes) (x y : Bytes) → a ≡ Some x → onto_left (drop n held) left ≡ Some y → Told a (onto_left held left) (AreCut sections) → AreCut (sections ++ take n held ∷ []) x y
+    next : (left : Option Bytes) (x y : Bytes) → a ≡ Some x → onto_left (drop n held) left ≡ Some y → Known a (onto_left held left) (AreCut sections) → AreCut (sections ++ take n held ∷ []) x y
     next (Some l) x y i o t = rw (sym (same_Some _ y o)) (cut_next sections x held l n e (t.each x (held ++ l) i refl))
     next None x y i o t = cc
 
@@ -136,11 +136,11 @@ pub record AreAll (sections : List Bytes) (input left : Bytes) : Type 0 where
   pub to_end : left ≡ []
   pub all : back_to_back input ≡ sections
 
-pub told_end : (a : Option Bytes) (held : Bytes) (left : Option Bytes) (sections : List Bytes) → front_len held ≡ None → IsDry left
-    → Told a (onto_left held left) (AreCut sections) → Told a left (AreAll sections)
+pub told_end : (a : Option Bytes) (held : Bytes) (left : Option Bytes) (sections : List Bytes) → prefix_length held ≡ None → IsDry left
+    → Known a (onto_left held left) (AreCut sections) → Known a left (AreAll sections)
 told_end a held left sections e d t = record { kept = sym (told_both a held left) ∙ t.kept; each = λ x y i o. end left x y i o d t }
   where
-    end : (left : Option Bytes) (x y : Bytes) → a ≡ Some x → left ≡ Some y → IsDry left → Told a (onto_left held left) (AreCut sections) → AreAll sections x y
+    end : (left : Option Bytes) (x y : Bytes) → a ≡ Some x → left ≡ Some y → IsDry left → Known a (onto_left held left) (AreCut sections) → AreAll sections x y
     end (Some l) x y i o d t =
         let c = t.each x (held ++ l) i refl in
         record {
@@ -149,10 +149,10 @@ told_end a held left sections e d t = record { kept = sym (told_both a held left
         }
     end None x y i o d t = cc
 
-pub told_rear : (a : Option Bytes) (held : Bytes) (left : Option Bytes) (sections : List Bytes) → Told a (onto_left held left) (AreCut sections) → Told a left IsRear
+pub told_rear : (a : Option Bytes) (held : Bytes) (left : Option Bytes) (sections : List Bytes) → Known a (onto_left held left) (AreCut sections) → Known a left IsRear
 told_rear a held left sections t = record { kept = sym (told_both a held left) ∙ t.kept; each = λ x y i o. rear left x y i o t }
   where
-    rear : (left : Option Bytes) (x y : Bytes) → a ≡ Some x → left ≡ Some y → Told a (onto_left held left) (AreCut sections) → IsRear x y
+    rear : (left : Option Bytes) (x y : Bytes) → a ≡ Some x → left ≡ Some y → Known a (onto_left held left) (AreCut sections) → IsRear x y
     rear (Some l) x y i o t =
         let c = t.each x (held ++ l) i refl in
         record { taken = concat sections ++ held; whole = c.whole ∙ rw (append_assoc, same_Some l y o) refl }
@@ -184,7 +184,7 @@ over_rest most input rest sections c h some =
 -- ---- how gathering stops and ends
 
 -- a prefix was taken, and the status isn't that of the limit
-pub stopped_other : {over : Bytes → Bool} {a b : Option Bytes} (s : InputFault) → (s ≡ faults.TooLong → ⊥) → Told a b IsRear → Told a b (Stopped over s)
+pub stopped_other : {over : Bytes → Bool} {a b : Option Bytes} (s : InputFault) → (s ≡ faults.TooLong → ⊥) → Known a b IsRear → Known a b (Stopped over s)
 stopped_other s n t = record { kept = t.kept; each = λ x y i o. record { rear = t.each x y i o; too_long = λ e. absurd (n e) } }
 
 pub nil_by_cases : (rest : Bytes) → (rest ≢ [] → ⊥) → rest ≡ []
@@ -192,8 +192,8 @@ nil_by_cases [] n = refl
 nil_by_cases (c ∷ cs) n = absurd (n (λ e. cc))
 
 pub stopped_long : (most : ℕ) (a : Option Bytes) (held held2 : Bytes) (left left2 : Option Bytes) (sections : List Bytes) → length sections ≡ most
-    → Told a (onto_left held left) (AreCut sections) → onto_left held2 left2 ≡ onto_left held left → ((rest : Bytes) → onto_left held left ≡ Some rest → rest ≢ [])
-    → Told a left2 (Stopped (is_over_sections most) faults.TooLong)
+    → Known a (onto_left held left) (AreCut sections) → onto_left held2 left2 ≡ onto_left held left → ((rest : Bytes) → onto_left held left ≡ Some rest → rest ≢ [])
+    → Known a left2 (Stopped (is_over_sections most) faults.TooLong)
 stopped_long most a held held2 left left2 sections n t e more =
     let rear = told_rear a held2 left2 sections (rw e t) in
     record {
@@ -204,7 +204,7 @@ stopped_long most a held held2 left left2 sections n t e more =
       };
     }
 
-pub ended_few : (most : ℕ) (a left : Option Bytes) (sections : List Bytes) → length sections < most → Told a left (AreAll sections) → Told a left (AllTaken back_to_back (is_over_sections most) sections)
+pub ended_few : (most : ℕ) (a left : Option Bytes) (sections : List Bytes) → length sections < most → Known a left (AreAll sections) → Known a left (AllTaken back_to_back (is_over_sections most) sections)
 ended_few most a left sections n t = record {
   kept = t.kept;
   each = λ x y i o. let r = t.each x y i o in record { to_end = r.to_end; within = within_few most x sections r.all n; all = r.all };
@@ -215,8 +215,8 @@ dry_end (Some l) y d o = sym (same_Some l y o) ∙ d
 dry_end None y d o = cc
 
 pub ended_full : (most : ℕ) (a : Option Bytes) (held held2 : Bytes) (left left2 : Option Bytes) (sections : List Bytes) → length sections ≡ most
-    → Told a (onto_left held left) (AreCut sections) → onto_left held2 left2 ≡ onto_left held left → IsDry left2 → ((rest : Bytes) → onto_left held left ≡ Some rest → rest ≢ [] → ⊥)
-    → Told a left2 (AllTaken back_to_back (is_over_sections most) sections)
+    → Known a (onto_left held left) (AreCut sections) → onto_left held2 left2 ≡ onto_left held left → IsDry left2 → ((rest : Bytes) → onto_left held left ≡ Some rest → rest ≢ [] → ⊥)
+    → Known a left2 (AllTaken back_to_back (is_over_sections most) sections)
 ended_full most a held held2 left left2 sections n t e dry none = record {
   kept = (told_rear a held2 left2 sections (rw e t)).kept;
   each = λ x y i o.
@@ -232,10 +232,10 @@ ended_full most a held held2 left left2 sections n t e dry none = record {
 
 -- what was taken is what stands in front of what is left
 pub rear_of : {P : Bytes → Bytes → Type 0} (front : Bytes) (a : Option Bytes) (held : Bytes) (left : Option Bytes) → ((x l : Bytes) → P x l → x ≡ front ++ l)
-    → Told a (onto_left held left) P → Told a left IsRear
+    → Known a (onto_left held left) P → Known a left IsRear
 rear_of {P} front a held left f t = record { kept = sym (told_both a held left) ∙ t.kept; each = λ x y i o. rear left x y i o t }
   where
-    rear : (left : Option Bytes) (x y : Bytes) → a ≡ Some x → left ≡ Some y → Told a (onto_left held left) P → IsRear x y
+    rear : (left : Option Bytes) (x y : Bytes) → a ≡ Some x → left ≡ Some y → Known a (onto_left held left) P → IsRear x y
     rear (Some l) x y i o t = record {
       taken = front ++ held;
       whole = f x (held ++ l) (t.each x (held ++ l) i refl) ∙ sym (append_assoc front held l) ∙ ap (λ bs. (front ++ held) ++ bs) (same_Some l y o);

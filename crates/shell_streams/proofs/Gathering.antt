@@ -2,7 +2,7 @@
 use Rattle.std.proofs.Common.{◌≡◌, ℕ, ◌-◌, ◌<◌, ◌≤◌, [], ◌++◌, length, take, drop, Option, arith, sym, ap, ◌∙◌, append-nil, append_assoc, length-append, length-take, subst}
 use Rattle.std.proofs.lemmas.Bool.{lt-ltb, le-ltb}
 use Rattle.std.proofs.lemmas.List.{take-append-drop, take-append-le, take-take, drop_all}
-use Rattle.oc_bytes.specs.Outcome.{Told}
+use Rattle.oc_bytes.specs.Outcome.{Known}
 use Rattle.oc_bytes.specs.Streams.{Takes}
 use Rattle.shell_streams.specs.Cuts.{Bytes}
 use Rattle.shell_streams.specs.Held.{AllTaken, IsRear, Stopped, is_longer}
@@ -14,14 +14,14 @@ use Rattle.shell_streams.proofs.CallerLemmas.{told_then, told_weaker}
 abbrev pub TakenFirst : Bytes → Bytes → Bytes → Type 0
 TakenFirst bytes input left = input ≡ bytes ++ left
 
-pub taken_more : {a b c : Option Bytes} (bytes into : Bytes) (n : ℕ) → Told a b (TakenFirst bytes) → Told b c (λ before after. Takes before after into n) → Told a c (TakenFirst (bytes ++ take n into))
+pub taken_more : {a b c : Option Bytes} (bytes into : Bytes) (n : ℕ) → Known a b (TakenFirst bytes) → Known b c (λ before after. Takes before after into n) → Known a c (TakenFirst (bytes ++ take n into))
 taken_more bytes into n p q = told_then p q (λ x y z e t.
     e ∙ ap (λ l. bytes ++ l) (sym (take-append-drop n y) ∙ ap (λ f. f ++ drop n y) (sym t.front) ∙ ap (λ r. take n into ++ r) (sym t.left))
     ∙ sym (append_assoc bytes (take n into) z))
 
 -- nothing more is left
-pub taken_all : {a b c : Option Bytes} (bytes into : Bytes) (n most : ℕ) → n ≡ 0 → length bytes ≤ most → Told a b (TakenFirst bytes) → Told b c (λ before after. Takes before after into n)
-    → Told a c (AllTaken (λ input. input) (is_longer most) bytes)
+pub taken_all : {a b c : Option Bytes} (bytes into : Bytes) (n most : ℕ) → n ≡ 0 → length bytes ≤ most → Known a b (TakenFirst bytes) → Known b c (λ before after. Takes before after into n)
+    → Known a c (AllTaken (λ input. input) (is_longer most) bytes)
 taken_all bytes into n most none within p q = told_then p q (λ x y z e t.
     let empty : y ≡ [] = t.ended.0 none in
     let all : x ≡ bytes = e ∙ ap (λ l. bytes ++ l) empty ∙ append-nil bytes in
@@ -35,12 +35,12 @@ rear_of : (bytes x y : Bytes) → x ≡ bytes ++ y → IsRear x y
 rear_of bytes x y e = record { taken = bytes; whole = e }
 
 -- a fault stopped the reading
-pub taken_stop : {a b : Option Bytes} (fault : InputFault) (bytes : Bytes) (most : ℕ) → (fault ≡ faults.TooLong → ⊥) → Told a b (TakenFirst bytes) → Told a b (Stopped (is_longer most) fault)
+pub taken_stop : {a b : Option Bytes} (fault : InputFault) (bytes : Bytes) (most : ℕ) → (fault ≡ faults.TooLong → ⊥) → Known a b (TakenFirst bytes) → Known a b (Stopped (is_longer most) fault)
 taken_stop fault bytes most other p = told_weaker p (λ x y e. record { rear = rear_of bytes x y e; too_long = λ long. absurd (other long) })
 
 -- more than the most was read
-pub taken_over : {a b c : Option Bytes} (bytes into : Bytes) (n most : ℕ) → length bytes ≤ most → most - length bytes < n → Told a b (TakenFirst bytes) → Told b c (λ before after. Takes before after into n)
-    → Told a c (Stopped (is_longer most) faults.TooLong)
+pub taken_over : {a b c : Option Bytes} (bytes into : Bytes) (n most : ℕ) → length bytes ≤ most → most - length bytes < n → Known a b (TakenFirst bytes) → Known b c (λ before after. Takes before after into n)
+    → Known a c (Stopped (is_longer most) faults.TooLong)
 taken_over bytes into n most within over p q = told_then p q (λ x y z e t.
     let rest = sym (take-append-drop n y) ∙ ap (λ r. take n y ++ r) (sym t.left) in
     record {

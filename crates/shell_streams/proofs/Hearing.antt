@@ -1,7 +1,7 @@
 -- How hearing an input ends.
 use Rattle.std.proofs.Common.{◌≡◌, ◌≤◌, ◌<◌, ℕ, ◌+◌, List, ◌++◌, ◌∷◌, [], length, take, get_or, map, Option, Ok, Err, sym, ap, ◌∙◌, append_assoc}
 use Rattle.std.proofs.lemmas.List.{map_more}
-use Rattle.oc_bytes.specs.Outcome.{Rose, Told}
+use Rattle.oc_bytes.specs.Outcome.{Rose, Known}
 use Rattle.shell_streams.specs.Cuts.{Bytes}
 use Rattle.shell_streams.specs.Held.{Stopped}
 use Rattle.shell_streams.specs.Carriers.{Reading, HeardAll, Hears}
@@ -13,7 +13,7 @@ pub hears_end : {T : Type 0} {x : T} {reading : Reading} {Heard : T → List Byt
 hears_end all le = record { ok = all; err = tt; later = le; cause = λ e. absurd (cc) }
 
 pub hears_fault : {T : Type 0} {reading : Reading} {Heard : T → List Bytes → Type 0} {before after : Option Bytes} {faults later : ℕ} (fault : InputFault)
-    → Told before after (Stopped reading.goes_on fault) → faults ≤ later → (fault ≡ inputs.Failed → Rose faults later) → Hears reading Heard (Err fault) before after faults later
+    → Known before after (Stopped reading.goes_on fault) → faults ≤ later → (fault ≡ inputs.Failed → Rose faults later) → Hears reading Heard (Err fault) before after faults later
 hears_fault fault stopped le cause = record { ok = tt; err = stopped; later = le; cause = λ e. cause (cc) }
 
 pub map_next : {X : Type 0} (f : X → Bytes) (before : List Bytes) (xs : List X) (i : ℕ) (x : X) → i < length xs → x ≡ get_or xs i x → (before ++ map f (take i xs)) ++ f x ∷ [] ≡ before ++ map f (take (i + 1) xs)

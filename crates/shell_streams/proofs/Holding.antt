@@ -7,10 +7,10 @@ use Rattle.std.proofs.Math.Seq.{take-add}
 use Rattle.std.proofs.lemmas.Slice.{between_is}
 use Rattle.std.proofs.lemmas.Bool.{true≢false, eqb-false}
 use Rattle.std.proofs.lemmas.Option.{same_Some}
-use Rattle.oc_bytes.specs.Outcome.{Told}
+use Rattle.oc_bytes.specs.Outcome.{Known}
 use borrow.Rule.Slice.PartMut.{put_mid, post_of}
 use Rattle.oc_bytes.specs.Streams.{Takes}
-use Rattle.shell_streams.specs.Held.{onto_left, IsDry, ReadsBehind}
+use Rattle.shell_streams.specs.Held.{onto_left, IsDry, ReadsAfter}
 
 -- without the first n of what is held
 pub range_drop : (n i j : ℕ) (xs : List ℕ) → i + n ≤ j → slice_range xs (i + n) j ≡ drop n (slice_range xs i j)
@@ -31,7 +31,7 @@ range_more xs ys i j n e h within =
     ∙ ap (λ ds. ds ++ take n (drop j xs)) (sym (between_is xs i j) ∙ range_same xs ys i j e)
 
 -- what was read goes over from what the source has left to what is held
-pub reads_on : (held more new : List ℕ) (start n : ℕ) (a b : Option (List ℕ)) → Told a b (λ before after. ReadsBehind new before after start n)
+pub reads_on : (held more new : List ℕ) (start n : ℕ) (a b : Option (List ℕ)) → Known a b (λ before after. ReadsAfter new before after start n)
     → more ≡ held ++ take n (drop start new) → onto_left more b ≡ onto_left held a
 reads_on held more new start n (Some x) (Some y) t e =
     let r = t.each x y refl refl in
@@ -47,7 +47,7 @@ drop_nil n = drop_all n [] (le-zero n)
     le-zero n = omega arith
 
 -- nothing was read, since nothing is left
-pub reads_nothing : (new : List ℕ) (start n : ℕ) (a b : Option (List ℕ)) → Told a b (λ before after. ReadsBehind new before after start n) → n ≡ 0 → IsDry b
+pub reads_nothing : (new : List ℕ) (start n : ℕ) (a b : Option (List ℕ)) → Known a b (λ before after. ReadsAfter new before after start n) → n ≡ 0 → IsDry b
 reads_nothing new start n (Some x) (Some y) t z = let r = t.each x y refl refl in r.left ∙ ap (drop n) (r.some z) ∙ drop_nil n
 reads_nothing new start n (Some x) None t z = tt
 reads_nothing new start n None (Some y) t z = absurd (true≢false t.kept)
@@ -96,7 +96,7 @@ drop-put_mid_at start k bytes into h = drop_at (take start bytes) (into ++ post_
 
 -- what was read after the first `start`
 pub reads_behind : (bytes into before after : List ℕ) (start n : ℕ) → start < length bytes → length into ≡ length bytes - start → n ≤ length bytes - start → Takes before after into n
-    → ReadsBehind (put_mid start (length bytes - start) bytes into) before after start n
+    → ReadsAfter (put_mid start (length bytes - start) bytes into) before after start n
 reads_behind bytes into before after start n lt len within t = record {
   within = t.within;
   front = ap (take n) (drop-put_mid_at start (length bytes - start) bytes into (omega arith)) ∙ take-append-le n into _ (omega arith) ∙ t.front;

@@ -6,7 +6,7 @@ use Rattle.std.proofs.lemmas.Bool.{cond-true, cond-false, le-leb, lt-leb, lt-ltb
 use Rattle.std.proofs.lemmas.Option.{same_Some}
 use Rattle.std.proofs.lemmas.List.{take-append-drop, take_at, drop_at, drop-drop, length-take-le}
 use Rattle.std.proofs.lemmas.List.Folds.{concat-append}
-use Rattle.oc_bytes.specs.Outcome.{Told}
+use Rattle.oc_bytes.specs.Outcome.{Known}
 use Rattle.section_stream.specs.Cuts.{candidates}
 use Rattle.section_stream.specs.Rules.{DemuxState, StandsFor}
 use Rattle.shell_streams.specs.Cuts.{Bytes}
@@ -97,17 +97,17 @@ told_both held (Some l) = refl
 told_both held None = refl
 
 told_taken : (a : Option Bytes) (held : Bytes) (left : Option Bytes) (packets : List Bytes) → 188 ≤ length held
-    → Told a (onto_left held left) (AreTaken packets) → Told a (onto_left (drop 188 held) left) (AreTaken (packets ++ take 188 held ∷ []))
+    → Known a (onto_left held left) (AreTaken packets) → Known a (onto_left (drop 188 held) left) (AreTaken (packets ++ take 188 held ∷ []))
 told_taken a held left packets h t = record {
   kept = told_both (drop 188 held) left ∙ sym (told_both held left) ∙ t.kept;
   each = λ x y i o. next left x y i o t;
 }
   where
-    next : (left : Option Bytes) (x y : Bytes) → a ≡ Some x → onto_left (drop 188 held) left ≡ Some y → Told a (onto_left held left) (AreTaken packets) → AreTaken (packets ++ take 188 held ∷ []) x y
+    next : (left : Option Bytes) (x y : Bytes) → a ≡ Some x → onto_left (drop 188 held) left ≡ Some y → Known a (onto_left held left) (AreTaken packets) → AreTaken (packets ++ take 188 held ∷ []) x y
     next (Some l) x y i o t = rw (sym (same_Some _ y o)) (taken_next packets x held l h (t.each x (held ++ l) i refl))
     next None x y i o t = cc
 
-told_begin : (a : Option Bytes) → Told a (onto_left [] a) (AreTaken [])
+told_begin : (a : Option Bytes) → Known a (onto_left [] a) (AreTaken [])
 told_begin a = record { kept = told_both [] a; each = λ x y e g. begin a x y e g }
   where
     begin : (a : Option Bytes) (x y : Bytes) → a ≡ Some x → onto_left [] a ≡ Some y → AreTaken [] x y
@@ -171,14 +171,14 @@ ended input held packets t short within = record {
   all = ap packets_of t.whole ∙ packets_before packets held t.sizes ∙ ap (λ ps. packets ++ ps) (packet_none held short) ∙ append-nil packets;
 }
 
-told_ended : (start left : Option Bytes) (held : Bytes) (packets : List Bytes) → Told start (onto_left held left) (AreTaken packets) → IsDry left
-    → length held < 188 → 188 * length packets + length held ≤ 3154116608 → Told start left (AreAllTaken packets)
+told_ended : (start left : Option Bytes) (held : Bytes) (packets : List Bytes) → Known start (onto_left held left) (AreTaken packets) → IsDry left
+    → length held < 188 → 188 * length packets + length held ≤ 3154116608 → Known start left (AreAllTaken packets)
 told_ended start left held packets t dry short within = record {
   kept = sym (told_both held left) ∙ t.kept;
   each = λ x y i o. end left x y i o dry t;
 }
   where
-    end : (left : Option Bytes) (x y : Bytes) → start ≡ Some x → left ≡ Some y → IsDry left → Told start (onto_left held left) (AreTaken packets) → AreAllTaken packets x y
+    end : (left : Option Bytes) (x y : Bytes) → start ≡ Some x → left ≡ Some y → IsDry left → Known start (onto_left held left) (AreTaken packets) → AreAllTaken packets x y
     end (Some l) x y i o d t =
         let none : y ≡ [] = sym (same_Some l y o) ∙ d in
         let taken : AreTaken packets x held = rw (append-nil held) at (rw d at (t.each x (held ++ l) i refl)) in
@@ -187,13 +187,13 @@ told_ended start left held packets t dry short within = record {
 
 -- the input ended within a packet
 pub taken_ended : (most : ℕ) (held old : Bytes) (start before after : Option Bytes) (packets : List Bytes) → onto_left held after ≡ onto_left old before → IsDry after
-    → length held < 188 → 0 < most → HasTaken packets most start (onto_left old before) → Told start after (AreAllTaken packets)
+    → length held < 188 → 0 < most → HasTaken packets most start (onto_left old before) → Known start after (AreAllTaken packets)
 taken_ended most held old start before after packets rest dry short some c =
     told_ended start after held packets (rw rest c.taken) dry short (omega (arith, c.number))
 
 -- the input ended at the limit
 pub taken_full : (most : ℕ) (held old : Bytes) (start before after : Option Bytes) (packets : List Bytes) → onto_left held after ≡ onto_left old before → IsDry after
-    → most ≡ 0 → ((rest : Bytes) → onto_left old before ≡ Some rest → rest ≢ [] → ⊥) → HasTaken packets most start (onto_left old before) → Told start after (AreAllTaken packets)
+    → most ≡ 0 → ((rest : Bytes) → onto_left old before ≡ Some rest → rest ≢ [] → ⊥) → HasTaken packets most start (onto_left old before) → Known start after (AreAllTaken packets)
 taken_full most held old start before after packets rest dry full none c = record {
   kept = sym (told_both held after) ∙ ap is_some rest ∙ c.taken.kept;
   each = λ x y i o.
@@ -205,14 +205,14 @@ taken_full most held old start before after packets rest dry full none c = recor
 
 -- ---- stopping
 
-halted : (start left : Option Bytes) (held : Bytes) (packets : List Bytes) (s : InputFault) → Told start (onto_left held left) (AreTaken packets)
-    → ((x : Bytes) → start ≡ Some x → s ≡ faults.TooLong → is_over_packets 16777216 x ≡ true) → Told start left (Stops packets s)
+halted : (start left : Option Bytes) (held : Bytes) (packets : List Bytes) (s : InputFault) → Known start (onto_left held left) (AreTaken packets)
+    → ((x : Bytes) → start ≡ Some x → s ≡ faults.TooLong → is_over_packets 16777216 x ≡ true) → Known start left (Stops packets s)
 halted start left held packets s t long = record {
   kept = sym (told_both held left) ∙ t.kept;
   each = λ x y i o. halt left x y i o t;
 }
   where
-    halt : (left : Option Bytes) (x y : Bytes) → start ≡ Some x → left ≡ Some y → Told start (onto_left held left) (AreTaken packets) → Stops packets s x y
+    halt : (left : Option Bytes) (x y : Bytes) → start ≡ Some x → left ≡ Some y → Known start (onto_left held left) (AreTaken packets) → Stops packets s x y
     halt (Some l) x y i o t =
         let r = t.each x (held ++ l) i refl in
         record {
@@ -226,7 +226,7 @@ halted start left held packets s t long = record {
 
 -- a fault, or out of memory, stopped reading
 pub taken_stopped : (most : ℕ) (held old : Bytes) (start before after : Option Bytes) (packets : List Bytes) (s : InputFault) → (s ≡ faults.TooLong → ⊥)
-    → onto_left held after ≡ onto_left old before → HasTaken packets most start (onto_left old before) → Told start after (Stops packets s)
+    → onto_left held after ≡ onto_left old before → HasTaken packets most start (onto_left old before) → Known start after (Stops packets s)
 taken_stopped most held old start before after packets s n rest c = halted start after held packets s (rw rest c.taken) (λ x i e. absurd (n e))
 
 over : (packets : List Bytes) (input rest : Bytes) → AreTaken packets input rest → length packets ≡ 16777216 → rest ≢ [] → is_over_packets 16777216 input ≡ true
@@ -239,13 +239,13 @@ over packets input rest t n some =
 
 -- at least a byte more stands after the limit
 pub taken_over : (most : ℕ) (held old : Bytes) (start before after : Option Bytes) (packets : List Bytes) → onto_left held after ≡ onto_left old before → most ≡ 0
-    → ((rest : Bytes) → onto_left old before ≡ Some rest → rest ≢ []) → HasTaken packets most start (onto_left old before) → Told start after (Stops packets faults.TooLong)
+    → ((rest : Bytes) → onto_left old before ≡ Some rest → rest ≢ []) → HasTaken packets most start (onto_left old before) → Known start after (Stops packets faults.TooLong)
 taken_over most held old start before after packets rest full some c =
     halted start after held packets faults.TooLong (rw rest c.taken)
     (λ x i e. let r = told_here start (onto_left old before) x c.taken i in over packets x r.0 r.2 (omega (arith, c.number, full)) (some r.0 r.1))
 
 -- a prefix of the input was taken
-pub stops_stopped : {packets : List Bytes} {s : InputFault} {a b : Option Bytes} → Told a b (Stops packets s) → Told a b (Stopped (is_over_packets 16777216) s)
+pub stops_stopped : {packets : List Bytes} {s : InputFault} {a b : Option Bytes} → Known a b (Stops packets s) → Known a b (Stopped (is_over_packets 16777216) s)
 stops_stopped t = told_weaker t (λ x y h. record { rear = record { taken = h.taken; whole = h.whole }; too_long = h.too_long })
 
 -- ---- the candidates of what was taken
@@ -254,12 +254,12 @@ pub reader_taken : {pid : ℕ} {reader : PacketReader} {start left : Option Byte
     → HasTaken c.packets reader.most start (onto_left reader.unread left)
 reader_taken c = record { number = c.number; taken = c.taken }
 
-pub reader_ended : {pid : ℕ} {reader : PacketReader} {start left after : Option Bytes} {cs : List Bytes} (c : HasCut pid reader start left cs) → Told start after (AreAllTaken c.packets)
-    → Told start after (HasEnded pid cs)
+pub reader_ended : {pid : ℕ} {reader : PacketReader} {start left after : Option Bytes} {cs : List Bytes} (c : HasCut pid reader start left cs) → Known start after (AreAllTaken c.packets)
+    → Known start after (HasEnded pid cs)
 reader_ended {pid} c t = told_weaker t (λ x y e. record { to_end = e.to_end; within = e.within; all = ap (candidates pid) e.all ∙ c.all })
 
 pub reader_stopped : {pid : ℕ} {reader : PacketReader} {start left after : Option Bytes} {cs : List Bytes} (s : InputFault) (c : HasCut pid reader start left cs)
-    → Told start after (Stops c.packets s) → Told start after (Halts pid cs s)
+    → Known start after (Stops c.packets s) → Known start after (Halts pid cs s)
 reader_stopped s c t = told_weaker t (λ x y h. record {
   taken = h.taken;
   whole = h.whole;

@@ -1,7 +1,7 @@
 -- Writes of an output.
 use Rattle.std.proofs.Common.{IsErrOf, ◌≡◌, ◌≤◌, [], ◌++◌, take, drop, Ok, Err, refl, sym, ap, ◌∙◌, append-nil, take-append-drop, arith}
-use Rattle.oc_bytes.specs.Outcome.{Rose, Told}
-use Rattle.oc_bytes.specs.Streams.{AppendsFront}
+use Rattle.oc_bytes.specs.Outcome.{Rose, Known}
+use Rattle.oc_bytes.specs.Streams.{AppendsPrefix}
 use Rattle.section_stream.specs.Cuts.{Bytes}
 use Rattle.oc_bytes.specs.declared.sink.WriteFault.{WriteFault}
 use Rattle.oc_bytes.specs.declared.sink.WriteFault.TheVariants as writes
@@ -12,7 +12,7 @@ use Rattle.shell_streams.proofs.CallerLemmas.{told_weaker, told_same}
 
 -- all of these bytes were written, and they are what was pending and then the text
 pub all_written : {T : Type 0} {x : T} {old new : OutputState} {text : Bytes} (all : Bytes) → new.name ≡ old.name → old.pending ++ text ≡ all → new.pending ≡ []
-    → Told old.written new.written (λ before after. after ≡ before ++ all) → old.faults ≤ new.faults → IsInTime old new → new.failed ≡ old.failed → Puts (Ok x) old new text
+    → Known old.written new.written (λ before after. after ≡ before ++ all) → old.faults ≤ new.faults → IsInTime old new → new.failed ≡ old.failed → Puts (Ok x) old new text
 all_written {new = new} {text = text} all name is none t later in_time on = record {
   same = name;
   ok = told_weaker t (λ x y e. record { sent = all; after_is = e; split = is ∙ sym (append-nil all) ∙ ap (λ bs. all ++ bs) (sym none) });
@@ -25,7 +25,7 @@ all_written {new = new} {text = text} all name is none t later in_time on = reco
 
 -- a prefix of them was
 pub part_written : {T : Type 0} {f : OutputFault} {old new : OutputState} {text : Bytes} (all : Bytes) → new.name ≡ old.name → old.pending ++ text ≡ all
-    → Told old.written new.written (λ before after. AppendsFront before after all) → old.faults ≤ new.faults → (f ≡ faults.Failed → Rose old.faults new.faults)
+    → Known old.written new.written (λ before after. AppendsPrefix before after all) → old.faults ≤ new.faults → (f ≡ faults.Failed → Rose old.faults new.faults)
     → IsInTime old new → ((f ≡ faults.Failed → ⊥) → new.failed ≡ old.failed) → Puts {T = T} (Err f) old new text
 part_written all name is t later cause in_time on = record {
   same = name;

@@ -1,6 +1,6 @@
 -- How what is heard stands in an input, and what a listener heard of it.
 use Rattle.std.specs.Prelude.{◌≡◌, ◌≤◌, ℕ, Bool, List, Option, Result, Err, IfOk, IfErr}
-use Rattle.oc_bytes.specs.Outcome.{Rose, Told}
+use Rattle.oc_bytes.specs.Outcome.{Rose, Known}
 use Rattle.shell_streams.specs.Cuts.{Bytes, back_to_back}
 use Rattle.shell_streams.specs.Held.{AllTaken, Stopped, is_over_sections}
 use Rattle.shell_streams.specs.Packets.{packets_of, candidates_of, is_over_packets}
@@ -35,12 +35,12 @@ all_packets = record { standing_in = packets_of; goes_on = is_over_packets 16777
 -- the input was read to its end and within its limit, and all that stands in it was heard
 pub record HeardAll (reading : Reading) (Heard : List Bytes → Type 0) (before after : Option Bytes) : Type 0 where
   pub taken : List Bytes
-  pub told : Told before after (AllTaken reading.standing_in reading.goes_on taken)
+  pub told : Known before after (AllTaken reading.standing_in reading.goes_on taken)
   pub heard : Heard taken
 
 -- All that stands in an input was heard, or a fault stopped that after a prefix of the input.
 pub record Hears {T : Type 0} (reading : Reading) (Heard : T → List Bytes → Type 0) (outcome : Result T InputFault) (before after : Option Bytes) (faults faults_after : ℕ) : Type 0 where
   pub ok : IfOk outcome (λ x. HeardAll reading (Heard x) before after)
-  pub err : IfErr outcome (λ fault. Told before after (Stopped reading.goes_on fault))
+  pub err : IfErr outcome (λ fault. Known before after (Stopped reading.goes_on fault))
   pub later : faults ≤ faults_after
   pub cause : outcome ≡ Err inputs.Failed → Rose faults faults_after

@@ -4,7 +4,7 @@ use Rattle.std.specs.Prelude.{ℕ, ◌+◌, ◌*◌, ◌%◌, ◌&&◌, length, 
 pub use Rattle.section_stream.specs.Cuts.{Bytes, back_to_back_in, back_to_back}
 
 -- the length of the section at the front of these bytes, where it is whole there
-abbrev pub front_len : Bytes → Option ℕ
-front_len bytes =
+abbrev pub prefix_length : Bytes → Option ℕ
+prefix_length bytes =
     let n = 3 + (slice_index bytes 1 % 16 * 256 + slice_index bytes 2) in
     if nat_le 3 (length bytes) && nat_le n (length bytes) then Some n else None

@@ -31,7 +31,7 @@ pub record IsRear (input left : Bytes) : Type 0 where
   pub whole : input ≡ taken ++ left
 
 -- so many bytes of a source went after the first `start` of a buffer
-pub record ReadsBehind (new before after : Bytes) (start n : ℕ) : Type 0 where
+pub record ReadsAfter (new before after : Bytes) (start n : ℕ) : Type 0 where
   pub within : n ≤ length before
   pub front : take n (drop start new) ≡ take n before
   pub left : after ≡ drop n before

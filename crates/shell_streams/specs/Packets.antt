@@ -1,7 +1,7 @@
 -- The packets of an input, and what was cut out of those that were taken. A packet has 188 bytes (ISO/IEC 13818-1, 2.4.3.2).
 use Rattle.std.specs.Prelude.{◌≡◌, ℕ, zero, suc, ◌+◌, ◌*◌, Bool, true, List, [], ◌∷◌, ◌++◌, length, take, drop, Option, nat_le, nat_lt, if◌then◌else◌}
 use Rattle.std.specs.List.{concat}
-use Rattle.oc_bytes.specs.Outcome.{Told}
+use Rattle.oc_bytes.specs.Outcome.{Known}
 use Rattle.section_stream.specs.Cuts.{candidates}
 use Rattle.section_stream.specs.Rules.{StandsFor}
 use Rattle.shell_streams.specs.Cuts.{Bytes}
@@ -39,7 +39,7 @@ pub record AreTaken (packets : List Bytes) (input rest : Bytes) : Type 0 where
 -- these packets were taken from the front of an input, of which this is left, and so many may still be taken
 pub record HasTaken (packets : List Bytes) (most : ℕ) (start rest : Option Bytes) : Type 0 where
   pub number : length packets + most ≡ 16777216
-  pub taken : Told start rest (AreTaken packets)
+  pub taken : Known start rest (AreTaken packets)
 
 -- what was taken of an input when reading stopped: these packets, and perhaps others after them; where it stopped at the limit, the
 -- input goes on after that
@@ -60,7 +60,7 @@ pub record HasCut (pid : ℕ) (reader : PacketReader) (start left : Option Bytes
   pub number : length packets + reader.most ≡ 16777216
   pub pid_is : reader.demux.pid ≡ pid
   pub stands : StandsFor reader.demux packets
-  pub taken : Told start (onto_left reader.unread left) (AreTaken packets)
+  pub taken : Known start (onto_left reader.unread left) (AreTaken packets)
   pub all : candidates pid packets ≡ candidates_so_far
 
 -- what was taken of the input when a command stopped: its packets are those of which these are the candidates, and perhaps

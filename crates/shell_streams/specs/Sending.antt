@@ -1,6 +1,6 @@
 -- Output that is written in large pieces: what was written, and what is pending.
 use Rattle.std.specs.Prelude.{◌≡◌, ◌≤◌, ℕ, ◌++◌, Bool, false, Option, Result, Ok, OnOk, OnErr, IsErrOf}
-use Rattle.oc_bytes.specs.Outcome.{Rose, Told}
+use Rattle.oc_bytes.specs.Outcome.{Rose, Known}
 use Rattle.oc_bytes.specs.declared.sink.WriteFault.{WriteFault}
 use Rattle.oc_bytes.specs.declared.sink.WriteFault.TheVariants as writes
 use Rattle.shell_streams.specs.declared.output.OutputFault.{OutputFault}
@@ -35,8 +35,8 @@ IsInTime old new = old.failed ≡ false → new.late ≡ old.late
 -- A call put the text after what was pending: what isn't written of it is pending then. After a fault a prefix of it was written.
 pub record Puts {T : Type 0} (outcome : Result T OutputFault) (old new : OutputState) (text : Bytes) : Type 0 where
   pub same : new.name ≡ old.name
-  pub ok : OnOk outcome (Told old.written new.written (Sends old.pending text new.pending))
-  pub err : OnErr outcome (Told old.written new.written (SendsPart old.pending text))
+  pub ok : OnOk outcome (Known old.written new.written (Sends old.pending text new.pending))
+  pub err : OnErr outcome (Known old.written new.written (SendsPart old.pending text))
   pub later : old.faults ≤ new.faults
   pub cause : IsErrOf outcome faults.Failed → Rose old.faults new.faults
   pub in_time : IsInTime old new

@@ -3,16 +3,19 @@ ghost use Rattle.shell_streams.specs.Sending.{Puts};
 
 use oc_bytes::{NoMemory, Sink, WriteFault, write_all};
 use std::alloc::{AllocError, Global};
+use thiserror::Error;
 
 /// The most bytes that are pending.
 const ROOM: usize = 65_536;
 
 /// Why output wasn't taken.
-#[derive(Clone, Copy, Debug, PartialEq, Eq)]
+#[derive(Clone, Copy, Debug, PartialEq, Eq, Error)]
 pub enum OutputFault {
     /// The sink failed.
+    #[error("the write failed")]
     Failed,
     /// There is no memory.
+    #[error("out of memory")]
     NoMemory,
 }
 

@@ -1,5 +1,5 @@
 ghost use Rattle.std.specs.Prelude.{◌≡◌, ◌+◌, ◌<◌, ◌≤◌, ◌↔◌, ◌++◌, ℕ, List, Option, [], map, length, IsTrue, Ok, None, true, false, IfOk, IfErr, IfSome, OnErr};
-ghost use Rattle.oc_bytes.specs.Outcome.{Rose, Told};
+ghost use Rattle.oc_bytes.specs.Outcome.{Rose, Known};
 ghost use Rattle.section_stream.specs.Kept.{view_bytes};
 ghost use Rattle.shell_streams.specs.Cuts.{Bytes};
 ghost use Rattle.shell_streams.specs.Held.{onto_left, IsDry};
@@ -49,9 +49,9 @@ impl PacketReader {
             → HasCut pid self.new start (S.left source.new) (cs ++ map view_bytes out.items))) }
         ensures fewer { IfOk result (λ out. IfSome out (λ _. self.new.most < self.old.most)) }
         ensures ended { result ≡ Ok None → (pid : ℕ) (start : Option Bytes) (cs : List Bytes) → HasCut pid self.old start (S.left source.old) cs
-            → Told start (S.left source.new) (HasEnded pid cs) }
+            → Known start (S.left source.new) (HasEnded pid cs) }
         ensures stopped { IfErr result (λ s. (pid : ℕ) (start : Option Bytes) (cs : List Bytes) → HasCut pid self.old start (S.left source.old) cs
-            → Told start (S.left source.new) (Halts pid cs s)) }
+            → Known start (S.left source.new) (Halts pid cs s)) }
         ensures later { S.faults source.old ≤ S.faults source.new }
         ensures read_fault { IfErr result (λ s. s ≡ InputFault.Failed → Rose (S.faults source.old) (S.faults source.new)) }
     {
@@ -80,9 +80,9 @@ pub fn has_next<S: Source>(
     ensures next { result ≡ Ok true → (188 ≤ length unread.new) × (0 < most) }
     ensures rest { onto_left unread.new (S.left source.new) ≡ onto_left unread.old (S.left source.old) }
     ensures ended { result ≡ Ok false → (start : Option Bytes) (packets : List Bytes) → HasTaken packets most start (onto_left unread.old (S.left source.old))
-        → Told start (S.left source.new) (AreAllTaken packets) }
+        → Known start (S.left source.new) (AreAllTaken packets) }
     ensures stopped { IfErr result (λ s. (start : Option Bytes) (packets : List Bytes) → HasTaken packets most start (onto_left unread.old (S.left source.old))
-        → Told start (S.left source.new) (Stops packets s)) }
+        → Known start (S.left source.new) (Stops packets s)) }
     ensures later { S.faults source.old ≤ S.faults source.new }
     ensures read_fault { IfErr result (λ s. s ≡ InputFault.Failed → Rose (S.faults source.old) (S.faults source.new)) }
 {

@@ -1,6 +1,6 @@
 ghost use Rattle.std.specs.Prelude.{◌≡◌, ◌≢◌, ◌<◌, ◌≤◌, ◌↔◌, ℕ, [], Ok, Some, None, false, IsTrue, length, IfOk, OnErr};
 ghost use Rattle.oc_bytes.specs.Outcome.{Rose};
-ghost use Rattle.shell_streams.specs.Cuts.{Bytes, front_len};
+ghost use Rattle.shell_streams.specs.Cuts.{Bytes, prefix_length};
 ghost use Rattle.shell_streams.specs.Held.{onto_left, IsDry};
 
 use crate::unread::Unread;
@@ -8,7 +8,7 @@ use oc_bytes::{Failed, Source};
 
 /// The length of the section at the front of the bytes, its three first bytes included, where it is whole there.
 fn section_len(bytes: &[u8]) -> Option<usize>
-    ensures len { result ≡ front_len bytes.now }
+    ensures len { result ≡ prefix_length bytes.now }
     ensures short { result ≡ None → length bytes.now < 4098 }
 {
     if bytes.len() < 3 {
@@ -20,7 +20,7 @@ fn section_len(bytes: &[u8]) -> Option<usize>
 
 /// The length of the next section, which then is held; none where the input ended before its end.
 pub fn next_section<S: Source>(unread: &mut Unread, source: &mut S) -> Result<Option<usize>, Failed>
-    ensures len { IfOk result (λ len. len ≡ front_len unread.new) }
+    ensures len { IfOk result (λ len. len ≡ prefix_length unread.new) }
     ensures ended { result ≡ Ok None → IsDry (S.left source.new) }
     ensures rest { onto_left unread.new (S.left source.new) ≡ onto_left unread.old (S.left source.old) }
     ensures later { S.faults source.old ≤ S.faults source.new }

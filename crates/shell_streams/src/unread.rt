@@ -1,6 +1,6 @@
 ghost use Rattle.std.specs.Prelude.{◌≡◌, ◌+◌, ◌-◌, ◌<◌, ◌≤◌, ℕ, [], Ok, false, true, length, take, drop, IfOk, OnErr, IsErr};
-ghost use Rattle.oc_bytes.specs.Outcome.{Rose, Told};
-ghost use Rattle.shell_streams.specs.Held.{onto_left, IsDry, ReadsBehind};
+ghost use Rattle.oc_bytes.specs.Outcome.{Rose, Known};
+ghost use Rattle.shell_streams.specs.Held.{onto_left, IsDry, ReadsAfter};
 
 use oc_bytes::{Failed, NoMemory, Source};
 use std::alloc::Global;
@@ -100,7 +100,7 @@ fn read_behind<S: Source>(source: &mut S, bytes: &mut [u8], start: usize) -> Res
     requires { start < length bytes.old }
     ensures front { take start bytes.new ≡ take start bytes.old }
     ensures within { IfOk result (λ n. start + n ≤ length bytes.old) }
-    ensures read { IfOk result (λ n. Told (S.left source.old) (S.left source.new) (λ before after. ReadsBehind bytes.new before after start n)) }
+    ensures read { IfOk result (λ n. Known (S.left source.old) (S.left source.new) (λ before after. ReadsAfter bytes.new before after start n)) }
     ensures nothing { OnErr result (S.left source.new ≡ S.left source.old) }
     ensures later { S.faults source.old ≤ S.faults source.new }
     ensures cause { OnErr result (Rose (S.faults source.old) (S.faults source.new)) }

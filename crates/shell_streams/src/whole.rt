@@ -1,5 +1,5 @@
 ghost use Rattle.std.specs.Prelude.{◌≡◌, ◌≤◌, Err, IfOk, IfErr};
-ghost use Rattle.oc_bytes.specs.Outcome.{Rose, Told};
+ghost use Rattle.oc_bytes.specs.Outcome.{Rose, Known};
 ghost use Rattle.shell_streams.specs.Held.{AllTaken, Stopped, is_longer};
 
 use crate::input::InputFault;
@@ -19,8 +19,8 @@ pub fn read_all<S: Source>(
     source: &mut S,
     most: usize,
 ) -> Result<Vec<u8>, InputFault>
-    ensures whole { IfOk result (λ bytes. Told (S.left source.old) (S.left source.new) (AllTaken (λ input. input) (is_longer most) bytes.items)) }
-    ensures stopped { IfErr result (λ fault. Told (S.left source.old) (S.left source.new) (Stopped (is_longer most) fault)) }
+    ensures whole { IfOk result (λ bytes. Known (S.left source.old) (S.left source.new) (AllTaken (λ input. input) (is_longer most) bytes.items)) }
+    ensures stopped { IfErr result (λ fault. Known (S.left source.old) (S.left source.new) (Stopped (is_longer most) fault)) }
     ensures later { S.faults source.old ≤ S.faults source.new }
     ensures cause { result ≡ Err InputFault.Failed → Rose (S.faults source.old) (S.faults source.new) }
 {

@@ -15,7 +15,7 @@ use Rattle.clap.specs.declared.parser.ValueSource.TheVariants.{CommandLine}
 use Rattle.clap.specs.Words.{reading_of}
 use Rattle.clap.specs.declared.builder.ValueParser.TheVariants as parsers
 use Rattle.shell_words.specs.Words.{begins_with_dash}
-use Rattle.shell_words.specs.Counting.{Fits, single, opening, publishing, app_of_keyword, one}
+use Rattle.shell_words.specs.Counting.{Fits, single, open_app, publish_app, app_of_keyword, one}
 use Rattle.shell_words.proofs.Naming.{any_map, same_length}
 use Rattle.shell_words.specs.declared.keyword.Keyword.{Keyword}
 use Rattle.shell_words.specs.declared.keyword.Keyword.TheVariants.{Assemble, Open, Record, List as ListAll, Publish, Rehearse, Session, Big, Find, OpenId, PublishPsi}
@@ -150,28 +150,28 @@ single_0 name (a ∷ rest) p =
     one_word (shape (single name)) nothing_held 1 (between (held ([]) (codes "VALUE") a) false 2) 0 a rest (neither _ _ p).0 refl refl (single_1 name a rest (neither _ _ p).1)
 
 -- a folder, a carousel and a number of cycles
-publish_3 : (name : Text) (a b c : Text) (words : List Text) → list_any begins_with_dash words ≡ false → Counts (shape (publishing name)) (between (held (row (codes "FOLDER") (a ∷ []) ∷ row (codes "CAROUSEL") (b ∷ []) ∷ []) (codes "CYCLES") c) false 4) (length words ≡ 0) words
+publish_3 : (name : Text) (a b c : Text) (words : List Text) → list_any begins_with_dash words ≡ false → Counts (shape (publish_app name)) (between (held (row (codes "FOLDER") (a ∷ []) ∷ row (codes "CAROUSEL") (b ∷ []) ∷ []) (codes "CYCLES") c) false 4) (length words ≡ 0) words
 unfolding walk_fault defaults_fault
 publish_3 name a b c [] p = record { fits = λ _. refl; only = λ _. refl }
-publish_3 name a b c (x ∷ rest) p = too_many (shape (publishing name)) (held (row (codes "FOLDER") (a ∷ []) ∷ row (codes "CAROUSEL") (b ∷ []) ∷ []) (codes "CYCLES") c) false 4 _ _ _ x rest (λ e. omega arith) (neither _ _ p).0 refl
+publish_3 name a b c (x ∷ rest) p = too_many (shape (publish_app name)) (held (row (codes "FOLDER") (a ∷ []) ∷ row (codes "CAROUSEL") (b ∷ []) ∷ []) (codes "CYCLES") c) false 4 _ _ _ x rest (λ e. omega arith) (neither _ _ p).0 refl
 
-publish_2 : (name : Text) (a b : Text) (words : List Text) → list_any begins_with_dash words ≡ false → Counts (shape (publishing name)) (between (held (row (codes "FOLDER") (a ∷ []) ∷ []) (codes "CAROUSEL") b) false 3) (length words ≡ 1) words
+publish_2 : (name : Text) (a b : Text) (words : List Text) → list_any begins_with_dash words ≡ false → Counts (shape (publish_app name)) (between (held (row (codes "FOLDER") (a ∷ []) ∷ []) (codes "CAROUSEL") b) false 3) (length words ≡ 1) words
 unfolding walk_fault defaults_fault
-publish_2 name a b [] p = too_few (shape (publishing name)) (between (held (row (codes "FOLDER") (a ∷ []) ∷ []) (codes "CAROUSEL") b) false 3) _ _ _ (λ e. omega arith) refl
+publish_2 name a b [] p = too_few (shape (publish_app name)) (between (held (row (codes "FOLDER") (a ∷ []) ∷ []) (codes "CAROUSEL") b) false 3) _ _ _ (λ e. omega arith) refl
 publish_2 name a b (c ∷ rest) p =
-    one_word (shape (publishing name)) (held (row (codes "FOLDER") (a ∷ []) ∷ []) (codes "CAROUSEL") b) 3 (between (held (row (codes "FOLDER") (a ∷ []) ∷ row (codes "CAROUSEL") (b ∷ []) ∷ []) (codes "CYCLES") c) false 4) 0 c rest (neither _ _ p).0 refl refl (publish_3 name a b c rest (neither _ _ p).1)
+    one_word (shape (publish_app name)) (held (row (codes "FOLDER") (a ∷ []) ∷ []) (codes "CAROUSEL") b) 3 (between (held (row (codes "FOLDER") (a ∷ []) ∷ row (codes "CAROUSEL") (b ∷ []) ∷ []) (codes "CYCLES") c) false 4) 0 c rest (neither _ _ p).0 refl refl (publish_3 name a b c rest (neither _ _ p).1)
 
-publish_1 : (name : Text) (a : Text) (words : List Text) → list_any begins_with_dash words ≡ false → Counts (shape (publishing name)) (between (held ([]) (codes "FOLDER") a) false 2) (length words ≡ 2) words
+publish_1 : (name : Text) (a : Text) (words : List Text) → list_any begins_with_dash words ≡ false → Counts (shape (publish_app name)) (between (held ([]) (codes "FOLDER") a) false 2) (length words ≡ 2) words
 unfolding walk_fault defaults_fault
-publish_1 name a [] p = too_few (shape (publishing name)) (between (held ([]) (codes "FOLDER") a) false 2) _ _ _ (λ e. omega arith) refl
+publish_1 name a [] p = too_few (shape (publish_app name)) (between (held ([]) (codes "FOLDER") a) false 2) _ _ _ (λ e. omega arith) refl
 publish_1 name a (b ∷ rest) p =
-    one_word (shape (publishing name)) (held ([]) (codes "FOLDER") a) 2 (between (held (row (codes "FOLDER") (a ∷ []) ∷ []) (codes "CAROUSEL") b) false 3) 1 b rest (neither _ _ p).0 refl refl (publish_2 name a b rest (neither _ _ p).1)
+    one_word (shape (publish_app name)) (held ([]) (codes "FOLDER") a) 2 (between (held (row (codes "FOLDER") (a ∷ []) ∷ []) (codes "CAROUSEL") b) false 3) 1 b rest (neither _ _ p).0 refl refl (publish_2 name a b rest (neither _ _ p).1)
 
-publish_0 : (name : Text) (words : List Text) → list_any begins_with_dash words ≡ false → Counts (shape (publishing name)) (between nothing_held false 1) (length words ≡ 3) words
+publish_0 : (name : Text) (words : List Text) → list_any begins_with_dash words ≡ false → Counts (shape (publish_app name)) (between nothing_held false 1) (length words ≡ 3) words
 unfolding walk_fault defaults_fault
-publish_0 name [] p = too_few (shape (publishing name)) (between nothing_held false 1) _ _ _ (λ e. omega arith) refl
+publish_0 name [] p = too_few (shape (publish_app name)) (between nothing_held false 1) _ _ _ (λ e. omega arith) refl
 publish_0 name (a ∷ rest) p =
-    one_word (shape (publishing name)) nothing_held 1 (between (held ([]) (codes "FOLDER") a) false 2) 2 a rest (neither _ _ p).0 refl refl (publish_1 name a rest (neither _ _ p).1)
+    one_word (shape (publish_app name)) nothing_held 1 (between (held ([]) (codes "FOLDER") a) false 2) 2 a rest (neither _ _ p).0 refl refl (publish_1 name a rest (neither _ _ p).1)
 
 -- a module
 assemble_4 : (a b c d : Text) (words : List Text) → list_any begins_with_dash words ≡ false → Counts (shape (app_of_keyword Assemble)) (between (held (row (codes "ID") (a ∷ []) ∷ row (codes "VERSION") (b ∷ []) ∷ row (codes "SIZE") (c ∷ []) ∷ []) (codes "DOWNLOAD") d) false 5) (length words ≡ 0) words
@@ -208,33 +208,33 @@ abbrev paths_found : Text → List Text → Text → Held
 paths_found a seen last = held (row (codes "SOURCE") (a ∷ []) ∷ row (codes "PATH") seen ∷ []) (codes "PATH") last
 
 open_all : (name : Text) (a : Text) (seen : List Text) (last : Text) (words : List Text) → list_any begins_with_dash words ≡ false
-    → faults_from (shape (opening name)) (between (paths_found a seen last) true 2) words ≡ []
+    → faults_from (shape (open_app name)) (between (paths_found a seen last) true 2) words ≡ []
 unfolding walk_fault defaults_fault
 open_all name a seen last [] p = refl
 open_all name a seen last (x ∷ rest) p =
-    next_is (shape (opening name)) (paths_found a seen last) true 2 (between (paths_found a (seen ++ last ∷ []) x) true 2) x rest (neither _ _ p).0 refl refl
+    next_is (shape (open_app name)) (paths_found a seen last) true 2 (between (paths_found a (seen ++ last ∷ []) x) true 2) x rest (neither _ _ p).0 refl refl
     ∙ open_all name a (seen ++ last ∷ []) x rest (neither _ _ p).1
 
 open_2 : (name : Text) (a b : Text) (words : List Text) → list_any begins_with_dash words ≡ false
-    → faults_from (shape (opening name)) (between (held (row (codes "SOURCE") (a ∷ []) ∷ []) (codes "PATH") b) true 2) words ≡ []
+    → faults_from (shape (open_app name)) (between (held (row (codes "SOURCE") (a ∷ []) ∷ []) (codes "PATH") b) true 2) words ≡ []
 unfolding walk_fault defaults_fault
 open_2 name a b [] p = refl
 open_2 name a b (x ∷ rest) p =
-    next_is (shape (opening name)) (held (row (codes "SOURCE") (a ∷ []) ∷ []) (codes "PATH") b) true 2 (between (paths_found a (b ∷ []) x) true 2) x rest (neither _ _ p).0 refl refl
+    next_is (shape (open_app name)) (held (row (codes "SOURCE") (a ∷ []) ∷ []) (codes "PATH") b) true 2 (between (paths_found a (b ∷ []) x) true 2) x rest (neither _ _ p).0 refl refl
     ∙ open_all name a (b ∷ []) x rest (neither _ _ p).1
 
-open_1 : (name : Text) (a : Text) (words : List Text) → list_any begins_with_dash words ≡ false → Counts (shape (opening name)) (between (held [] (codes "SOURCE") a) false 2) (1 ≤ length words) words
+open_1 : (name : Text) (a : Text) (words : List Text) → list_any begins_with_dash words ≡ false → Counts (shape (open_app name)) (between (held [] (codes "SOURCE") a) false 2) (1 ≤ length words) words
 unfolding walk_fault defaults_fault
-open_1 name a [] p = too_few (shape (opening name)) (between (held [] (codes "SOURCE") a) false 2) _ _ _ (λ e. omega arith) refl
+open_1 name a [] p = too_few (shape (open_app name)) (between (held [] (codes "SOURCE") a) false 2) _ _ _ (λ e. omega arith) refl
 open_1 name a (b ∷ rest) p =
-    let is = next_is (shape (opening name)) (held [] (codes "SOURCE") a) false 2 (between (held (row (codes "SOURCE") (a ∷ []) ∷ []) (codes "PATH") b) true 2) b rest (neither _ _ p).0 refl refl in
+    let is = next_is (shape (open_app name)) (held [] (codes "SOURCE") a) false 2 (between (held (row (codes "SOURCE") (a ∷ []) ∷ []) (codes "PATH") b) true 2) b rest (neither _ _ p).0 refl refl in
     record { fits = λ _. is ∙ open_2 name a b rest (neither _ _ p).1; only = λ _. omega arith }
 
-open_0 : (name : Text) (words : List Text) → list_any begins_with_dash words ≡ false → Counts (shape (opening name)) (between nothing_held false 1) (2 ≤ length words) words
+open_0 : (name : Text) (words : List Text) → list_any begins_with_dash words ≡ false → Counts (shape (open_app name)) (between nothing_held false 1) (2 ≤ length words) words
 unfolding walk_fault defaults_fault
-open_0 name [] p = too_few (shape (opening name)) (between nothing_held false 1) _ _ _ (λ e. omega arith) refl
+open_0 name [] p = too_few (shape (open_app name)) (between nothing_held false 1) _ _ _ (λ e. omega arith) refl
 open_0 name (a ∷ rest) p =
-    let is = next_is (shape (opening name)) nothing_held false 1 (between (held [] (codes "SOURCE") a) false 2) a rest (neither _ _ p).0 refl refl in
+    let is = next_is (shape (open_app name)) nothing_held false 1 (between (held [] (codes "SOURCE") a) false 2) a rest (neither _ _ p).0 refl refl in
     let more = open_1 name a rest (neither _ _ p).1 in
     record { fits = λ l. is ∙ more.fits (omega arith); only = λ z. let l : 1 ≤ length rest = more.only (sym is ∙ z) in omega arith }
 

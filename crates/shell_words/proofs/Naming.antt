@@ -13,7 +13,7 @@ use Rattle.shell_words.specs.declared.keyword.Keyword.{Keyword}
 use Rattle.shell_words.specs.declared.keyword.Keyword.TheVariants as keywords
 use Rattle.shell_words.specs.Keywords.{words_by}
 use Rattle.shell_words.specs.Counting.{Fits}
-use Rattle.shell_words.specs.Words.{◌>>=◌, Open, OpenId, Words, pid_in, any_u32_in, begins_with_dash, or_misfit, named, command_of, view, cause, path_in, onto_paths, all_paths, paths_in}
+use Rattle.shell_words.specs.Words.{◌>>=◌, Open, OpenId, Words, pid_in, any_u32_in, begins_with_dash, or_misfit, command_named, command_of, view, cause, path_in, onto_paths, all_paths, paths_in}
 
 pub any_map : {A : Type 0} (f : A → List ℕ) (words : List A) → list_any begins_with_dash (map f words) ≡ list_any (λ w. begins_with_dash (f w)) words
 any_map f [] = refl
@@ -28,9 +28,9 @@ command_of-dash f [] h = refl
 command_of-dash f (w ∷ ws) h = cond-true _ _ _ (any_map f (w ∷ ws) ∙ h)
 
 pub command_of-named : {A : Type 0} (f : A → List ℕ) (words : List A) (d : A) (name : List ℕ) → 0 < length words → list_any (λ w. begins_with_dash (f w)) words ≡ false → name ≡ f (get_or words 0 d)
-    → command_of (map f words) ≡ or_misfit (named name (map f (drop 1 words)))
+    → command_of (map f words) ≡ or_misfit (command_named name (map f (drop 1 words)))
 command_of-named f [] d name n h e = absurd (omega arith)
-command_of-named f (w ∷ ws) d name n h e = cond-false _ _ _ (any_map f (w ∷ ws) ∙ h) ∙ ap (λ m. or_misfit (named m (map f ws))) (sym e)
+command_of-named f (w ∷ ws) d name n h e = cond-false _ _ _ (any_map f (w ∷ ws) ∙ h) ∙ ap (λ m. or_misfit (command_named m (map f ws))) (sym e)
 
 paths_in_all : {A : Type 0} (f : A → List ℕ) (words : List A) → 0 < length words → paths_in (map f words) ≡ all_paths (map f words)
 paths_in_all f [] n = absurd (omega arith)

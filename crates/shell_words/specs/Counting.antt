@@ -31,22 +31,22 @@ abbrev pub single : Text → App
 single name = with_rule (new_app name) (one (codes "VALUE"))
 
 -- one that opens paths
-abbrev pub opening : Text → App
-opening name = with_rule (with_rule (new_app name) (one (codes "SOURCE"))) (one_or_more (codes "PATH"))
+abbrev pub open_app : Text → App
+open_app name = with_rule (with_rule (new_app name) (one (codes "SOURCE"))) (one_or_more (codes "PATH"))
 
 -- one that publishes a folder
-abbrev pub publishing : Text → App
-publishing name = with_rule (with_rule (with_rule (new_app name) (one (codes "FOLDER"))) (one (codes "CAROUSEL"))) (one (codes "CYCLES"))
+abbrev pub publish_app : Text → App
+publish_app name = with_rule (with_rule (with_rule (new_app name) (one (codes "FOLDER"))) (one (codes "CAROUSEL"))) (one (codes "CYCLES"))
 
 abbrev pub app_of_keyword : Keyword → App
 app_of_keyword Assemble = with_rule (with_rule (with_rule (with_rule (new_app (codes "assemble")) (one (codes "ID"))) (one (codes "VERSION"))) (one (codes "SIZE"))) (one (codes "DOWNLOAD"))
-app_of_keyword Open = opening (codes "open")
+app_of_keyword Open = open_app (codes "open")
 app_of_keyword Record = single (codes "record")
 app_of_keyword ListAll = single (codes "list")
-app_of_keyword Publish = publishing (codes "publish")
+app_of_keyword Publish = publish_app (codes "publish")
 app_of_keyword Rehearse = new_app (codes "rehearse")
 app_of_keyword Session = new_app (codes "session")
 app_of_keyword Big = single (codes "big")
 app_of_keyword Find = single (codes "find")
-app_of_keyword OpenId = opening (codes "open-id")
-app_of_keyword PublishPsi = publishing (codes "publish-psi")
+app_of_keyword OpenId = open_app (codes "open-id")
+app_of_keyword PublishPsi = publish_app (codes "publish-psi")

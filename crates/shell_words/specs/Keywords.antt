@@ -20,6 +20,6 @@ words_by OpenId words = commands.open_id_by words
 words_by PublishPsi words = commands.publish_psi_by words
 
 -- what the words after the first one say, where that is a keyword
-abbrev pub words_behind : List Bytes → Option Keyword → Option Named
-words_behind words (Some keyword) = words_by keyword words
-words_behind words None = None
+abbrev pub words_after : List Bytes → Option Keyword → Option Named
+words_after words (Some keyword) = words_by keyword words
+words_after words None = None

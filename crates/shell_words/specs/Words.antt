@@ -159,8 +159,8 @@ commands =
     ∷ (codes "publish", publish_by) ∷ (codes "rehearse", rehearse_by) ∷ (codes "session", session_by) ∷ (codes "big", big_by)
     ∷ (codes "find", find_by) ∷ (codes "open-id", open_id_by) ∷ (codes "publish-psi", publish_psi_by) ∷ []
 
-abbrev pub named : Bytes → List Bytes → Option Named
-named word words = find (λ c. bytes_eq word c.0) commands >>= λ c. c.1 words
+abbrev pub command_named : Bytes → List Bytes → Option Named
+command_named word words = find (λ c. bytes_eq word c.0) commands >>= λ c. c.1 words
 
 abbrev pub begins_with_dash : Bytes → Bool
 begins_with_dash [] = false
@@ -173,7 +173,7 @@ or_misfit None = Err Words
 -- the command that the words name, with the values of its words
 abbrev pub command_of : List Bytes → Result Named Misfit
 command_of [] = Err Words
-command_of (word ∷ words) = if list_any begins_with_dash (word ∷ words) then Err Words else or_misfit (named word words)
+command_of (word ∷ words) = if list_any begins_with_dash (word ∷ words) then Err Words else or_misfit (command_named word words)
 
 -- a folder has at least one byte, and there are 1 to 1,000 cycles
 abbrev pub IsPublication : Bytes → ℕ → Type 0

@@ -71,7 +71,7 @@ fn single<'a>(alloc: Global, name: &'a str) -> Result<Command<'a>, AllocError>
 
 /// Where an object is sought, and paths.
 fn open<'a>(alloc: Global, name: &'a str) -> Result<Command<'a>, AllocError>
-    ensures { IfOk result (λ c. app_of c ≡ counting.opening name.entry.now) }
+    ensures { IfOk result (λ c. app_of c ≡ counting.open_app name.entry.now) }
 {
     Command::new(alloc, name)
         .arg(one(alloc, "SOURCE"))?
@@ -80,7 +80,7 @@ fn open<'a>(alloc: Global, name: &'a str) -> Result<Command<'a>, AllocError>
 
 /// What is sent, under which number, and how often.
 fn publish<'a>(alloc: Global, name: &'a str) -> Result<Command<'a>, AllocError>
-    ensures { IfOk result (λ c. app_of c ≡ counting.publishing name.entry.now) }
+    ensures { IfOk result (λ c. app_of c ≡ counting.publish_app name.entry.now) }
 {
     Command::new(alloc, name)
         .arg(one(alloc, "FOLDER"))?

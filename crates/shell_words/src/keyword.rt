@@ -1,7 +1,7 @@
 ghost use Rattle.std.specs.Prelude.{◌≡◌, List};
 ghost use Rattle.path_tree.specs.Paths.{Bytes};
-ghost use Rattle.shell_words.specs.Words.{named};
-ghost use Rattle.shell_words.specs.Keywords.{words_behind};
+ghost use Rattle.shell_words.specs.Words.{command_named};
+ghost use Rattle.shell_words.specs.Keywords.{words_after};
 
 /// The first word of a command.
 #[derive(Clone, Copy)]
@@ -22,7 +22,7 @@ pub enum Keyword {
 impl Keyword {
     /// The keyword that a word is, byte for byte.
     pub fn parse(word: &str) -> Option<Keyword>
-        ensures { (words : List Bytes) → named word.now words ≡ words_behind words result }
+        ensures { (words : List Bytes) → command_named word.now words ≡ words_after words result }
     {
         if word == "assemble" {
             Some(Keyword::Assemble)

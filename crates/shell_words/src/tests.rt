@@ -223,3 +223,10 @@ fn texts_of_refusals(rt: HostRuntime) -> Result<(), Fail> {
     }
     Ok(())
 }
+
+#[test]
+fn faults_as_text(rt: HostRuntime) -> Result<(), Fail> {
+    let text = format!(in rt.alloc(); "{}", WordsFault::Words)?;
+    assert_eq!(rt; text.as_str(), "the words are no command with its values");
+    Ok(())
+}

@@ -1,4 +1,5 @@
 use path_tree::Path;
+use thiserror::Error;
 
 /// A command with the values of its words.
 #[derive(Drop)]
@@ -39,10 +40,12 @@ pub enum Command {
 }
 
 /// Why no command is given.
-#[derive(Clone, Copy, Debug, PartialEq, Eq)]
+#[derive(Clone, Copy, Debug, PartialEq, Eq, Error)]
 pub enum WordsFault {
     /// The words name no command, or their number or one of their values doesn't fit the command that they name.
+    #[error("the words are no command with its values")]
     Words,
     /// No memory was found.
+    #[error("out of memory")]
     NoMemory,
 }

@@ -15,12 +15,12 @@ each_from_all P [] h = tt
 each_from_all P (x ∷ xs) h = (All-head P x xs h, each_from_all P xs (All-tail P x xs h))
 
 -- new passes are passes of the station
-pub all_new : (s : Station) (first : ℕ) (ps : List (Pass Kept KeptItem)) → AreNewPasses s first ps → All (IsStationPass s) ps
+pub all_new : {X : _} {F : _} {g : _} (s : Station X F g) (first : ℕ) (ps : List (Pass Kept KeptItem)) → AreNewPasses s first ps → All (IsStationPass s) ps
 all_new s first [] h = All-nil (IsStationPass s)
 all_new s first (p ∷ ps) h = All-cons (IsStationPass s) p ps h.0 (all_new s (suc first) ps h.4)
 
 -- as many passes of the station as it was made with are all of them
-pub are_all : (s : Station) (ps : List (Pass Kept KeptItem)) → All (IsStationPass s) ps → length ps ≡ pass_count s → AreAllPasses s ps
+pub are_all : {X : _} {F : _} {g : _} (s : Station X F g) (ps : List (Pass Kept KeptItem)) → All (IsStationPass s) ps → length ps ≡ pass_count s → AreAllPasses s ps
 are_all s ps h count = (each_of ps h, count)
   where
     each_of : (qs : List (Pass Kept KeptItem)) → All (IsStationPass s) qs → Each (IsPassOf s.lock) qs

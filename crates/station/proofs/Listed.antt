@@ -8,7 +8,7 @@ use Rattle.generation_catalogue.specs.History.{CatalogueState}
 use Rattle.generation_catalogue.specs.declared.entry.Entry.{Entry as CatalogueEntry}
 use Rattle.station.specs.declared.kept.KeptItem.{KeptItem}
 use Rattle.station.specs.declared.kept.KeptItem.TheVariants.{Setting, Entry}
-use Rattle.station.specs.Items.{items_of, entries_in, carousel_in, is_opening, entry_places}
+use Rattle.station.specs.Items.{items_of, entries_in, carousel_in, weights_in, is_opening, entry_places}
 
 entries_of_entries : (es : List CatalogueEntry) → entries_in (map Entry es) ≡ es
 entries_of_entries [] = refl
@@ -19,7 +19,7 @@ entries_of_items c = entries_of_entries c.entries
 
 entries_append : (xs ys : List KeptItem) → entries_in (xs ++ ys) ≡ entries_in xs ++ entries_in ys
 entries_append [] ys = refl
-entries_append (Setting k ∷ xs) ys = entries_append xs ys
+entries_append (Setting k ws ∷ xs) ys = entries_append xs ys
 entries_append (Entry e ∷ xs) ys = ap (λ l. e ∷ l) (entries_append xs ys)
 
 pub begins_entries : (xs ys : List KeptItem) → Begins xs ys → Begins (entries_in xs) (entries_in ys)
@@ -57,11 +57,11 @@ times_entry p (suc x ∷ xs) = let h = times_entry p xs in dite (ℕ_discrete p 
 
 -- ---- the setting
 
-pub opening_is : (xs : List KeptItem) → is_opening xs ≡ true → xs ≡ Setting (carousel_in xs) ∷ []
+pub opening_is : (xs : List KeptItem) → is_opening xs ≡ true → xs ≡ Setting (carousel_in xs) (weights_in xs) ∷ []
 opening_is [] e = cc
-opening_is (Setting k ∷ []) e = refl
-opening_is (Setting k ∷ x ∷ xs) e = cc
+opening_is (Setting k ws ∷ []) e = refl
+opening_is (Setting k ws ∷ x ∷ xs) e = cc
 opening_is (Entry e' ∷ xs) e = cc
 
-pub carousel_begins : (k : ℕ) (xs : List KeptItem) → Begins (Setting k ∷ []) xs → carousel_in xs ≡ k
-carousel_begins k xs b = ap carousel_in b.1
+pub carousel_begins : (k : ℕ) (ws : List ℕ) (xs : List KeptItem) → Begins (Setting k ws ∷ []) xs → carousel_in xs ≡ k
+carousel_begins k ws xs b = ap carousel_in b.1

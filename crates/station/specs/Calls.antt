@@ -14,12 +14,13 @@ use Rattle.station.specs.declared.kept.Kept.{Kept}
 use Rattle.station.specs.declared.kept.KeptItem.{KeptItem}
 use Rattle.station.specs.Passes.{entries_seen, own_entries}
 
--- One call of a pass, p before and q after it, in one hold: it is made on a catalogue of the station's carousel whose entries begin with those that the pass had seen. Then the pass has seen all entries, and its own
+-- One call of a pass, p before and q after it, in one hold: it is made on a catalogue of the station's carousel and weights whose entries begin with those that the pass had seen. Then the pass has seen all entries, and its own
 -- places have grown by those of the entries that the call made.
-pub record InOneHold (carousel : ℕ) (p q : Pass Kept KeptItem) (Call : CatalogueState → CatalogueState → Type 0) : Type 0 where
+pub record InOneHold (carousel : ℕ) (weights : List ℕ) (p q : Pass Kept KeptItem) (Call : CatalogueState → CatalogueState → Type 0) : Type 0 where
   pub before : CatalogueState
   pub after : CatalogueState
   pub same : before.carousel ≡ carousel
+  pub weighs : before.weights ≡ weights
   pub history : IsHistory before
   pub begins : Begins (entries_seen p) before.entries
   pub call : Call before after

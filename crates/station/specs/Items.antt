@@ -7,22 +7,27 @@ use Rattle.station.specs.declared.kept.KeptItem.TheVariants.{Setting, Entry}
 
 -- the setting first, and then the entries
 abbrev pub items_of : CatalogueState → List KeptItem
-items_of c = Setting c.carousel ∷ map Entry c.entries
+items_of c = Setting c.carousel c.weights ∷ map Entry c.entries
 
 -- the entries among the items
 abbrev pub entries_in : List KeptItem → List CatalogueEntry
 entries_in [] = []
-entries_in (Setting carousel ∷ items) = entries_in items
+entries_in (Setting carousel weights ∷ items) = entries_in items
 entries_in (Entry e ∷ items) = e ∷ entries_in items
 
 -- the carousel of the setting that the items begin with
 abbrev pub carousel_in : List KeptItem → ℕ
-carousel_in (Setting carousel ∷ items) = carousel
+carousel_in (Setting carousel weights ∷ items) = carousel
 carousel_in items = 0
+
+-- and its weights
+abbrev pub weights_in : List KeptItem → List ℕ
+weights_in (Setting carousel weights ∷ items) = weights
+weights_in items = []
 
 -- the items of a catalogue with no entry
 abbrev pub is_opening : List KeptItem → Bool
-is_opening (Setting carousel ∷ []) = true
+is_opening (Setting carousel weights ∷ []) = true
 is_opening items = false
 
 -- the places of entries, which are counted from 0 after the setting, out of places of items

@@ -1,4 +1,4 @@
-// The catalogue as the lock keeps it, and the list that it stands for.
+// The history as the lock keeps it, and the list that it stands for.
 ghost use Rattle.std.specs.Prelude.{◌≡◌, IfOk, length, ◌≤◌, [], ◌∷◌, List};
 ghost use Rattle.std.specs.Arc.{arc_value};
 ghost use Rattle.std.specs.List.{All, Contains};
@@ -6,9 +6,10 @@ ghost use Rattle.generation.specs.Layouts.{items_of as items_in};
 ghost use Rattle.generation_catalogue.specs.History.{IsHistory};
 ghost use Rattle.generation_catalogue.specs.Calls.{IsCommitted, IsDrawn};
 
-use generation_catalogue::{Batch, Catalogue, CommitFault, DrawFault, Entry};
+use cycle_planner::{GREATEST_ID, Weigh};
+use generation_catalogue::{Batch, CommitFault, DrawFault, Entry, Journal};
 use history_lock::Chronicled;
-use path_tree::Edit;
+use path_tree::{Edit, Edits};
 
 /// What the list of a kept catalogue is made of: the setting first, and then the entries. It exists in proofs alone; no
 /// value of it is made.
@@ -18,47 +19,47 @@ pub enum KeptItem {
     Setting {
         /// The carousel, any 32-bit id.
         carousel: u32,
+        /// The weights of its modules, from module 1 on.
+        weights: [u8; GREATEST_ID],
     },
     /// One entry of the catalogue.
     Entry(Entry),
 }
 
-/// The catalogue of a station, as its lock keeps it.
+/// The catalogue of a station, as its lock keeps it: its history, without the closure of its weights.
 #[derive(Drop)]
 pub struct Kept {
-    pub(crate) catalogue: Catalogue,
+    pub(crate) journal: Journal,
 }
 
 impl Chronicled for Kept {
     type Entry = KeptItem;
 
-    ghost use Rattle.generation_catalogue.specs.View.{state};
     ghost use Rattle.station.specs.Items.{items_of};
 
-    ghost list = { λ kept. items_of (state kept.catalogue) };
+    ghost list = { λ kept. items_of kept.journal };
 }
 
 impl Kept {
-    ghost use Rattle.generation_catalogue.specs.View.{state};
-
     /// The catalogue's commit, with what its entries are until then.
     pub fn commit(&mut self, editor: u32, edits: Vec<Edit>) -> Result<u64, CommitFault>
-        ensures history { IsHistory (state self.old.catalogue) }
-        ensures call { IsCommitted (state self.old.catalogue) editor edits.items result (state self.new.catalogue) }
+        ensures history { IsHistory self.old.journal }
+        ensures call { IsCommitted self.old.journal editor edits.items result self.new.journal }
     {
-        self.catalogue.entries();
-        self.catalogue.commit(editor, edits)
+        self.journal.entries();
+        self.journal.commit_edits(editor, Edits::new(edits))
     }
 
-    /// The catalogue's draw, with what its entries are until then.
-    pub fn draw(&mut self, n: u32) -> Result<Batch, DrawFault>
-        requires { (1 ≤ n) × (n ≤ 1048576) }
-        ensures history { IsHistory (state self.old.catalogue) }
-        ensures call { IsDrawn (state self.old.catalogue) n result (state self.new.catalogue) }
+    /// The catalogue's draw, with what its entries are until then. The weights have to be the catalogue's.
+    pub fn draw(&mut self, weigh: &Weigh, n: u32) -> Result<Batch, DrawFault>
+        requires count { (1 ≤ n) × (n ≤ 1048576) }
+        requires weights { weigh.now.weights ≡ self.old.journal.weights }
+        ensures history { IsHistory self.old.journal }
+        ensures call { IsDrawn self.old.journal n result self.new.journal }
         ensures some { IfOk result (λ b. (1 ≤ length b.items.items) × (length b.items.items ≤ n)) }
         ensures items { IfOk result (λ b. All (λ item. Contains (items_in (arc_value b.generation)) item) b.items.items) }
     {
-        self.catalogue.entries();
-        self.catalogue.draw(n)
+        self.journal.entries();
+        self.journal.draw(weigh, n)
     }
 }

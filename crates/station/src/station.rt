@@ -7,11 +7,12 @@ ghost use Rattle.generation_catalogue.specs.History.{outcome_of, is_entered, dra
 ghost use Rattle.generation_catalogue.specs.declared.entry.Entry.TheVariants as entries;
 ghost use Rattle.history_lock.specs.History.{Begins, Each, once_within};
 ghost use Rattle.history_lock.specs.Passes.{number_of, opening_of};
-ghost use Rattle.station.specs.Items.{is_opening};
+ghost use Rattle.station.specs.Items.{is_opening, weights_in};
 ghost use Rattle.station.specs.Kept.{list_of};
 
 use crate::kept::Kept;
-use generation_catalogue::{Batch, Catalogue, CommitFault, DrawFault};
+use cycle_planner::Weigh;
+use generation_catalogue::{Batch, Catalogue, CommitFault, DrawFault, Journal};
 use history_lock::HistoryLock;
 use oc_bytes::NoMemory;
 use path_tree::Edit;
@@ -22,32 +23,40 @@ use std::sync::Wait;
 /// counted from 0.
 pub type Pass = history_lock::Pass<Kept>;
 
-/// A shared catalogue.
+/// A shared catalogue: its history under a lock, and what answers its weights beside it, which all calls share.
 #[derive(Drop)]
 pub struct Station {
     lock: HistoryLock<Kept>,
+    weigh: Weigh,
     ghost opened: { is_opening (opening_of list_of lock) ≡ true },
+    ghost weighed: { weights_in (opening_of list_of lock) ≡ weigh.weights },
 }
 
 impl Station {
     ghost use Rattle.generation_catalogue.specs.View.{state};
-    ghost use Rattle.station.specs.Passes.{IsStationPass, AreNewPasses, AreAllPasses, carousel_of, pass_count, entries_seen, seen_by, owners_of};
+    ghost use Rattle.station.specs.Passes.{IsStationPass, AreNewPasses, AreAllPasses, carousel_of, weights_of, pass_count, entries_seen, seen_by, owners_of};
     ghost use Rattle.station.specs.Calls.{InOneHold, IfAnswered, IfFull, EndsWith};
 
-    /// A station of a carousel, any 32-bit id, and a pass for each of the editors, at most 64, and one for the feeder, which
-    /// is the last. They are numbered from 0 on, in order; each has seen no entry and has none of its own. Out of memory is
-    /// the only refusal.
-    pub fn new(alloc: Global, editors: u32, carousel: u32) -> Result<(Station, Vec<Pass>), NoMemory>
+    /// A station of a carousel, any 32-bit id, whose modules are sent as often as they weigh, and a pass for each of the editors,
+    /// at most 64, and one for the feeder, which is the last. They are numbered from 0 on, in order; each has seen no entry and has
+    /// none of its own. Out of memory is the only refusal.
+    pub fn new(
+        alloc: Global,
+        editors: u32,
+        carousel: u32,
+        weigh: Weigh,
+    ) -> Result<(Station, Vec<Pass>), NoMemory>
         requires { editors ≤ 64 }
         ensures carousel { IfOk result (λ made. carousel_of made.0 ≡ carousel) }
+        ensures weights { IfOk result (λ made. weights_of made.0 ≡ weigh.weights) }
         ensures count { IfOk result (λ made. pass_count made.0 ≡ editors + 1) }
         ensures all { IfOk result (λ made. length made.1.items ≡ editors + 1) }
         ensures passes { IfOk result (λ made. AreNewPasses made.0 0 made.1.items) }
     {
-        let catalogue = Catalogue::new(alloc, carousel)?;
-        let kept = Kept { catalogue };
+        let journal = Journal::new(alloc, carousel, weigh.kept())?;
+        let kept = Kept { journal };
         match HistoryLock::new(alloc, kept, editors + 1) {
-            Ok((lock, passes)) => Ok((Station { lock }, passes)),
+            Ok((lock, passes)) => Ok((Station { lock, weigh }, passes)),
             Err((refused, _)) => Err(refused),
         }
     }
@@ -64,7 +73,7 @@ impl Station {
         requires { IsStationPass self.now pass.old }
         ensures pass { IsStationPass self.now pass.new }
         ensures number { number_of pass.new ≡ number_of pass.old }
-        ensures call { InOneHold (carousel_of self.now) pass.old pass.new (λ c d. IsCommitted c (number_of pass.old) edits.items result d) }
+        ensures call { InOneHold (carousel_of self.now) (weights_of self.now) pass.old pass.new (λ c d. IsCommitted c (number_of pass.old) edits.items result d) }
         ensures entered { IfAnswered result (λ outcome. is_entered outcome ≡ true → EndsWith (entries_seen pass.new) (entries.Commit (number_of pass.old) edits.items outcome)) }
         ensures full { IfAnswered result (λ outcome. is_entered outcome ≡ false → outcome_of (seen_by self.now pass.new) edits.items ≡ outcome) }
     {
@@ -83,28 +92,29 @@ impl Station {
         requires count { (1 ≤ n) × (n ≤ 1048576) }
         ensures pass { IsStationPass self.now pass.new }
         ensures number { number_of pass.new ≡ number_of pass.old }
-        ensures call { InOneHold (carousel_of self.now) pass.old pass.new (λ c d. IsDrawn c n result d) }
+        ensures call { InOneHold (carousel_of self.now) (weights_of self.now) pass.old pass.new (λ c d. IsDrawn c n result d) }
         ensures entered { IfOk result (λ b. EndsWith (entries_seen pass.new) (entries.Draw n (arc_value b.generation).number b.first (length b.items.items))) }
         ensures full { IfFull result (λ draws. (draws ≡ 16777216) × (16777216 ≤ draws_of (seen_by self.now pass.new))) }
         ensures some { IfOk result (λ b. (1 ≤ length b.items.items) × (length b.items.items ≤ n)) }
         ensures items { IfOk result (λ b. All (λ item. Contains (items_in (arc_value b.generation)) item) b.items.items) }
     {
         let mut hold = self.lock.hold(rt, pass);
-        let answer = hold.value().draw(n);
+        let answer = hold.value().draw(&self.weigh, n);
         hold.put_back();
         answer
     }
 
-    /// Takes the catalogue out, against all passes of this station. It has the station's carousel; its entries begin with
-    /// those that each pass has seen, and each of them is one pass's own. It takes no memory.
+    /// Takes the catalogue out, against all passes of this station. It has the station's carousel and weights; its entries begin
+    /// with those that each pass has seen, and each of them is one pass's own. It takes no memory.
     pub fn close(self, passes: Vec<Pass>) -> Catalogue
         requires { AreAllPasses self passes.items }
         ensures carousel { (state result).carousel ≡ carousel_of self }
+        ensures weights { (state result).weights ≡ weights_of self }
         ensures seen { Each (λ pass. Begins (entries_seen pass) (state result).entries) passes.items }
         ensures owned { (place : ℕ) → owners_of place passes.items ≡ once_within 0 (length (state result).entries) place }
     {
-        let Station { lock } = self;
-        let Kept { catalogue } = lock.close(passes);
-        catalogue
+        let Station { lock, weigh } = self;
+        let Kept { journal } = lock.close(passes);
+        Catalogue::of(journal, weigh)
     }
 }

@@ -3,7 +3,8 @@ ghost use Rattle.std.specs.List.{All};
 ghost use Rattle.station.specs.Passes.{IsStationPass};
 
 use crate::{Pass, Station};
-use generation_catalogue::{Batch, Catalogue, CommitFault, DrawFault, Entry, Refusal};
+use cycle_planner::{GREATEST_ID, Weigh};
+use generation_catalogue::{Batch, Catalogue, CommitFault, DrawFault, Entry, Journal, Refusal};
 use oc_bytes::{Blob, NoMemory};
 use path_tree::{Edit, EditFault, Edits, Path};
 use std::alloc::Global;
@@ -134,21 +135,29 @@ fn act_all<R: Threads + Wait + Sync>(
     );
 }
 
-/// A station's whole life: all its passes are at this work, and then at that. The answers are noted.
+/// A station's whole life: all its passes are at this work, and then at that. The answers are noted. Each module weighs 1.
 fn live<R: Threads + Wait + Sync>(
     rt: &R,
     alloc: Global,
     work: Work,
     then: Work,
     notes: &Mutex<Vec<Note>>,
-) -> Result<Catalogue, NoMemory>
+) -> Result<Journal, NoMemory>
     requires { work.editors ≤ 64 }
 {
-    let (station, mut passes) = Station::new(alloc, work.editors, 7)?;
+    let call = Box::new(
+        alloc,
+        |_id: u16| -> u8
+            ensures { result ≡ 1 }
+        { 1 },
+    )?;
+    let weigh = Weigh::new([1; GREATEST_ID], call);
+    let (station, mut passes) = Station::new(alloc, work.editors, 7, weigh)?;
     let lent = passes.as_mut_slice();
     act_all(rt, alloc, &station, lent, work, notes);
     act_all(rt, alloc, &station, lent, then, notes);
-    Ok(station.close(passes))
+    let (journal, _weigh) = station.close(passes).into_parts();
+    Ok(journal)
 }
 
 /// The same edits again.
@@ -165,7 +174,14 @@ fn copy(alloc: Global, edits: &Edits) -> Result<Vec<Edit>, NoMemory> {
 
 /// What a catalogue of its own answers to the calls of these entries.
 fn replay(alloc: Global, entries: &[Entry], feeder: u32) -> Result<Vec<Note>, NoMemory> {
-    let mut catalogue = Catalogue::new(alloc, 7)?;
+    let call = Box::new(
+        alloc,
+        |_id: u16| -> u8
+            ensures { result ≡ 1 }
+        { 1 },
+    )?;
+    let weigh = Weigh::new([1; GREATEST_ID], call);
+    let mut catalogue = Catalogue::new(alloc, 7, weigh)?;
     let mut notes = Vec::new(alloc);
     for entry in entries {
         notes.push(match entry {
@@ -226,11 +242,11 @@ fn of_two_removals_of_one_file_one_is_accepted(rt: HostRuntime) -> Result<(), Fa
         times: 1,
         editors: 2,
     };
-    let catalogue = live(&rt, alloc, put, remove, &notes)?;
+    let journal = live(&rt, alloc, put, remove, &notes)?;
     let notes = notes.into_inner();
-    assert!(rt; notes.len() == 6 && catalogue.entries().len() == 6);
+    assert!(rt; notes.len() == 6 && journal.entries().len() == 6);
     assert!(rt; is_removed(&notes, 0, 1) || is_removed(&notes, 1, 0));
-    assert!(rt; is_replayed(alloc, catalogue.entries(), notes, 2)?);
+    assert!(rt; is_replayed(alloc, journal.entries(), notes, 2)?);
     Ok(())
 }
 
@@ -243,10 +259,10 @@ fn the_entries_of_nine_threads_replay(rt: HostRuntime) -> Result<(), Fail> {
         times: 500,
         editors: 8,
     };
-    let catalogue = live(&rt, alloc, work, work, &notes)?;
+    let journal = live(&rt, alloc, work, work, &notes)?;
     let notes = notes.into_inner();
-    assert!(rt; notes.len() == 9000 && catalogue.entries().len() == 9000);
-    assert_eq!(rt; catalogue.current().number(), 8000);
-    assert!(rt; is_replayed(alloc, catalogue.entries(), notes, 8)?);
+    assert!(rt; notes.len() == 9000 && journal.entries().len() == 9000);
+    assert_eq!(rt; journal.current().number(), 8000);
+    assert!(rt; is_replayed(alloc, journal.entries(), notes, 8)?);
     Ok(())
 }

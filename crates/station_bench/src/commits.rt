@@ -1,11 +1,12 @@
-// Commits on a station, and on a catalogue with no lock.
-ghost use Rattle.std.specs.Prelude.{◌≤◌};
+// Commits on a station, and on a history with no lock.
+ghost use Rattle.std.specs.Prelude.{◌≡◌, ◌≤◌};
 ghost use Rattle.std.specs.List.{All};
 ghost use Rattle.station.specs.Passes.{IsStationPass};
 
-use generation_catalogue::{Catalogue, CommitFault};
+use cycle_planner::{GREATEST_ID, Weigh};
+use generation_catalogue::{CommitFault, Journal};
 use oc_bytes::{Blob, NoMemory};
-use path_tree::{Edit, Path};
+use path_tree::{Edit, Edits, Path};
 use station::{Pass, Station};
 use std::alloc::Global;
 use std::sync::Wait;
@@ -90,7 +91,14 @@ fn accepted_once<R: Threads + Wait + Sync>(
 ) -> Result<u64, NoMemory>
     requires { editors ≤ 64 }
 {
-    let (station, mut passes) = Station::new(alloc, editors, 1)?;
+    let call = Box::new(
+        alloc,
+        |_id: u16| -> u8
+            ensures { result ≡ 1 }
+        { 1 },
+    )?;
+    let weigh = Weigh::new([1; GREATEST_ID], call);
+    let (station, mut passes) = Station::new(alloc, editors, 1, weigh)?;
     edit_all(rt, alloc, &station, passes.as_mut_slice(), editors);
     Ok(station.close(passes).current().number())
 }
@@ -111,15 +119,15 @@ pub fn accepted_by<R: Threads + Wait + Sync>(
     Ok(accepted)
 }
 
-/// How many commits of one round were accepted on a catalogue with no lock.
+/// How many commits of one round were accepted on a history with no lock.
 fn accepted_with_no_lock(alloc: Global) -> Result<u64, NoMemory> {
-    let mut catalogue = Catalogue::new(alloc, 1)?;
+    let mut journal = Journal::new(alloc, 1, [1; GREATEST_ID])?;
     for number in 0..COMMITS {
         if let Some(edits) = put(alloc, 0, number) {
-            let _answer = catalogue.commit(0, edits);
+            let _answer = journal.commit_edits(0, Edits::new(edits));
         }
     }
-    Ok(catalogue.current().number())
+    Ok(journal.current().number())
 }
 
 /// How many commits were accepted in so many rounds, on one catalogue after another with no lock.

@@ -1,10 +1,10 @@
 // The sections of one batch, by two workers at once and by one.
-ghost use Rattle.std.specs.Prelude.{◌≤◌, length, IfOk};
+ghost use Rattle.std.specs.Prelude.{◌≡◌, ◌≤◌, length, IfOk};
 ghost use Rattle.std.specs.Arc.{arc_value};
 ghost use Rattle.std.specs.List.{All, Contains};
 ghost use Rattle.generation.specs.Layouts.{items_of};
 
-use cycle_planner::Item;
+use cycle_planner::{GREATEST_ID, Item, Weigh};
 use generation::Generation;
 use generation_catalogue::{Batch, Catalogue};
 use oc_bytes::{Blob, NoMemory};
@@ -38,7 +38,14 @@ fn first_batch(alloc: Global) -> Result<Batch, NoMemory>
     ensures count { IfOk result (λ b. length b.items.items ≤ 1024) }
     ensures items { IfOk result (λ b. All (λ item. Contains (items_of (arc_value b.generation)) item) b.items.items) }
 {
-    let mut catalogue = Catalogue::new(alloc, 1)?;
+    let call = Box::new(
+        alloc,
+        |_id: u16| -> u8
+            ensures { result ≡ 1 }
+        { 1 },
+    )?;
+    let weigh = Weigh::new([1; GREATEST_ID], call);
+    let mut catalogue = Catalogue::new(alloc, 1, weigh)?;
     let _answer = catalogue.commit(0, puts(alloc)?);
     match catalogue.draw(ITEMS) {
         Ok(batch) => Ok(batch),

@@ -25,8 +25,8 @@ payload_of bytes =
     else (if control bytes == 3 then drop (5 + slice_index bytes 4) bytes else [])
 
 -- the fields, or the first fault that holds
-abbrev pub parsed : List ℕ → Result Fields PacketFault
-parsed bytes =
+abbrev pub parse_packet : List ℕ → Result Fields PacketFault
+parse_packet bytes =
     if not (slice_index bytes 0 == 0x47) then Err NoSync
     else (if slice_index bytes 1 / 128 == 1 then Err Errored
     else (if not (slice_index bytes 3 / 64 == 0) then Err Scrambled

@@ -3,9 +3,11 @@
 #![tactic(auto)]
 
 ghost use Rattle.std.specs.Prelude.{◌≡◌, ◌<◌, ◌≤◌, Err, IfOk, MatchResult, Ok, length, slice_index};
-ghost use Rattle.ts_packet.specs.Packets.{view, control, parsed, packet_bytes};
+ghost use Rattle.ts_packet.specs.Packets.{view, control, parse_packet, packet_bytes};
 ghost use Rattle.ts_packet.specs.Packets as packets;
-ghost use Rattle.ts_packet.specs.Fates.{arrived, flipped};
+ghost use Rattle.ts_packet.specs.Fates.{arrival_of, flip_bit};
+
+use thiserror::Error;
 
 /// The first byte of each packet.
 const SYNC: u8 = 0x47;
@@ -28,17 +30,22 @@ pub struct Packet<'a> {
 }
 
 /// Why 188 bytes are no packet that can be read. The faults are looked for in this order.
-#[derive(Clone, Copy, Debug, PartialEq, Eq)]
+#[derive(Clone, Copy, Debug, PartialEq, Eq, Error)]
 pub enum PacketFault {
     /// The first byte isn't 0x47.
+    #[error("the first byte isn't 0x47")]
     NoSync,
     /// The transport error indicator is set.
+    #[error("the transport_error_indicator is set")]
     Errored,
     /// The transport scrambling control isn't 00: the payload is scrambled.
+    #[error("the payload is scrambled")]
     Scrambled,
     /// The adaptation field control is 00, which is reserved.
+    #[error("the adaptation_field_control is 00, which is reserved")]
     Reserved,
     /// A payload is announced after an adaptation field whose length is above 182 bytes.
+    #[error("the adaptation field before the payload has more than 182 bytes")]
     BadField,
 }
 
@@ -61,7 +68,7 @@ impl Fate {
     /// What arrives of a packet with this fate, if it arrives. It takes no memory: a packet that is changed is changed in a
     /// copy, and `packet` stays as it is. Fates are this project's own.
     pub fn arrived(self, packet: &[u8; 188]) -> Option<[u8; 188]>
-        ensures { result ≡ arrived self packet.now }
+        ensures { result ≡ arrival_of self packet.now }
     {
         match self {
             Fate::Keep => Some(*packet),
@@ -74,7 +81,7 @@ impl Fate {
 /// The packet with one bit inverted, counted from the most significant bit of the first byte.
 fn with_bit_flipped(packet: [u8; 188], bit: u16) -> [u8; 188]
     requires { bit < 1504 }
-    ensures { result ≡ flipped bit packet }
+    ensures { result ≡ flip_bit bit packet }
 {
     let mut bytes = packet;
     bytes[usize::from(bit / 8)] ^= 1 << (7 - bit % 8);
@@ -87,7 +94,7 @@ fn with_bit_flipped(packet: [u8; 188], bit: u16) -> [u8; 188]
 /// The payload is empty where the adaptation field control is 10, whatever the adaptation field's
 /// length is then. It takes no memory.
 pub fn parse(bytes: &[u8; 188]) -> Result<Packet<'_>, PacketFault>
-    ensures grammar { MatchResult result (λ p. parsed bytes.now ≡ Ok (view p)) (λ fault. parsed bytes.now ≡ Err fault) }
+    ensures grammar { MatchResult result (λ p. parse_packet bytes.now ≡ Ok (view p)) (λ fault. parse_packet bytes.now ≡ Err fault) }
     ensures ranges { IfOk result (λ p. (p.pid < 8192) × (p.counter < 16) × (length p.payload.now ≤ 184)) }
 {
     if bytes[0] != SYNC {
@@ -135,7 +142,7 @@ pub fn build(pid: u16, start: bool, counter: u8, payload: &[u8; 184]) -> [u8; 18
     requires pid { pid < 8192 }
     requires counter { counter < 16 }
     ensures bytes { result ≡ packet_bytes pid start counter payload.now }
-    ensures parses { parsed result ≡ Ok (record { pid = pid; start = start; counter = counter; payload = payload.now }) }
+    ensures parses { parse_packet result ≡ Ok (record { pid = pid; start = start; counter = counter; payload = payload.now }) }
 {
     let mut bytes = [0; 188];
     bytes[0] = SYNC;

@@ -83,3 +83,13 @@ fn a_flipped_bit_is_counted_from_the_top(rt: HostRuntime) -> Result<(), Fail> {
     assert_eq!(rt; Fate::Lose.arrived(&zeros), None);
     Ok(())
 }
+
+#[test]
+fn faults_as_text(rt: HostRuntime) -> Result<(), Fail> {
+    let text = format!(in rt.alloc(); "{}", PacketFault::Reserved)?;
+    assert_eq!(rt;
+        text.as_str(),
+        "the adaptation_field_control is 00, which is reserved"
+    );
+    Ok(())
+}

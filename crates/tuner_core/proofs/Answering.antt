@@ -11,7 +11,7 @@ use Rattle.module_cache.proofs.CallerLemmas.{taken_is}
 use Rattle.path_resolver.specs.Shots.{view_gateway}
 use Rattle.path_resolver.specs.declared.shot.Gateway.{Gateway}
 use Rattle.tuner_core.specs.Answers.{same_root, fed_root, fed_dii, fed_heard, fed_after}
-use Rattle.tuner_core.specs.Heard.{Heard, Skipped, NoControl, NoBlock, ADsi, ADii, ABlock, heard}
+use Rattle.tuner_core.specs.Heard.{Heard, Skipped, NoControl, NoBlock, ADsi, ADii, ABlock, as_heard}
 use Rattle.tuner_core.specs.Said.{root_of, block_in}
 use Rattle.tuner_core.specs.Spans.{Span, spans}
 use Rattle.tuner_core.specs.Stands.{TunerState, TurnState, StandsFor, turns_of, turn_from, is_held, after_dsi, is_other_dii, is_same_version, after_dii, after_heard, fed_by}
@@ -51,13 +51,13 @@ dii_answer t ss d e =
     ∙ ap (λ h. cond (is_other_dii h d) (Nothing causes.OtherDii) (cond (not (is_within d)) (Nothing causes.DiiOverLimit) (cond (is_same_version h d) (Nothing causes.SameDii) Changed))) e
     ∙ dii_rules ss d
 
-answer_is : (t : TunerState) (candidates : List Bytes) (h : Heard) → StandsFor t candidates → (after_heard t h).1 ≡ fed_heard (map heard candidates) h
+answer_is : (t : TunerState) (candidates : List Bytes) (h : Heard) → StandsFor t candidates → (after_heard t h).1 ≡ fed_heard (map as_heard candidates) h
 answer_is t cs (ADsi d) s = dsi_answer t.gateway (biop_of_profiles d.gateway.profiles) ∙ ap (λ g. fed_root g (root_of (biop_of_profiles d.gateway.profiles))) s.gateway
-answer_is t cs (ADii d) s = dii_answer (turns_of t) (spans (map heard cs)) d s.held
-answer_is t cs (ABlock b) s = ap fed_by (ap (λ h. taken_of h b) s.held ∙ taken_is block_in (spans (map heard cs)) b)
+answer_is t cs (ADii d) s = dii_answer (turns_of t) (spans (map as_heard cs)) d s.held
+answer_is t cs (ABlock b) s = ap fed_by (ap (λ h. taken_of h b) s.held ∙ taken_is block_in (spans (map as_heard cs)) b)
 answer_is t cs (Skipped c) s = refl
 answer_is t cs (NoControl c) s = refl
 answer_is t cs (NoBlock c) s = refl
 
-pub looks_back : (t m : TunerState) (fed : Fed) (c : Bytes) → (m, fed) ≡ after_heard t (heard c) → (candidates : List Bytes) → StandsFor t candidates → fed ≡ fed_after candidates c
-looks_back t m fed c e cs s = ap (λ x. x.1) e ∙ answer_is t cs (heard c) s
+pub looks_back : (t m : TunerState) (fed : Fed) (c : Bytes) → (m, fed) ≡ after_heard t (as_heard c) → (candidates : List Bytes) → StandsFor t candidates → fed ≡ fed_after candidates c
+looks_back t m fed c e cs s = ap (λ x. x.1) e ∙ answer_is t cs (as_heard c) s

@@ -1,7 +1,7 @@
 -- One more candidate, and all that is held.
 use Rattle.std.proofs.Common.{ℕ, ◌≡◌, ◌≢◌, ◌↔◌, ◌+◌, Bool, true, false, cond, not, List, [], ◌∷◌, ◌++◌, length, map, Option, None, refl, sym, ap, subst, ◌∙◌, arith, length-append}
 use Rattle.std.proofs.lemmas.List.{map-append}
-use Rattle.oc_bytes.specs.Outcome.{capped}
+use Rattle.oc_bytes.specs.Outcome.{cap_at_u64}
 use Rattle.ior_tap.specs.Iors.{biop_of_profiles}
 use Rattle.dsi_dii.specs.declared.ModuleLine.{ModuleLine}
 use Rattle.block_assembler.specs.Blocks.{Bytes}
@@ -15,10 +15,10 @@ use Rattle.path_resolver.specs.declared.shot.Gateway.{Gateway}
 use Rattle.tuner_core.specs.declared.told.Cause.TheVariants as causes
 use Rattle.tuner_core.specs.declared.told.Fed.{Fed}
 use Rattle.tuner_core.specs.declared.told.Fed.TheVariants.{Changed, Nothing}
-use Rattle.tuner_core.specs.Heard.{Heard, Skipped, NoControl, NoBlock, ADsi, ADii, ABlock, heard}
+use Rattle.tuner_core.specs.Heard.{Heard, Skipped, NoControl, NoBlock, ADsi, ADii, ABlock, as_heard}
 use Rattle.tuner_core.specs.Said.{root_in, gateway_of, block_in}
 use Rattle.tuner_core.specs.Spans.{Span, spans, stretch, held_module, table_in, identification_in, snapshot_after}
-use Rattle.tuner_core.specs.Stands.{TunerState, TurnState, StandsFor, turns_of, fed_by, is_other_dii, is_same_version, turn_from, after_heard, marked, snapshot_of, table_of, identification_held}
+use Rattle.tuner_core.specs.Stands.{TunerState, TurnState, StandsFor, turns_of, fed_by, is_other_dii, is_same_version, turn_from, after_heard, with_next_mark, snapshot_of, table_of, identification_held}
 use Rattle.tuner_core.proofs.Gateways.{gateway_is, dsi_kept}
 use Rattle.tuner_core.proofs.Lists.{last_of, last_more}
 use Rattle.tuner_core.proofs.Turning.{turn_state_in, turn_after, states, state_after_all}
@@ -33,7 +33,7 @@ mark_is t (Skipped c) = refl
 mark_is t (NoControl c) = refl
 mark_is t (NoBlock c) = refl
 
-one_more : (n : ℕ) → capped (capped n + 1) ≡ capped (n + 1)
+one_more : (n : ℕ) → cap_at_u64 (cap_at_u64 n + 1) ≡ cap_at_u64 (n + 1)
 one_more n = omega arith
 
 -- ---- all of it
@@ -46,17 +46,17 @@ turns_are t (Skipped c) = refl
 turns_are t (NoControl c) = refl
 turns_are t (NoBlock c) = refl
 
-pub stands_more : (t : TunerState) (candidates : List Bytes) (c : Bytes) → StandsFor t candidates → StandsFor (marked (after_heard t (heard c)).0) (candidates ++ c ∷ [])
+pub stands_more : (t : TunerState) (candidates : List Bytes) (c : Bytes) → StandsFor t candidates → StandsFor (with_next_mark (after_heard t (as_heard c)).0) (candidates ++ c ∷ [])
 stands_more t cs c s =
-    let hs = map heard cs in
-    let more : map heard (cs ++ c ∷ []) ≡ hs ++ heard c ∷ [] = map-append heard cs (c ∷ []) in
+    let hs = map as_heard cs in
+    let more : map as_heard (cs ++ c ∷ []) ≡ hs ++ as_heard c ∷ [] = map-append as_heard cs (c ∷ []) in
     let size : length (cs ++ c ∷ []) ≡ length cs + 1 = length-append cs (c ∷ []) in
     let before : turns_of t ≡ turn_state_in (spans hs) = states _ _ _ _ _ _ s.held s.label s.epoch in
-    let after : turns_of (after_heard t (heard c)).0 ≡ turn_state_in (spans (map heard (cs ++ c ∷ []))) =
-    turns_are t (heard c) ∙ ap (λ u. turn_after u (heard c)) before ∙ sym (state_after_all hs (heard c)) ∙ ap (λ xs. turn_state_in (spans xs)) (sym more) in
+    let after : turns_of (after_heard t (as_heard c)).0 ≡ turn_state_in (spans (map as_heard (cs ++ c ∷ []))) =
+    turns_are t (as_heard c) ∙ ap (λ u. turn_after u (as_heard c)) before ∙ sym (state_after_all hs (as_heard c)) ∙ ap (λ xs. turn_state_in (spans xs)) (sym more) in
     record {
-      mark = ap (λ n. capped (n + 1)) (mark_is t (heard c) ∙ s.mark) ∙ one_more (length cs) ∙ ap capped (sym size);
-      gateway = gateway_is t (heard c) ∙ ap (last_of (root_in (heard c))) s.gateway ∙ sym (last_more root_in None hs (heard c)) ∙ ap gateway_of (sym more);
+      mark = ap (λ n. cap_at_u64 (n + 1)) (mark_is t (as_heard c) ∙ s.mark) ∙ one_more (length cs) ∙ ap cap_at_u64 (sym size);
+      gateway = gateway_is t (as_heard c) ∙ ap (last_of (root_in (as_heard c))) s.gateway ∙ sym (last_more root_in None hs (as_heard c)) ∙ ap gateway_of (sym more);
       held = ap (λ u. u.held) after;
       label = ap (λ u. u.label) after;
       epoch = ap (λ u. u.epoch) after;
@@ -118,7 +118,7 @@ same_snapshot number draws mark m2 epoch e2 label l2 identification i2 gateway g
 
 pub shot_is : (number draws : ℕ) (t : TunerState) (candidates : List Bytes) → StandsFor t candidates → snapshot_of number draws t ≡ snapshot_after number draws candidates
 shot_is number draws t cs s =
-    let ss = spans (map heard cs) in
+    let ss = spans (map as_heard cs) in
     same_snapshot number draws _ _ _ _ _ _ _ _ _ _ _ _ s.mark s.epoch s.label
     (ap identification_held s.held ∙ identification_is ss)
     s.gateway
@@ -128,11 +128,11 @@ shot_is number draws t cs s =
 
 -- what a candidate did shows in what it changed
 pub shown_by : (t m : TunerState) (fed : Fed) (h : Heard) → (m, fed) ≡ after_heard t h → (fed ≡ Changed → m.gateway ≡ t.gateway → m.held ≡ t.held → ⊥)
-    → (fed ≢ Changed) ↔ (marked m ≡ marked t)
+    → (fed ≢ Changed) ↔ (with_next_mark m ≡ with_next_mark t)
 shown_by t m fed h e changed = (
-  λ f. ap marked (ap (λ x. x.0) e ∙ kept t h (λ g. f (ap (λ x. x.1) e ∙ g))),
+  λ f. ap with_next_mark (ap (λ x. x.0) e ∙ kept t h (λ g. f (ap (λ x. x.1) e ∙ g))),
   λ same g. changed g (ap (λ x. x.gateway) same) (ap (λ x. x.held) same),
 )
 
-pub stands_then : (t m : TunerState) (fed : Fed) (c : Bytes) → (m, fed) ≡ after_heard t (heard c) → (candidates : List Bytes) → StandsFor t candidates → StandsFor (marked m) (candidates ++ c ∷ [])
-stands_then t m fed c e cs s = subst (λ x. StandsFor (marked x) (cs ++ c ∷ [])) (sym (ap (λ x. x.0) e)) (stands_more t cs c s)
+pub stands_then : (t m : TunerState) (fed : Fed) (c : Bytes) → (m, fed) ≡ after_heard t (as_heard c) → (candidates : List Bytes) → StandsFor t candidates → StandsFor (with_next_mark m) (candidates ++ c ∷ [])
+stands_then t m fed c e cs s = subst (λ x. StandsFor (with_next_mark x) (cs ++ c ∷ [])) (sym (ap (λ x. x.0) e)) (stands_more t cs c s)

@@ -6,7 +6,7 @@ use Rattle.dsi_dii.specs.Controls.{DiiFields}
 use Rattle.module_cache.specs.Calls.{taken_among}
 use Rattle.module_cache.specs.Limits.{is_within}
 use Rattle.path_resolver.specs.Resolving.{Root}
-use Rattle.tuner_core.specs.Heard.{Heard, Skipped, NoControl, NoBlock, ADsi, ADii, ABlock, heard}
+use Rattle.tuner_core.specs.Heard.{Heard, Skipped, NoControl, NoBlock, ADsi, ADii, ABlock, as_heard}
 use Rattle.tuner_core.specs.Said.{root_of, gateway_of, block_in}
 use Rattle.tuner_core.specs.Spans.{Span, spans, version, identification}
 use Rattle.tuner_core.specs.Stands.{same_location, same_number, fed_by}
@@ -47,4 +47,4 @@ fed_heard hs (ABlock b) = fed_by (taken_among block_in (spans hs) b)
 
 -- what a candidate does after these
 abbrev pub fed_after : List Bytes → Bytes → Fed
-fed_after candidates c = fed_heard (map heard candidates) (heard c)
+fed_after candidates c = fed_heard (map as_heard candidates) (as_heard c)

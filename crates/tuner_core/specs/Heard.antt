@@ -36,8 +36,8 @@ abbrev pub heard_section : Result sections.Fields Skip → Heard
 heard_section (Ok s) = heard_in s.table s.payload
 heard_section (Err skip) = Skipped skip
 
-abbrev pub heard : Bytes → Heard
-heard candidate = heard_section (sections.read candidate)
+abbrev pub as_heard : Bytes → Heard
+as_heard candidate = heard_section (sections.read candidate)
 
 -- a candidate is accepted where it is read as a section
 abbrev pub is_accepted : Bytes → Bool

@@ -42,8 +42,8 @@ block_in (ABlock b) = Some b
 block_in _ = None
 
 -- the bytes of a block of this number of a module that the DII lists
-abbrev pub fitting : DiiFields → ModuleLine → ℕ → Heard → Option Bytes
-fitting held l b h = back.fitting held l b (block_in h)
+abbrev pub bytes_if_fits : DiiFields → ModuleLine → ℕ → Heard → Option Bytes
+bytes_if_fits held l b h = back.bytes_if_fits held l b (block_in h)
 
 -- the first block that fits
 abbrev pub block_among : List Heard → DiiFields → ModuleLine → ℕ → Option Bytes

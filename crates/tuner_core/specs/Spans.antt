@@ -5,7 +5,7 @@
 use Rattle.std.specs.Prelude.{◌≡◌, ℕ, ◌+◌, Bool, false, not, ◌&&◌, List, [], ◌∷◌, ◌++◌, length, map, Option, Some, None, nat_lt, ◌==◌, if◌then◌else◌}
 use Rattle.std.specs.List.{filter, filter_map, fold}
 use Rattle.std.specs.Option.{option_map}
-use Rattle.oc_bytes.specs.Outcome.{capped}
+use Rattle.oc_bytes.specs.Outcome.{cap_at_u64}
 use Rattle.path_tree.specs.Paths.{Bytes}
 use Rattle.dsi_dii.specs.Controls.{DiiFields, distance_of}
 use Rattle.dsi_dii.specs.declared.ModuleLine.{ModuleLine}
@@ -14,7 +14,7 @@ use Rattle.module_cache.specs.Spans.{version, identification, within, stretch}
 use Rattle.path_resolver.specs.Resolving.{Held, HeldModule, answer_of}
 use Rattle.path_resolver.specs.Shots.{Snapshot}
 use Rattle.path_resolver.specs.declared.answer.Answer.{Answer}
-use Rattle.tuner_core.specs.Heard.{Heard, ADii, heard}
+use Rattle.tuner_core.specs.Heard.{Heard, ADii, as_heard}
 use Rattle.tuner_core.specs.Said.{is_sound, sound_in, module_among, gateway_of}
 pub use Rattle.module_cache.specs.Spans.{version, identification, within, same_flag, same_line, same_line_in, agrees, earlier, stretch}
 
@@ -59,8 +59,8 @@ abbrev pub turning_of : List DiiFields → List DiiFields
 turning_of [] = []
 turning_of (d ∷ ds) = d ∷ turning_after (version d) ds
 
-abbrev pub turning : List Heard → List DiiFields
-turning hs = turning_of (admissible hs)
+abbrev pub turning_diis : List Heard → List DiiFields
+turning_diis hs = turning_of (admissible hs)
 
 abbrev pub or_first : Option DiiFields → List Heard → List Heard → List Heard
 or_first (Some d) here later = here
@@ -84,7 +84,7 @@ openings (s ∷ ss) = openings ss ++ s.dii ∷ []
 -- the spans are what was heard from the first sound DII on, cut before each DII that turns
 pub record AreSpansOf (hs : List Heard) (ss : List Span) : Type 0 where
   pub whole : put_together ss ≡ from_first hs
-  pub cut : openings ss ≡ turning hs
+  pub cut : openings ss ≡ turning_diis hs
 
 abbrev pub SpansAreOfTheList : Type 0
 SpansAreOfTheList = (hs : List Heard) → AreSpansOf hs (spans hs)
@@ -93,7 +93,7 @@ SpansAreOfTheList = (hs : List Heard) → AreSpansOf hs (spans hs)
 
 abbrev pub label_from : DiiFields → List Span → Option ℕ → Option ℕ
 label_from d [] before = Some (version d)
-label_from d (s ∷ ss) before = option_map (λ n. capped (n + distance_of (version s.dii) (version d))) before
+label_from d (s ∷ ss) before = option_map (λ n. cap_at_u64 (n + distance_of (version s.dii) (version d))) before
 
 -- the first turning version, and the distances from there on; it stays at the greatest u64
 abbrev pub label_in : List Span → Option ℕ
@@ -102,7 +102,7 @@ label_in (s ∷ ss) = label_from s.dii ss (label_in ss)
 
 abbrev pub epoch_from : DiiFields → List Span → ℕ → ℕ
 epoch_from d [] before = 0
-epoch_from d (s ∷ ss) before = if is_near (s ∷ ss) d then before else capped (before + 1)
+epoch_from d (s ∷ ss) before = if is_near (s ∷ ss) d then before else cap_at_u64 (before + 1)
 
 -- the turns that dropped all that was held; it stays at the greatest u64
 abbrev pub epoch_in : List Span → ℕ
@@ -138,11 +138,11 @@ abbrev pub snapshot_after : ℕ → ℕ → List Bytes → Snapshot
 snapshot_after number draws candidates = record {
   number = number;
   draws = draws;
-  mark = capped (length candidates);
-  epoch = epoch_in (spans (map heard candidates));
-  held = held_after (map heard candidates);
+  mark = cap_at_u64 (length candidates);
+  epoch = epoch_in (spans (map as_heard candidates));
+  held = held_after (map as_heard candidates);
 }
 
 -- the answer to a path after these candidates
 abbrev pub answer_after : List Bytes → List Bytes → Answer
-answer_after candidates path = answer_of (held_after (map heard candidates)) path
+answer_after candidates path = answer_of (held_after (map as_heard candidates)) path

@@ -1,21 +1,21 @@
 -- The receiver's state and a list of candidates.
 use Rattle.std.specs.Prelude.{◌≡◌, ℕ, ◌+◌, Bool, true, false, not, ◌&&◌, ◌||◌, List, [], length, map, Option, Some, None, nat_lt, ◌==◌, if◌then◌else◌}
 use Rattle.std.specs.Option.{option_map}
-use Rattle.oc_bytes.specs.Outcome.{capped}
+use Rattle.oc_bytes.specs.Outcome.{cap_at_u64}
 use Rattle.path_tree.specs.Paths.{Bytes, same_name}
 use Rattle.ior_tap.specs.Iors.{TapFields, biop_of_profiles, delivery_of_taps}
 use Rattle.ior_tap.specs.declared.Location.{Location}
 use Rattle.dsi_dii.specs.Controls.{DiiFields, identification_of, version_of, distance_of}
 use Rattle.ddb_block.specs.Blocks as ddb
 use Rattle.module_cache.specs.Contents.{bytes_of, is_new}
-use Rattle.module_cache.specs.Held.{TunedState, tuned_in, turned, offered_to, taken_of}
+use Rattle.module_cache.specs.Held.{TunedState, tuned_in, after_turn, offered_to, taken_of}
 use Rattle.module_cache.specs.Limits.{is_within}
 use Rattle.module_cache.specs.declared.taken.Taken.{Taken}
 use Rattle.module_cache.specs.declared.taken.Taken.TheVariants as taken
 use Rattle.path_resolver.specs.Resolving.{HeldModule}
 use Rattle.path_resolver.specs.Shots.{Snapshot, view_gateway}
 use Rattle.path_resolver.specs.declared.shot.Gateway.{Gateway}
-use Rattle.tuner_core.specs.Heard.{Heard, Skipped, NoControl, NoBlock, ADsi, ADii, ABlock, heard}
+use Rattle.tuner_core.specs.Heard.{Heard, Skipped, NoControl, NoBlock, ADsi, ADii, ABlock, as_heard}
 use Rattle.tuner_core.specs.Said.{gateway_of, block_in}
 use Rattle.tuner_core.specs.Spans.{spans, label_in, epoch_in}
 use Rattle.tuner_core.specs.declared.told.Cause.TheVariants as causes
@@ -36,11 +36,11 @@ fresh = record { mark = 0; gateway = None; held = None; label = None; epoch = 0 
 
 -- the state is what looking back over these candidates gives, part by part
 pub record StandsFor (t : TunerState) (candidates : List Bytes) : Type 0 where
-  pub mark : t.mark ≡ capped (length candidates)
-  pub gateway : option_map view_gateway t.gateway ≡ gateway_of (map heard candidates)
-  pub held : t.held ≡ tuned_in block_in (spans (map heard candidates))
-  pub label : t.label ≡ label_in (spans (map heard candidates))
-  pub epoch : t.epoch ≡ epoch_in (spans (map heard candidates))
+  pub mark : t.mark ≡ cap_at_u64 (length candidates)
+  pub gateway : option_map view_gateway t.gateway ≡ gateway_of (map as_heard candidates)
+  pub held : t.held ≡ tuned_in block_in (spans (map as_heard candidates))
+  pub label : t.label ≡ label_in (spans (map as_heard candidates))
+  pub epoch : t.epoch ≡ epoch_in (spans (map as_heard candidates))
 
 -- ---- one DSI
 
@@ -85,13 +85,13 @@ is_same_version (Some t) d = version_of d.transaction == t.version
 -- The first DII gives its version as the label. Each later one adds its distance, and one that is 256 or more after the held one
 -- drops all that was held.
 abbrev pub turn_from : TurnState → Option TunedState → DiiFields → TurnState
-turn_from t None d = record { held = Some (turned None d false); label = Some (version_of d.transaction); epoch = t.epoch }
+turn_from t None d = record { held = Some (after_turn None d false); label = Some (version_of d.transaction); epoch = t.epoch }
 turn_from t (Some old) d =
     let n = distance_of old.version (version_of d.transaction) in
     record {
-      held = Some (turned (Some old) d (nat_lt n 256));
-      label = option_map (λ k. capped (k + n)) t.label;
-      epoch = if nat_lt n 256 then t.epoch else capped (t.epoch + 1);
+      held = Some (after_turn (Some old) d (nat_lt n 256));
+      label = option_map (λ k. cap_at_u64 (k + n)) t.label;
+      epoch = if nat_lt n 256 then t.epoch else cap_at_u64 (t.epoch + 1);
     }
 
 abbrev pub after_dii : TurnState → DiiFields → TurnState × Fed
@@ -127,11 +127,11 @@ after_heard t (ADii d) = with_turns t (after_dii (turns_of t) d)
 after_heard t (ABlock b) = with_held t (after_block t.held b)
 
 -- the same, with one candidate more
-abbrev pub marked : TunerState → TunerState
-marked t = record t { mark = capped (t.mark + 1) }
+abbrev pub with_next_mark : TunerState → TunerState
+with_next_mark t = record t { mark = cap_at_u64 (t.mark + 1) }
 
 abbrev pub step : TunerState → Bytes → TunerState × Fed
-step t candidate = let x = after_heard t (heard candidate) in (marked x.0, x.1)
+step t candidate = let x = after_heard t (as_heard candidate) in (with_next_mark x.0, x.1)
 
 -- Memory is asked for to read a section of the table of control messages, and for a block that is new.
 abbrev pub asks : Option TunedState → Heard → Bool

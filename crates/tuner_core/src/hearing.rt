@@ -3,7 +3,7 @@
 ghost use Rattle.std.specs.Prelude.{◌≡◌, Option, IsTrue, IfOk, OnErr};
 ghost use Rattle.ddb_block.specs.Blocks as ddb;
 ghost use Rattle.dsi_dii.specs.ControlReading as controls;
-ghost use Rattle.tuner_core.specs.Heard.{heard, heard_control, heard_block};
+ghost use Rattle.tuner_core.specs.Heard.{as_heard, heard_control, heard_block};
 ghost use Rattle.tuner_core.specs.Hearing.{view_told};
 ghost use Rattle.tuner_core.specs.Stands.{asks};
 ghost use Rattle.module_cache.specs.Held.{TunedState};
@@ -52,8 +52,8 @@ fn block_of(payload: &[u8]) -> Told<'_>
 
 /// What a candidate says. Only a control message takes memory.
 pub fn hear(alloc: Global, candidate: &[u8]) -> Result<Told<'_>, NoMemory>
-    ensures says { IfOk result (λ t. view_told t ≡ heard candidate.now) }
-    ensures memory { OnErr result ((held : Option TunedState) → IsTrue (asks held (heard candidate.now))) }
+    ensures says { IfOk result (λ t. view_told t ≡ as_heard candidate.now) }
+    ensures memory { OnErr result ((held : Option TunedState) → IsTrue (asks held (as_heard candidate.now))) }
 {
     match payload_of(candidate) {
         Ok((Table::Control, payload)) => control_of(alloc, payload),

@@ -240,3 +240,18 @@ fn broken_and_distant_messages(rt: HostRuntime) -> Result<(), Fail> {
     assert!(rt; shot.label == Some(512) && shot.epoch == 2);
     Ok(())
 }
+
+#[test]
+fn causes_as_text(rt: HostRuntime) -> Result<(), Fail> {
+    let text = format!(in rt.alloc(); "{}", Cause::Section(Skip::NotCurrent))?;
+    assert_eq!(rt;
+        text.as_str(),
+        "no section: the current_next_indicator is 0"
+    );
+    let text = format!(in rt.alloc(); "{}", Cause::Block(Taken::Again))?;
+    assert_eq!(rt;
+        text.as_str(),
+        "the block was not taken: it is there already"
+    );
+    Ok(())
+}

@@ -1,27 +1,37 @@
 use dsmcc_section::Skip;
 use module_cache::Taken;
+use thiserror::Error;
 
 /// Why a candidate changed nothing of what is held.
-#[derive(Clone, Copy, Debug, PartialEq, Eq)]
+#[derive(Clone, Copy, Debug, PartialEq, Eq, Error)]
 pub enum Cause {
     /// It is no section.
+    #[error("no section: {0}")]
     Section(Skip),
     /// Its section of table 0x3B holds no control message: the place, counted in bytes from the payload's first byte, of the
     /// first field that is cut or breaks a rule.
+    #[error("no control message: the field at byte {0} is cut or breaks a rule")]
     NotControl(usize),
     /// Its section of table 0x3C holds no block message, with the place.
+    #[error("no block message: the field at byte {0} is cut or breaks a rule")]
     NotDdb(usize),
     /// A DSI whose IOR has no BIOP profile.
+    #[error("the DSI has no BIOP profile")]
     NoGateway,
     /// A DSI with the gateway that is held.
+    #[error("the DSI has the gateway that is held")]
     SameDsi,
     /// A DII of identification 0, or of another one than the first DII that was held.
+    #[error("the DII has another identification")]
     OtherDii,
     /// A DII that breaks a limit of the receiver, or that lists a module twice.
+    #[error("the DII breaks a limit of the receiver or lists a module twice")]
     DiiOverLimit,
     /// A DII of the version that is held. It changes nothing, whatever it lists.
+    #[error("the DII has the version that is held")]
     SameDii,
     /// A block message that wasn't taken; never `New`.
+    #[error("the block was not taken: {0}")]
     Block(Taken),
 }
 

@@ -4,9 +4,9 @@ ghost use Rattle.path_tree.specs.Paths.{Bytes};
 ghost use Rattle.path_resolver.specs.Shots as shots;
 ghost use Rattle.module_cache.specs.Contents.{bytes_of};
 ghost use Rattle.tuner_core.specs.Answers.{fed_after};
-ghost use Rattle.tuner_core.specs.Heard.{heard};
+ghost use Rattle.tuner_core.specs.Heard.{as_heard};
 ghost use Rattle.tuner_core.specs.Spans.{snapshot_after};
-ghost use Rattle.tuner_core.specs.Stands.{StandsFor, fresh, step, marked, after_heard, asks, snapshot_of};
+ghost use Rattle.tuner_core.specs.Stands.{StandsFor, fresh, step, with_next_mark, after_heard, asks, snapshot_of};
 
 use crate::gateway::{copy_of_held, take_dsi};
 use crate::hearing::{Told, hear};
@@ -89,10 +89,10 @@ impl Tuner {
 
     /// What a candidate changes, but for the count of candidates.
     fn take(&mut self, candidate: &[u8]) -> Result<Fed, NoMemory>
-        ensures answer { IfOk result (λ fed. (self.new, fed) ≡ after_heard self.old (heard candidate.now)) }
+        ensures answer { IfOk result (λ fed. (self.new, fed) ≡ after_heard self.old (as_heard candidate.now)) }
         ensures changed { IfOk result (λ fed. fed ≡ Fed.Changed → self.new.gateway ≡ self.old.gateway → self.new.held ≡ self.old.held → ⊥) }
         ensures err { OnErr result (self.new ≡ self.old) }
-        ensures memory { OnErr result (IsTrue (asks self.old.held (heard candidate.now))) }
+        ensures memory { OnErr result (IsTrue (asks self.old.held (as_heard candidate.now))) }
     {
         match hear(self.alloc, candidate)? {
             Told::Skipped(skip) => Ok(Fed::Nothing(Cause::Section(skip))),
@@ -106,7 +106,7 @@ impl Tuner {
 
     /// Counts one candidate.
     fn count(&mut self)
-        ensures { self.new ≡ marked self.old }
+        ensures { self.new ≡ with_next_mark self.old }
     {
         self.mark = self.mark.saturating_add(1);
     }
@@ -131,10 +131,10 @@ impl Tuner {
     pub fn feed(&mut self, candidate: &[u8]) -> Result<Fed, NoMemory>
         ensures answer { IfOk result (λ fed. (self.new, fed) ≡ step self.old candidate.now) }
         ensures looks_back { IfOk result (λ fed. (candidates : List Bytes) → StandsFor self.old candidates → fed ≡ fed_after candidates candidate.now) }
-        ensures nothing { IfOk result (λ fed. (fed ≢ Fed.Changed) ↔ (self.new ≡ marked self.old)) }
+        ensures nothing { IfOk result (λ fed. (fed ≢ Fed.Changed) ↔ (self.new ≡ with_next_mark self.old)) }
         ensures stands { OnOk result ((candidates : List Bytes) → StandsFor self.old candidates → StandsFor self.new (candidates ++ candidate.now ∷ [])) }
         ensures err { OnErr result (self.new ≡ self.old) }
-        ensures memory { OnErr result (IsTrue (asks self.old.held (heard candidate.now))) }
+        ensures memory { OnErr result (IsTrue (asks self.old.held (as_heard candidate.now))) }
     {
         let fed = self.take(candidate)?;
         self.count();

@@ -8,8 +8,8 @@ returns-in_err-parts-clause-only c = λ b r. absurd (cc (block_is_read c.args.pa
 pub returns-clause-found : goal.returns-clause-found
 returns-clause-found c =
     read_is_block c.args.payload.now _ (λ i. omega (arith, c.type_inv.payload i))
-    (c.in_ok-parts.ensures ∙ ap Ok (sym c.in_ok-owned.ensures))
+    (c.in_ok-parts.ensures ∙ ap Ok (sym c.in_ok-owned.ensures.same))
 
 pub returns-clause-only : goal.returns-clause-only
 returns-clause-only c = λ b r.
-    sym (block_is_read c.args.payload.now b r) ∙ c.in_ok-parts.ensures ∙ ap Ok (sym c.in_ok-owned.ensures)
+    sym (block_is_read c.args.payload.now b r) ∙ c.in_ok-parts.ensures ∙ ap Ok (sym c.in_ok-owned.ensures.same)

@@ -13,5 +13,5 @@ entry-requires-2-clause-name c = rw (c.as_str-2.ensures.value, c.in_ok-name.ensu
 pub returns : goal.returns
 returns c =
     subst (λ (names : PathNames). IfOk c.entry-2.result (λ path. path ≡ names))
-    (path_of_file c.args.editor c.args.file c.in-Ok.root c.in_ok-folder-2.folder c.as_str.result.now c.as_str-2.result.now (root_is c.in-Ok.root c.in-Ok.ensures) c.in_ok-folder-2.ensures
+    (path_of_file c.args.editor c.args.file c.in-Ok.root c.in_ok-folder-2.folder c.as_str.result.now c.as_str-2.result.now (root_is c.in-Ok.root c.in-Ok.ensures.reads) c.in_ok-folder-2.ensures
     (c.as_str.ensures.value ∙ c.in_ok-folder.ensures.ok) (c.as_str-2.ensures.value ∙ c.in_ok-name.ensures.ok)) c.entry-2.ensures

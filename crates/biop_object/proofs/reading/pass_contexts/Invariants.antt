@@ -1,7 +1,7 @@
 use Rattle.std.proofs.Common.{◌≡◌, ◌-◌}
 use Rattle.ior_tap.specs.IorReading.{each_at}
-use Rattle.biop_object.specs.ObjectReading.{context_at, contexts_at, passed}
+use Rattle.biop_object.specs.ObjectReading.{context_at, contexts_at, skip_reading}
 use Rattle.biop_object.proofs.reading.pass_contexts.Given as goal
 
 abbrev pub invariant-loop : goal.invariant-loop
-invariant-loop l = passed (each_at context_at (l.count - l.counter) l.fields) ≡ contexts_at l.count l.fn.fields
+invariant-loop l = skip_reading (each_at context_at (l.count - l.counter) l.fields) ≡ contexts_at l.count l.fn.fields

@@ -22,3 +22,12 @@ returns-clause-reads c = λ at.
     let small : folder_size c.args.entries.now ≤ 1048576 = omega (arith, c.in-Some.ensures.0, c.in-Some.ensures.1) in
     let o : Object = record { key = c.args.key.now; shape = IsFolder (map binding_of c.args.entries.now) } in
     subst (λ (l : List ℕ). ReadsObject at l o) (sym is) (folder_reads at c.args.kind c.args.key.now c.args.entries.now c.requires.key c.requires.entries c.in_ok-bytes.ensures.room small)
+
+pub returns-in_err-bytes-clause-large : goal.returns-in_err-bytes-clause-large
+returns-in_err-bytes-clause-large c = λ e. absurd (omega (arith, e, c.in-Some.ensures.0, c.in-Some.ensures.1, folder_length c.args.kind c.args.key.now c.args.entries.now c.requires.key c.requires.entries))
+
+pub returns-in_err-bytes-clause-no_memory : goal.returns-in_err-bytes-clause-no_memory
+returns-in_err-bytes-clause-no_memory c = λ e. omega (arith, c.in-Some.ensures.0, c.in-Some.ensures.1, folder_length c.args.kind c.args.key.now c.args.entries.now c.requires.key c.requires.entries)
+
+pub returns-clause-large : goal.returns-clause-large
+returns-clause-large c = λ e. absurd (omega (arith, e, c.in-Some.ensures.0, c.in-Some.ensures.1, folder_length c.args.kind c.args.key.now c.args.entries.now c.requires.key c.requires.entries))

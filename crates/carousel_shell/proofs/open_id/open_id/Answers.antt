@@ -1,6 +1,6 @@
 use Rattle.std.proofs.Common.{ap, refl, Err}
 use Rattle.path_resolver.specs.Shots.{held_of}
-use Rattle.carousel_shell.specs.Open.{asks_paths, answered}
+use Rattle.carousel_shell.specs.Open.{asks_paths, answers_to}
 use Rattle.carousel_shell.specs.OpenId.{sections_by_id}
 use Rattle.carousel_shell.proofs.Replying.{replies_stopped}
 use Rattle.carousel_shell.proofs.Answering.{answers_replied}
@@ -14,4 +14,4 @@ returns-in-Ok-clause-opens g c = rw c.status_of.ensures (opens_by c.args.carouse
 
 pub returns-in-Err-clause-opens : goal.returns-in-Err-clause-opens
 returns-in-Err-clause-opens g c = rw c.from.ensures (opens_by c.args.carousel c.args.paths.now _ _ _ c.receptions.ensures
-    (replies_stopped (sections_by_id c.args.carousel) (answered (asks_paths c.args.paths.now)) _ _ c.in-Err.fault c.in-Err.ensures.err (λ e. c.in-Err.ensures.cause (ap Err e)) refl))
+    (replies_stopped (sections_by_id c.args.carousel) (answers_to (asks_paths c.args.paths.now)) _ _ c.in-Err.fault c.in-Err.ensures.err (λ e. c.in-Err.ensures.cause (ap Err e)) refl))

@@ -21,20 +21,20 @@ loop-init g c = record { puts = puts_nothing tt _; tables = c.in_ok-announcer.en
 pub returns-in_err-announce-clause-puts : goal.returns-in_err-announce-clause-puts
 returns-in_err-announce-clause-puts g c =
     let p = err_from_is_err_and c.from_residual-in_err-announce.result c.from_residual-in_err-announce.ensures.1 in
-    let cycle = map (section_of c.args.generation.now) (cycle_of (lines_of c.args.generation.now)) in
+    let cycle = map (section_of c.args.generation.now) (cycle_of c.args.weigh.now.weights (lines_of c.args.generation.now)) in
     let start = senders_start c.args.carousel in
     rw (p.1, p.2) (puts_as (cycles_all cycle c.loop.counter c.args.cycles start c.loop-test.true) (puts_stop {T = Unit {0}} _
     (puts_as (tables_then cycle c.loop.counter start c.loop.announcer c.loop.invariant.tables) (puts_stop _ (puts_then c.loop.invariant.puts c.in_err-announce.ensures.puts)))))
 
 pub send_group-requires-clause-between : goal.send_group-requires-clause-between
 send_group-requires-clause-between g c =
-    let cycle = map (section_of c.args.generation.now) (cycle_of (lines_of c.args.generation.now)) in
+    let cycle = map (section_of c.args.generation.now) (cycle_of c.args.weigh.now.weights (lines_of c.args.generation.now)) in
     subst IsBetween (sym c.loop.invariant.objects) (objects_between cycle c.loop.counter (senders_start c.args.carousel) (between_idle 256 0))
 
 pub returns-in_err-send_group-clause-puts : goal.returns-in_err-send_group-clause-puts
 returns-in_err-send_group-clause-puts g c =
     let p = err_from_is_err_and c.from_residual-in_err-send_group.result c.from_residual-in_err-send_group.ensures.1 in
-    let cycle = map (section_of c.args.generation.now) (cycle_of (lines_of c.args.generation.now)) in
+    let cycle = map (section_of c.args.generation.now) (cycle_of c.args.weigh.now.weights (lines_of c.args.generation.now)) in
     let start = senders_start c.args.carousel in
     rw (p.1, p.2) (puts_as (cycles_all cycle c.loop.counter c.args.cycles start c.loop-test.true) (puts_stop _
     (puts_as (cycle_more cycle c.loop.counter start c.loop.announcer c.loop.sender.mux c.loop.invariant.tables c.loop.invariant.objects)
@@ -42,7 +42,7 @@ returns-in_err-send_group-clause-puts g c =
 
 pub loop-preserved : goal.loop-preserved
 loop-preserved g c =
-    let cycle = map (section_of c.args.generation.now) (cycle_of (lines_of c.args.generation.now)) in
+    let cycle = map (section_of c.args.generation.now) (cycle_of c.args.weigh.now.weights (lines_of c.args.generation.now)) in
     let start = senders_start c.args.carousel in
     record {
       puts = puts_as (cycle_more cycle c.loop.counter start c.loop.announcer c.loop.sender.mux c.loop.invariant.tables c.loop.invariant.objects)
@@ -53,6 +53,6 @@ loop-preserved g c =
 
 pub returns-clause-puts : goal.returns-clause-puts
 returns-clause-puts g c =
-    let cycle = map (section_of c.args.generation.now) (cycle_of (lines_of c.args.generation.now)) in
+    let cycle = map (section_of c.args.generation.now) (cycle_of c.args.weigh.now.weights (lines_of c.args.generation.now)) in
     let all : c.loop.counter ≡ c.args.cycles = omega (arith, c.loop-test.false, c.loop.auto.counter-end) in
     puts_as (append-nil _ ∙ ap (λ k. concat (cycles_sent cycle k (senders_start c.args.carousel))) all) (puts_then c.loop.invariant.puts c.flush.ensures.puts)

@@ -8,7 +8,7 @@ use Rattle.carousel_shell.proofs.publish_psi.send_announced.Given as goal
 
 abbrev pub invariant-loop : goal.invariant-loop
 invariant-loop g l = record {
-  puts : HasPut (g.O.Output.state l.fn.out) (g.O.Output.state l.out) (concat (cycles_sent (map (section_of l.generation) (cycle_of (lines_of l.generation))) l.counter (senders_start l.carousel)));
-  tables : l.announcer ≡ (after_cycles (map (section_of l.generation) (cycle_of (lines_of l.generation))) l.counter (senders_start l.carousel)).tables;
-  objects : l.sender.mux ≡ (after_cycles (map (section_of l.generation) (cycle_of (lines_of l.generation))) l.counter (senders_start l.carousel)).objects;
+  puts : HasPut (g.O.Output.state l.fn.out) (g.O.Output.state l.out) (concat (cycles_sent (map (section_of l.generation) (cycle_of l.weigh.weights (lines_of l.generation))) l.counter (senders_start l.carousel)));
+  tables : l.announcer ≡ (after_cycles (map (section_of l.generation) (cycle_of l.weigh.weights (lines_of l.generation))) l.counter (senders_start l.carousel)).tables;
+  objects : l.sender.mux ≡ (after_cycles (map (section_of l.generation) (cycle_of l.weigh.weights (lines_of l.generation))) l.counter (senders_start l.carousel)).objects;
 }

@@ -3,7 +3,7 @@ use Rattle.std.proofs.lemmas.Result.{err_from_is_err_and}
 use Rattle.std.proofs.lemmas.List.{take_all}
 use Rattle.section_stream.specs.Kept.{view_bytes}
 use Rattle.shell_streams.proofs.CallerLemmas.{puts_nothing, puts_then, puts_stop, puts_as}
-use Rattle.carousel_shell.specs.Accepted.{accepted}
+use Rattle.carousel_shell.specs.Accepted.{accepted_bytes}
 use Rattle.carousel_shell.proofs.Recording.{accepted_next, accepted_all}
 use Rattle.carousel_shell.proofs.record.put_accepted.Goals as goal
 
@@ -27,4 +27,4 @@ loop-candidate-preserved g c = record {
 pub returns-clause-puts : goal.returns-clause-puts
 returns-clause-puts g c =
     let all : take c.loop-candidate.candidate-index c.args.candidates.now ≡ c.args.candidates.now = take_all c.loop-candidate.candidate-index c.args.candidates.now (omega (arith, c.loop-candidate-test.false)) in
-    puts_as (ap (λ vs. accepted (map view_bytes vs)) all) c.loop-candidate.invariant.puts
+    puts_as (ap (λ vs. accepted_bytes (map view_bytes vs)) all) c.loop-candidate.invariant.puts

@@ -1,5 +1,5 @@
 use Rattle.std.proofs.Common.{◌≡◌, ◌++◌, ◌-◌, ◌<◌, ◌≤◌, length, vec_len}
-use Rattle.oc_bytes.specs.Outcome.{Told}
+use Rattle.oc_bytes.specs.Outcome.{Known}
 use Rattle.folder_store.proofs.real.read_pieces.Given as goal
 
 abbrev pub invariant-loop-source : goal.invariant-loop-source
@@ -8,7 +8,7 @@ invariant-loop-source g l =
     record {
       within : vec_len l.bytes ≤ l.most;
       room : 0 < length l.piece;
-      so_far : Told (left l.fn.source) (left l.source) (λ before after. before ≡ l.bytes.items ++ after);
+      so_far : Known (left l.fn.source) (left l.source) (λ before after. before ≡ l.bytes.items ++ after);
       later : g.S.Source.faults l.fn.source ≤ g.S.Source.faults l.source;
     }
 

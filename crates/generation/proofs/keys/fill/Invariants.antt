@@ -1,6 +1,6 @@
 use Rattle.std.proofs.Common.{◌≡◌, ◌≤◌, ◌++◌, drop, length}
-use Rattle.generation.specs.Layouts.{filled}
+use Rattle.generation.specs.Layouts.{fill_keys}
 use Rattle.generation.proofs.keys.fill.Given as goal
 
 abbrev pub invariant-loop-key : goal.invariant-loop-key
-invariant-loop-key l = (filled l.kept l.free ≡ l.keys.items ++ filled (drop l.key-index l.kept) (drop l.used l.free)) × (l.used ≤ length l.free)
+invariant-loop-key l = (fill_keys l.kept l.free ≡ l.keys.items ++ fill_keys (drop l.key-index l.kept) (drop l.used l.free)) × (l.used ≤ length l.free)

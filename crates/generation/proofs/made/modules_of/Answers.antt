@@ -2,7 +2,7 @@ use Rattle.std.proofs.Common.{sym, ◌∙◌, ap, map, subst, arith}
 use Rattle.std.specs.Prelude.{IfSome}
 use Rattle.std.specs.Option.{option_map}
 use Rattle.std.proofs.lemmas.List.Elements.{All-push}
-use Rattle.generation.specs.Layouts.{listed}
+use Rattle.generation.specs.Layouts.{module_if_used}
 use Rattle.generation.specs.View.{view_placed, view_listed, IsMarked}
 use Rattle.generation.proofs.Placing.{ids_more, ids_same, all_ids}
 use Rattle.generation.proofs.made.modules_of.Goals as goal
@@ -10,7 +10,7 @@ use Rattle.generation.proofs.made.modules_of.Goals.{in-Some+in_ok-push, in_defau
 
 pub loop-id-preserved : goal.loop-id-preserved
 loop-id-preserved c =
-    let f = listed c.args.carousel (map (view_placed c.args.tree.now) c.args.objects.now) in
+    let f = module_if_used c.args.carousel (map (view_placed c.args.tree.now) c.args.objects.now) in
     let marked = IsMarked (map view_listed c.args.before.now) in
     elim c.match-branch-2.branch [
       | in-Some+in_ok-push w ↦ record {

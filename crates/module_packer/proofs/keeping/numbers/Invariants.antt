@@ -1,5 +1,5 @@
 use Rattle.module_packer.specs.Kept.{Filled}
-use Rattle.module_packer.specs.Told.{Tells}
+use Rattle.module_packer.specs.Sums.{Tells}
 use Rattle.module_packer.proofs.Passing.{Settling}
 use Rattle.module_packer.proofs.keeping.numbers.Given as goal
 

@@ -1,6 +1,6 @@
 use Rattle.std.proofs.Common.{◌≡◌, ◌-◌, ℕ, List, length, take, drop, lit≤, sym, subst, MatchOption}
 use Rattle.module_packer.specs.Placement.{IsPlacement, fresh}
-use Rattle.module_packer.specs.Kept.{kept, sizes_in}
+use Rattle.module_packer.specs.Kept.{kept_modules, sizes_in}
 use Rattle.module_packer.proofs.Kept.{kept_is}
 use Rattle.module_packer.proofs.Passing.{were_others, stayed_within, started, start_told, kept_from, afresh_is, placed_is}
 use Rattle.module_packer.proofs.keeping.place.Goals as goal
@@ -17,7 +17,7 @@ numbers-requires c =
 pub returns-in-Some-clause-kept : goal.returns-in-Some-clause-kept
 returns-in-Some-clause-kept c =
     let objects = c.args.objects.now in
-    subst (λ a. MatchOption a (fresh (sizes_in objects) ≡ kept 139 objects) (λ ms. ms.items ≡ kept 139 objects)) c.in-Some.is
+    subst (λ a. MatchOption a (fresh (sizes_in objects) ≡ kept_modules 139 objects) (λ ms. ms.items ≡ kept_modules 139 objects)) c.in-Some.is
     (kept_from 139 objects c.in_ok-others.others.items c.deref.result.now c.new-filling.result.sums c.put.new.self.sums c.stay.new.filling.sums c.in_ok-modules.field-0 c.requires.some (lit≤ tt)
     c.new-filling.ensures c.put.ensures c.deref.ensures.value c.in_ok-others.ensures.passed c.in_ok-others.ensures.filled c.in_ok-modules.ensures)
 
@@ -27,10 +27,10 @@ returns-in-Some-clause-fits c = subst (λ (ms : List ℕ). IsPlacement 139 (size
 pub returns-clause-kept : goal.returns-clause-kept
 returns-clause-kept c =
     let objects = c.args.objects.now in
-    let same : fresh (sizes_in objects) ≡ kept 139 objects = subst (λ a. MatchOption a (fresh (sizes_in objects) ≡ kept 139 objects) (λ ms. ms.items ≡ kept 139 objects)) c.in-None.is
+    let same : fresh (sizes_in objects) ≡ kept_modules 139 objects = subst (λ a. MatchOption a (fresh (sizes_in objects) ≡ kept_modules 139 objects) (λ ms. ms.items ≡ kept_modules 139 objects)) c.in-None.is
     (kept_from 139 objects c.in_ok-others.others.items c.deref.result.now c.new-filling.result.sums c.put.new.self.sums c.stay.new.filling.sums c.in_ok-modules.field-0 c.requires.some (lit≤ tt)
     c.new-filling.ensures c.put.ensures c.deref.ensures.value c.in_ok-others.ensures.passed c.in_ok-others.ensures.filled c.in_ok-modules.ensures) in
-    afresh_is c.afresh.result objects (kept 139 objects) same c.afresh.ensures
+    afresh_is c.afresh.result objects (kept_modules 139 objects) same c.afresh.ensures
 
 pub returns-clause-fits : goal.returns-clause-fits
 returns-clause-fits c = placed_is c.afresh.result c.args.objects.now c.requires (returns-clause-kept c)

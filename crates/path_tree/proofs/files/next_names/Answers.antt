@@ -10,5 +10,5 @@ loop-file-preserved c = elim c.match-next_below.branch [
   | in_default w ↦ grind (arith, common_steps, listed_none c.args.path.now c.args.files.now c.loop-file.file-index c.loop-file-item.result c.loop-file.names.items)
 ]
 
-pub returns : goal.returns
-returns c = sym (c.loop-file.invariant ∙ listed_end c.args.path.now c.args.files.now c.loop-file.file-index c.loop-file.names.items c.loop-file-test.false)
+pub returns-clause-names : goal.returns-clause-names
+returns-clause-names c = sym (c.loop-file.invariant ∙ listed_end c.args.path.now c.args.files.now c.loop-file.file-index c.loop-file.names.items c.loop-file-test.false)

@@ -1,11 +1,11 @@
 use Rattle.std.proofs.Common.{length, ◌≡◌}
-use Rattle.path_tree.specs.Texts.{Plain, undo_all, undone, if_plain}
+use Rattle.path_tree.specs.Texts.{Plain, undo_all, undo_escapes, if_plain}
 use Rattle.path_tree.specs.Steps.{AreBytes}
 use Rattle.path_tree.proofs.text.unescaped.Given as goal
 
 abbrev pub invariant-loop-rest : goal.invariant-loop-rest
 invariant-loop-rest l = record {
-  so_far : undone l.text ≡ if_plain (undo_all (Plain, l.bytes.items) l.rest);
+  so_far : undo_escapes l.text ≡ if_plain (undo_all (Plain, l.bytes.items) l.rest);
   in_byte : AreBytes l.bytes.items;
 }
 

@@ -1,6 +1,6 @@
 use Rattle.std.proofs.Common.{◌≡◌}
-use Rattle.rehearsal.specs.Lines.{filled}
+use Rattle.rehearsal.specs.Lines.{filled_bytes}
 use Rattle.rehearsal.proofs.filling.filled.Given as goal
 
 abbrev pub invariant-loop-place : goal.invariant-loop-place
-invariant-loop-place l = l.bytes.items ≡ filled l.place l.from
+invariant-loop-place l = l.bytes.items ≡ filled_bytes l.place l.from

@@ -8,21 +8,21 @@ use Rattle.session_actors.specs.declared.editor.EditorSeat.{EditorSeat}
 use Rattle.session.proofs.editors.editor_seats.Goals as goal
 
 pub bounds-numbers-len : goal.bounds-numbers-len
-bounds-numbers-len c =
+bounds-numbers-len g c =
     let turn = YieldsList-turn (YieldsList-from_vec {s = c.into_iter-pass-iterator.result} c.args.passes.items (search rules) (search rules))
     c.loop-pass.yielded c.loop-pass.pass-iterator c.loop-pass.yielded_by c.next.result c.next.new.self c.in-Some.pass c.in-Some.is c.next.ensures.steps in
     let count = new_seats_count _ _ _ c.loop-pass.invariant in
     let lt = turn.0 in let all = c.requires.count.0 in let len = c.len.ensures in omega (arith, lt, all, count, len)
 
 pub offset_bounds-numbers-len : goal.offset_bounds-numbers-len
-offset_bounds-numbers-len c =
+offset_bounds-numbers-len g c =
     let turn = YieldsList-turn (YieldsList-from_vec {s = c.into_iter-pass-iterator.result} c.args.passes.items (search rules) (search rules))
     c.loop-pass.yielded c.loop-pass.pass-iterator c.loop-pass.yielded_by c.next.result c.next.new.self c.in-Some.pass c.in-Some.is c.next.ensures.steps in
     let count = new_seats_count _ _ _ c.loop-pass.invariant in
     let lt = turn.0 in let all = c.requires.count.0 in let few = c.requires.count.1 in let len = c.len.ensures in omega (arith, lt, all, few, count, len)
 
 pub loop-pass-preserved : goal.loop-pass-preserved
-loop-pass-preserved c =
+loop-pass-preserved g c =
     let turn = YieldsList-turn (YieldsList-from_vec {s = c.into_iter-pass-iterator.result} c.args.passes.items (search rules) (search rules))
     c.loop-pass.yielded c.loop-pass.pass-iterator c.loop-pass.yielded_by c.next.result c.next.new.self c.in-Some.pass c.in-Some.is c.next.ensures.steps in
     let lt : length c.loop-pass.yielded < length c.args.numbers.now = let below = turn.0 in let all = c.requires.count.0 in omega (arith, below, all) in
@@ -33,20 +33,20 @@ loop-pass-preserved c =
     refl c.new.ensures.items c.loop-pass.invariant)
 
 pub returns-clause-numbers : goal.returns-clause-numbers
-returns-clause-numbers c =
+returns-clause-numbers g c =
     let end = YieldsList-end (YieldsList-from_vec {s = c.into_iter-pass-iterator.result} c.args.passes.items (search rules) (search rules))
     c.loop-pass.yielded c.loop-pass.pass-iterator c.loop-pass.yielded_by c.next.result c.next.new.self c.in-None.is c.next.ensures.steps in
     new_numbers _ _ _ (all_new c.args.numbers.now c.args.passes.items c.loop-pass.yielded c.loop-pass.seats.items (sym (map_same c.loop-pass.yielded) ∙ end.0) c.requires.count.0 c.loop-pass.invariant)
 
 pub returns-clause-passes : goal.returns-clause-passes
-returns-clause-passes c =
+returns-clause-passes g c =
     let end = YieldsList-end (YieldsList-from_vec {s = c.into_iter-pass-iterator.result} c.args.passes.items (search rules) (search rules))
     c.loop-pass.yielded c.loop-pass.pass-iterator c.loop-pass.yielded_by c.next.result c.next.new.self c.in-None.is c.next.ensures.steps in
     λ k d lt. (new_at c.args.station.now 0 c.args.numbers.now c.args.passes.items c.loop-pass.seats.items c.requires.passes
     (all_new c.args.numbers.now c.args.passes.items c.loop-pass.yielded c.loop-pass.seats.items (sym (map_same c.loop-pass.yielded) ∙ end.0) c.requires.count.0 c.loop-pass.invariant) k d lt).committed.pass
 
 pub returns-clause-stands : goal.returns-clause-stands
-returns-clause-stands c =
+returns-clause-stands g c =
     let end = YieldsList-end (YieldsList-from_vec {s = c.into_iter-pass-iterator.result} c.args.passes.items (search rules) (search rules))
     c.loop-pass.yielded c.loop-pass.pass-iterator c.loop-pass.yielded_by c.next.result c.next.new.self c.in-None.is c.next.ensures.steps in
     λ k d lt. subst (λ (n : ℕ). EditorStands c.args.station.now n [] (slice_index_or c.loop-pass.seats.items k d)) (omega arith)

@@ -3,4 +3,4 @@ use Rattle.session.proofs.Editing.{AreNewSeats}
 use Rattle.session.proofs.editors.editor_seats.Given as goal
 
 abbrev pub invariant-loop-pass : goal.invariant-loop-pass
-invariant-loop-pass l = AreNewSeats (take (length l.yielded) l.numbers) l.yielded l.seats.items
+invariant-loop-pass g l = AreNewSeats (take (length l.yielded) l.numbers) l.yielded l.seats.items

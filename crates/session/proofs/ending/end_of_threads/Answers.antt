@@ -1,12 +1,13 @@
+use Rattle.generation_catalogue.specs.View.{state}
 use Rattle.session.proofs.Closing.{gathered_of, all_passes}
 use Rattle.session.proofs.ending.end_of_threads.Goals as goal
 
 pub close-catalogue-requires : goal.close-catalogue-requires
-close-catalogue-requires c = all_passes c.args.station c.args.editors.items c.args.feeder _ c.in_ok-passes.ensures c.requires.count c.requires.editors c.requires.feeder
+close-catalogue-requires g c = all_passes c.args.station c.args.editors.items c.args.feeder _ c.in_ok-passes.ensures c.requires.count c.requires.editors c.requires.feeder
 
 pub returns : goal.returns
-returns c = record {
+returns g c = record {
   gathered =
-      gathered_of c.actors_gather.ensures c.args.station c.args.editors.items c.args.feeder _ c.close-catalogue.result c.in_ok-passes.ensures c.close-catalogue.ensures.carousel c.entries.ensures.history
+      gathered_of c.actors_gather.ensures c.args.station c.args.editors.items c.args.feeder _ (state c.close-catalogue.result) c.in_ok-passes.ensures c.close-catalogue.ensures.carousel c.close-catalogue.ensures.weights c.entries.ensures.history
       c.close-catalogue.ensures.seen c.close-catalogue.ensures.owned;
 }

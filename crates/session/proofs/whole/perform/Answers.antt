@@ -1,7 +1,9 @@
-use Rattle.std.proofs.Common.{◌≡◌, ◌+◌, true, length, refl, ap, ◌∙◌, arith}
+use Rattle.std.proofs.Common.{◌≡◌, ℕ, ◌+◌, true, List, length, map, refl, ap, ◌∙◌, subst, arith}
 use Rattle.station.specs.Passes.{pass_count}
 use Rattle.shot_board.specs.Showers.{shown_by}
 use Rattle.session.specs.declared.cast.Cast.{Cast}
+use Rattle.session_history.specs.Merges.{known_view}
+use Rattle.session.specs.Sessions.{IsSession}
 use Rattle.session.specs.Threads.{done_in}
 use Rattle.session.specs.Ending.{steps_of}
 use Rattle.session.proofs.Begun.{are_done, few_editors, few_readers, mentioned, new_cast, popped_pass, stands_first, to_end}
@@ -107,6 +109,7 @@ end-requires-clause-ready g c = λ κs within.
 pub returns : goal.returns
 returns g c =
     if_ok_map c.end.result (λ told f script setting u b.
+    subst (λ (ws : List ℕ). IsSession ws script (map known_view told.items)) c.in_ok-station.ensures.weights (
     let cast : Cast = record { editors = c.in_ok-editor_seats.field-0; feeder = record { pass = c.in-Some.pass; downlink = c.args.start.downlink; draws = c.new-2.result; fates = c.new-3.result; whole = true }; readers = c.in_ok-reader_seats.field-0 } in
     let pass = popped_pass c.in_ok-station.station c.in_ok-station.passes.items c.pop.new.self.items c.pop.result c.in-Some.pass c.pop.ensures.items c.in-Some.is c.in_ok-station.ensures.passes in
     let first = stands_first script setting (shown_by c.args.shower.now) c.args.start u c.in_ok-station.station cast c.deref-3.result.now c.deref-3.ensures.value c.in_ok-editor_seats.ensures.stands
@@ -118,5 +121,5 @@ returns g c =
     (c.run_all.ensures.actors.editors ∙ c.act_all.ensures.actors.editors ∙ c.in_ok-editor_seats.ensures.numbers ∙ c.deref.ensures.value)
     (c.run_all.ensures.actors.readers ∙ c.act_all.ensures.actors.readers ∙ c.in_ok-reader_seats.ensures.numbers ∙ c.deref-2.ensures.value)
     (shown_by c.run_all.new.shower) c.deref-4.result.now c.deref-4.ensures.value c.in_ok-station.ensures.carousel count
-    (c.run_all.ensures.done c.if-not-run_all.false setting (c.in_ok-ends.ensures.stands setting u.setting_is first))))
+    (c.run_all.ensures.done c.if-not-run_all.false setting (c.in_ok-ends.ensures.stands setting u.setting_is first)))))
     c.end.ensures.session

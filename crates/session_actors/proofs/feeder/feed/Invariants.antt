@@ -1,4 +1,4 @@
-use Rattle.std.proofs.Common.{◌≡◌, ◌++◌, ◌+◌, ℕ, List, map, length, false}
+use Rattle.std.proofs.Common.{◌≡◌, ◌++◌, ◌+◌, List, map, length, false}
 use Rattle.shot_board.specs.Showers.{shown_by, IsSameBoard}
 use Rattle.station.specs.Passes.{IsStationPass}
 use Rattle.session_actors.specs.Chains.{DrawFields}

@@ -1,5 +1,5 @@
 use Rattle.std.proofs.Common.{arith}
-use Rattle.session_history.specs.Waiting.{front}
+use Rattle.session_history.specs.Waiting.{count_first_opens}
 use Rattle.session_history.proofs.Turns.{front_here, front_on, front_all}
 use Rattle.session_history.proofs.waiting.front_of.Goals as goal
 
@@ -11,17 +11,17 @@ loop-place-preserved c =
     let at = c.loop-place in
     let less = c.loop-place-test.true in (
       omega arith,
-      front_on c.args.draws c.args.opens.now at.place c.index-opens-place.result (front c.args.draws c.args.opens.now) less c.index-opens-place.is
+      front_on c.args.draws c.args.opens.now at.place c.index-opens-place.result (count_first_opens c.args.draws c.args.opens.now) less c.index-opens-place.is
           (let same = c.if-later-draws.false in omega arith) at.invariant.1,
     )
 
 pub returns-then-later-draws-clause-front : goal.returns-then-later-draws-clause-front
 returns-then-later-draws-clause-front c =
     let at = c.loop-place in
-    front_here c.args.draws c.args.opens.now at.place c.index-opens-place.result (front c.args.draws c.args.opens.now) c.loop-place-test.true c.index-opens-place.is
+    front_here c.args.draws c.args.opens.now at.place c.index-opens-place.result (count_first_opens c.args.draws c.args.opens.now) c.loop-place-test.true c.index-opens-place.is
     (λ e. let other = c.if-later-draws.true in omega arith) at.invariant.1
 
 pub returns-clause-front : goal.returns-clause-front
 returns-clause-front c =
     let at = c.loop-place in
-    front_all c.args.draws c.args.opens.now at.place (front c.args.draws c.args.opens.now) (let past = c.loop-place-test.false in omega arith) at.invariant.0 at.invariant.1
+    front_all c.args.draws c.args.opens.now at.place (count_first_opens c.args.draws c.args.opens.now) (let past = c.loop-place-test.false in omega arith) at.invariant.0 at.invariant.1

@@ -1,6 +1,6 @@
 use Rattle.std.proofs.Common.{◌<◌, length, map, arith}
-use Rattle.session_history.specs.Merges.{told_view}
-use Rattle.session_history.specs.Waiting.{waited}
+use Rattle.session_history.specs.Merges.{known_view}
+use Rattle.session_history.specs.Waiting.{as_reader}
 use Rattle.session_history.proofs.Turns.{reader_climbs, reader_told}
 use Rattle.session_history.proofs.waiting.tell_all.Goals as goal
 
@@ -14,5 +14,5 @@ pub loop-reader-preserved : goal.loop-reader-preserved
 loop-reader-preserved c =
     let at = c.loop-reader in
     let less : at.reader-index < length at.waiting = (let same = at.auto.waiting in let below = c.loop-reader-test.true in omega arith) in
-    reader_told c.args.draws at.reader-index at.waiting (map waited c.args.waiting.now) (map told_view at.told.items) _ (map told_view c.in_ok-told.told.items) c.reader-item.result c.tell.new.self
+    reader_told c.args.draws at.reader-index at.waiting (map as_reader c.args.waiting.now) (map known_view at.told.items) _ (map known_view c.in_ok-told.told.items) c.reader-item.result c.tell.new.self
     less c.in_ok-told.ensures.left c.in_ok-told.ensures.told at.invariant

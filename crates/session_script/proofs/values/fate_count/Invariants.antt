@@ -1,14 +1,14 @@
 use Rattle.std.proofs.Common.{◌≡◌, ◌≤◌, length, option_map}
 use Rattle.session_script.specs.Values.{all_fates}
-use Rattle.session_script.specs.Steps.{left}
+use Rattle.session_script.specs.Steps.{words_left}
 use Rattle.session_script.proofs.Runs.{counted}
 use Rattle.session_script.proofs.values.fate_count.Given as goal
 
 abbrev pub invariant-loop-word : goal.invariant-loop-word
 invariant-loop-word l = record {
   bound : l.count ≤ 65536;
-  so_far : option_map length (all_fates (left l.fn.words)) ≡ counted l.count (all_fates (left l.words));
+  so_far : option_map length (all_fates (words_left l.fn.words)) ≡ counted l.count (all_fates (words_left l.words));
 }
 
 abbrev pub decreases-loop-word : goal.decreases-loop-word
-decreases-loop-word l = length (left l.words)
+decreases-loop-word l = length (words_left l.words)

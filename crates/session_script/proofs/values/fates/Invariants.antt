@@ -1,10 +1,10 @@
 use Rattle.std.proofs.Common.{◌≡◌, Some, length}
 use Rattle.session_script.specs.Values.{all_fates, fates_onto}
-use Rattle.session_script.specs.Steps.{left}
+use Rattle.session_script.specs.Steps.{words_left}
 use Rattle.session_script.proofs.values.fates.Given as goal
 
 abbrev pub invariant-loop-word : goal.invariant-loop-word
-invariant-loop-word l = all_fates (left l.fn.words) ≡ fates_onto (Some l.fates.items) (all_fates (left l.words))
+invariant-loop-word l = all_fates (words_left l.fn.words) ≡ fates_onto (Some l.fates.items) (all_fates (words_left l.words))
 
 abbrev pub decreases-loop-word : goal.decreases-loop-word
-decreases-loop-word l = length (left l.words)
+decreases-loop-word l = length (words_left l.words)

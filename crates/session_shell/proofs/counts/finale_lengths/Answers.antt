@@ -1,4 +1,4 @@
-use Rattle.std.proofs.Common.{◌∙◌, ap, arith, refl}
+use Rattle.std.proofs.Common.{◌∙◌, ap, arith}
 use Rattle.session_shell.specs.Big.{finale_lengths}
 use Rattle.session_shell.proofs.Tallies.{opens_few, opens_more, lengths_more, all_told}
 use Rattle.session_shell.proofs.counts.finale_lengths.Goals as goal

@@ -15,4 +15,4 @@ pub returns-in-Big-clause-promises : goal.returns-in-Big-clause-promises
 returns-in-Big-clause-promises g c = rw c.in-Big.is (record { unread = refl; keeps = c.play_generated.ensures.plays })
 
 pub returns-in_default-clause-promises : goal.returns-in_default-clause-promises
-returns-in_default-clause-promises g c = others_decline c.args.command.now _ _ c.in_default.not-Session c.in_default.not-Big refl refl
+returns-in_default-clause-promises g c = others_decline c.args.weigh.weights c.args.command.now _ _ c.in_default.not-Session c.in_default.not-Big refl refl

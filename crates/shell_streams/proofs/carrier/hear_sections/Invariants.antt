@@ -1,5 +1,5 @@
 use Rattle.std.proofs.Common.{◌≡◌, ◌≤◌, List, length}
-use Rattle.oc_bytes.specs.Outcome.{Told}
+use Rattle.oc_bytes.specs.Outcome.{Known}
 use Rattle.shell_streams.specs.Cuts.{Bytes}
 use Rattle.shell_streams.specs.Held.{onto_left, AreCut}
 use Rattle.shell_streams.proofs.carrier.hear_sections.Given as goal
@@ -8,7 +8,7 @@ abbrev pub invariant-loop-taken : goal.invariant-loop-taken
 invariant-loop-taken g l = record {
   sections : List Bytes;
   number : length sections ≡ l.taken;
-  cut : Told (g.S.Source.left l.fn.source) (onto_left l.unread (g.S.Source.left l.source)) (AreCut sections);
+  cut : Known (g.S.Source.left l.fn.source) (onto_left l.unread (g.S.Source.left l.source)) (AreCut sections);
   heard : g.L.Listener.heard l.fn.listener l.listener sections;
   later : g.S.Source.faults l.fn.source ≤ g.S.Source.faults l.source;
 }

@@ -1,6 +1,6 @@
 use Rattle.std.proofs.Common.{◌≤◌, ◌++◌, take, length, refl, arith, sym, ap, subst, Option}
 use Rattle.std.proofs.lemmas.Result.{err_from_is_err_and}
-use Rattle.oc_bytes.specs.Outcome.{Told}
+use Rattle.oc_bytes.specs.Outcome.{Known}
 use Rattle.shell_streams.specs.Cuts.{Bytes}
 use Rattle.shell_streams.specs.declared.input.InputFault.TheVariants as inputs
 use Rattle.shell_streams.proofs.CallerLemmas.{told_same, rose_last}
@@ -18,7 +18,7 @@ loop-bytes-init g c = record {
 pub returns-in_err-read-clause-stopped : goal.returns-in_err-read-clause-stopped
 returns-in_err-read-clause-stopped g c =
     let p = err_from_is_err_and c.from_residual-in_err-read.result c.from_residual-in_err-read.ensures.1 in
-    let P : Option Bytes → Type 0 = λ left. Told (g.S.Source.left c.args.source.now) left (TakenFirst c.loop-bytes.bytes.items) in
+    let P : Option Bytes → Type 0 = λ left. Known (g.S.Source.left c.args.source.now) left (TakenFirst c.loop-bytes.bytes.items) in
     rw (p.1, p.2) (taken_stop inputs.Failed c.loop-bytes.bytes.items c.args.most (λ e. cc) (subst P (sym c.in_err-read.ensures.nothing) c.loop-bytes.invariant.taken))
 
 pub returns-in_err-read-clause-cause : goal.returns-in_err-read-clause-cause

@@ -17,7 +17,7 @@ list_below-returns-in_err-below-clause-puts g t c =
 
 pub list_below-returns-in-Some-clause-puts : goal.list_below-returns-in-Some-clause-puts
 list_below-returns-in-Some-clause-puts g t c =
-    rw (below_some (answer_of (held_of c.args.shot.now)) c.args.path.now c.args.name.now c.in-Some.below c.requires (sym c.in-Some.is ∙ c.in_ok-below.ensures)) at c.list_from.ensures.puts
+    rw (below_some (answer_of (held_of c.args.shot.now)) c.args.path.now c.args.name.now c.in-Some.below c.requires (sym c.in-Some.is ∙ c.in_ok-below.ensures.below)) at c.list_from.ensures.puts
 
 pub list_from-returns-then-self-eq0-clause-listed : goal.list_from-returns-then-self-eq0-clause-listed
 list_from-returns-then-self-eq0-clause-listed g t c = lists_none _ _ c.args.path.now _ _ c.if-self-eq0.true

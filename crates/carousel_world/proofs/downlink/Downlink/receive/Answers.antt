@@ -1,6 +1,6 @@
 use Rattle.std.proofs.Common.{[], ◌∷◌, take, get_or, refl, ap, sym, ◌∙◌, subst, arith}
 use Rattle.ts_packet.specs.declared.Fate.{Fate}
-use Rattle.ts_packet.specs.Fates.{arrived}
+use Rattle.ts_packet.specs.Fates.{arrival_of}
 use Rattle.carousel_world.specs.DownView.{DownlinkState, Hears}
 use Rattle.carousel_world.specs.Fates.{received_under}
 use Rattle.carousel_world.proofs.Carrying.{one_heard, one_not_heard}
@@ -10,7 +10,7 @@ use Rattle.carousel_world.proofs.downlink.Downlink.receive.Goals.{in-Some+in_ok-
 pub loop-packet-preserved : goal.loop-packet-preserved
 loop-packet-preserved c =
     let packet = get_or c.args.packets.now c.loop-packet.packet-index [] in
-    let fate = ap (λ (f : Fate). arrived f packet) c.fate_at.ensures in
+    let fate = ap (λ (f : Fate). arrival_of f packet) c.fate_at.ensures in
     elim c.match-arrived.branch [
       | in-Some+in_ok-hear w ↦ record {
         number = omega arith;

@@ -5,10 +5,10 @@ use Rattle.rehearsal.proofs.Running.{runs_as, stands_as, on_ok_map}
 use Rattle.rehearsal.proofs.rehearsal.Rehearsal.draw_to_settle.Goals as goal
 
 pub returns-clause-runs : goal.returns-clause-runs
-returns-clause-runs g c = λ before p st.
-    runs_as before (ap (λ (fates : List Fate). Draw 1048576 fates ∷ []) c.new-fates.ensures.items) (c.happen.ensures.runs before p st)
+returns-clause-runs g c = λ ws before p st.
+    runs_as before (ap (λ (fates : List Fate). Draw 1048576 fates ∷ []) c.new-fates.ensures.items) (c.happen.ensures.runs ws before p st)
 
 pub returns-clause-stands : goal.returns-clause-stands
 returns-clause-stands g c =
     on_ok_map c.happen.result
-    (λ f before p st. stands_as (ap (λ (fates : List Fate). before ++ Draw 1048576 fates ∷ []) c.new-fates.ensures.items) (f before p st)) c.happen.ensures.stands
+    (λ f ws before p st. stands_as (ap (λ (fates : List Fate). before ++ Draw 1048576 fates ∷ []) c.new-fates.ensures.items) (f ws before p st)) c.happen.ensures.stands

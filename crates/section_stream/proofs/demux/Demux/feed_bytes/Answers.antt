@@ -1,6 +1,8 @@
 use Rattle.std.proofs.Common.{◌-◌, ◌∙◌, ap, arith, map}
 use Rattle.section_stream.specs.Kept.{view_bytes}
+use Rattle.section_stream.specs.Pieces.{packets_of}
 use Rattle.section_stream.proofs.Bytes.{piece_short, piece_taken, takes_stand, takes_cut, takes_pid, takes_short}
+use Rattle.section_stream.proofs.Completing.{on_err, first_gives, later_gives, piece_completes}
 use Rattle.section_stream.proofs.demux.Demux.feed_bytes.Goals as goal
 
 pub returns-then-piece-missing-clause-stands : goal.returns-then-piece-missing-clause-stands
@@ -34,3 +36,13 @@ returns-clause-short c = takes_short _ _ _ _
     (piece_taken c.args.self.now c.self.inside.receiver c.copy.new.self c.step.new.self c.take_all.new.self c.swap.new.x c.self.inside.unfinished c.completed.result c.split_at.result.0.now c.split_at.result.1.now c.replace.new.self c.args.piece.now (188 - c.len-missing.result) _ _ _
     c.self.view_is c.copy.ensures c.swap.ensures.x_after (omega (arith, c.len-missing.ensures, c.self.invariant)) (omega (arith, c.if-piece-missing.false)) c.split_at.ensures.front c.split_at.ensures.back c.completed.ensures
     (ap (map view_bytes) c.new-out.ensures.items) c.in_ok-step.ensures.ok c.in_ok-rest.ensures.run (c.replace.ensures ∙ c.in_ok-rest.ensures.rest.0))
+
+pub returns-in_err-step-clause-completes : goal.returns-in_err-step-clause-completes
+returns-in_err-step-clause-completes c = on_err _ (piece_completes c.args.self.now c.self.inside.receiver c.copy.new.self c.self.inside.unfinished c.completed.result c.split_at.result.0.now c.split_at.result.1.now c.args.piece.now (188 - c.len-missing.result)
+    c.self.view_is c.copy.ensures (omega (arith, c.len-missing.ensures, c.self.invariant)) (omega (arith, c.if-piece-missing.false)) c.split_at.ensures.front c.split_at.ensures.back c.completed.ensures
+    (first_gives c.copy.new.self c.completed.result (packets_of c.split_at.result.1.now) c.in_err-step.ensures.memory))
+
+pub returns-in_err-rest-clause-completes : goal.returns-in_err-rest-clause-completes
+returns-in_err-rest-clause-completes c = on_err _ (piece_completes c.args.self.now c.self.inside.receiver c.copy.new.self c.self.inside.unfinished c.completed.result c.split_at.result.0.now c.split_at.result.1.now c.args.piece.now (188 - c.len-missing.result)
+    c.self.view_is c.copy.ensures (omega (arith, c.len-missing.ensures, c.self.invariant)) (omega (arith, c.if-piece-missing.false)) c.split_at.ensures.front c.split_at.ensures.back c.completed.ensures
+    (later_gives c.copy.new.self c.step.new.self c.completed.result (packets_of c.split_at.result.1.now) _ _ c.in_ok-step.ensures.ok c.in_err-rest.ensures.memory))

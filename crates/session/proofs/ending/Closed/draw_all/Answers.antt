@@ -5,7 +5,7 @@ use Rattle.shot_board.specs.Showers.{shown_by, most_by}
 use Rattle.generation_catalogue.specs.View.{state}
 use Rattle.session_actors.specs.Chains.{DrawFields}
 use Rattle.session.specs.Lines.{draws_in}
-use Rattle.session.specs.Ending.{HasGathered, drawn_all, steps_of}
+use Rattle.session.specs.Ending.{HasGathered, drawn_all, steps_of, view_closed}
 use Rattle.session.proofs.Closing.{left_at, draw_in_range, no_commit_comes, room_for_draw, count_with, opens_without, drawn_with, made_with, draws_without, opens_with}
 use Rattle.session.proofs.ending.Closed.draw_all.Goals as goal
 
@@ -33,7 +33,7 @@ loop-deed-preserved-in-Continue-1 g c =
       count = count_with c.loop-deed.yielded c.in-Some.deed c.in-Draw.asked c.in-Draw.fates c.in-Draw.is _ _ _ i.count done.count;
       opened = i.opened ∙ sym (opens_without c.loop-deed.yielded c.in-Some.deed c.in-Draw.asked c.in-Draw.fates c.in-Draw.is);
       drew = drawn_with c.loop-deed.yielded c.in-Some.deed c.in-Draw.asked c.in-Draw.fates c.in-Draw.is _ _ _ i.drew done.drawn;
-      made = made_with c.loop-deed.yielded c.in-Some.deed c.in-Draw.asked c.in-Draw.fates c.in-Draw.is c.args.self.now c.loop-deed.self c.draw.new.self
+      made = made_with c.loop-deed.yielded c.in-Some.deed c.in-Draw.asked c.in-Draw.fates c.in-Draw.is (view_closed c.args.self.now) (view_closed c.loop-deed.self) (view_closed c.draw.new.self)
           (shown_by c.args.shower.now) (shown_by c.loop-deed.shower) (shown_by c.draw.new.shower) i.made done.gathered;
     }
 
@@ -47,7 +47,7 @@ loop-deed-preserved g c =
       count = i.count ∙ ap (λ (ds : List DrawFields). length (shown_by c.args.shower.now) + length ds) (sym same);
       opened = opens_with c.loop-deed.yielded c.in-Some.deed c.in-Open.reader c.in-Open.path c.in-Open.is _ _ _ i.opened c.in_ok-push-in-Open.ensures.items refl;
       drew = i.drew ∙ ap (drawn_all (state c.args.self.now.catalogue)) (sym same);
-      made = λ id commits draws h. subst (λ (ds : List DrawFields). HasGathered id commits (draws ++ ds) (shown_by c.loop-deed.shower) c.loop-deed.self) (sym same) (i.made id commits draws h);
+      made = λ id weights commits draws h. subst (λ (ds : List DrawFields). HasGathered id weights commits (draws ++ ds) (shown_by c.loop-deed.shower) (view_closed c.loop-deed.self)) (sym same) (i.made id weights commits draws h);
     }
 
 pub unreachable-requires : goal.unreachable-requires

@@ -1,6 +1,6 @@
 use Rattle.std.proofs.Common.{◌≡◌, ◌-◌, ◌++◌, List, IfOk, length, map, take, drop, subst, ap, ◌∙◌}
 use Rattle.session_history.specs.declared.opens.Open.{Open}
-use Rattle.session_history.specs.Merges.{told_view, opened_of}
+use Rattle.session_history.specs.Merges.{known_view, opened_of}
 use Rattle.session_history.proofs.Turns.{as_long, to_end, front_takes, is_left}
 use Rattle.session_history.proofs.waiting.Waiting.tell.Goals as goal
 
@@ -10,7 +10,7 @@ slice_bounds-tell_opens-end c = as_long c.front_of-front.result c.args.self.now.
 pub returns-clause-told : goal.returns-clause-told
 returns-clause-told c =
     let opens = c.args.self.now.opens.now in
-    subst (λ (l : List Open). IfOk c.tell_opens.result (λ new. map told_view new.items ≡ map told_view c.args.told.items ++ map (opened_of c.args.self.now.reader) l))
+    subst (λ (l : List Open). IfOk c.tell_opens.result (λ new. map known_view new.items ≡ map known_view c.args.told.items ++ map (opened_of c.args.self.now.reader) l))
     (ap (λ n. take n opens) c.front_of-front.ensures.front ∙ front_takes c.args.draws opens c.requires) c.tell_opens.ensures
 
 pub returns-clause-left : goal.returns-clause-left

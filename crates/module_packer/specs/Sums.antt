@@ -6,13 +6,13 @@ use Rattle.module_packer.specs.Placement.{room, sum_in}
 use Rattle.module_packer.specs.Kept.{Filled, in_use}
 
 -- the sum of the sizes in a module, where it is in use
-abbrev pub told : Filled → ℕ → Option ℕ
-told filled m = if in_use filled m then Some (sum_in filled m) else None
+abbrev pub known_sum : Filled → ℕ → Option ℕ
+known_sum filled m = if in_use filled m then Some (sum_in filled m) else None
 
 -- the sums, from module 1 on, are those of the objects that are placed
 pub record Tells (limit : ℕ) (sums : List (Option ℕ)) (filled : Filled) : Type 0 where
   pub all : length sums ≡ limit
-  pub each : (k : ℕ) → k < limit → slice_index_or sums k None ≡ told filled (k + 1)
+  pub each : (k : ℕ) → k < limit → slice_index_or sums k None ≡ known_sum filled (k + 1)
 
 abbrev pub sum_at : List (Option ℕ) → ℕ → ℕ
 sum_at sums k = unwrap_or (slice_index_or sums k None) 0
@@ -27,15 +27,15 @@ takes_more size None = false
 takes_more size (Some sum) = nat_le (sum + size) room
 
 -- the number of the module at a place
-abbrev pub numbered : Option ℕ → Option ℕ
-numbered place = option_map (λ k. k + 1) place
+abbrev pub number_at : Option ℕ → Option ℕ
+number_at place = option_map (λ k. k + 1) place
 
 abbrev pub shared_of : ℕ → List (Option ℕ) → Option ℕ
-shared_of size sums = if nat_le size room then numbered (position (takes_more size) sums) else None
+shared_of size sums = if nat_le size room then number_at (position (takes_more size) sums) else None
 
 abbrev pub or_unused : Option ℕ → List (Option ℕ) → Option ℕ
 or_unused (Some m) sums = Some m
-or_unused None sums = numbered (position is_none sums)
+or_unused None sums = number_at (position is_none sums)
 
 -- the module for an object that doesn't stay, if there is one
 abbrev pub moved_by : ℕ → List (Option ℕ) → Option ℕ

@@ -1,0 +1,104 @@
+-- Memory is asked for only where a section is complete.
+use Rattle.std.proofs.Common.{◌≡◌, ℕ, ◌+◌, ◌<◌, ◌≤◌, Bool, false, List, [], ◌∷◌, ◌++◌, Option, Some, length, take, drop, slice_index, refl, sym, ◌∙◌, ap, subst, arith, length-append}
+use Rattle.std.specs.Prelude.{Result, Ok, Err, OnErr}
+use Rattle.ts_packet.specs.Packets.{Fields}
+use Rattle.section_stream.specs.Cuts.{Bytes, candidates}
+use Rattle.section_stream.specs.Kept.{with_unfinished}
+use Rattle.section_stream.specs.Pieces.{packets_of, rest_of, StandsForBytes}
+use Rattle.section_stream.specs.Rules.{After, DemuxState, Receiving, StandsFor, Whole, after_all, closes, as_grown, jumps_from, one_more, outputs, starts, step, takes}
+use Rattle.section_stream.specs.Steps.{Completes, Gives, HasDone, HasOut, done_by, kept_unless, no_section_in, open_all, with_packet}
+use Rattle.section_stream.specs.declared.counts.Counts.{Counts}
+use Rattle.section_stream.proofs.Bytes.{ends_cut, ends_some, packets_some}
+use Rattle.section_stream.proofs.Feeding.{cuts_step}
+use Rattle.section_stream.proofs.Opening.{starts_is, whole_step}
+use Rattle.section_stream.proofs.Taking.{takes_done}
+
+pub on_err : {T E P : Type 0} (r : Result T E) → P → OnErr r P
+on_err (Ok x) p = tt
+on_err (Err e) p = p
+
+more_left : (xs ys : List Bytes) → 0 < length xs → 0 < length (xs ++ ys)
+more_left xs ys h = omega (arith, length-append xs ys, h)
+
+more_right : (xs ys : List Bytes) → 0 < length ys → 0 < length (xs ++ ys)
+more_right xs ys h = omega (arith, length-append xs ys, h)
+
+longer : (xs ys all : List Bytes) → all ≡ xs ++ ys → 0 < length ys → length xs < length all
+longer xs ys all e h = subst (λ zs. length xs < length zs) (sym e) (omega (arith, length-append xs ys, h))
+
+-- ---- the sections of a packet
+
+pub open-gives : (here : Bytes) (c : Counts) (n : ℕ) → length here ≤ 188 → no_section_in here ≡ false → as_grown here ≡ Whole n → 0 < length (open_all here c).out
+open-gives here c n h e g =
+    subst (λ (a : After). 0 < length a.out) (sym (whole_step here c n h e g)) (more_left (take n here ∷ []) (open_all (drop n here) c).out (omega arith))
+
+first_or_rest : (o : Option Bytes) (payload : Bytes) (c : Counts) (p : ℕ) → p ≡ slice_index payload 0 → p < length payload
+    → 0 < length ((closes o (take p (drop 1 payload)) c).out ++ (open_all (drop (1 + p) payload) (closes o (take p (drop 1 payload)) c).counts).out) → HasOut (starts o payload c)
+first_or_rest o payload c p e h g = record { some = subst (λ (a : After). 0 < length a.out) (sym (starts_is o payload c p e h)) g }
+
+pub starts-first : (o : Option Bytes) (payload : Bytes) (c : Counts) (p : ℕ) (part : Bytes) → p ≡ slice_index payload 0 → p < length payload → part ≡ take p (drop 1 payload)
+    → 0 < length (closes o part c).out → HasOut (starts o payload c)
+starts-first o payload c p part e h q g =
+    let first = closes o (take p (drop 1 payload)) c in
+    first_or_rest o payload c p e h (more_left first.out (open_all (drop (1 + p) payload) first.counts).out (subst (λ x. 0 < length (closes o x c).out) q g))
+
+pub starts-rest : (o : Option Bytes) (payload : Bytes) (c : Counts) (p : ℕ) (part here : Bytes) (k : Counts) → p ≡ slice_index payload 0 → p < length payload → part ≡ take p (drop 1 payload)
+    → here ≡ drop (1 + p) payload → (closes o part c).counts ≡ k → 0 < length (open_all here k).out → HasOut (starts o payload c)
+starts-rest o payload c p part here k e h q r counted g =
+    let first = closes o (take p (drop 1 payload)) c in
+    let same : k ≡ first.counts = sym counted ∙ ap (λ x. (closes o x c).counts) q in
+    first_or_rest o payload c p e h
+    (more_right first.out (open_all (drop (1 + p) payload) first.counts).out
+    (subst (λ x. 0 < length (open_all x first.counts).out) r (subst (λ x. 0 < length (open_all here x).out) same g)))
+
+-- ---- a packet
+
+pub takes_gives : (s t : Receiving) (p : Fields) (jumped : Bool) (kept : Option Bytes) (c : Counts) → s ≡ t → jumps_from p.counter t.last ≡ jumped
+    → kept ≡ kept_unless jumped s.opened → c ≡ with_packet jumped s.counts → HasOut (done_by p.start kept p.payload c) → Completes (takes (one_more t) p)
+takes_gives s t p jumped kept c is j k w g =
+    let a : After = done_by p.start kept p.payload c in
+    let done : HasDone a a.opened [] a.out a.counts = record { opened = refl; out = refl; counted = refl } in
+    let gives = takes_done s t p jumped (Some (p.counter, p.payload)) kept c [] a.opened a.opened a.out a.counts is j refl k w refl done in
+    record { some = subst (λ (out : List Bytes). 0 < length out) gives.out g.some }
+
+pub step_completes : (d : DemuxState) (r : Receiving) (u x : Bytes) → with_unfinished r u ≡ d → Completes (step r x)
+    → (packets : List Bytes) → StandsFor d packets → length (candidates d.pid packets) < length (candidates d.pid (packets ++ x ∷ []))
+step_completes d r u x v g =
+    subst (λ (y : DemuxState). (packets : List Bytes) → StandsFor y packets → length (candidates y.pid packets) < length (candidates y.pid (packets ++ x ∷ []))) v
+    (λ packets h. longer (candidates r.pid packets) (step r x).1 (candidates r.pid (packets ++ x ∷ [])) (cuts_step r packets x h.received) g.some)
+
+-- ---- packets one after another
+
+pub first_gives : (s : Receiving) (x : Bytes) (xs : List Bytes) → Completes (step s x) → 0 < length (outputs s (x ∷ xs))
+first_gives s x xs g = more_left (step s x).1 (outputs (step s x).0 xs) g.some
+
+pub later_gives : (s t : Receiving) (x : Bytes) (xs before mid : List Bytes) → Gives (step s x) t before mid → 0 < length (outputs t xs) → 0 < length (outputs s (x ∷ xs))
+later_gives s t x xs before mid m g = more_right (step s x).1 (outputs (step s x).0 xs) (subst (λ y. 0 < length (outputs y xs)) (sym m.state) g)
+
+-- the packet at the front of some bytes
+first_packet : (rest packet behind : Bytes) → 188 ≤ length rest → packet ≡ take 188 rest → behind ≡ drop 188 rest → packet ∷ packets_of behind ≡ packets_of rest
+first_packet rest packet behind h p b =
+    ap (λ x. x ∷ packets_of behind) p ∙ ap (λ x. take 188 rest ∷ packets_of x) b ∙ sym (packets_some rest h)
+
+pub chunk_gives : (s : Receiving) (rest packet : Bytes) → 188 ≤ length rest → packet ≡ take 188 rest → Completes (step s packet) → 0 < length (outputs s (packets_of rest))
+chunk_gives s rest packet h p g =
+    subst (λ ps. 0 < length (outputs s ps)) (first_packet rest packet (drop 188 rest) h p refl) (first_gives s packet (packets_of (drop 188 rest)) g)
+
+pub chunk_later : (s t : Receiving) (rest packet behind : Bytes) (before mid : List Bytes) → 188 ≤ length rest → packet ≡ take 188 rest → behind ≡ drop 188 rest
+    → Gives (step s packet) t before mid → 0 < length (outputs t (packets_of behind)) → 0 < length (outputs s (packets_of rest))
+chunk_later s t rest packet behind before mid h p b m g =
+    subst (λ ps. 0 < length (outputs s ps)) (first_packet rest packet behind h p b) (later_gives s t packet (packets_of behind) before mid m g)
+
+pub piece_completes : (d : DemuxState) (r s : Receiving) (u first front behind piece : Bytes) (n : ℕ) → with_unfinished r u ≡ d → s ≡ r
+    → length u + n ≡ 188 → n ≤ length piece → front ≡ take n piece → behind ≡ drop n piece → first ≡ u ++ front
+    → 0 < length (outputs s (first ∷ packets_of behind))
+    → (bytes : Bytes) → StandsForBytes d bytes → length (candidates d.pid (packets_of bytes)) < length (candidates d.pid (packets_of (bytes ++ piece)))
+piece_completes d r s u first front behind piece n v c size long f b p g =
+    let packets : List Bytes = (u ++ front) ∷ packets_of behind in
+    let after : DemuxState = with_unfinished (after_all r packets) (rest_of behind) in
+    let more : 0 < length (outputs r packets) =
+    subst (λ x. 0 < length (outputs r (x ∷ packets_of behind))) p (subst (λ y. 0 < length (outputs y (first ∷ packets_of behind))) c g) in
+    subst (λ (y : DemuxState). (bytes : Bytes) → StandsForBytes y bytes → length (candidates y.pid (packets_of bytes)) < length (candidates y.pid (packets_of (bytes ++ piece)))) v
+    (λ bytes h. longer (candidates r.pid (packets_of bytes)) (outputs r packets) (candidates r.pid (packets_of (bytes ++ piece)))
+    (ends_cut (with_unfinished r u) after piece packets (outputs r packets) (record { state = refl; out = refl }) (ends_some (with_unfinished r u) piece front behind n size long f b) bytes h)
+    more)
