@@ -1,12 +1,14 @@
 -- Reading messages one after another, as a loop does.
-use Rattle.std.proofs.Common.{◌≡◌, ℕ, zero, suc, ◌-◌, ◌<◌, ◌≤◌, Bool, true, false, cond, ◌==◌, nat_lt, List, [], ◌∷◌, ◌++◌, length, take, drop, Option, Some, None, Ok, Err, refl, sym, ap, ◌∙◌, append_assoc, arith}
+use Rattle.std.proofs.Common.{◌≡◌, ℕ, zero, suc, ◌-◌, ◌<◌, ◌≤◌, Bool, true, false, cond, ◌==◌, nat_lt, List, [], ◌∷◌, ◌++◌, length, take, drop, Option, Some, None, Ok, Err, refl, sym, ap, subst, ◌∙◌, append_assoc, arith, inl, inr, ◌⊎◌}
+use Rattle.std.specs.Prelude.{IsOk}
 use Rattle.std.proofs.lemmas.Bool.{ltb-false, eqb-true}
 use Rattle.std.proofs.lemmas.List.{append-nil, length-drop}
 use Rattle.oc_bytes.specs.Numbers.{number_of}
-use Rattle.oc_bytes.specs.Cursor.{Cursor, Reading, ◌>>=◌, past, within, number_at, bytes_at, this_at}
-use Rattle.ior_tap.proofs.Agree.{bind_ok}
+use Rattle.oc_bytes.specs.Cursor.{Cursor, Reading, ◌>>=◌, past, number_at, part_at, this_at}
+use Rattle.oc_bytes.proofs.CallerLemmas.{bind_ok}
 use Rattle.biop_object.specs.Objects.{Object}
-use Rattle.biop_object.specs.ObjectReading.{Index, onto, and_then, read_on, object_at, inside_at, nested_at, biop_head}
+use Rattle.biop_object.specs.ObjectReading.{Index, onto, and_then, read_on, object_at, inside_at, nested_at, biop_head, framed_at}
+use Rattle.biop_object.proofs.Placed.{part_is}
 
 -- ---- each message has bytes
 
@@ -19,12 +21,6 @@ number_moves n v c d e = behind (nat_lt (length c.rest) n) refl e where
   behind : (b : Bool) → nat_lt (length c.rest) n ≡ b → cond {A = Reading ℕ} b (Err c.place) (Ok (number_of (take n c.rest), past n c)) ≡ Ok (v, d) → Moves n c d
   behind true is e = absurd cc
   behind false is e = let same : (number_of (take n c.rest), past n c) ≡ (v, d) = cc in record { rest = ap (λ (x : ℕ × Cursor). x.1.rest) (sym same); room = ltb-false (length c.rest) n is }
-
-bytes_moves : (n : ℕ) (s : List ℕ) (c d : Cursor) → bytes_at n c ≡ Ok (s, d) → Moves n c d
-bytes_moves n s c d e = behind (nat_lt (length c.rest) n) refl e where
-  behind : (b : Bool) → nat_lt (length c.rest) n ≡ b → cond {A = Reading (List ℕ)} b (Err c.place) (Ok (take n c.rest, past n c)) ≡ Ok (s, d) → Moves n c d
-  behind true is e = absurd cc
-  behind false is e = let same : (take n c.rest, past n c) ≡ (s, d) = cc in record { rest = ap (λ (x : List ℕ × Cursor). x.1.rest) (sym same); room = ltb-false (length c.rest) n is }
 
 held : (b : Bool) (p : ℕ) (x y : ℕ × Cursor) → cond {A = Reading ℕ} b (Ok x) (Err p) ≡ Ok y → x ≡ y
 held true p x y e = cc
@@ -46,16 +42,41 @@ object_shrinks c x e =
     let h = bind_ok (number_at 8 c) (λ y. cond (y.0 == biop_head) (Ok y) (Err c.place)) a.0 a.1 in
     let head : h.0 ≡ a.0 = held (h.0.0 == biop_head) c.place h.0 a.0 h.2 in
     let b = bind_ok (number_at 4 a.0.1) (λ size. nested_at size.0 inside_at size.1) x a.2 in
-    let k = bind_ok (bytes_at b.0.0 b.0.1) (λ bytes. inside_at (within b.0.0 b.0.1) >>= λ y. Ok (y.0, bytes.1)) x b.2 in
-    let m = bind_ok (inside_at (within b.0.0 b.0.1)) (λ y. Ok (y.0, k.0.1)) x k.2 in
+    let k = bind_ok (part_at b.0.0 b.0.1) (λ part. inside_at part.0 >>= λ y. Ok (y.0, part.1)) x b.2 in
+    let m = bind_ok (inside_at k.0.0) (λ y. Ok (y.0, k.0.1)) x k.2 in
     let end : (m.0.0, k.0.1) ≡ x = object_is (m.0.0, k.0.1) x m.2 in
     let p = number_moves 8 h.0.0 c h.0.1 h.1 in
     let q = number_moves 4 b.0.0 a.0.1 b.0.1 b.1 in
-    let r = bytes_moves b.0.0 k.0.0 b.0.1 k.0.1 k.1 in
+    let r = part_is b.0.0 b.0.1 k.0 k.1 in
     let one : length a.0.1.rest ≡ length (drop 8 c.rest) = ap (λ (y : ℕ × Cursor). length y.1.rest) (sym head) ∙ ap length p.rest in
     let two : length b.0.1.rest ≡ length (drop 4 a.0.1.rest) = ap length q.rest in
-    let three : length x.1.rest ≡ length (drop b.0.0 b.0.1.rest) = ap (λ (y : Object × Cursor). length y.1.rest) (sym end) ∙ ap length r.rest in
+    let three : length x.1.rest ≡ length (drop b.0.0 b.0.1.rest) = ap (λ (y : Object × Cursor). length y.1.rest) (sym end) ∙ ap (λ (y : Cursor × Cursor). length y.1.rest) r.1 in
     omega (arith, one, two, three, p.room, length-drop 8 c.rest, length-drop 4 a.0.1.rest, length-drop b.0.0 b.0.1.rest)
+
+-- ---- what a message begins with
+
+pub framed : (c : Cursor) (a b : ℕ × Cursor) → this_at 8 biop_head c ≡ Ok a → number_at 4 a.1 ≡ Ok b → IsOk (part_at b.0 b.1) → IsOk (framed_at c)
+framed c a b head size h = rw (head, size) h
+
+pub object_framed : (c : Cursor) (x : Object × Cursor) → object_at c ≡ Ok x → IsOk (framed_at c)
+unfolding object_at
+object_framed c x e =
+    let a = bind_ok (this_at 8 biop_head c) (λ head. number_at 4 head.1 >>= λ size. nested_at size.0 inside_at size.1) x e in
+    let b = bind_ok (number_at 4 a.0.1) (λ size. nested_at size.0 inside_at size.1) x a.2 in
+    let k = bind_ok (part_at b.0.0 b.0.1) (λ part. inside_at part.0 >>= λ y. Ok (y.0, part.1)) x b.2 in
+    let there : IsOk (part_at b.0.0 b.0.1) = rw k.1 refl in
+    framed c a.0 b.0 a.1 b.1 there
+
+-- the first message is at hand, or another was read before it
+abbrev pub HasBegun : Cursor → Cursor → Type 0
+HasBegun start c = (c ≡ start) ⊎ IsOk (framed_at start)
+
+pub has_begun : (start c : Cursor) → HasBegun start c → IsOk (framed_at c) → IsOk (framed_at start)
+has_begun start c so_far here =
+    elim so_far [
+      | inl first ↦ subst (λ (d : Cursor). IsOk (framed_at d)) first here
+      | inr before ↦ before
+    ]
 
 -- ---- the bytes left are steps enough
 

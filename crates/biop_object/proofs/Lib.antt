@@ -1,9 +1,8 @@
 pub mod Part
-pub mod Nested
 pub mod Comparing
+pub mod Placed
 pub mod Indexing
 pub mod Finding
-pub mod Placed
 pub mod Messages
 pub mod ObjectLaws
 pub mod Whole

@@ -5,14 +5,13 @@ use Rattle.std.proofs.lemmas.List.{length-append}
 use Rattle.oc_bytes.specs.Numbers.{IsBytes, byte, two_bytes, four_bytes}
 use Rattle.path_tree.specs.Paths.{same_name}
 use Rattle.ior_tap.specs.Iors as iors
-use Rattle.ior_tap.specs.Iors.{ReadsEach}
 use Rattle.ior_tap.specs.IorReading.{ior_at}
-use Rattle.ior_tap.specs.Agreement.{Agrees, at}
-use Rattle.ior_tap.proofs.Agree.{Then, Ends, IsNumber, AreBytes, IsThis, IsList, wide_1, wide_2, wide_4, then_agrees, done_agrees, agrees_by, number_agrees, bytes_agrees, this_agrees, each_agrees, fits_front, fits_back, joined, last, then_same, put_number, put_bytes, put_last, put_this}
-use Rattle.ior_tap.proofs.Grammar.{ior_agrees}
+use Rattle.oc_bytes.specs.Agreement.{Agrees, at, ReadsEach}
+use Rattle.oc_bytes.proofs.CallerLemmas.{Then, Ends, IsNumber, IsThis, IsSized, IsList, wide_1, wide_2, wide_4, then_agrees, done_agrees, agrees_by, number_agrees, this_agrees, sized_agrees, each_agrees, fits_front, fits_back, joined, last, then_same, put_number, put_sized, put_sized_last, put_this}
+use Rattle.ior_tap.proofs.CallerLemmas.{ior_agrees}
 use Rattle.biop_object.specs.Objects.{BindingFields, Shape, IsFile, IsFolder, IsOther, file_kind, directory_kind, gateway_kind, ReadsContext, IsIdOf, ReadsBinding}
 use Rattle.biop_object.specs.ObjectReading.{drop_zero, binding_at, context_at, contexts_at, file_at, folder_at, shape_at}
-use Rattle.biop_object.proofs.Placed.{AgreesAt, Anywhere, anywhere, ThenAt, then_at, Here, here}
+use Rattle.biop_object.proofs.Placed.{AgreesAt, anywhere, Placed, placed}
 
 -- ---- an IOR in a message
 
@@ -74,14 +73,13 @@ id_back id name h =
 -- ---- a binding
 
 abbrev pub BindingParts : List ℕ → BindingFields → Type 0
-BindingParts = Then (IsThis byte 1) (λ one. Then (IsNumber 256 byte) (λ il. Then (AreBytes il) (λ id. Then (IsNumber 256 byte) (λ kl. Then (AreBytes kl) (λ kind. Then (IsNumber 256 byte) (λ binding_type. Then IorStands (λ target.
-    Then (IsNumber 65536 two_bytes) (λ nl. Then (AreBytes nl) (λ info. Ends (record { name = drop_zero id; kind = kind; target = target }))))))))))
+BindingParts = Then (IsThis byte 1) (λ one. Then (IsSized 256 byte) (λ id. Then (IsSized 256 byte) (λ kind. Then (IsNumber 256 byte) (λ binding_type. Then IorStands (λ target. Then (IsSized 65536 two_bytes) (λ info.
+    Ends (record { name = drop_zero id; kind = kind; target = target })))))))
 
 binding_agrees : Agrees binding_at BindingParts
 unfolding binding_at
-binding_agrees = then_agrees (this_agrees wide_1 1 (omega arith)) (λ one. then_agrees (number_agrees wide_1) (λ il. then_agrees (bytes_agrees il) (λ id. then_agrees (number_agrees wide_1) (λ kl. then_agrees (bytes_agrees kl) (λ kind.
-    then_agrees (number_agrees wide_1) (λ binding_type. then_agrees stands_agree (λ target. then_agrees (number_agrees wide_2) (λ nl. then_agrees (bytes_agrees nl) (λ info.
-    done_agrees (record { name = drop_zero id; kind = kind; target = target }))))))))))
+binding_agrees = then_agrees (this_agrees wide_1 1 (omega arith)) (λ one. then_agrees (sized_agrees wide_1) (λ id. then_agrees (sized_agrees wide_1) (λ kind. then_agrees (number_agrees wide_1) (λ binding_type.
+    then_agrees stands_agree (λ target. then_agrees (sized_agrees wide_2) (λ info. done_agrees (record { name = drop_zero id; kind = kind; target = target })))))))
 
 -- the parts of a binding, each with its length in front
 abbrev binding_bytes : (id kind reference info : List ℕ) → ℕ → List ℕ
@@ -95,26 +93,20 @@ said id kind reference info t =
 
 pub binding_there : (bytes : List ℕ) (b : BindingFields) → BindingParts bytes b → ReadsBinding bytes b
 binding_there bytes b h =
-    let il = h.second in
-    let id = il.second in
-    let kl = id.second in
-    let kind = kl.second in
+    let id = h.second in
+    let kind = id.second in
     let bt = kind.second in
     let target = bt.second in
-    let nl = target.second in
-    let info = nl.second in
-    let whole : bytes ≡ byte 1 ++ (byte il.value ++ (id.value ++ (byte kl.value ++ (kind.value ++ (byte bt.value ++ (target.front ++ (two_bytes nl.value ++ info.value))))))) =
-    joined h.whole h.first.1 (joined il.whole il.first.1 (joined id.whole id.first.1 (joined kl.whole kl.first.1 (joined kind.whole kind.first.1 (joined bt.whole bt.first.1 (joined target.whole refl (joined nl.whole nl.first.1 (last info.whole info.first.1 info.second.0)))))))) in
-    let counts : (i k n : ℕ) → List ℕ = λ i k n. byte 1 ++ (byte i ++ (id.value ++ (byte k ++ (kind.value ++ (byte bt.value ++ (target.front ++ (two_bytes n ++ info.value))))))) in
-    let counted : bytes ≡ counts (length id.value) (length kind.value) (length info.value) =
-    whole ∙ ap (λ (i : ℕ). counts i kl.value nl.value) (sym id.first.0) ∙ ap (λ (k : ℕ). counts (length id.value) k nl.value) (sym kind.first.0) ∙ ap (λ (n : ℕ). counts (length id.value) (length kind.value) n) (sym info.first.0) in
+    let info = target.second in
+    let whole : bytes ≡ binding_bytes id.value kind.value target.front info.value bt.value =
+    joined h.whole h.first.1 (joined id.whole id.first.1 (joined kind.whole kind.first.1 (joined bt.whole bt.first.1 (joined target.whole refl (last info.whole info.first.1 info.second.0))))) in
     subst (λ (x : BindingFields). ReadsBinding bytes x) (sym info.second.1) (record {
       id = id.value;
       binding_type = bt.value;
       reference = target.front;
       info = info.value;
-      ranges = (omega (arith, id.first.0, il.first.0), omega (arith, kind.first.0, kl.first.0), bt.first.0, omega (arith, info.first.0, nl.first.0));
-      whole = counted ∙ sym (said id.value kind.value target.front info.value bt.value);
+      ranges = (id.first.0, kind.first.0, bt.first.0, info.first.0);
+      whole = whole ∙ sym (said id.value kind.value target.front info.value bt.value);
       name = id_there id.value;
       target = target.first.reads;
     })
@@ -123,14 +115,14 @@ pub binding_put : (bytes : List ℕ) (b : BindingFields) (id reference info : Li
     → bytes ≡ (1 ∷ length id ∷ id) ++ (length b.kind ∷ b.kind) ++ (t ∷ reference) ++ two_bytes (length info) ++ info → b.name ≡ drop_zero id → IorStands reference b.target → BindingParts bytes b
 binding_put bytes b id reference info t i k u n whole name target =
     let is : b ≡ record { name = drop_zero id; kind = b.kind; target = b.target } = ap (λ (x : List ℕ). named x) name in
-    then_same (whole ∙ said id b.kind reference info t) (put_this byte 1 _ (put_number (length id) _ i (put_bytes id _ (put_number (length b.kind) _ k (put_bytes b.kind _ (put_number t _ u (record {
+    then_same (whole ∙ said id b.kind reference info t) (put_this byte 1 _ (put_sized byte id _ i (put_sized byte b.kind _ k (put_number t _ u (record {
       value = b.target;
       front = reference;
       back = two_bytes (length info) ++ info;
       whole = refl;
       first = target;
-      second = put_number (length info) _ n (put_last info (refl, is));
-    }))))))) where
+      second = put_sized_last two_bytes info n (refl, is);
+    }))))) where
       named : List ℕ → BindingFields
       named x = record { name = x; kind = b.kind; target = b.target }
 
@@ -155,22 +147,20 @@ bindings_back bytes (b ∷ bs) fits each =
 -- ---- a service context
 
 abbrev ContextParts : List ℕ → ℕ × List ℕ → Type 0
-ContextParts = Then (IsNumber 4294967296 four_bytes) (λ id. Then (IsNumber 65536 two_bytes) (λ n. Then (AreBytes n) (λ s. Ends (id, s))))
+ContextParts = Then (IsNumber 4294967296 four_bytes) (λ id. Then (IsSized 65536 two_bytes) (λ s. Ends (id, s)))
 
 context_there : (bytes : List ℕ) (x : ℕ × List ℕ) → ContextParts bytes x → ReadsContext bytes x
 context_there bytes x h =
-    let n = h.second in
-    let s = n.second in
-    let whole : bytes ≡ four_bytes h.value ++ (two_bytes n.value ++ s.value) = joined h.whole h.first.1 (joined n.whole n.first.1 (last s.whole s.first.1 s.second.0)) in
-    let counted : bytes ≡ four_bytes h.value ++ (two_bytes (length s.value) ++ s.value) = whole ∙ ap (λ (k : ℕ). four_bytes h.value ++ (two_bytes k ++ s.value)) (sym s.first.0) in
-    subst (λ (y : ℕ × List ℕ). ReadsContext bytes y) (sym s.second.1) (record { ranges = (h.first.0, omega (arith, s.first.0, n.first.0)); whole = counted })
+    let s = h.second in
+    let whole : bytes ≡ four_bytes h.value ++ (two_bytes (length s.value) ++ s.value) = joined h.whole h.first.1 (last s.whole s.first.1 s.second.0) in
+    subst (λ (y : ℕ × List ℕ). ReadsContext bytes y) (sym s.second.1) (record { ranges = (h.first.0, s.first.0); whole = whole })
 
 context_back : (bytes : List ℕ) (x : ℕ × List ℕ) → ReadsContext bytes x → ContextParts bytes x
-context_back bytes x h = then_same h.whole (put_number x.0 _ h.ranges.0 (put_number (length x.1) _ h.ranges.1 (put_last x.1 (refl, refl))))
+context_back bytes x h = then_same h.whole (put_number x.0 _ h.ranges.0 (put_sized_last two_bytes x.1 h.ranges.1 (refl, refl)))
 
 context_agrees : Agrees context_at ReadsContext
 unfolding context_at
-context_agrees = agrees_by (then_agrees (number_agrees wide_4) (λ id. then_agrees (number_agrees wide_2) (λ n. then_agrees (bytes_agrees n) (λ s. done_agrees (id, s)))))
+context_agrees = agrees_by (then_agrees (number_agrees wide_4) (λ id. then_agrees (sized_agrees wide_2) (λ s. done_agrees (id, s))))
     (λ bytes x fits h. context_there bytes x h) (λ bytes x h. context_back bytes x h)
 
 abbrev pub ContextsParts : ℕ → List ℕ → Unit {0} → Type 0
@@ -182,11 +172,11 @@ contexts_agree n = then_agrees (each_agrees context_agrees n) (λ xs. done_agree
 -- ---- what a body says
 
 abbrev pub FileParts : ℕ → List ℕ → Shape → Type 0
-FileParts = ThenAt (Anywhere (IsNumber 4294967296 four_bytes)) (λ n. ThenAt Here (λ p. ThenAt (Anywhere (AreBytes n)) (λ s. Anywhere (Ends (IsFile p n)))))
+FileParts = Placed (IsSized 4294967296 four_bytes) (λ place content. IsFile (place + 4) (length content))
 
 file_agrees : AgreesAt file_at FileParts
 unfolding file_at
-file_agrees = then_at (anywhere (number_agrees wide_4)) (λ n. then_at here (λ p. then_at (anywhere (bytes_agrees n)) (λ s. anywhere (done_agrees (IsFile p n)))))
+file_agrees = placed (sized_agrees wide_4) (λ place content. IsFile (place + 4) (length content))
 
 abbrev pub FolderParts : List ℕ → Shape → Type 0
 FolderParts = Then (IsNumber 65536 two_bytes) (λ n. Then (IsList BindingParts n) (λ bindings. Ends (IsFolder bindings)))

@@ -1,17 +1,19 @@
 -- The index of a module is the one reading of its bytes.
-use Rattle.std.proofs.Common.{◌≡◌, ◌≢◌, ℕ, zero, suc, ◌+◌, ◌-◌, ◌<◌, ◌≤◌, Bool, true, false, cond, List, [], ◌∷◌, ◌++◌, length, Option, Some, None, Ok, Err, refl, sym, ap, subst, ◌∙◌, arith, inl, inr, ◌⊎◌}
-use Rattle.std.proofs.lemmas.List.{length-append}
-use Rattle.oc_bytes.specs.Numbers.{IsBytes, four_bytes}
-use Rattle.oc_bytes.specs.Cursor.{Cursor, Reading}
+use Rattle.std.proofs.Common.{◌≡◌, ◌≢◌, ℕ, zero, suc, ◌+◌, ◌-◌, ◌<◌, ◌≤◌, Bool, true, false, cond, List, [], ◌∷◌, ◌++◌, length, take, drop, Option, Some, None, Ok, Err, refl, sym, ap, subst, ◌∙◌, arith, inl, inr, ◌⊎◌}
+use Rattle.std.specs.Prelude.{IsOk}
+use Rattle.std.proofs.lemmas.List.{length-append, length-take, take-append-drop}
+use Rattle.oc_bytes.specs.Numbers.{IsBytes, four_bytes, eight_bytes}
+use Rattle.oc_bytes.specs.Cursor.{Cursor, Reading, ◌>>=◌, from_start, number_at, this_at, part_at}
 use Rattle.path_tree.specs.Paths.{same_name}
-use Rattle.ior_tap.specs.Agreement.{at}
-use Rattle.ior_tap.proofs.Agree.{fits_front, fits_back}
-use Rattle.biop_object.specs.Objects.{Shape, IsFile, IsFolder, IsOther, Object, ReadsObject, ReadsModule}
-use Rattle.biop_object.specs.ObjectReading.{Index, onto, and_then, read_on, index_of, objects_of, stop_of, object_at, found_from, found_shape, missing_or_bad}
+use Rattle.oc_bytes.specs.Agreement.{at}
+use Rattle.oc_bytes.proofs.CallerLemmas.{bind_ok, wide_4, number_agrees, this_agrees, joined, fits_front, fits_back}
+use Rattle.biop_object.specs.Objects.{Shape, IsFile, IsFolder, IsOther, Object, ReadsObject, ReadsModule, BeginsFramed}
+use Rattle.biop_object.specs.ObjectReading.{Index, onto, and_then, read_on, index_of, objects_of, stop_of, biop_head, object_at, framed_at, found_from, found_shape, missing_or_bad}
 use Rattle.biop_object.specs.declared.module.Found.{Found}
 use Rattle.biop_object.specs.declared.module.Found.TheVariants as found
 use Rattle.biop_object.specs.declared.module.Span.{Span}
-use Rattle.biop_object.proofs.ObjectLaws.{object_agrees}
+use Rattle.biop_object.proofs.Placed.{part_is}
+use Rattle.biop_object.proofs.ObjectLaws.{wide_8, object_agrees}
 use Rattle.biop_object.proofs.Whole.{object_there, object_back, object_again}
 use Rattle.biop_object.proofs.Indexing.{nothing, not_ended, object_shrinks, enough, one_read}
 
@@ -21,8 +23,26 @@ okay x = Ok x
 never : {A : Type 0} (x : Object × Cursor) (p : ℕ) → okay x ≡ Err p → A
 never x p e = absurd cc
 
-same : (x y : Object × Cursor) → okay x ≡ okay y → x ≡ y
-same x y e = cc
+-- ---- what memory is asked for
+
+was_read : {A : Type 0} (m : Reading A) → IsOk m → (x : A × Cursor) × (m ≡ Ok x)
+was_read (Ok x) h = (x, refl)
+was_read (Err place) h = absurd cc
+
+pub begins_framed : (bytes : List ℕ) → IsBytes bytes → IsOk (framed_at (from_start bytes)) → BeginsFramed bytes
+begins_framed bytes fits h =
+    let start : Cursor = from_start bytes in
+    let k = was_read (framed_at start) h in
+    let a = bind_ok (this_at 8 biop_head start) (λ head. number_at 4 head.1 >>= λ size. part_at size.0 size.1) k.0 k.1 in
+    let b = bind_ok (number_at 4 a.0.1) (λ size. part_at size.0 size.1) k.0 a.2 in
+    let n : ℕ = b.0.0 in
+    let left : List ℕ = b.0.1.rest in
+    let room : n ≤ length left = (part_is n b.0.1 k.0 b.2).0 in
+    let t = (this_agrees wide_8 biop_head (omega arith)).takes start a.0 fits a.1 in
+    let u = (number_agrees wide_4).takes a.0.1 b.0 (fits_back t.front a.0.1.rest (subst IsBytes t.parts fits)) b.1 in
+    let len : length (take n left) ≡ n = omega (arith, length-take n left, room) in
+    let whole : bytes ≡ eight_bytes biop_head ++ (four_bytes n ++ (take n left ++ drop n left)) = joined t.parts t.reads.1 (joined u.parts u.reads.1 (sym (take-append-drop n left))) in
+    (take n left, drop n left, omega (arith, len, u.reads.0), whole ∙ ap (λ (k : ℕ). eight_bytes biop_head ++ (four_bytes k ++ (take n left ++ drop n left))) (sym len))
 
 -- ---- what is read is the module
 

@@ -5,8 +5,8 @@ use Rattle.std.proofs.lemmas.List.{append-nil}
 use Rattle.std.proofs.lemmas.Nat.{be_bytes_8, from_be_bytes-to_be_bytes_8}
 use Rattle.oc_bytes.specs.Numbers.{IsBytes, byte, two_bytes, four_bytes, eight_bytes, number_of}
 use Rattle.path_tree.specs.Paths.{same_name}
-use Rattle.ior_tap.specs.Iors.{ReadsEach}
-use Rattle.ior_tap.proofs.Agree.{Ends, IsNumber, AreBytes, IsThis, IsWide, each_fits, wide_1, wide_2, wide_4, number_agrees, bytes_agrees, this_agrees, done_agrees, fits_front, fits_back, joined, last, put_number}
+use Rattle.oc_bytes.specs.Agreement.{ReadsEach}
+use Rattle.oc_bytes.proofs.CallerLemmas.{Ends, IsNumber, IsThis, IsSized, IsWide, each_fits, wide_1, wide_2, wide_4, number_agrees, this_agrees, sized_agrees, done_agrees, fits_front, fits_back, joined, last, put_number}
 use Rattle.biop_object.specs.Objects.{BindingFields, Shape, IsFile, IsFolder, IsOther, Object, file_kind, directory_kind, gateway_kind, IsFileBody, IsShape}
 use Rattle.biop_object.specs.ObjectReading.{biop_head, inside_at, object_at}
 use Rattle.biop_object.proofs.Comparing.{same_is, is_same}
@@ -27,7 +27,7 @@ number_8 (a ∷ b ∷ c ∷ d ∷ e ∷ f ∷ g ∷ []) len = absurd (omega arit
 number_8 (a ∷ b ∷ c ∷ d ∷ e ∷ f ∷ g ∷ h ∷ []) len = omega arith
 number_8 (a ∷ b ∷ c ∷ d ∷ e ∷ f ∷ g ∷ h ∷ i ∷ rest) len = absurd (omega arith)
 
-wide_8 : IsWide 8 18446744073709551616 eight_bytes
+pub wide_8 : IsWide 8 18446744073709551616 eight_bytes
 wide_8 = record {
   len = λ v. refl;
   back = λ bytes len fits. be_bytes_8 bytes (number_of bytes) len (each_fits bytes fits) (number_8 bytes len);
@@ -40,34 +40,23 @@ wide_8 = record {
 file_there : (kind body : List ℕ) (n place : ℕ) (shape : Shape) → kind ≡ file_kind → Nested FileParts n place body shape → IsShape kind body place shape
 file_there kind body n place shape is h =
     let r = h.reads in
-    let p = r.second in
-    let s = p.second in
-    let front : h.front ≡ four_bytes r.value ++ ([] ++ s.value) = joined r.whole r.first.1 (joined p.whole p.first.empty (last s.whole s.first.1 s.second.0)) in
-    let counted : h.front ≡ four_bytes (length s.value) ++ s.value = front ∙ ap (λ (k : ℕ). four_bytes k ++ s.value) (sym s.first.0) in
-    subst (λ (x : Shape). IsShape kind body place x) (sym s.second.1) (
+    subst (λ (x : Shape). IsShape kind body place x) (sym r.is) (
       is,
-      record {
-        content = s.value;
-        trailing = h.trailing;
-        small = omega (arith, s.first.0, r.first.0);
-        whole = h.whole ∙ ap (λ (f : List ℕ). f ++ h.trailing) counted;
-        place = (omega (arith, p.first.is, ap length r.first.1), sym s.first.0);
-      },
+      record { content = r.value; trailing = h.trailing; small = r.reads.0; whole = h.whole ∙ ap (λ (f : List ℕ). f ++ h.trailing) r.reads.1; place = (refl, refl) },
     )
 
 folder_there : (kind body : List ℕ) (n place : ℕ) (shape : Shape) → ((kind ≡ directory_kind) ⊎ (kind ≡ gateway_kind)) → Nested (Anywhere FolderParts) n place body shape → IsShape kind body place shape
 folder_there kind body n place shape is h =
     let r = h.reads in
     let b = r.second in
-    let front : h.front ≡ two_bytes r.value ++ b.front = joined r.whole r.first.1 (last b.whole refl b.second.0) in
-    let counted : h.front ≡ two_bytes (length b.value) ++ b.front = front ∙ ap (λ (k : ℕ). two_bytes k ++ b.front) (sym b.first.count) in
+    let front : h.front ≡ two_bytes (length b.value) ++ b.front = joined r.whole (r.first.1 ∙ ap two_bytes (sym b.first.count)) (last b.whole refl b.second.0) in
     subst (λ (x : Shape). IsShape kind body place x) (sym b.second.1) (
       is,
       record {
         lines = b.front;
         trailing = h.trailing;
         few = omega (arith, b.first.count, r.first.0);
-        whole = h.whole ∙ ap (λ (f : List ℕ). f ++ h.trailing) counted;
+        whole = h.whole ∙ ap (λ (f : List ℕ). f ++ h.trailing) front;
         each = bindings_there b.front b.value b.first.each;
       },
     )
@@ -110,21 +99,7 @@ file_put body place first n h =
       front = four_bytes (length h.content) ++ h.content;
       trailing = h.trailing;
       whole = h.whole;
-      reads = record {
-        value = length h.content;
-        front = four_bytes (length h.content);
-        back = h.content;
-        whole = refl;
-        first = (h.small, refl);
-        second = record {
-          value = place + 4;
-          front = [];
-          back = h.content;
-          whole = refl;
-          first = record { empty = refl; is = refl };
-          second = record { value = h.content; front = h.content; back = []; whole = sym (append-nil h.content); first = (refl, refl); second = (refl, is) };
-        };
-      };
+      reads = record { value = h.content; reads = (h.small, refl); is = is };
     }
 
 pub folder_put : (body lines trailing : List ℕ) (place : ℕ) (bindings : List BindingFields) → length bindings < 65536 → body ≡ two_bytes (length bindings) ++ lines ++ trailing → ReadsEach BindingParts lines bindings
@@ -185,18 +160,16 @@ shape_back kind body place IsOther fits h =
 -- ---- the message
 
 abbrev pub InsideParts : ℕ → List ℕ → Object → Type 0
-InsideParts = ThenAt (Anywhere (IsNumber 256 byte)) (λ kl. ThenAt (Anywhere (AreBytes kl)) (λ key. ThenAt (Anywhere (IsNumber 4294967296 four_bytes)) (λ dl. ThenAt (Anywhere (AreBytes dl)) (λ kind.
-    ThenAt (Anywhere (IsNumber 65536 two_bytes)) (λ il. ThenAt (Anywhere (AreBytes il)) (λ info. ThenAt (Anywhere (IsNumber 256 byte)) (λ cn. ThenAt (Anywhere (ContextsParts cn)) (λ cs.
-    ThenAt (Anywhere (IsNumber 4294967296 four_bytes)) (λ bl. ThenAt (Nested (ShapeParts (is_file kind) (is_folder kind)) bl) (λ shape. Anywhere (Ends (record { key = key; shape = shape }))))))))))))
+InsideParts = ThenAt (Anywhere (IsSized 256 byte)) (λ key. ThenAt (Anywhere (IsSized 4294967296 four_bytes)) (λ kind. ThenAt (Anywhere (IsSized 65536 two_bytes)) (λ info. ThenAt (Anywhere (IsNumber 256 byte)) (λ cn. ThenAt (Anywhere (ContextsParts cn)) (λ cs.
+    ThenAt (Anywhere (IsNumber 4294967296 four_bytes)) (λ bl. ThenAt (Nested (ShapeParts (is_file kind) (is_folder kind)) bl) (λ shape. Anywhere (Ends (record { key = key; shape = shape })))))))))
 
 abbrev pub ObjectParts : ℕ → List ℕ → Object → Type 0
 ObjectParts = ThenAt (Anywhere (IsThis eight_bytes biop_head)) (λ head. ThenAt (Anywhere (IsNumber 4294967296 four_bytes)) (λ size. Nested InsideParts size))
 
 inside_agrees : AgreesAt inside_at InsideParts
 unfolding inside_at
-inside_agrees = then_at (anywhere (number_agrees wide_1)) (λ kl. then_at (anywhere (bytes_agrees kl)) (λ key. then_at (anywhere (number_agrees wide_4)) (λ dl. then_at (anywhere (bytes_agrees dl)) (λ kind.
-    then_at (anywhere (number_agrees wide_2)) (λ il. then_at (anywhere (bytes_agrees il)) (λ info. then_at (anywhere (number_agrees wide_1)) (λ cn. then_at (anywhere (contexts_agree cn)) (λ cs.
-    then_at (anywhere (number_agrees wide_4)) (λ bl. then_at (nested (shape_agrees kind) bl) (λ shape. anywhere (done_agrees (record { key = key; shape = shape }))))))))))))
+inside_agrees = then_at (anywhere (sized_agrees wide_1)) (λ key. then_at (anywhere (sized_agrees wide_4)) (λ kind. then_at (anywhere (sized_agrees wide_2)) (λ info. then_at (anywhere (number_agrees wide_1)) (λ cn. then_at (anywhere (contexts_agree cn)) (λ cs.
+    then_at (anywhere (number_agrees wide_4)) (λ bl. then_at (nested (shape_agrees kind) bl) (λ shape. anywhere (done_agrees (record { key = key; shape = shape })))))))))
 
 pub object_agrees : AgreesAt object_at ObjectParts
 unfolding object_at

@@ -1,7 +1,6 @@
 -- An IOR inside a message, and an id without its zero.
-use Rattle.std.proofs.Common.{◌≡◌, ℕ, zero, suc, ◌+◌, ◌-◌, ◌≤◌, Bool, true, false, cond, ◌&&◌, ◌==◌, nat_lt, List, [], ◌∷◌, length, take, drop, Option, Some, None, MatchOption, Result, Ok, Err, refl, sym, ap, ◌∙◌, zero-add, arith}
+use Rattle.std.proofs.Common.{◌≡◌, ℕ, zero, suc, ◌+◌, ◌-◌, ◌≤◌, Bool, true, false, cond, ◌&&◌, ◌==◌, nat_lt, List, [], ◌∷◌, length, take, drop, Option, Some, None, MatchOption, Result, Ok, Err, refl, sym, ap, ◌∙◌, zero-add, arith, Bor}
 use Rattle.std.specs.Prelude.{nat_eq, unwrap_or, ⊤, IfOk, IfErr, IfSome}
-use Rattle.std.proofs.Common.{Bor}
 use Rattle.std.specs.Cmp.Lexicographic.{pointwise}
 use Rattle.std.proofs.lemmas.Bool.{ltb-true}
 use Rattle.std.proofs.lemmas.List.{drop_at}
@@ -12,7 +11,7 @@ use Rattle.ior_tap.specs.declared.IorFault.{IorFault}
 use Rattle.oc_bytes.specs.Cursor.{Cursor, Reading, past, bytes_at, from_start, read_from_start}
 use Rattle.ior_tap.specs.Iors as iors
 use Rattle.ior_tap.specs.IorReading.{ior_at}
-use Rattle.ior_tap.specs.Agreement.{Agrees, InBytes, at, shift_by}
+use Rattle.oc_bytes.specs.Agreement.{Agrees, InBytes, at, shift_by}
 use Rattle.biop_object.specs.ObjectReading.{drop_zero}
 
 -- ---- an IOR at a place

@@ -1,11 +1,12 @@
 -- Readings whose value may tell where it stands, and their relations.
-use Rattle.std.proofs.Common.{◌≡◌, ℕ, ◌+◌, ◌<◌, List, [], ◌++◌, length, take, Ok, refl, sym, ap, subst, ◌∙◌, append_assoc, arith}
-use Rattle.std.proofs.lemmas.List.{take_at, length-append}
+use Rattle.std.proofs.Common.{◌≡◌, ℕ, ◌+◌, ◌<◌, ◌≤◌, Bool, true, false, cond, nat_lt, List, ◌++◌, length, take, Ok, Err, refl, sym, ap, subst, ◌∙◌, append_assoc, arith}
+use Rattle.std.proofs.lemmas.Bool.{ltb-false, le-ltb}
+use Rattle.std.proofs.lemmas.List.{take_at, drop_at, take-append-drop, length-append, length-take}
 use Rattle.std.proofs.lemmas.List.Elements.{All-take}
 use Rattle.oc_bytes.specs.Numbers.{IsBytes}
-use Rattle.oc_bytes.specs.Cursor.{Cursor, Reading, ◌>>=◌, within, bytes_at}
-use Rattle.ior_tap.specs.Agreement.{Agrees, at}
-use Rattle.ior_tap.proofs.Agree.{bind_ok, bytes_agrees, fits_front, fits_back}
+use Rattle.oc_bytes.specs.Cursor.{Cursor, Reading, ◌>>=◌, past, within, part_at}
+use Rattle.oc_bytes.specs.Agreement.{Agrees, at}
+use Rattle.oc_bytes.proofs.CallerLemmas.{bind_ok, fits_back}
 use Rattle.biop_object.specs.ObjectReading.{nested_at}
 
 pub record TakenAt {A : Type 0} (R : ℕ → List ℕ → A → Type 0) (c : Cursor) (x : A × Cursor) : Type 0 where
@@ -27,13 +28,6 @@ pub anywhere : {A : Type 0} {read : Cursor → Reading A} {R : List ℕ → A �
 anywhere agrees = record {
   takes = λ c x fits e. let t = agrees.takes c x fits e in record { front = t.front; reads = t.reads; parts = t.parts; place = t.place };
   again = agrees.again;
-}
-
-pub at_by : {A : Type 0} {read : Cursor → Reading A} {R S : ℕ → List ℕ → A → Type 0} → AgreesAt read R
-    → ((place : ℕ) (bytes : List ℕ) (a : A) → IsBytes bytes → R place bytes a → S place bytes a) → ((place : ℕ) (bytes : List ℕ) (a : A) → S place bytes a → R place bytes a) → AgreesAt read S
-at_by agrees there back = record {
-  takes = λ c x fits e. let t = agrees.takes c x fits e in record { front = t.front; reads = there c.place t.front x.0 (fits_front t.front x.1.rest (subst IsBytes t.parts fits)) t.reads; parts = t.parts; place = t.place };
-  again = λ front rest place a h. agrees.again front rest place a (back place front a h);
 }
 
 -- one reading and then another
@@ -69,26 +63,27 @@ then_at {A} {B} {r} {R} {s} {S} first second = record {
   okay : B × Cursor → Reading B
   okay x = Ok x
 
--- the place itself
-pub record Here (place : ℕ) (bytes : List ℕ) (p : ℕ) : Type 0 where
-  pub empty : bytes ≡ []
-  pub is : p ≡ place
+abbrev good : {A : Type 0} → A × Cursor → Reading A
+good x = Ok x
 
-pub here : AgreesAt (λ c. Ok (c.place, c)) Here
-here = record {
-  takes = λ c x fits e. taken c x (same (c.place, c) x e);
-  again = λ front rest place p h.
-      let start : place ≡ place + length front = omega (arith, ap length h.empty) in
-      ap (λ (l : List ℕ). good (place, at place (l ++ rest))) h.empty ∙ ap (λ (q : ℕ). good (q, at place rest)) (sym h.is) ∙ ap (λ (q : ℕ). good (p, at q rest)) start;
-} where
-  good : ℕ × Cursor → Reading ℕ
-  good x = Ok x
+same : {A : Type 0} (x y : A × Cursor) → good x ≡ good y → x ≡ y
+same x y e = cc
 
-  same : (x y : ℕ × Cursor) → good x ≡ good y → x ≡ y
-  same x y e = cc
+-- what a value and its place make
+pub record Placed {A B : Type 0} (R : List ℕ → A → Type 0) (made : ℕ → A → B) (place : ℕ) (bytes : List ℕ) (b : B) : Type 0 where
+  pub value : A
+  pub reads : R bytes value
+  pub is : b ≡ made place value
 
-  taken : (c : Cursor) (x : ℕ × Cursor) → (c.place, c) ≡ x → TakenAt Here c x
-  taken c x is = subst (λ (y : ℕ × Cursor). TakenAt Here c y) is (record { front = []; reads = record { empty = refl; is = refl }; parts = refl; place = omega arith })
+pub placed : {A B : Type 0} {r : Cursor → Reading A} {R : List ℕ → A → Type 0} → Agrees r R → (made : ℕ → A → B) → AgreesAt (λ c. r c >>= λ x. Ok (made c.place x.0, x.1)) (Placed R made)
+placed {A} {B} {r} {R} agrees made = record {
+  takes = λ c y fits e.
+      let k = bind_ok (r c) (λ x. Ok (made c.place x.0, x.1)) y e in
+      let t = agrees.takes c k.0 fits k.1 in
+      let taken : TakenAt (Placed R made) c (made c.place k.0.0, k.0.1) = record { front = t.front; reads = record { value = k.0.0; reads = t.reads; is = refl }; parts = t.parts; place = t.place } in
+      subst (λ (z : B × Cursor). TakenAt (Placed R made) c z) (same (made c.place k.0.0, k.0.1) y k.2) taken;
+  again = λ front rest place b h. rw (agrees.again front rest place h.value h.reads, h.is) refl;
+}
 
 -- bytes of which a front is read
 pub record Nested {A : Type 0} (R : ℕ → List ℕ → A → Type 0) (n place : ℕ) (bytes : List ℕ) (a : A) : Type 0 where
@@ -98,31 +93,31 @@ pub record Nested {A : Type 0} (R : ℕ → List ℕ → A → Type 0) (n place 
   pub whole : bytes ≡ front ++ trailing
   pub reads : R place front a
 
+-- what cutting off some bytes as a message of their own gives
+pub part_is : (n : ℕ) (c : Cursor) (y : Cursor × Cursor) → part_at n c ≡ Ok y → (n ≤ length c.rest) × (y ≡ (within n c, past n c))
+part_is n c y e = by_test (nat_lt (length c.rest) n) refl e where
+  by_test : (b : Bool) → nat_lt (length c.rest) n ≡ b → cond {A = Reading Cursor} b (Err c.place) (Ok (within n c, past n c)) ≡ Ok y → (n ≤ length c.rest) × (y ≡ (within n c, past n c))
+  by_test true is e = absurd cc
+  by_test false is e = (ltb-false (length c.rest) n is, cc)
+
 pub nested : {A : Type 0} {read : Cursor → Reading A} {R : ℕ → List ℕ → A → Type 0} → AgreesAt read R → (n : ℕ) → AgreesAt (nested_at n read) (Nested R n)
 nested {A} {read} {R} agrees n = record {
   takes = λ c x fits e.
-      let k = bind_ok (bytes_at n c) (λ bytes. read (within n c) >>= λ y. Ok (y.0, bytes.1)) x e in
-      let t = (bytes_agrees n).takes c k.0 fits k.1 in
-      let len : length t.front ≡ n = ap length t.reads.1 ∙ t.reads.0 in
-      let cut : take n c.rest ≡ t.front = ap (take n) t.parts ∙ take_at t.front k.0.1.rest n len in
-      let m = bind_ok (read (within n c)) (λ y. Ok (y.0, k.0.1)) x k.2 in
-      let u = agrees.takes (within n c) m.0 (All-take (λ b. b < 256) n c.rest fits) m.1 in
-      let made : TakenAt (Nested R n) c (m.0.0, k.0.1) = record {
-        front = t.front;
-        reads = record { size = len; front = u.front; trailing = m.0.1.rest; whole = sym cut ∙ u.parts; reads = u.reads };
-        parts = t.parts;
-        place = t.place;
+      let k = bind_ok (part_at n c) (λ part. read part.0 >>= λ y. Ok (y.0, part.1)) x e in
+      let cut = part_is n c k.0 k.1 in
+      let m = bind_ok (read k.0.0) (λ y. Ok (y.0, k.0.1)) x k.2 in
+      let inside : read (within n c) ≡ Ok m.0 = ap (λ (p : Cursor × Cursor). read p.0) (sym cut.1) ∙ m.1 in
+      let u = agrees.takes (within n c) m.0 (All-take (λ b. b < 256) n c.rest fits) inside in
+      let len : length (take n c.rest) ≡ n = omega (arith, length-take n c.rest, cut.0) in
+      let made : TakenAt (Nested R n) c (m.0.0, past n c) = record {
+        front = take n c.rest;
+        reads = record { size = len; front = u.front; trailing = m.0.1.rest; whole = u.parts; reads = u.reads };
+        parts = sym (take-append-drop n c.rest);
+        place = omega (arith, len);
       } in
-      subst (λ (y : A × Cursor). TakenAt (Nested R n) c y) (same (m.0.0, k.0.1) x m.2) made;
+      subst (λ (y : A × Cursor). TakenAt (Nested R n) c y) {x = (m.0.0, past n c)} (◌∙◌ {b = (m.0.0, k.0.1)} (ap (λ (p : Cursor × Cursor). (m.0.0, p.1)) (sym cut.1)) (same (m.0.0, k.0.1) x m.2)) made;
   again = λ front rest place a h.
-      let taken : bytes_at n (at place (front ++ rest)) ≡ Ok (front, at (place + length front) rest) = (bytes_agrees n).again front rest place front (h.size, refl) in
-      let cut : take n (front ++ rest) ≡ h.front ++ h.trailing = take_at front rest n h.size ∙ h.whole in
-      let read_there : read (at place (take n (front ++ rest))) ≡ Ok (a, at (place + length h.front) h.trailing) = ap (λ (l : List ℕ). read (at place l)) cut ∙ agrees.again h.front h.trailing place a h.reads in
-      ap (λ (m : Reading (List ℕ)). m >>= λ bytes. read (at place (take n (front ++ rest))) >>= λ y. Ok (y.0, bytes.1)) taken
-      ∙ ap (λ (m : Reading A). m >>= λ y. Ok (y.0, at (place + length front) rest)) read_there;
-} where
-  good : A × Cursor → Reading A
-  good x = Ok x
-
-  same : (x y : A × Cursor) → good x ≡ good y → x ≡ y
-  same x y e = cc
+      let long : nat_lt (length (front ++ rest)) n ≡ false = le-ltb _ _ (omega (arith, h.size, length-append front rest)) in
+      let read_there : read (at place front) ≡ Ok (a, at (place + length h.front) h.trailing) = ap (λ (l : List ℕ). read (at place l)) h.whole ∙ agrees.again h.front h.trailing place a h.reads in
+      rw (long, take_at front rest n h.size, drop_at front rest n h.size, read_there, h.size) refl;
+}

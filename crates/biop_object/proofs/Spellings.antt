@@ -12,9 +12,9 @@ use Rattle.oc_bytes.specs.Numbers.{two_bytes, four_bytes, eight_bytes}
 use Rattle.oc_bytes.specs.Cursor.{Cursor, Reading}
 use Rattle.ior_tap.specs.declared.Location.{Location}
 use Rattle.ior_tap.specs.Iors as iors
-use Rattle.ior_tap.specs.Iors.{IsLocation, IsWritten, ReadsEach}
-use Rattle.ior_tap.specs.Agreement.{at}
-use Rattle.ior_tap.proofs.Spelled.{written_reads, written_again, spelling_length}
+use Rattle.ior_tap.specs.Iors.{IsLocation, IsWritten}
+use Rattle.oc_bytes.specs.Agreement.{at, ReadsEach}
+use Rattle.ior_tap.proofs.CallerLemmas.{written_reads, written_again, spelling_length}
 use Rattle.biop_object.specs.declared.written.Written.{Written}
 use Rattle.biop_object.specs.declared.written.Bound.{Bound}
 use Rattle.biop_object.specs.declared.written.Bound.TheVariants as bounds

@@ -1,8 +1,8 @@
 -- Reading a module from its front.
-use Rattle.std.specs.Prelude.{ℕ, zero, suc, Bool, ◌||◌, List, [], ◌∷◌, length, Option, Some, None, Ok, Err, is_none, ◌==◌, if◌then◌else◌}
-use Rattle.oc_bytes.specs.Cursor.{Cursor, Reading, ◌>>=◌, number_at, bytes_at, this_at, within, from_start}
+use Rattle.std.specs.Prelude.{ℕ, zero, suc, ◌+◌, Bool, ◌||◌, List, [], ◌∷◌, length, Option, Some, None, Ok, Err, is_none, ◌==◌, if◌then◌else◌}
+use Rattle.oc_bytes.specs.Cursor.{Cursor, Reading, ◌>>=◌, number_at, this_at, sized_at, each_at, skip_reading, part_at, from_start}
 use Rattle.path_tree.specs.Paths.{same_name}
-use Rattle.ior_tap.specs.IorReading.{ior_at, each_at}
+use Rattle.ior_tap.specs.IorReading.{ior_at}
 use Rattle.biop_object.specs.Objects.{Object, Shape, IsFile, IsFolder, IsOther, BindingFields, file_kind, directory_kind, gateway_kind}
 use Rattle.biop_object.specs.declared.module.Found.{Found}
 use Rattle.biop_object.specs.declared.module.Found.TheVariants as found
@@ -15,26 +15,18 @@ drop_zero (b ∷ c ∷ bs) = b ∷ drop_zero (c ∷ bs)
 unfoldable pub binding_at : Cursor → Reading BindingFields
 binding_at c = do
   components_count ← this_at 1 1 c
-  id_length ← number_at 1 components_count.1
-  id ← bytes_at id_length.0 id_length.1
-  kind_length ← number_at 1 id.1
-  kind ← bytes_at kind_length.0 kind_length.1
+  id ← sized_at 1 components_count.1
+  kind ← sized_at 1 id.1
   binding_type ← number_at 1 kind.1
   target ← ior_at binding_type.1
-  info_length ← number_at 2 target.1
-  info ← bytes_at info_length.0 info_length.1
+  info ← sized_at 2 target.1
   Ok (record { name = drop_zero id.0; kind = kind.0; target = target.0 }, info.1)
 
 unfoldable pub context_at : Cursor → Reading (ℕ × List ℕ)
 context_at c = do
   id ← number_at 4 c
-  data_length ← number_at 2 id.1
-  context_data ← bytes_at data_length.0 data_length.1
+  context_data ← sized_at 2 id.1
   Ok ((id.0, context_data.0), context_data.1)
-
--- a reading of which only the place after it counts
-abbrev pub skip_reading : {A : Type 0} → Reading A → Reading (Unit {0})
-skip_reading m = m >>= λ x. Ok (tt, x.1)
 
 -- so many service contexts, passed over
 abbrev pub contexts_at : ℕ → Cursor → Reading (Unit {0})
@@ -42,14 +34,13 @@ contexts_at count c = skip_reading (each_at context_at count c)
 
 -- The next n bytes, read as a message of their own; what the reading leaves of them is passed over.
 abbrev pub nested_at : {A : Type 0} → ℕ → (Cursor → Reading A) → Cursor → Reading A
-nested_at n read c = bytes_at n c >>= λ bytes. read (within n c) >>= λ x. Ok (x.0, bytes.1)
+nested_at n read c = part_at n c >>= λ part. read part.0 >>= λ x. Ok (x.0, part.1)
 
 -- bytes after the content are passed over
 unfoldable pub file_at : Cursor → Reading Shape
 file_at c = do
-  content_length ← number_at 4 c
-  content ← bytes_at content_length.0 content_length.1
-  Ok (IsFile content_length.1.place content_length.0, content.1)
+  content ← sized_at 4 c
+  Ok (IsFile (c.place + 4) (length content.0), content.1)
 
 -- bytes after the bindings are passed over
 unfoldable pub folder_at : Cursor → Reading Shape
@@ -71,12 +62,9 @@ biop_head = 0x42494F5001000000
 -- what stands in a message after its size
 unfoldable pub inside_at : Cursor → Reading Object
 inside_at c = do
-  key_length ← number_at 1 c
-  key ← bytes_at key_length.0 key_length.1
-  kind_length ← number_at 4 key.1
-  kind ← bytes_at kind_length.0 kind_length.1
-  info_length ← number_at 2 kind.1
-  info ← bytes_at info_length.0 info_length.1
+  key ← sized_at 1 c
+  kind ← sized_at 4 key.1
+  info ← sized_at 2 kind.1
   contexts_count ← number_at 1 info.1
   contexts ← contexts_at contexts_count.0 contexts_count.1
   body_length ← number_at 4 contexts.1
@@ -89,6 +77,10 @@ object_at c = do
   head ← this_at 8 biop_head c
   message_size ← number_at 4 head.1
   nested_at message_size.0 inside_at message_size.1
+
+-- the bytes of a message after its size, whatever stands in them
+abbrev pub framed_at : Cursor → Reading Cursor
+framed_at c = this_at 8 biop_head c >>= λ head. number_at 4 head.1 >>= λ size. part_at size.0 size.1
 
 -- the objects, and where reading stopped
 abbrev pub Index : Type 0

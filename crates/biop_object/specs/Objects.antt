@@ -10,6 +10,8 @@ use Rattle.biop_object.specs.declared.written.Bound.{Bound}
 use Rattle.biop_object.specs.declared.written.Bound.TheVariants as bounds
 use Rattle.biop_object.specs.declared.written.FolderKind.{FolderKind}
 use Rattle.biop_object.specs.declared.written.FolderKind.TheVariants.{Directory, Gateway}
+use Rattle.oc_bytes.specs.Agreement.{ReadsEach}
+use Rattle.biop_object.specs.declared.written.TheConstants.{FOLDER_FRONT, FILE_BINDING, FOLDER_BINDING}
 
 pub record BindingFields : Type 0 where
   pub name : List ℕ
@@ -44,6 +46,14 @@ pub record ReadsContext (bytes : List ℕ) (c : ℕ × List ℕ) : Type 0 where
   pub ranges : (c.0 < 4294967296) × (length c.1 < 65536)
   pub whole : bytes ≡ four_bytes c.0 ++ two_bytes (length c.1) ++ c.1
 
+-- `BIOP`, version 1.0, byte order 0, message type 0
+abbrev pub message_front : List ℕ
+message_front = 66 ∷ 73 ∷ 79 ∷ 80 ∷ 1 ∷ 0 ∷ 0 ∷ 0 ∷ []
+
+-- a message's front, its size and as many bytes, whatever they say, and any bytes after them
+abbrev pub BeginsFramed : List ℕ → Type 0
+BeginsFramed bytes = (message : List ℕ) × (rest : List ℕ) × (length message < 4294967296) × (bytes ≡ message_front ++ four_bytes (length message) ++ message ++ rest)
+
 -- the parts of one message: `before` is how many bytes of it stand before its body
 pub record IsBiop (bytes key kind info body : List ℕ) (before : ℕ) : Type 0 where
   pub contexts : List (ℕ × List ℕ)
@@ -54,8 +64,8 @@ pub record IsBiop (bytes key kind info body : List ℕ) (before : ℕ) : Type 0 
   pub ranges : (length key < 256) × (length kind < 4294967296) × (length info < 65536) × (length contexts < 256) × (length body < 4294967296) × (length rest < 4294967296)
   pub inner : rest ≡ head ++ body ++ trailing
   pub fields : head ≡ (length key ∷ key) ++ four_bytes (length kind) ++ kind ++ two_bytes (length info) ++ info ++ (length contexts ∷ context_bytes) ++ four_bytes (length body)
-  pub each : iors.ReadsEach ReadsContext context_bytes contexts
-  pub whole : bytes ≡ (66 ∷ 73 ∷ 79 ∷ 80 ∷ 1 ∷ 0 ∷ 0 ∷ 0 ∷ []) ++ four_bytes (length rest) ++ rest
+  pub each : ReadsEach ReadsContext context_bytes contexts
+  pub whole : bytes ≡ message_front ++ four_bytes (length rest) ++ rest
   pub place : before ≡ 12 + length head
 
 -- one trailing zero of an id is no part of the name
@@ -87,7 +97,7 @@ pub record IsFolderBody (body : List ℕ) (bindings : List BindingFields) : Type
   pub trailing : List ℕ
   pub few : length bindings < 65536
   pub whole : body ≡ two_bytes (length bindings) ++ lines ++ trailing
-  pub each : iors.ReadsEach ReadsBinding lines bindings
+  pub each : ReadsEach ReadsBinding lines bindings
 
 abbrev pub IsShape : (kind body : List ℕ) (before : ℕ) → Shape → Type 0
 IsShape kind body before (IsFile first n) = (kind ≡ file_kind) × IsFileBody body before first n
@@ -114,11 +124,11 @@ ReadsModule at bytes [] (Some place) = (place ≡ at) × (bytes ≢ []) × ((fro
 abbrev pub biop : List ℕ → List ℕ → List ℕ → List ℕ → List ℕ
 biop key kind info body =
     let rest = (length key ∷ key) ++ four_bytes (length kind) ++ kind ++ two_bytes (length info) ++ info ++ 0 ∷ four_bytes (length body) ++ body in
-    (66 ∷ 73 ∷ 79 ∷ 80 ∷ 1 ∷ 0 ∷ 0 ∷ 0 ∷ []) ++ four_bytes (length rest) ++ rest
+    message_front ++ four_bytes (length rest) ++ rest
 
 -- what stands before the body of a message whose key and kind have four bytes each
 abbrev pub biop_prefix : (key kind info : List ℕ) → ℕ → List ℕ
-biop_prefix key kind info body_length = (66 ∷ 73 ∷ 79 ∷ 80 ∷ 1 ∷ 0 ∷ 0 ∷ 0 ∷ []) ++ four_bytes (20 + length info + body_length)
+biop_prefix key kind info body_length = message_front ++ four_bytes (20 + length info + body_length)
     ++ (4 ∷ key) ++ four_bytes 4 ++ kind ++ two_bytes (length info) ++ info ++ 0 ∷ four_bytes body_length
 
 abbrev pub file_spelling : List ℕ → List ℕ → List ℕ
@@ -148,15 +158,15 @@ binding_of w = record { name = w.name; kind = bound_kind w.bound; target = iors.
 
 -- how many bytes a written binding has
 abbrev pub bound_size : Bound → ℕ
-bound_size (bounds.File size) = 82
-bound_size bounds.Folder = 74
+bound_size (bounds.File size) = FILE_BINDING
+bound_size bounds.Folder = FOLDER_BINDING
 
 abbrev pub binding_size : Written → ℕ
 binding_size w = length w.name + bound_size w.bound
 
 -- and a written folder
 abbrev pub folder_size : List Written → ℕ
-folder_size entries = 34 + sum_by binding_size entries
+folder_size entries = FOLDER_FRONT + sum_by binding_size entries
 
 -- an entry that can be written
 pub record IsEntry (w : Written) : Type 0 where

@@ -5,6 +5,8 @@ use Rattle.biop_object.specs.declared.written.Written.{Written}
 use Rattle.biop_object.specs.declared.written.FolderKind.{FolderKind}
 use Rattle.biop_object.specs.Objects.{Object, IsFile, IsFolder, binding_of, file_spelling, folder_spelling}
 use Rattle.biop_object.specs.ObjectReading.{index_of}
+use Rattle.path_tree.specs.declared.tree.TheConstants.{MOST_CONTENT}
+use Rattle.biop_object.specs.declared.written.TheConstants.{FILE_FRONT, MOST_FOLDER_SIZE}
 
 -- an object to be written, as its encoder is handed it
 pub data Spelled : Type 0 where
@@ -17,7 +19,7 @@ spelled_bytes (AFolder kind key entries) = folder_spelling kind key entries
 
 -- what its spelling is read as at a place of its module
 abbrev pub spelled_object : ℕ → Spelled → Object
-spelled_object at (AFile key content) = record { key = key; shape = IsFile (at + 44) (length content) }
+spelled_object at (AFile key content) = record { key = key; shape = IsFile (at + FILE_FRONT) (length content) }
 spelled_object at (AFolder kind key entries) = record { key = key; shape = IsFolder (map binding_of entries) }
 
 -- one after another
@@ -30,8 +32,8 @@ pub record IsSpellableEntry (w : Written) : Type 0 where
   pub location : (length w.location.key ≡ 4) × (w.location.carousel < 4294967296) × (w.location.module < 65536)
 
 abbrev pub IsSpellable : Spelled → Type 0
-IsSpellable (AFile key content) = (length key ≡ 4) × (length content ≤ 16777216)
-IsSpellable (AFolder kind key entries) = (length key ≡ 4) × (length entries < 65536) × (length (folder_spelling kind key entries) ≤ 1048576) × All IsSpellableEntry entries
+IsSpellable (AFile key content) = (length key ≡ 4) × (length content ≤ MOST_CONTENT)
+IsSpellable (AFolder kind key entries) = (length key ≡ 4) × (length entries < 65536) × (length (folder_spelling kind key entries) ≤ MOST_FOLDER_SIZE) × All IsSpellableEntry entries
 
 -- spellings one after another are read as their objects, to the end
 abbrev pub SpellingsReadBack : Type 0

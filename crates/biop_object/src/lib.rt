@@ -1,6 +1,17 @@
 //! BIOP messages: files and folders of a carousel, as they stand in a module, and the index of a module's objects.
 //!
 //! The layout is that of ISO/IEC 13818-6, clause 11.3, in the profile of ETSI TR 101 202, clause 4.7.
+//!
+//! ```
+//! use biop_object::{Found, Module, Span, encode_file};
+//! use ior_tap::Key;
+//!
+//! let key = Key::new(Vec::from_slice(alloc, &[0, 0, 0, 2])?);
+//! let bytes = encode_file(alloc, &key, b"hello")?;
+//! let module = Module::read(alloc, bytes).map_err(|(fault, _)| fault)?;
+//! let content = Span { first: 44, length: 5 };
+//! assert_eq!(rt; module.find(key.bytes()), Found::File(content));
+//! ```
 #![tactic(auto)]
 
 mod laws;
@@ -10,7 +21,10 @@ mod written;
 
 pub use laws::spellings_read_back;
 pub use module::{Binding, Found, Module, Span};
-pub use written::{Bound, FolderKind, ObjectFault, Written, encode_file, encode_folder};
+pub use written::{
+    Bound, FILE_BINDING, FILE_FRONT, FOLDER_BINDING, FOLDER_FRONT, FolderKind, MOST_FOLDER_SIZE,
+    ObjectFault, Written, encode_file, encode_folder,
+};
 
 #[cfg(test)]
 mod tests;

@@ -1,6 +1,6 @@
 //! A module with the index of its objects.
 
-ghost use Rattle.std.specs.Prelude.{◌≡◌, ◌<◌, ◌≤◌, ◌+◌, List, ℕ, Option, length, map, Some, IfOk, IfErr, IsSome};
+ghost use Rattle.std.specs.Prelude.{◌≡◌, ◌<◌, ◌≤◌, ◌+◌, List, ℕ, Option, length, map, Some, IfOk, IfErr, IsErr, IsSome};
 ghost use Rattle.biop_object.specs.Objects.{view_binding};
 ghost use Rattle.biop_object.specs.Index.{view_kind, view_index};
 ghost use Rattle.biop_object.specs.ObjectReading.{found_shape, found_from, bindings_in};
@@ -126,17 +126,19 @@ fn bindings_at(index: &[Indexed], folder: usize) -> &[Binding]
 }
 
 impl Module {
-    ghost use Rattle.biop_object.specs.Objects.{Object, ReadsModule};
+    ghost use Rattle.biop_object.specs.Objects.{Object, ReadsModule, BeginsFramed};
     ghost use Rattle.biop_object.specs.ObjectReading.{index_of, objects_of, stop_of, found_of, bindings_of};
     ghost use Rattle.biop_object.specs.declared.module.Span.{Span};
 
     /// Reads the index of a module. It takes time and memory in proportion to the module's size.
     ///
     /// Out of memory is the one refusal, and hands the bytes back: reading stops at the first message that breaks a
-    /// rule, and [`Module::find`] tells the place.
+    /// rule, and [`Module::find`] tells the place. Memory is asked for only where the bytes begin with a message's
+    /// front, its size and as many bytes.
     pub fn read(alloc: Global, bytes: Vec<u8>) -> Result<Module, (NoMemory, Vec<u8>)>
         ensures ok { IfOk result (λ m. m ≡ bytes.items) }
         ensures err { IfErr result (λ e. e.1 ≡ bytes) }
+        ensures memory { IsErr result → BeginsFramed bytes.items }
         // The index that the other calls answer by is the one reading of the bytes.
         ensures reads { IfOk result (λ m. ReadsModule 0 m (objects_of m) (stop_of m)) }
         ensures only { (objects : List Object) (stop : Option ℕ) → ReadsModule 0 bytes.items objects stop

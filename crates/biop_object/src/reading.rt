@@ -1,20 +1,21 @@
 //! Reading BIOP messages from left to right.
 
-ghost use Rattle.std.specs.Prelude.{◌≡◌, ◌≤◌, ◌<◌, ◌+◌, ℕ, List, Ok, Err, length, take, drop, map, IfOk, IfErr, IfSome};
+ghost use Rattle.std.specs.Prelude.{◌≡◌, ◌≤◌, ◌<◌, ◌+◌, ℕ, List, Ok, Err, length, take, drop, map, IfOk, IfErr, IfSome, IsOk, IsErr, IsErrOf};
 ghost use Rattle.oc_bytes.specs.Numbers.{IsBytes};
 ghost use Rattle.oc_bytes.specs.Outcome.{Gives};
-ghost use Rattle.oc_bytes.specs.Cursor.{number_at, bytes_at, this_at, past};
-ghost use Rattle.ior_tap.specs.Agreement.{at};
+ghost use Rattle.oc_bytes.specs.Cause.{place_of};
+ghost use Rattle.oc_bytes.specs.Cursor.{past, from_start, sized_at, part_at, each_at, skip_reading};
+ghost use Rattle.oc_bytes.specs.Agreement.{at};
 ghost use Rattle.ior_tap.specs.Iors as iors;
-ghost use Rattle.ior_tap.specs.IorReading.{ior_at, each_at};
-ghost use Rattle.biop_object.specs.Objects.{view_binding};
+ghost use Rattle.ior_tap.specs.IorReading.{ior_at};
+ghost use Rattle.biop_object.specs.Objects.{IsFile, view_binding};
 ghost use Rattle.biop_object.specs.Index.{view_kind, view_indexed, view_index, cause};
-ghost use Rattle.biop_object.specs.ObjectReading.{drop_zero, binding_at, context_at, skip_reading, contexts_at, nested_at, file_at, folder_at, shape_at, inside_at, object_at, index_of};
-ghost use Rattle.biop_object.specs.declared.reading.ReadFault.TheVariants.{NoMemory as OutOfMemory};
+ghost use Rattle.biop_object.specs.ObjectReading.{drop_zero, binding_at, context_at, contexts_at, nested_at, file_at, folder_at, shape_at, inside_at, object_at, framed_at, index_of};
+ghost use Rattle.biop_object.specs.declared.reading.ReadFault.TheVariants.{Bad, NoMemory as OutOfMemory};
 
 use crate::module::{Binding, Indexed, Kind, Span};
 use ior_tap::{Ior, IorFault, decode, one_reading};
-use oc_bytes::{Fields, NoMemory};
+use oc_bytes::{Cut, Fields, NoMemory};
 use path_tree::Name;
 use std::alloc::{AllocError, AllocFailed, Global};
 
@@ -24,6 +25,14 @@ pub(crate) enum ReadFault {
     /// The place of the first field that is cut or breaks a rule.
     Bad(usize),
     NoMemory,
+}
+
+impl From<Cut> for ReadFault {
+    ghost from_gives = { λ cut e. e ≡ Bad cut.0 };
+
+    fn from(Cut(place): Cut) -> ReadFault {
+        ReadFault::Bad(place)
+    }
 }
 
 impl From<AllocError> for ReadFault {
@@ -39,54 +48,6 @@ impl<T: Drop> From<AllocFailed<T>> for ReadFault {
 
     fn from(_e: AllocFailed<T>) -> ReadFault {
         ReadFault::NoMemory
-    }
-}
-
-fn u8_of(fields: &mut Fields<'_>) -> Result<u8, ReadFault>
-    ensures { Gives (λ n. (n, fields.new)) cause result (number_at 1 fields.old) }
-{
-    let at = fields.place();
-    fields.u8().map_err(|_| ReadFault::Bad(at))
-}
-
-fn u16_of(fields: &mut Fields<'_>) -> Result<u16, ReadFault>
-    ensures { Gives (λ n. (n, fields.new)) cause result (number_at 2 fields.old) }
-{
-    let at = fields.place();
-    fields.u16().map_err(|_| ReadFault::Bad(at))
-}
-
-fn u32_of(fields: &mut Fields<'_>) -> Result<u32, ReadFault>
-    ensures { Gives (λ n. (n, fields.new)) cause result (number_at 4 fields.old) }
-{
-    let at = fields.place();
-    fields.u32().map_err(|_| ReadFault::Bad(at))
-}
-
-fn bytes_of<'a>(fields: &mut Fields<'a>, count: usize) -> Result<&'a [u8], ReadFault>
-    ensures { Gives (λ x. (x.now, fields.new)) cause result (bytes_at count fields.old) }
-{
-    let at = fields.place();
-    fields.take(count).map_err(|_| ReadFault::Bad(at))
-}
-
-fn this_u8(fields: &mut Fields<'_>, value: u8) -> Result<(), ReadFault>
-    ensures { Gives (λ _. (value, fields.new)) cause result (this_at 1 value fields.old) }
-{
-    let at = fields.place();
-    if u8_of(fields)? != value {
-        return Err(ReadFault::Bad(at));
-    }
-    Ok(())
-}
-
-fn this_u64(fields: &mut Fields<'_>, value: u64) -> Result<(), ReadFault>
-    ensures { Gives (λ _. (value, fields.new)) cause result (this_at 8 value fields.old) }
-{
-    let at = fields.place();
-    match fields.u64() {
-        Ok(read) if read == value => Ok(()),
-        _ => Err(ReadFault::Bad(at)),
     }
 }
 
@@ -106,11 +67,11 @@ fn ior_of(alloc: Global, fields: &mut Fields<'_>) -> Result<Ior, ReadFault>
 {
     match ior_in(alloc, fields.rest()) {
         Ok((ior, count)) => {
-            bytes_of(fields, count)?;
+            fields.take(count)?;
             Ok(ior)
         }
         Err(IorFault::BadIor(place)) => {
-            bytes_of(fields, place)?;
+            fields.take(place)?;
             Err(ReadFault::Bad(fields.place()))
         }
         Err(IorFault::NoMemory) => Err(ReadFault::NoMemory),
@@ -129,15 +90,12 @@ fn without_zero(id: &[u8]) -> &[u8]
 fn binding_of(alloc: Global, fields: &mut Fields<'_>) -> Result<Binding, ReadFault>
     ensures { Gives (λ b. (view_binding b, fields.new)) cause result (binding_at fields.old) }
 {
-    this_u8(fields, 1)?;
-    let id_length = u8_of(fields)?;
-    let id = bytes_of(fields, usize::from(id_length))?;
-    let kind_length = u8_of(fields)?;
-    let kind = bytes_of(fields, usize::from(kind_length))?;
-    let _binding_type = u8_of(fields)?;
+    fields.this_u8(1)?;
+    let id = fields.sized8()?;
+    let kind = fields.sized8()?;
+    let _binding_type = fields.u8()?;
     let target = ior_of(alloc, fields)?;
-    let info_length = u16_of(fields)?;
-    bytes_of(fields, usize::from(info_length))?;
+    fields.sized16()?;
     let name = Name::new(Vec::from_slice(alloc, without_zero(id))?);
     let kind = Vec::from_slice(alloc, kind)?;
     Ok(Binding { name, kind, target })
@@ -162,34 +120,33 @@ fn bindings_of(
 fn folder_of(alloc: Global, fields: &mut Fields<'_>) -> Result<Kind, ReadFault>
     ensures { Gives (λ k. (view_kind k, fields.new)) cause result (folder_at fields.old) }
 {
-    let count = u16_of(fields)?;
+    let count = fields.u16()?;
     let bindings = bindings_of(alloc, fields, count)?;
     Ok(Kind::Folder(bindings))
 }
 
-#[tactic(auto, unfolding(crate::specs::ObjectReading::file_at))]
-fn file_of(fields: &mut Fields<'_>) -> Result<Kind, ReadFault>
-    ensures { Gives (λ k. (view_kind k, fields.new)) cause result (file_at fields.old) }
+#[tactic(auto, unfolding(crate::specs::ObjectReading::file_at, oc_bytes::specs::Cursor::sized_at))]
+fn file_of(fields: &mut Fields<'_>) -> Result<Span, Cut>
+    ensures { Gives (λ span. (IsFile span.first span.length, fields.new)) place_of result (file_at fields.old) }
 {
-    let length = u32_of(fields)? as usize;
+    let length = fields.u32()? as usize;
     let first = fields.place();
-    bytes_of(fields, length)?;
-    Ok(Kind::File(Span { first, length }))
+    fields.take(length)?;
+    Ok(Span { first, length })
 }
 
 /// A service context, passed over.
 #[tactic(auto, unfolding(crate::specs::ObjectReading::context_at))]
-fn pass_context(fields: &mut Fields<'_>) -> Result<(), ReadFault>
-    ensures { Gives (λ _. (tt, fields.new)) cause result (skip_reading (context_at fields.old)) }
+fn pass_context(fields: &mut Fields<'_>) -> Result<(), Cut>
+    ensures { Gives (λ _. (tt, fields.new)) place_of result (skip_reading (context_at fields.old)) }
 {
-    u32_of(fields)?;
-    let length = u16_of(fields)?;
-    bytes_of(fields, usize::from(length))?;
+    fields.u32()?;
+    fields.sized16()?;
     Ok(())
 }
 
-fn pass_contexts(fields: &mut Fields<'_>, count: u8) -> Result<(), ReadFault>
-    ensures { Gives (λ _. (tt, fields.new)) cause result (contexts_at count fields.old) }
+fn pass_contexts(fields: &mut Fields<'_>, count: u8) -> Result<(), Cut>
+    ensures { Gives (λ _. (tt, fields.new)) place_of result (contexts_at count fields.old) }
 {
     for _ in 0..count {
         pass_context(fields)?;
@@ -208,7 +165,7 @@ fn kind_of(alloc: Global, kind: &[u8], fields: &mut Fields<'_>) -> Result<Kind, 
     ensures { Gives (λ k. (view_kind k, fields.new)) cause result (shape_at kind.now fields.old) }
 {
     if kind == FILE.as_slice() {
-        return file_of(fields);
+        return Ok(Kind::File(file_of(fields)?));
     }
     if kind == DIRECTORY.as_slice() || kind == GATEWAY.as_slice() {
         return folder_of(alloc, fields);
@@ -225,25 +182,29 @@ fn body_of(
 ) -> Result<Kind, ReadFault>
     ensures { Gives (λ k. (view_kind k, fields.new)) cause result (nested_at length (shape_at kind.now) fields.old) }
 {
-    let at = fields.place();
-    let mut body = fields.within(length).map_err(|_| ReadFault::Bad(at))?;
-    bytes_of(fields, length)?;
+    let mut body = fields.part(length)?;
     kind_of(alloc, kind, &mut body)
+}
+
+/// Bytes with their number before them in four bytes.
+#[tactic(auto, unfolding(oc_bytes::specs::Cursor::sized_at))]
+fn sized32<'a>(fields: &mut Fields<'a>) -> Result<&'a [u8], Cut>
+    ensures { Gives (λ x. (x.now, fields.new)) place_of result (sized_at 4 fields.old) }
+{
+    let size = fields.u32()?;
+    fields.take(size as usize)
 }
 
 #[tactic(auto, unfolding(crate::specs::ObjectReading::inside_at))]
 fn inside_of(alloc: Global, fields: &mut Fields<'_>) -> Result<Indexed, ReadFault>
     ensures { Gives (λ i. (view_indexed i, fields.new)) cause result (inside_at fields.old) }
 {
-    let key_length = u8_of(fields)?;
-    let key = bytes_of(fields, usize::from(key_length))?;
-    let kind_length = u32_of(fields)?;
-    let kind = bytes_of(fields, kind_length as usize)?;
-    let info_length = u16_of(fields)?;
-    bytes_of(fields, usize::from(info_length))?;
-    let contexts_count = u8_of(fields)?;
+    let key = fields.sized8()?;
+    let kind = sized32(fields)?;
+    fields.sized16()?;
+    let contexts_count = fields.u8()?;
     pass_contexts(fields, contexts_count)?;
-    let body_length = u32_of(fields)?;
+    let body_length = fields.u32()?;
     let kind = body_of(alloc, kind, fields, body_length as usize)?;
     let key = Vec::from_slice(alloc, key)?;
     Ok(Indexed { key, kind })
@@ -251,11 +212,10 @@ fn inside_of(alloc: Global, fields: &mut Fields<'_>) -> Result<Indexed, ReadFaul
 
 /// A message of so many bytes after its size, which is taken whole.
 fn message_of(alloc: Global, fields: &mut Fields<'_>, size: usize) -> Result<Indexed, ReadFault>
-    ensures { Gives (λ i. (view_indexed i, fields.new)) cause result (nested_at size inside_at fields.old) }
+    ensures reads { Gives (λ i. (view_indexed i, fields.new)) cause result (nested_at size inside_at fields.old) }
+    ensures memory { IsErrOf result ReadFault.NoMemory → IsOk (part_at size fields.old) }
 {
-    let at = fields.place();
-    let mut message = fields.within(size).map_err(|_| ReadFault::Bad(at))?;
-    bytes_of(fields, size)?;
+    let mut message = fields.part(size)?;
     inside_of(alloc, &mut message)
 }
 
@@ -264,10 +224,11 @@ pub(crate) const HEAD: u64 = 0x42494F5001000000;
 
 #[tactic(auto, unfolding(crate::specs::ObjectReading::object_at))]
 fn object_of(alloc: Global, fields: &mut Fields<'_>) -> Result<Indexed, ReadFault>
-    ensures { Gives (λ i. (view_indexed i, fields.new)) cause result (object_at fields.old) }
+    ensures reads { Gives (λ i. (view_indexed i, fields.new)) cause result (object_at fields.old) }
+    ensures memory { IsErrOf result ReadFault.NoMemory → IsOk (framed_at fields.old) }
 {
-    this_u64(fields, HEAD)?;
-    let size = u32_of(fields)?;
+    fields.this_u64(HEAD)?;
+    let size = fields.u32()?;
     message_of(alloc, fields, size as usize)
 }
 
@@ -282,6 +243,7 @@ pub(crate) struct Index {
 pub(crate) fn read_index(alloc: Global, bytes: &[u8]) -> Result<Index, NoMemory>
     ensures index { IfOk result (λ i. (view_index i.objects.items, i.stop) ≡ index_of bytes.now) }
     ensures fit { IsBytes bytes.now }
+    ensures memory { IsErr result → IsOk (framed_at (from_start bytes.now)) }
 {
     let mut objects = Vec::new(alloc);
     let mut fields = Fields::new(bytes);

@@ -5,6 +5,7 @@ ghost use Rattle.std.specs.List.{All, flat_map};
 ghost use Rattle.ior_tap.specs.Iors.{IsLocation};
 ghost use Rattle.biop_object.specs.Objects.{ReadsObject, IsFile, IsFolder, IsEntry, binding_of, file_spelling, folder_spelling, biop_prefix, kind_of, bound_kind, bound_tail, binding_spelling, binding_size, folder_size};
 ghost use Rattle.biop_object.specs.declared.written.ObjectFault.TheVariants.{NoMemory as OutOfMemory};
+ghost use Rattle.path_tree.specs.declared.tree.TheConstants.{MOST_CONTENT};
 
 use crate::reading::{DIRECTORY, FILE, GATEWAY, HEAD};
 use ior_tap::{Key, Location, put_reference};
@@ -12,6 +13,21 @@ use oc_bytes::{NoMemory, Writer};
 use path_tree::Name;
 use std::alloc::{AllocError, Global};
 use thiserror::Error;
+
+/// The most bytes of a folder's message. This project's own limit.
+pub const MOST_FOLDER_SIZE: u32 = 1_048_576;
+
+/// The bytes of a file's message before its content.
+pub const FILE_FRONT: u32 = 44;
+
+/// The bytes of a folder's message before its bindings.
+pub const FOLDER_FRONT: u32 = 34;
+
+/// The bytes of a file's binding beside the name.
+pub const FILE_BINDING: u32 = 82;
+
+/// The bytes of a folder's binding beside the name.
+pub const FOLDER_BINDING: u32 = 74;
 
 /// Which folder is written: a directory below the root, or the root, which is the service gateway.
 #[derive(Clone, Copy, Debug, PartialEq, Eq)]
@@ -54,7 +70,7 @@ pub struct Written {
 /// Why a folder wasn't written.
 #[derive(Clone, Copy, Debug, PartialEq, Eq, Error)]
 pub enum ObjectFault {
-    /// The message would have more than 1,048,576 bytes, which is this project's own limit.
+    /// The message would have more than [`MOST_FOLDER_SIZE`] bytes.
     #[error("the message has more than 1,048,576 bytes")]
     TooLarge,
     /// There is no memory.
@@ -70,24 +86,24 @@ impl From<AllocError> for ObjectFault {
     }
 }
 
-/// The one spelling of a file as a BIOP message, 44 bytes and the content.
+/// The one spelling of a file as a BIOP message, [`FILE_FRONT`] bytes and the content.
 ///
-/// The key has 4 bytes, and the content at most 16,777,216. The objectInfo is the content's size in 8 bytes, no service
+/// The key has 4 bytes, and the content at most [`path_tree::MOST_CONTENT`]. The objectInfo is the content's size in 8 bytes, no service
 /// context is written, and the sizes are exact (ISO/IEC 13818-6, clause 11.3.2.2; ETSI TR 101 202, clause 4.7.4.2).
 pub fn encode_file(alloc: Global, key: &Key, content: &[u8]) -> Result<Vec<u8>, NoMemory>
     requires key { length key.now ≡ 4 }
-    requires size { length content.now ≤ 16777216 }
+    requires size { length content.now ≤ MOST_CONTENT }
     ensures spells { IfOk result (λ bytes. bytes.items ≡ file_spelling key.now content.now) }
-    ensures size { IfOk result (λ bytes. length bytes.items ≡ 44 + length content.now) }
+    ensures size { IfOk result (λ bytes. length bytes.items ≡ FILE_FRONT + length content.now) }
     ensures reads { IfOk result (λ bytes. (at : ℕ) → ReadsObject at bytes.items
-        (record { key = key.now; shape = IsFile (at + 44) (length content.now) })) }
+        (record { key = key.now; shape = IsFile (at + FILE_FRONT) (length content.now) })) }
 {
     file_bytes(alloc, key.bytes(), content)
 }
 
 fn file_bytes(alloc: Global, key: &[u8], content: &[u8]) -> Result<Vec<u8>, NoMemory>
     requires key { length key.now ≡ 4 }
-    requires size { length content.now ≤ 16777216 }
+    requires size { length content.now ≤ MOST_CONTENT }
     ensures { IfOk result (λ bytes. bytes.items ≡ file_spelling key.now content.now) }
 {
     let length = content.len() as u32;
@@ -99,12 +115,12 @@ fn file_bytes(alloc: Global, key: &[u8], content: &[u8]) -> Result<Vec<u8>, NoMe
     Ok(out.done())
 }
 
-/// The one spelling of a folder as a BIOP message: 34 bytes, and for each binding the bytes of its name and 82 more for
-/// a file, 74 more for a directory.
+/// The one spelling of a folder as a BIOP message: [`FOLDER_FRONT`] bytes, and for each binding the bytes of its name and
+/// [`FILE_BINDING`] more for a file, [`FOLDER_BINDING`] more for a directory.
 ///
 /// The key has 4 bytes, each name 1 to 254, and the key of each location 4. The bindings stand in the order of the
 /// entries; the objectInfo is empty, no service context is written, and the sizes are exact. `TooLarge` comes exactly
-/// where the message would have more than 1,048,576 bytes, and memory is asked for only where it hasn't.
+/// where the message would have more than [`MOST_FOLDER_SIZE`] bytes, and memory is asked for only where it hasn't.
 /// (ISO/IEC 13818-6, clause 11.3.2.2; ETSI TR 101 202, clauses 4.7.4.1 and 4.7.4.3.)
 pub fn encode_folder(
     alloc: Global,
@@ -114,13 +130,13 @@ pub fn encode_folder(
 ) -> Result<Vec<u8>, ObjectFault>
     requires key { length key.now ≡ 4 }
     requires entries { All IsEntry entries.now }
-    ensures spells { IfOk result (λ bytes. (bytes.items ≡ folder_spelling kind key.now entries.now) × (length bytes.items ≤ 1048576)) }
+    ensures spells { IfOk result (λ bytes. (bytes.items ≡ folder_spelling kind key.now entries.now) × (length bytes.items ≤ MOST_FOLDER_SIZE)) }
     ensures size { IfOk result (λ bytes. length bytes.items ≡ folder_size entries.now) }
     ensures reads { IfOk result (λ bytes. (at : ℕ) → ReadsObject at bytes.items
         (record { key = key.now; shape = IsFolder (map binding_of entries.now) })) }
-    ensures too_large { IsErrOf result ObjectFault.TooLarge → 1048576 < length (folder_spelling kind key.now entries.now) }
-    ensures large { 1048576 < length (folder_spelling kind key.now entries.now) → IsErrOf result ObjectFault.TooLarge }
-    ensures no_memory { IsErrOf result ObjectFault.NoMemory → length (folder_spelling kind key.now entries.now) ≤ 1048576 }
+    ensures too_large { IsErrOf result ObjectFault.TooLarge → MOST_FOLDER_SIZE < length (folder_spelling kind key.now entries.now) }
+    ensures large { MOST_FOLDER_SIZE < length (folder_spelling kind key.now entries.now) → IsErrOf result ObjectFault.TooLarge }
+    ensures no_memory { IsErrOf result ObjectFault.NoMemory → length (folder_spelling kind key.now entries.now) ≤ MOST_FOLDER_SIZE }
 {
     let Some(size) = size_of(entries) else {
         return Err(ObjectFault::TooLarge);
@@ -139,7 +155,7 @@ fn folder_bytes(
     requires key { length key.now ≡ 4 }
     requires entries { All IsEntry entries.now }
     requires size { size ≡ folder_size entries.now }
-    requires small { size ≤ 1048576 }
+    requires small { size ≤ MOST_FOLDER_SIZE }
     ensures spells { IfOk result (λ bytes. bytes.items ≡ folder_spelling kind key.now entries.now) }
     ensures room { OnOk result (All (λ w. IsLocation w.location) entries.now) }
 {
@@ -150,15 +166,15 @@ fn folder_bytes(
     Ok(out.done())
 }
 
-/// The number of bytes of a folder, if it is at most 1,048,576.
+/// The number of bytes of a folder, if it is at most [`MOST_FOLDER_SIZE`].
 fn size_of(entries: &[Written]) -> Option<u32>
     requires { All IsEntry entries.now }
-    ensures { MatchOption result (1048576 < folder_size entries.now) (λ size. (size ≡ folder_size entries.now) × (size ≤ 1048576)) }
+    ensures { MatchOption result (MOST_FOLDER_SIZE < folder_size entries.now) (λ size. (size ≡ folder_size entries.now) × (size ≤ MOST_FOLDER_SIZE)) }
 {
-    let mut size = 34u32;
+    let mut size = FOLDER_FRONT;
     for entry in entries {
         size += size_of_binding(entry);
-        if size > 1_048_576 {
+        if size > MOST_FOLDER_SIZE {
             return None;
         }
     }
@@ -172,8 +188,8 @@ fn size_of_binding(entry: &Written) -> u32
 {
     let name = entry.name.bytes().len() as u32;
     match entry.bound {
-        Bound::File(_) => name + 82,
-        Bound::Folder => name + 74,
+        Bound::File(_) => name + FILE_BINDING,
+        Bound::Folder => name + FOLDER_BINDING,
     }
 }
 
@@ -188,7 +204,7 @@ fn put_front(
     requires key { length key.now ≡ 4 }
     requires kind { length kind.now ≡ 4 }
     requires info { length info.now ≤ 8 }
-    requires body { body_length ≤ 16777220 }
+    requires body { body_length ≤ 4 + MOST_CONTENT }
     ensures { OnOk result (out.new ≡ out.old ++ biop_prefix key.now kind.now info.now body_length) }
 {
     out.put_u64(HEAD)?;

@@ -2,6 +2,8 @@
 use Rattle.std.specs.Prelude.{◌≡◌, ℕ, ◌<◌, ◌≤◌, Bool, true, false, not, ◌&&◌, List, [], ◌∷◌, ◌++◌, length, replicate, Option, Some, None, is_some, nat_lt, ◌==◌, slice_set, slice_index_or, if◌then◌else◌}
 use Rattle.std.specs.List.{after_last, filter_map}
 use Rattle.ddb_block.specs.Blocks.{block_count_of, block_span_of}
+use Rattle.ddb_block.specs.declared.TheConstants.{MOST_BLOCK_SIZE, MOST_BLOCKS}
+use Rattle.block_assembler.specs.declared.TheConstants.{MOST_MODULE_SIZE}
 use Rattle.block_assembler.specs.declared.Offer.{Offer}
 use Rattle.block_assembler.specs.declared.Offer.TheVariants.{WrongPlace, WrongLength, Again, New}
 
@@ -12,9 +14,9 @@ Bytes = List ℕ
 -- have 16 bits; the greatest size is this project's own rule.
 pub record IsAssembled (size block_size : ℕ) : Type 0 where
   pub some_block_size : 0 < block_size
-  pub small_block_size : block_size ≤ 4066
-  pub small : size ≤ 16842752
-  pub few : block_count_of size block_size ≤ 65536
+  pub small_block_size : block_size ≤ MOST_BLOCK_SIZE
+  pub small : size ≤ MOST_MODULE_SIZE
+  pub few : block_count_of size block_size ≤ MOST_BLOCKS
 
 -- a module's size and block size, and what is there, block by block
 pub record AssemblerState : Type 0 where

@@ -6,19 +6,10 @@ ghost use Rattle.block_assembler.specs.Blocks.{StandsFor, Call, Offered, Forgott
 ghost use Rattle.block_assembler.specs.declared.NewFault.TheVariants.{NoMemory as OutOfMemory};
 
 use crate::put::put;
-use crate::{NewFault, Offer};
-use ddb_block::{block_count, block_span};
+use crate::{MOST_MODULE_SIZE, NewFault, Offer};
+use ddb_block::{MOST_BLOCK_SIZE, MOST_BLOCKS, block_count, block_span};
 use std::alloc::{AllocError, Global};
 use std::marker::Model;
-
-/// The greatest block size, in bytes.
-const MOST_BLOCK_SIZE: u16 = 4066;
-
-/// The greatest size of a module, in bytes.
-const MOST_SIZE: u32 = 16_842_752;
-
-/// The greatest number of blocks of a module.
-const MOST_BLOCKS: u32 = 65_536;
 
 impl From<AllocError> for NewFault {
     ghost from_gives = { λ _ e. e ≡ OutOfMemory };
@@ -53,24 +44,24 @@ impl Model for Assembler {
 }
 
 impl Assembler {
-    /// An assembler of a module of `size` bytes, 0 to 16,842,752, in blocks of `block_size` bytes, 1 to 4,066. Every
-    /// block is missing; a module of size 0 has no block, and is whole at once.
+    /// An assembler of a module of `size` bytes, 0 to [`MOST_MODULE_SIZE`], in blocks of `block_size` bytes, 1 to
+    /// [`MOST_BLOCK_SIZE`]. Every block is missing; a module of size 0 has no block, and is whole at once.
     ///
-    /// `NoBlockSize` comes for any other block size, `TooLarge` for any other size, or where there are more than 65,536
-    /// blocks. Memory is asked for only where neither is the case.
+    /// `NoBlockSize` comes for any other block size, `TooLarge` for any other size, or where there are more than
+    /// [`MOST_BLOCKS`] blocks. Memory is asked for only where neither is the case.
     pub fn new(alloc: Global, size: u32, block_size: u16) -> Result<Assembler, NewFault>
         ensures made { IfOk result (λ a. a ≡ empty_of size block_size) }
         ensures stands { IfOk result (λ a. StandsFor a size block_size []) }
         ensures fits { IfOk result (λ _. IsAssembled size block_size) }
-        ensures no_block_size { IsErrOf result NewFault.NoBlockSize → (block_size ≡ 0) ⊎ (4066 < block_size) }
-        ensures too_large { IsErrOf result NewFault.TooLarge → (0 < block_size) × (block_size ≤ 4066) × ((16842752 < size) ⊎ (65536 < block_count_of size block_size)) }
+        ensures no_block_size { IsErrOf result NewFault.NoBlockSize → (block_size ≡ 0) ⊎ (MOST_BLOCK_SIZE < block_size) }
+        ensures too_large { IsErrOf result NewFault.TooLarge → (0 < block_size) × (block_size ≤ MOST_BLOCK_SIZE) × ((MOST_MODULE_SIZE < size) ⊎ (MOST_BLOCKS < block_count_of size block_size)) }
         ensures no_memory { IsErrOf result NewFault.NoMemory → IsAssembled size block_size }
     {
         if block_size == 0 || block_size > MOST_BLOCK_SIZE {
             return Err(NewFault::NoBlockSize);
         }
         let blocks = block_count(size, block_size);
-        if size > MOST_SIZE || blocks > MOST_BLOCKS {
+        if size > MOST_MODULE_SIZE || blocks > MOST_BLOCKS {
             return Err(NewFault::TooLarge);
         }
         let bytes = vec![in alloc; 0; size as usize]?;

@@ -12,7 +12,7 @@ use Rattle.psi_tables.specs.Finding.{found_in}
 use Rattle.shell_streams.specs.Cuts.{Bytes}
 use Rattle.shell_streams.specs.Packets.{packets_of}
 use Rattle.shell_streams.specs.declared.carrier.Carrier.TheVariants as carriers
-use Rattle.shell_streams.proofs.Packeting.{packets_behind}
+use Rattle.shell_streams.proofs.CallerLemmas.{packets_behind}
 use Rattle.carousel_shell.specs.Over.{Over}
 use Rattle.carousel_shell.specs.Replies.{Replies}
 use Rattle.carousel_shell.specs.Open.{asks_paths, answers_to}

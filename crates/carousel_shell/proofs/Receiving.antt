@@ -22,7 +22,7 @@ use Rattle.shell_streams.specs.Cuts.{Bytes, back_to_back}
 use Rattle.shell_streams.specs.Packets.{AreSized, packets_of, candidates_of}
 use Rattle.shell_streams.specs.declared.carrier.Carrier.{Carrier}
 use Rattle.shell_streams.specs.declared.carrier.Carrier.TheVariants as carriers
-use Rattle.shell_streams.proofs.Packeting.{packets_before}
+use Rattle.shell_streams.proofs.CallerLemmas.{packets_before}
 use Rattle.psi_tables.specs.Laws.{IsNowhereElse, IsFoundOnceItCame, EachIsFollowed}
 use Rattle.carousel_shell.specs.Find.{UsuallyFound}
 use Rattle.carousel_shell.specs.Reception.{Reception, SentOpens, CyclesOpen, Receptions, node_answer, answer_in}

@@ -22,12 +22,6 @@ use Rattle.shell_words.specs.Texts.{is_found}
 use Rattle.carousel_shell.specs.Listing.{first_only, names_in, folder_in, walk, list_line, lines_in, are_found, paths_below, paths_by, Lists, list_text, more_unless, all_listed}
 use Rattle.shell_streams.proofs.CallerLemmas.{puts_as, puts_then, puts_stop}
 
-pub same_as : (m n : Bytes) → same_name m n ≡ pointwise eqb m n
-same_as [] [] = refl
-same_as [] (b ∷ n) = refl
-same_as (a ∷ m) [] = refl
-same_as (a ∷ m) (b ∷ n) = ap (λ (rest : Bool). eqb a b && rest) (same_as m n)
-
 -- ---- lines of lists one after another
 
 le_or_above : (m n : ℕ) → (b : Bool) → nat_le m n ≡ b → (m ≤ n → b ≡ true) × (n < m → b ≡ false)

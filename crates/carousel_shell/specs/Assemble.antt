@@ -11,10 +11,11 @@ use Rattle.carousel_shell.specs.Input.{Asked, blocks_among}
 use Rattle.carousel_shell.specs.Open.{Hears, GoesOn}
 use Rattle.carousel_shell.specs.declared.status.Status.{Status}
 use Rattle.carousel_shell.specs.declared.status.Status.TheVariants as status
+use Rattle.carousel_shell.specs.declared.assemble.TheConstants.{MOST_ASSEMBLED}
 
--- at most 65,536 sections, back to back
+-- sections back to back, at most so many
 abbrev pub module_carrier : Carrier
-module_carrier = carriers.Sections 65536
+module_carrier = carriers.Sections MOST_ASSEMBLED
 
 -- the module was written: each block of it is there
 pub record Assembled (m : Asked) (source sink : Over Bytes) : Type 0 where

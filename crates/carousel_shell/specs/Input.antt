@@ -10,6 +10,7 @@ use Rattle.dsmcc_section.specs.declared.Table.{Table}
 use Rattle.dsmcc_section.specs.declared.Table.TheVariants.{Control, Blocks}
 use Rattle.dsmcc_section.specs.declared.Skip.{Skip}
 use Rattle.shell_streams.specs.Cuts.{Bytes}
+use Rattle.dsi_dii.specs.declared.TheConstants.{BLOCK_SIZE}
 
 -- the module that a command asks for: its id, version and size, and the download that carries it
 pub record Asked : Type 0 where
@@ -33,12 +34,12 @@ block_in_section (Err skip) = None
 abbrev pub block_heard : Bytes → Option ddb.Block
 block_heard candidate = block_in_section (sections.read candidate)
 
--- the asked module's line, and a DII that lists it, with blocks of 4,066 bytes
+-- the asked module's line, and a DII that lists it
 abbrev pub asked_line : Asked → ModuleLine
 asked_line m = record { id = m.id; size = m.size; version = m.version; compressed = false }
 
 abbrev pub asked_dii : Asked → DiiFields
-asked_dii m = record { download = m.download; block_size = 4066; transaction = 0; modules = asked_line m ∷ [] }
+asked_dii m = record { download = m.download; block_size = BLOCK_SIZE; transaction = 0; modules = asked_line m ∷ [] }
 
 -- the blocks of the module by rising number, where they are there: of each the first of these sections that fits
 abbrev pub blocks_among : Asked → List Bytes → List (Option Bytes)

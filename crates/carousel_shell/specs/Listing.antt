@@ -7,6 +7,8 @@ use Rattle.path_resolver.specs.declared.answer.Answer.{Answer}
 use Rattle.path_resolver.specs.declared.answer.Answer.TheVariants as answers
 use Rattle.shell_streams.specs.Cuts.{Bytes}
 use Rattle.shell_words.specs.Texts.{line, is_found, answered_line}
+use Rattle.path_tree.specs.declared.text.TheConstants.{MOST_NAMES}
+use Rattle.carousel_shell.specs.declared.listing.TheConstants.{MOST_LINES}
 
 -- ---- the paths
 
@@ -31,7 +33,7 @@ walk answer (suc room) p = p ∷ flat_map (λ n. walk answer room (p ++ n ∷ []
 
 -- all paths from the root on
 abbrev pub all_paths : (PathNames → Answer) → List PathNames
-all_paths answer = walk answer 16 []
+all_paths answer = walk answer MOST_NAMES []
 
 -- ---- the text
 
@@ -48,14 +50,14 @@ more_unless whole = if whole then [] else line (codes "more")
 
 -- what `list` writes
 abbrev pub list_text : (PathNames → Answer) → Bytes
-list_text answer = lines_in answer 65536 (all_paths answer) ++ more_unless (nat_le (length (all_paths answer)) 65536)
+list_text answer = lines_in answer MOST_LINES (all_paths answer) ++ more_unless (nat_le (length (all_paths answer)) MOST_LINES)
 
 abbrev pub are_found : (PathNames → Answer) → List PathNames → Bool
 are_found answer paths = list_all (λ p. is_found (answer p)) paths
 
 -- every path's line was written, and each answer is a file or a folder
 abbrev pub all_listed : (PathNames → Answer) → Bool
-all_listed answer = nat_le (length (all_paths answer)) 65536 && are_found answer (all_paths answer)
+all_listed answer = nat_le (length (all_paths answer)) MOST_LINES && are_found answer (all_paths answer)
 
 -- ---- a part of the walk
 

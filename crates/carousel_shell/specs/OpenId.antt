@@ -17,6 +17,7 @@ use Rattle.carousel_shell.specs.Replies.{Replies}
 use Rattle.carousel_shell.specs.Open.{asks_paths, answers_to}
 use Rattle.carousel_shell.specs.Reception.{Reception}
 use Rattle.carousel_shell.specs.declared.status.Status.{Status}
+use Rattle.shell_streams.specs.declared.packets.TheConstants.{MOST_PACKETS}
 
 -- ---- the packet at which the carousel is found
 
@@ -48,7 +49,7 @@ abbrev pub sections_among : ℕ → List Bytes → List Bytes
 sections_among carousel packets = sections_after packets (first_found carousel packets)
 
 abbrev pub sections_by_id : ℕ → Reading
-sections_by_id carousel = record { standing_in = λ input. sections_among carousel (packets_of input); goes_on = is_over_packets 16777216 }
+sections_by_id carousel = record { standing_in = λ input. sections_among carousel (packets_of input); goes_on = is_over_packets MOST_PACKETS }
 
 -- ---- the same in other words
 

@@ -16,6 +16,7 @@ use Rattle.carousel_shell.specs.PublishPsi.{PublishesPsi}
 use Rattle.carousel_shell.specs.Rehearse.{Rehearses}
 use Rattle.carousel_shell.specs.declared.status.Status.{Status}
 use Rattle.carousel_shell.specs.declared.status.Status.TheVariants as status
+use Rattle.carousel_shell.specs.declared.plain.TheConstants.{MOST_OPENED}
 
 -- the words don't fit, or name a command that needs threads: nothing is read or written
 pub record Declines (s : Status) (source sink : Over Bytes) : Type 0 where
@@ -30,7 +31,7 @@ pub record WithoutInput (source : Over Bytes) (Promised : Type 0) : Type 0 where
 
 abbrev pub Promises : List ℕ → commands.Named → Status → Over Bytes → Over Bytes → Over FolderTree → Type 0
 Promises weights (commands.Assemble id version size download) s source sink folders = Assembles (asked_module id version size download) s source sink
-Promises weights (commands.OpenSections paths) s source sink folders = Answers (carriers.Sections 16777216) (asks_paths paths) s source sink
+Promises weights (commands.OpenSections paths) s source sink folders = Answers (carriers.Sections MOST_OPENED) (asks_paths paths) s source sink
 Promises weights (commands.Open pid paths) s source sink folders = Answers (carriers.Packets pid) (asks_paths paths) s source sink
 Promises weights (commands.Record pid) s source sink folders = Records pid s source sink
 Promises weights (commands.ListAll pid) s source sink folders = Answers (carriers.Packets pid) asks_all s source sink

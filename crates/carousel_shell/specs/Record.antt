@@ -9,6 +9,7 @@ use Rattle.carousel_shell.specs.Open.{Hears, GoesOn}
 use Rattle.carousel_shell.specs.Accepted.{accepted_bytes}
 use Rattle.carousel_shell.specs.declared.status.Status.{Status}
 use Rattle.carousel_shell.specs.declared.status.Status.TheVariants as status
+use Rattle.shell_streams.specs.declared.output.TheConstants.{MOST_PENDING}
 
 -- all sections of the input were cut out, and those that read were written
 pub record Recorded (pid : ℕ) (source sink : Over Bytes) : Type 0 where
@@ -29,11 +30,11 @@ pub record Recording (pid : ℕ) (source sink : Over Bytes) : Type 0 where
   pub first : Known source.before source.after (AreFirst pid sections)
   pub writes : WritesPrefix sink (accepted_bytes sections)
 
--- the same, and all but at most 65,536 bytes of those that read was written: no write failed
+-- the same, and all but at most so many bytes of those that read was written: no write failed
 pub record RecordedBut (pid : ℕ) (source sink : Over Bytes) : Type 0 where
   pub sections : List Bytes
   pub first : Known source.before source.after (AreFirst pid sections)
-  pub writes : WritesBut sink (accepted_bytes sections) 65536
+  pub writes : WritesBut sink (accepted_bytes sections) MOST_PENDING
 
 abbrev pub EndsRecord : ℕ → Over Bytes → Over Bytes → Status → Type 0
 EndsRecord pid source sink status.Done = Recorded pid source sink

@@ -14,12 +14,13 @@ use Rattle.shell_streams.specs.Held.{AllTaken, is_longer}
 use Rattle.carousel_shell.specs.Over.{Over, Failed, IsUntouched, TakesPrefix, WritesAll, WritesPrefix}
 use Rattle.carousel_shell.specs.declared.status.Status.{Status}
 use Rattle.carousel_shell.specs.declared.status.Status.TheVariants as status
+use Rattle.carousel_shell.specs.declared.rehearse.TheConstants.{MOST_SCRIPT_BYTES}
 
 -- ---- what was read
 
--- the whole input, of at most 16,777,216 bytes
+-- the whole input, within its limit
 abbrev pub ReadsAll : Over Bytes → Bytes → Type 0
-ReadsAll source text = Known source.before source.after (AllTaken (λ input. input) (is_longer 16777216) text)
+ReadsAll source text = Known source.before source.after (AllTaken (λ input. input) (is_longer MOST_SCRIPT_BYTES) text)
 
 -- it is this script
 pub record ReadsScript (source : Over Bytes) (script : Fields) : Type 0 where
@@ -35,7 +36,7 @@ pub record ReadsBadLine (source : Over Bytes) (number : ℕ) (cause : LineCause)
 
 -- at least a byte more than the most is there
 abbrev pub GoesOn : Over Bytes → Type 0
-GoesOn source = (input : Bytes) → source.before ≡ Some input → is_longer 16777216 input ≡ true
+GoesOn source = (input : Bytes) → source.before ≡ Some input → is_longer MOST_SCRIPT_BYTES input ≡ true
 
 -- ---- how it ends
 

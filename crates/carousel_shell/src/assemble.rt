@@ -7,20 +7,19 @@ ghost use Rattle.carousel_shell.specs.Input.{block_heard};
 ghost use Rattle.carousel_shell.specs.Gathering.{asked_of, HasBlocks};
 ghost use Rattle.shell_streams.specs.Sending.{Puts, IsInTime};
 ghost use Rattle.carousel_shell.specs.Assemble.{Assembles, IsModule};
+ghost use Rattle.block_assembler.specs.declared.TheConstants.{MOST_MODULE_SIZE};
 
 use crate::status::Status;
 use block_assembler::{Assembler, NewFault};
 use ddb_block::{Parts, parts_of};
+use dsi_dii::BLOCK_SIZE;
 use dsmcc_section::{Table, payload_of};
 use oc_bytes::{NoMemory, Source};
 use shell_streams::{Carrier, Listener, Output, OutputFault, hear_all};
 use std::alloc::Global;
 
-/// The size of a module's blocks, in bytes; the last block may be shorter.
-const BLOCK_SIZE: u16 = 4_066;
-
-/// The most sections that are taken.
-const MOST_SECTIONS: u32 = 65_536;
+/// The most sections that are taken. This project's own limit.
+pub const MOST_ASSEMBLED: u32 = 65_536;
 
 /// The module that is asked for.
 #[derive(Clone, Copy)]
@@ -56,7 +55,7 @@ pub fn assemble<S: Source, O: Output>(
     source: &mut S,
     out: &mut O,
 ) -> Status
-    requires size { wanted.size ≤ 16842752 }
+    requires size { wanted.size ≤ MOST_MODULE_SIZE }
     requires pending { (O.state out.old).pending ≡ [] }
     ensures assembles { Assembles (asked_of wanted) result (over S.left S.faults source.old source.new) (sink_over (O.state out.old) (O.state out.new)) }
     ensures same { (O.state out.new).name ≡ (O.state out.old).name }
@@ -70,7 +69,7 @@ pub fn assemble<S: Source, O: Output>(
     let mut gatherer = Gatherer { wanted, assembler };
     match hear_all(
         alloc,
-        Carrier::Sections(MOST_SECTIONS),
+        Carrier::Sections(MOST_ASSEMBLED),
         source,
         &mut gatherer,
     ) {

@@ -37,7 +37,7 @@ impl PacketListener for Seeking {
 /// `not-named` where no map table in force names it, on a line.
 ///
 /// The whole input is read first; a last piece of fewer than 188 bytes is passed over. `ReadFault` comes where the source fails, and
-/// `InputTooLong` exactly where 16,777,216 packets were taken and at least a byte more is read; nothing is written then. `NotAll`
+/// `InputTooLong` exactly where [`shell_streams::MOST_PACKETS`] packets were taken and at least a byte more is read; nothing is written then. `NotAll`
 /// comes exactly where no PID is written. After `WriteFault`, where the sink fails, and after `NoMemory` a prefix of the line was
 /// written. No other status but `Done` comes. The texts are this project's own.
 ///

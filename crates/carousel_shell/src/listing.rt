@@ -9,19 +9,16 @@ ghost use Rattle.carousel_shell.specs.Listing.{Lists, folder_in, walk, paths_bel
 
 use crate::answers::{is_found, put_line};
 use path_resolver::{Answer, FolderRef, Shot, resolve};
-use path_tree::Path;
+use path_tree::{MOST_NAMES, Path};
 use shell_streams::{Output, OutputFault};
 use std::alloc::Global;
 
 /// The most lines of paths that are written.
-const MOST_LINES: usize = 65_536;
+pub const MOST_LINES: usize = 65_536;
 
-/// The most names of a path.
-const MOST_NAMES: usize = 16;
-
-/// Writes the line of each path from the root on that the folders of a shot lead to, of at most 16 names: a path, and
+/// Writes the line of each path from the root on that the folders of a shot lead to, of at most [`MOST_NAMES`] names: a path, and
 /// then those below it in the order of its folder's bindings, each name at its first binding only. A name that is no
-/// name of a `Path` is passed over. After 65,536 lines it writes `more` where another would follow.
+/// name of a `Path` is passed over. After [`MOST_LINES`] lines it writes `more` where another would follow.
 ///
 /// It says whether each answer is a file or a folder, and no `more` is written. This is the project's own rule.
 pub fn write_list<O: Output>(alloc: Global, shot: &Shot, out: &mut O) -> Result<bool, OutputFault>
@@ -45,7 +42,7 @@ pub fn write_list<O: Output>(alloc: Global, shot: &Shot, out: &mut O) -> Result<
 /// How far a listing has come.
 #[derive(Clone, Copy)]
 struct Progress {
-    /// How many lines may still be written, 0 to 65,536.
+    /// How many lines may still be written, 0 to [`MOST_LINES`].
     left: usize,
     /// Whether each answer so far is a file or a folder.
     all: bool,
@@ -61,9 +58,9 @@ impl Progress {
         path: &Path,
         out: &mut O,
     ) -> Result<bool, OutputFault>
-        ensures listed { IfOk result (λ whole. Lists (answer_of (held_of shot.now)) (walk (answer_of (held_of shot.now)) (16 - length path.now) path.now)
+        ensures listed { IfOk result (λ whole. Lists (answer_of (held_of shot.now)) (walk (answer_of (held_of shot.now)) (MOST_NAMES - length path.now) path.now)
             self.old.left self.old.all self.new.left self.new.all whole) }
-        ensures puts { Puts result (O.state out.old) (O.state out.new) (lines_in (answer_of (held_of shot.now)) self.old.left (walk (answer_of (held_of shot.now)) (16 - length path.now) path.now)) }
+        ensures puts { Puts result (O.state out.old) (O.state out.new) (lines_in (answer_of (held_of shot.now)) self.old.left (walk (answer_of (held_of shot.now)) (MOST_NAMES - length path.now) path.now)) }
     {
         if self.left == 0 {
             return Ok(false);
@@ -88,7 +85,7 @@ impl Progress {
         folder: &FolderRef,
         out: &mut O,
     ) -> Result<bool, OutputFault>
-        requires { length path.now < 16 }
+        requires { length path.now < MOST_NAMES }
         ensures listed { IfOk result (λ whole. Lists (answer_of (held_of shot.now)) (paths_below (answer_of (held_of shot.now)) (15 - length path.now) path.now folder.now)
             self.old.left self.old.all self.new.left self.new.all whole) }
         ensures puts { Puts result (O.state out.old) (O.state out.new) (lines_in (answer_of (held_of shot.now)) self.old.left (paths_below (answer_of (held_of shot.now)) (15 - length path.now) path.now folder.now)) }
@@ -115,7 +112,7 @@ impl Progress {
         name: &[u8],
         out: &mut O,
     ) -> Result<bool, OutputFault>
-        requires { length path.now < 16 }
+        requires { length path.now < MOST_NAMES }
         ensures listed { IfOk result (λ whole. Lists (answer_of (held_of shot.now)) (paths_by (answer_of (held_of shot.now)) (15 - length path.now) path.now name.now)
             self.old.left self.old.all self.new.left self.new.all whole) }
         ensures puts { Puts result (O.state out.old) (O.state out.new) (lines_in (answer_of (held_of shot.now)) self.old.left (paths_by (answer_of (held_of shot.now)) (15 - length path.now) path.now name.now)) }

@@ -71,7 +71,7 @@ impl Seeker {
 /// `no-carousel`.
 ///
 /// The whole input is read first, once; a last piece of fewer than 188 bytes is passed over. `ReadFault` comes where the source fails,
-/// and `InputTooLong` exactly where 16,777,216 packets were taken and at least a byte more is read; nothing is written then. `NotAll`
+/// and `InputTooLong` exactly where [`shell_streams::MOST_PACKETS`] packets were taken and at least a byte more is read; nothing is written then. `NotAll`
 /// comes exactly where some answer is neither a file nor a folder. After `WriteFault`, where the sink fails, and after `NoMemory` a
 /// prefix of the answers was written. No other status but `Done` comes. These rules are this project's own.
 ///

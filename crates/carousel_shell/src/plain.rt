@@ -23,7 +23,7 @@ use shell_words::{Command, WordsFault, command};
 use std::alloc::Global;
 
 /// The most sections back to back that `open` takes.
-const MOST_SECTIONS: u32 = 16_777_216;
+pub const MOST_OPENED: u32 = 16_777_216;
 
 /// Runs the command that the words name: they are the command line without the program's name. The input comes from the
 /// source, the output goes to the sink, and the folders are those that `publish` and `publish-psi` read. `weigh` says how often each
@@ -32,17 +32,17 @@ const MOST_SECTIONS: u32 = 16_777_216;
 /// - `Words` comes before all else: where the words name no command with its values, or one that needs threads, which are
 ///   `session` and `big`. Nothing was read or written.
 /// - `assemble`, `open`, `list`, `find` and `open-id` read their whole input before they write. While they read come `ReadFault`,
-///   and `InputTooLong` where a byte is left after 65,536 sections (`assemble`), 16,777,216 sections (`open sections`) or
-///   16,777,216 packets; nothing was written then. After that `assemble` answers `Incomplete` where a block of the module is
+///   and `InputTooLong` where a byte is left after [`MOST_ASSEMBLED`](crate::MOST_ASSEMBLED) sections (`assemble`), [`MOST_OPENED`] sections
+///   (`open sections`) or [`shell_streams::MOST_PACKETS`] packets; nothing was written then. After that `assemble` answers `Incomplete` where a block of the module is
 ///   missing, and writes nothing. While they write comes `WriteFault`, and a prefix of the output was written. At the end come
 ///   `Done` and, at `open`, `list`, `find` and `open-id`, `NotAll`: the whole output was written.
-/// - `record` writes as it reads. `ReadFault`, `InputTooLong` (after 16,777,216 packets) and `WriteFault` come as they are
+/// - `record` writes as it reads. `ReadFault`, `InputTooLong` (after [`shell_streams::MOST_PACKETS`] packets) and `WriteFault` come as they are
 ///   met, when a prefix of the sections in the input so far was written, and `Done` when all of them were.
 /// - `publish` and `publish-psi` read no input. While one reads the folder come `FolderFault` and the `TreeRefused` of a name or of depth,
 ///   whichever is met first, and then the `TreeRefused` of the commit; nothing was written. While it writes comes
 ///   `WriteFault`, and a prefix of the packets was written; `Done` comes when all of them were.
 /// - `rehearse` reads its whole input before it does anything else. While it reads come `ReadFault`, and `InputTooLong` where
-///   a byte is left after 16,777,216. Then comes `BadLine` where the input is no script; nothing was written up to there. While
+///   a byte is left after [`MOST_SCRIPT_BYTES`](crate::MOST_SCRIPT_BYTES). Then comes `BadLine` where the input is no script; nothing was written up to there. While
 ///   the script's events happen comes `WriteFault`, and a prefix of the report of those that happened was written; `Done`
 ///   comes when all did and the whole report was.
 /// - `NoMemory` comes where there is no memory, at any of these steps. A prefix of the output was written, maybe none of it.
@@ -106,7 +106,7 @@ fn run_command<S: Source, O: Output, F: Folders>(
             assemble(alloc, wanted, source, out)
         }
         Command::OpenSections(paths) => {
-            open(alloc, Carrier::Sections(MOST_SECTIONS), &paths, source, out)
+            open(alloc, Carrier::Sections(MOST_OPENED), &paths, source, out)
         }
         Command::Open(pid, paths) => open(alloc, Carrier::Packets(pid), &paths, source, out),
         Command::Record(pid) => record(alloc, pid, source, out),

@@ -5,6 +5,7 @@ ghost use Rattle.carousel_shell.specs.Over.{over, sink_over};
 ghost use Rattle.carousel_shell.specs.Accepted as sections;
 ghost use Rattle.carousel_shell.specs.Record.{Records};
 ghost use Rattle.carousel_shell.specs.Statuses.{end_status};
+ghost use Rattle.shell_streams.specs.declared.output.TheConstants.{MOST_PENDING};
 
 use crate::status::Status;
 use dsmcc_section::payload_of;
@@ -18,8 +19,8 @@ use std::alloc::Global;
 /// bytes (ISO/IEC 13818-1, 2.4.3.2); a last piece of fewer is passed over.
 ///
 /// `Done` comes where the source was read to its end and all of them were written. `ReadFault` comes where the source
-/// fails, and `InputTooLong` exactly where 16,777,216 packets were taken and at least a byte more is read: of the sections
-/// that were complete by then all but at most 65,536 bytes were written. After `WriteFault`, where the sink fails, and after
+/// fails, and `InputTooLong` exactly where [`shell_streams::MOST_PACKETS`] packets were taken and at least a byte more is read: of the sections
+/// that were complete by then all but at most [`shell_streams::MOST_PENDING`] bytes were written. After `WriteFault`, where the sink fails, and after
 /// `NoMemory` a prefix of them was written. No other status comes. These rules are this project's own.
 ///
 /// Nothing may be pending in the output when it is called.
@@ -59,7 +60,7 @@ fn record_all<S: Source, O: Output>(
 /// Puts those of the candidates that are sections after what is pending.
 fn put_accepted<O: Output>(candidates: &[Vec<u8>], out: &mut O) -> Result<(), OutputFault>
     ensures puts { Puts result (O.state out.old) (O.state out.new) (sections.accepted_bytes (map view_bytes candidates.now)) }
-    ensures few { OnOk result (length (O.state out.old).pending ≤ 65536 → length (O.state out.new).pending ≤ 65536) }
+    ensures few { OnOk result (length (O.state out.old).pending ≤ MOST_PENDING → length (O.state out.new).pending ≤ MOST_PENDING) }
 {
     for candidate in candidates {
         put_one(candidate, out)?;
@@ -70,7 +71,7 @@ fn put_accepted<O: Output>(candidates: &[Vec<u8>], out: &mut O) -> Result<(), Ou
 /// Puts a candidate after what is pending, where it is a section.
 fn put_one<O: Output>(candidate: &[u8], out: &mut O) -> Result<(), OutputFault>
     ensures puts { Puts result (O.state out.old) (O.state out.new) (sections.accepted_one candidate.now) }
-    ensures few { OnOk result (length (O.state out.old).pending ≤ 65536 → length (O.state out.new).pending ≤ 65536) }
+    ensures few { OnOk result (length (O.state out.old).pending ≤ MOST_PENDING → length (O.state out.new).pending ≤ MOST_PENDING) }
 {
     if is_accepted(candidate) {
         out.put(candidate)

@@ -11,12 +11,12 @@ use shell_streams::{Output, read_all};
 use std::alloc::Global;
 
 /// The most bytes of a script.
-const MOST_BYTES: usize = 16_777_216;
+pub const MOST_SCRIPT_BYTES: usize = 16_777_216;
 
 /// Reads a script, runs its events in written order in one world of carousel 1, in which each module is sent as often as it weighs,
 /// and writes a line for each commit, draw and open after it has happened. The language and the lines are this project's own.
 ///
-/// `ReadFault` comes where the source fails, and `InputTooLong` exactly where at least a byte more than 16,777,216 is read.
+/// `ReadFault` comes where the source fails, and `InputTooLong` exactly where at least a byte more than [`MOST_SCRIPT_BYTES`] is read.
 /// The whole input is read before anything else is done. `BadLine` comes exactly where it is no script; it names the
 /// first line that doesn't fit, and that line's first cause. In these three cases nothing is written. Then the events happen:
 /// `Done` comes where all did and the whole report was written, and after `WriteFault`, where the sink fails, and
@@ -34,7 +34,7 @@ pub fn rehearse<S: Source, O: Output>(
     ensures same { (O.state out.new).name ≡ (O.state out.old).name }
     ensures in_time { IsInTime (O.state out.old) (O.state out.new) }
 {
-    let text = match read_all(alloc, source, MOST_BYTES) {
+    let text = match read_all(alloc, source, MOST_SCRIPT_BYTES) {
         Ok(text) => text,
         Err(fault) => return Status::from(fault),
     };

@@ -16,7 +16,7 @@ use std::alloc::{AllocError, Global};
 pub enum Status {
     /// Nothing is left to do: all that the command writes was written, and its input was read to the end.
     Done,
-    /// `open`, `open-id`, `list`: some answer is neither a file nor a folder, or `list` met its limit of 65,536 lines. `find`: no
+    /// `open`, `open-id`, `list`: some answer is neither a file nor a folder, or `list` met its limit of [`MOST_LINES`](crate::MOST_LINES) lines. `find`: no
     /// PID is found.
     NotAll,
     /// The words don't name a command with its values.

@@ -11,8 +11,9 @@ use Rattle.cycle_planner.specs.declared.Item.{Item}
 use Rattle.cycle_planner.specs.declared.Item.TheVariants.{Dsi, Dii, Block}
 use Rattle.ddb_block.specs.Message.{message_at}
 use Rattle.ddb_block.specs.Blocks.{block_at}
-use Rattle.ior_tap.specs.IorReading.{each_at, tap_at, component_at, location_at, taps_at, components_at, profile_at, ior_at}
-use Rattle.dsi_dii.specs.ControlReading.{info_at, line_at, dii_at, dsi_at, head_at, sized_at, frame_at, private_at}
+use Rattle.ior_tap.specs.IorReading.{tap_at, component_at, location_at, taps_at, components_at, profile_at, ior_at}
+use Rattle.oc_bytes.specs.Cursor.{each_at, sized_at}
+use Rattle.dsi_dii.specs.ControlReading.{info_at, line_at, dii_at, dsi_at, head_at, frame_at, private_at}
 use Rattle.biop_object.specs.ObjectReading.{binding_at, context_at, file_at, folder_at, object_at, inside_at}
 use Rattle.generation.specs.Kept.{LayoutsAreLawful}
 use Rattle.generation.specs.Lawful.{ArePublishable, IsPublishable, layout_at, section_in}

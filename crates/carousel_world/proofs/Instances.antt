@@ -7,7 +7,7 @@ use Rattle.std.proofs.lemmas.List.Elements.{All-nil, All-cons}
 use Rattle.oc_bytes.specs.Numbers.{IsBytes}
 use Rattle.path_tree.specs.Paths.{Bytes, path_cmp, is_below, IsName, IsPath}
 use Rattle.path_tree.specs.Trees.{IsTree, File, node_at}
-use Rattle.generation.specs.Lawful.{HasBytes, IsPublishable}
+use Rattle.generation.specs.Lawful.{IsPublishable}
 use Rattle.generation.specs.Publication.{limit_of}
 use Rattle.carousel_world.specs.Instances.{tree_of, seven}
 
@@ -33,22 +33,17 @@ letter_name = record {
 not_root : (n : Bytes) → n ∷ [] ≡ [] → ⊥
 not_root n e = cc
 
-one_tree : (content : Bytes) → length content ≤ 16777216 → IsTree (tree_of content)
-one_tree content small = record {
+one_tree : (content : Bytes) → IsBytes content → length content ≤ 16777216 → IsTree (tree_of content)
+one_tree content bytes small = record {
   paths = only (λ e. IsPath e.0 × (e.0 ≢ [])) (letter ∷ [], content) (record { depth = omega arith; names = only IsName letter letter_name }, not_root letter);
   in_order = alone (λ e f. path_cmp e.0 f.0 ≡ Less) (letter ∷ [], content);
   apart = alone (λ e f. is_below e.0 f.0 ≡ false) (letter ∷ [], content);
+  contents = only (λ e. IsBytes e.1) (letter ∷ [], content) bytes;
   sizes = only (λ e. length e.1 ≤ 16777216) (letter ∷ [], content) small;
 }
 
-one_bytes : (content : Bytes) → IsBytes content → HasBytes (tree_of content)
-one_bytes content bytes = record {
-  names = only (λ e. All IsBytes e.0) (letter ∷ [], content) (only IsBytes letter (only (λ b. b < 256) 97 (omega arith)));
-  contents = only (λ e. IsBytes e.1) (letter ∷ [], content) bytes;
-}
-
 publishable : (content : Bytes) → IsBytes content → length content ≤ 16777216 → limit_of (tree_of content) ≡ None → IsPublishable (tree_of content)
-publishable content bytes small within = record { tree = one_tree content small; bytes = one_bytes content bytes; within = within }
+publishable content bytes small within = record { tree = one_tree content bytes small; within = within }
 
 three_bytes : (a b c : _) → a < 256 → b < 256 → c < 256 → IsBytes (a ∷ b ∷ c ∷ [])
 three_bytes a b c p q r = All-cons (λ b. b < 256) a (b ∷ c ∷ []) p (All-cons (λ b. b < 256) b (c ∷ []) q (only (λ b. b < 256) c r))

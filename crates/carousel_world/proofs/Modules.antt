@@ -11,9 +11,9 @@ use Rattle.ddb_block.specs.Blocks.{block_count_of}
 use Rattle.dsi_dii.specs.Controls.{identification_of, dii_transaction}
 use Rattle.dsi_dii.specs.declared.ModuleLine.{ModuleLine}
 use Rattle.generation.specs.Lawful.{Lawful, IsLayout, layout_at, version_in, dii_in}
-use Rattle.generation.specs.Publication.{most_modules}
 use Rattle.tuner_core.specs.Limits.{no_id_twice, is_small}
 use Rattle.tuner_core.specs.LookBack.{is_sound}
+use Rattle.dsi_dii.specs.declared.TheConstants.{MOST_MODULES}
 
 -- a generation whose layout keeps the limits
 pub record IsSent (carousel : ℕ) (ls : List Layout) (g : ℕ) : Type 0 where
@@ -39,8 +39,8 @@ is_sent carousel ls ts g lawful lt =
       generation = omega (arith, lawful.few);
       rising = maps.rising;
       ids = maps.ids;
-      some = (at_layout (λ l. (1 ≤ length l) × (length l ≤ most_modules)) ls g lawful.modules lt).0;
-      few = (at_layout (λ l. (1 ≤ length l) × (length l ≤ most_modules)) ls g lawful.modules lt).1;
+      some = (at_layout (λ l. (1 ≤ length l) × (length l ≤ MOST_MODULES)) ls g lawful.modules lt).0;
+      few = (at_layout (λ l. (1 ≤ length l) × (length l ≤ MOST_MODULES)) ls g lawful.modules lt).1;
       total = at_layout (λ l. sum_by (λ m. length m.1) l ≤ 268435456) ls g lawful.total lt;
       sizes = at_layout (λ l. All (λ m. length m.1 ≤ 16842752) l) ls g lawful.sizes lt;
     }

@@ -15,6 +15,7 @@ use Rattle.tuner_core.specs.Spans.{Span, spans, label_in, answer_after}
 use Rattle.carousel_world.specs.Broadcasts.{Broadcast, Sending, sendings, Ascription, NeverBack, IsAscribed}
 use Rattle.carousel_world.specs.Headline.{IsAnswer, IsNodeAnswer, is_dii, has_carousel, first_missing, block_there}
 use Rattle.carousel_world.specs.Premises.{IsHeardOf, IsWhole}
+use Rattle.dsi_dii.specs.declared.TheConstants.{BLOCK_SIZE}
 
 -- the number of the generation that a receiver takes what it holds for
 abbrev pub label_after : List Bytes → Option ℕ
@@ -38,7 +39,7 @@ pub record HoldsOne (b : Broadcast) (candidates : List Bytes) (generation : ℕ)
   pub dii_heard : Contains (map as_heard candidates) (ADii (dii_in b.carousel b.layouts generation))
   pub turned : newest_dii (spans (map as_heard candidates)) ≡ Some (dii_in b.carousel b.layouts generation)
   pub blocks : (m n : ℕ) (bytes block : Bytes) → module_in (layout_at b.layouts generation) m ≡ Some bytes → block_there candidates m n ≡ Some block
-      → block ≡ block_of bytes 4066 n
+      → block ≡ block_of bytes BLOCK_SIZE n
 
 -- The label is that generation's number. The answer is the path's lookup in its tree, or the first module on the walk in its layout
 -- that isn't whole.

@@ -12,10 +12,12 @@ use Rattle.carousel_world.specs.Events.{Step, Commit, Draw, Open}
 use Rattle.carousel_world.specs.World.{candidates_in, initial_world, replies_to}
 use Rattle.carousel_world.specs.Promises.{broadcast_of, IsUndamaged, world_after}
 use Rattle.carousel_world.specs.declared.event.Reply.TheVariants as replies
+use Rattle.cycle_planner.specs.declared.TheConstants.{MOST_DRAWN}
+use Rattle.cycle_planner.specs.declared.weigh.TheConstants.{GREATEST_ID}
 
 -- the weight 1 for every module
 abbrev pub ones : List ℕ
-ones = replicate 2224 1
+ones = replicate GREATEST_ID 1
 
 -- `/a`
 abbrev pub the_path : PathNames
@@ -29,8 +31,8 @@ puts content = edits.Put the_path content ∷ []
 -- two cycles one bit of the first's block is inverted; then all arrive.
 abbrev pub lossy_run : List Step
 lossy_run =
-    Commit 1 (puts (1 ∷ 2 ∷ 3 ∷ [])) ∷ Draw 1048576 (Flip 800 ∷ Keep ∷ Lose ∷ []) ∷ Open 1 the_path ∷ Commit 2 (puts (4 ∷ 5 ∷ 6 ∷ []))
-    ∷ Draw 1048576 (Keep ∷ Flip 800 ∷ Keep ∷ []) ∷ Open 1 the_path ∷ Draw 1048576 [] ∷ Open 2 the_path ∷ []
+    Commit 1 (puts (1 ∷ 2 ∷ 3 ∷ [])) ∷ Draw MOST_DRAWN (Flip 800 ∷ Keep ∷ Lose ∷ []) ∷ Open 1 the_path ∷ Commit 2 (puts (4 ∷ 5 ∷ 6 ∷ []))
+    ∷ Draw MOST_DRAWN (Keep ∷ Flip 800 ∷ Keep ∷ []) ∷ Open 1 the_path ∷ Draw MOST_DRAWN [] ∷ Open 2 the_path ∷ []
 
 pub record RunIsPremised : Type 0 where
   pub published : ArePublishable 1 (trees_of (world_after 1 ones lossy_run).catalogue)

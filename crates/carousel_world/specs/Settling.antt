@@ -12,11 +12,13 @@ use Rattle.carousel_world.specs.Promises.{broadcast_of, world_after, IsUndamaged
 use Rattle.carousel_world.specs.World.{candidates_in, reply_to}
 use Rattle.carousel_world.specs.declared.event.Reply.{Reply}
 use Rattle.carousel_world.specs.declared.event.Reply.TheVariants as replies
+use Rattle.cycle_planner.specs.declared.TheConstants.{MOST_DRAWN}
+use Rattle.generation_catalogue.specs.declared.journal.TheConstants.{MOST_DRAWS}
 
 -- A draw of the most items that one may ask for, of which all packets arrive. A cycle has fewer items, so it goes to the cycle's end,
 -- wherever in the cycle it begins.
 abbrev pub whole_draw : Step
-whole_draw = Draw 1048576 []
+whole_draw = Draw MOST_DRAWN []
 
 -- Two of them after these events: the first goes on with the cycle, and brings a receiver in step; the second is a whole cycle.
 abbrev pub with_settling : List Step → List Step
@@ -29,7 +31,7 @@ abbrev pub EverySettledRunIsWhole : Type 0
 EverySettledRunIsWhole =
     (carousel : ℕ) (weights : List ℕ) (events : List Step) → AreWeights weights
     → ArePublishable (world_after carousel weights events).catalogue.carousel (trees_of (world_after carousel weights events).catalogue)
-    → draws_of (world_after carousel weights events).catalogue + 2 ≤ 16777216
+    → draws_of (world_after carousel weights events).catalogue + 2 ≤ MOST_DRAWS
     → let w = world_after carousel weights (with_settling events) in
     IsWhole carousel (broadcast_of w).layouts (length (trees_of w.catalogue)) (candidates_in w)
 
@@ -43,7 +45,7 @@ abbrev pub EverySettledRunOpens : Type 0
 EverySettledRunOpens =
     (carousel : ℕ) (weights : List ℕ) (events : List Step) → AreWeights weights
     → ArePublishable (world_after carousel weights events).catalogue.carousel (trees_of (world_after carousel weights events).catalogue)
-    → draws_of (world_after carousel weights events).catalogue + 2 ≤ 16777216
+    → draws_of (world_after carousel weights events).catalogue + 2 ≤ MOST_DRAWS
     → let w = world_after carousel weights (with_settling events) in
     IsUndamaged w → (reader : ℕ) (p : PathNames) → Answers (reply_to w (Open reader p)) (node_at (tree_at (broadcast_of w).trees (length (trees_of w.catalogue))) p)
 

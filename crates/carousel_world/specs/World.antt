@@ -16,6 +16,8 @@ use Rattle.carousel_world.specs.Fates.{Arrival, under}
 use Rattle.carousel_world.specs.Events.{Step, Commit, Draw, Open}
 use Rattle.carousel_world.specs.declared.event.Reply.{Reply}
 use Rattle.carousel_world.specs.declared.event.Reply.TheVariants as replies
+use Rattle.cycle_planner.specs.declared.TheConstants.{MOST_DRAWN}
+use Rattle.generation_catalogue.specs.declared.journal.TheConstants.{MOST_DRAWS}
 
 -- one draw: the generation that it was of, its items, and the fates of its packets
 pub record Drawing : Type 0 where
@@ -70,7 +72,7 @@ commit_reply (Err refusal) = replies.Refused refusal
 abbrev pub reply_to : WorldState → Step → Reply
 reply_to w (Commit editor edits) = commit_reply (outcome_of w.catalogue edits)
 reply_to w (Draw asked fates) =
-    if nat_le 16777216 (draws_of w.catalogue) then replies.DrawsFull 16777216
+    if nat_le MOST_DRAWS (draws_of w.catalogue) then replies.DrawsFull MOST_DRAWS
     else replies.Drawn (current_of w.catalogue).number (cursor_of w.catalogue) (count_drawn w.catalogue asked)
 reply_to w (Open reader path) = replies.Opened (label_after (candidates_in w)) (answer_after (candidates_in w) path)
 
@@ -82,7 +84,7 @@ drawing_of c asked fates = record { generation = current_of c; items = items_dra
 abbrev pub happens : WorldState → Step → WorldState
 happens w (Commit editor edits) = record { catalogue = with_commit w.catalogue editor edits; drawings = w.drawings }
 happens w (Draw asked fates) =
-    if nat_le 16777216 (draws_of w.catalogue) then w
+    if nat_le MOST_DRAWS (draws_of w.catalogue) then w
     else record { catalogue = with_draw w.catalogue asked; drawings = w.drawings ++ drawing_of w.catalogue asked fates ∷ [] }
 happens w (Open reader path) = w
 
@@ -98,12 +100,12 @@ replies_to w (e ∷ es) = reply_to w e ∷ replies_to (happens w e) es
 
 abbrev pub InRange : Step → Type 0
 InRange (Commit editor edits) = (1 ≤ editor) × (editor ≤ 64)
-InRange (Draw asked fates) = (1 ≤ asked) × (asked ≤ 1048576)
+InRange (Draw asked fates) = (1 ≤ asked) × (asked ≤ MOST_DRAWN)
 InRange (Open reader path) = (1 ≤ reader) × (reader ≤ 64)
 
 -- ---- what asks for memory: a commit that makes an entry, a draw where there is room for one more, and each open
 
 abbrev pub AsksForMemory : WorldState → Step → Type 0
 AsksForMemory w (Commit editor edits) = is_entered (outcome_of w.catalogue edits) ≡ true
-AsksForMemory w (Draw asked fates) = draws_of w.catalogue < 16777216
+AsksForMemory w (Draw asked fates) = draws_of w.catalogue < MOST_DRAWS
 AsksForMemory w (Open reader path) = Unit {0}

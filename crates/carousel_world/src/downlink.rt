@@ -10,6 +10,7 @@ ghost use Rattle.tuner_core.specs.Stands as tuning;
 ghost use Rattle.tuner_core.specs.LookBack.{snapshot_after};
 ghost use Rattle.carousel_world.specs.Fates.{fate_of, received_under};
 ghost use Rattle.carousel_world.specs.DownView.{DownlinkStands, Hears, begun_with, ended_with, packets_given, past_given};
+ghost use Rattle.cycle_planner.specs.declared.TheConstants.{MOST_DRAWN};
 
 use oc_bytes::NoMemory;
 use path_resolver::Shot;
@@ -85,7 +86,7 @@ impl Downlink {
     /// none. Answers the number of the packet after them. `last` says that no further section of the draw follows: a draw is a group,
     /// and what is held back of it is sent then.
     ///
-    /// There are at most 1,048,576 sections, each as `Mux::packets` asks, and `from` is at most 2^40. Nothing is asked for a packet
+    /// There are at most [`cycle_planner::MOST_DRAWN`] sections, each as `Mux::packets` asks, and `from` is at most 2^40. Nothing is asked for a packet
     /// but what it completes. Out of memory is the only refusal; the downlink is spent then, and each later call answers it.
     pub fn carry(
         &mut self,
@@ -94,7 +95,7 @@ impl Downlink {
         from: u64,
         last: bool,
     ) -> Result<u64, NoMemory>
-        requires few { length sections.now ≤ 1048576 }
+        requires few { length sections.now ≤ MOST_DRAWN }
         requires sections { All (λ s. IsSectionLike s.items) sections.now }
         requires from { from ≤ 2 ^ 40 }
         ensures number { IfOk result (λ n. n ≡ from + length (packets_given self.old.mux (map view_bytes sections.now) last)) }
@@ -123,7 +124,7 @@ impl Downlink {
         from: u64,
         last: bool,
     ) -> Result<u64, NoMemory>
-        requires few { length sections.now ≤ 1048576 }
+        requires few { length sections.now ≤ MOST_DRAWN }
         requires sections { All (λ s. IsSectionLike s.items) sections.now }
         requires from { from ≤ 2 ^ 40 }
         ensures number { IfOk result (λ n. n ≡ from + length (packets_given self.old.mux (map view_bytes sections.now) last)) }

@@ -8,7 +8,7 @@ use ts_packet::Fate;
 pub enum Event {
     /// An editor, numbered 1 to 64, commits edits of the current tree.
     Commit { editor: u32, edits: Edits },
-    /// So many items, 1 to 1,048,576, or as many as are left in the cycle, are drawn and sent. Packet number i of the draw,
+    /// So many items, 1 to [`cycle_planner::MOST_DRAWN`], or as many as are left in the cycle, are drawn and sent. Packet number i of the draw,
     /// counted from 0, meets the fate at place i modulo their number; without fates all arrive.
     Draw { asked: u32, fates: Vec<Fate> },
     /// A reader, numbered 1 to 64, opens a path.
@@ -28,7 +28,7 @@ pub enum Reply {
         first: u64,
         count: u64,
     },
-    /// So many draws were made already, 16,777,216, and this one wasn't.
+    /// So many draws were made already, [`generation_catalogue::MOST_DRAWS`], and this one wasn't.
     DrawsFull(u64),
     /// The number of the generation that the receiver holds, if it holds one, and the answer to the path.
     Opened {

@@ -12,6 +12,7 @@ ghost use Rattle.carousel_world.specs.Events.{view, Step, Commit, Draw, Open};
 ghost use Rattle.carousel_world.specs.Promises.{MeetsHeadline, world_after};
 ghost use Rattle.carousel_world.specs.Fates.{received_under};
 ghost use Rattle.carousel_world.specs.World.{WorldState, InRange, AsksForMemory, initial_world, reply_to, happens, replies_to, after_all};
+ghost use Rattle.cycle_planner.specs.declared.TheConstants.{MOST_DRAWN};
 
 use crate::downlink::Downlink;
 use crate::event::{Event, Reply};
@@ -59,7 +60,7 @@ impl World {
         })
     }
 
-    /// Makes one event happen, and gives its reply. Editors and readers are numbered 1 to 64, and a draw asks for 1 to 1,048,576
+    /// Makes one event happen, and gives its reply. Editors and readers are numbered 1 to 64, and a draw asks for 1 to [`cycle_planner::MOST_DRAWN`]
     /// items.
     ///
     /// Out of memory is the only refusal, and a world that works answers it only of an event that asks for memory: an open, a commit where
@@ -99,7 +100,7 @@ impl World {
 
     /// A draw. Out of memory spends the world.
     fn draw(&mut self, asked: u32, fates: &[Fate]) -> Result<Reply, NoMemory>
-        requires { (1 ≤ asked) × (asked ≤ 1048576) }
+        requires { (1 ≤ asked) × (asked ≤ MOST_DRAWN) }
         ensures reply { IfOk result (λ r. (w : WorldState) → StandsFor (kept_in self.old) w → r ≡ reply_to w (Draw asked fates.now)) }
         ensures stands { OnOk result ((w : WorldState) → StandsFor (kept_in self.old) w → StandsFor (kept_in self.new) (happens w (Draw asked fates.now))) }
         ensures left { OnErr result ((kept_in self.new).down.spent ≡ true) }
@@ -114,7 +115,7 @@ impl World {
 
     /// The same of a world that works.
     fn draw_and_send(&mut self, asked: u32, fates: &[Fate]) -> Result<Reply, NoMemory>
-        requires { (1 ≤ asked) × (asked ≤ 1048576) }
+        requires { (1 ≤ asked) × (asked ≤ MOST_DRAWN) }
         ensures reply { IfOk result (λ r. (w : WorldState) → StandsFor (kept_in self.old) w → r ≡ reply_to w (Draw asked fates.now)) }
         ensures stands { OnOk result ((w : WorldState) → StandsFor (kept_in self.old) w → StandsFor (kept_in self.new) (happens w (Draw asked fates.now))) }
         ensures memory { OnErr result ((w : WorldState) → StandsFor (kept_in self.old) w → AsksForMemory w (Draw asked fates.now)) }
@@ -165,7 +166,7 @@ impl World {
     }
 
     /// Makes events happen in turn, and gives the reply of each. Editors and readers are numbered 1 to 64, and each draw asks for 1
-    /// to 1,048,576 items.
+    /// to [`cycle_planner::MOST_DRAWN`] items.
     ///
     /// What is promised of every list of events holds of all that happened in this world: `every_run_meets_the_headline` says it.
     ///
@@ -228,7 +229,7 @@ fn send(
     fates: &[Fate],
 ) -> Result<(), NoMemory>
     requires items { All (λ item. Contains (items_of generation.now) item) items.now }
-    requires few { length items.now ≤ 1048576 }
+    requires few { length items.now ≤ MOST_DRAWN }
     ensures { OnOk result ((pid : ℕ) (groups : List (List Bytes)) (packets : List Bytes) → DownlinkStands downlink.old pid groups [] packets
         → (let sections = map (section_of generation.now) items.now in
         DownlinkStands downlink.new pid (groups ++ sections ∷ []) [] (packets ++ received_under fates.now 0 (packets_of_group downlink.old.mux sections)))) }

@@ -4,6 +4,8 @@ use Rattle.std.specs.List.{All, flat_map, filter, fold, range_with_len, AllPairs
 use Rattle.cycle_planner.specs.Weights.{weight}
 use Rattle.cycle_planner.specs.declared.Item.{Item}
 use Rattle.cycle_planner.specs.declared.Item.TheVariants.{Dsi, Dii, Block}
+use Rattle.ddb_block.specs.declared.TheConstants.{MOST_BLOCKS}
+use Rattle.cycle_planner.specs.declared.weigh.TheConstants.{GREATEST_ID}
 
 -- a module's id and the number of its blocks
 abbrev pub Line : Type 0
@@ -24,12 +26,12 @@ round weights lines r = Dii ∷ flat_map blocks_of (filter (λ line. nat_lt r (w
 abbrev pub cycle_of : List ℕ → List Line → List Item
 cycle_of weights lines = Dsi ∷ flat_map (round weights lines) (range_with_len 0 (greatest_weight weights lines))
 
--- the lines of a generation: at least one module, ids that rise from 1 to 2,224, and block numbers of 16 bits
+-- the lines of a generation: at least one module, ids that rise within their range, and block numbers of 16 bits
 pub record AreLines (lines : List Line) : Type 0 where
   pub some : 0 < length lines
   pub rising : AllPairs (λ a b. a.0 < b.0) lines
-  pub ids : All (λ l. (1 ≤ l.0) × (l.0 ≤ 2224)) lines
-  pub blocks : All (λ l. l.1 ≤ 65536) lines
+  pub ids : All (λ l. (1 ≤ l.0) × (l.0 ≤ GREATEST_ID)) lines
+  pub blocks : All (λ l. l.1 ≤ MOST_BLOCKS) lines
 
 abbrev pub is_dsi : Item → Bool
 is_dsi Dsi = true

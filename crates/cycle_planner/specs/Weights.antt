@@ -1,12 +1,13 @@
 -- Weights of modules. They are this project's own.
 use Rattle.std.specs.Prelude.{◌≡◌, ℕ, ◌-◌, ◌≤◌, List, length, slice_index_or}
 use Rattle.std.specs.List.{All}
+use Rattle.cycle_planner.specs.declared.weigh.TheConstants.{GREATEST_ID, GREATEST_WEIGHT}
 
 -- the weight of a module, by the list of weights from module 1 on; a module that the list doesn't have weighs 1
 abbrev pub weight : List ℕ → ℕ → ℕ
 weight weights m = slice_index_or weights (m - 1) 1
 
--- a weight of 1 to 8 for each of the ids from 1 to 2,224
+-- a weight from 1 to the greatest for each of the ids
 pub record AreWeights (weights : List ℕ) : Type 0 where
-  pub number : length weights ≡ 2224
-  pub range : All (λ w. (1 ≤ w) × (w ≤ 8)) weights
+  pub number : length weights ≡ GREATEST_ID
+  pub range : All (λ w. (1 ≤ w) × (w ≤ GREATEST_WEIGHT)) weights

@@ -1,10 +1,20 @@
 //! The order of the items of a cycle: what a broadcaster sends, section by section, before it begins again.
 //!
-//! Each module has a weight, 1 to 8. A cycle begins with the DSI and goes in rounds, as many as the greatest weight among
+//! Each module has a weight, 1 to [`GREATEST_WEIGHT`]. A cycle begins with the DSI and goes in rounds, as many as the greatest weight among
 //! its modules. A round is the DII and then the blocks, by rising module id and block number, of each module that weighs more than
 //! rounds went before. So the DII is sent in each round, and each block as often as its module weighs. ISO/IEC 13818-6 leaves the
 //! order and the repetition of a carousel's messages to the broadcaster; the order and the weights here are this project's own. A
-//! module is given as a line: its id, 1 to 2,224, and the number of its blocks, at most 65,536.
+//! module is given as a line: its id, 1 to [`GREATEST_ID`], and the number of its blocks, at most [`ddb_block::MOST_BLOCKS`].
+//!
+//! ```
+//! use cycle_planner::{GREATEST_ID, Item, Weigh, cycle_len, item_at};
+//!
+//! let call = Box::new(alloc, |_id: u16| -> u8 ensures { result ≡ 1 } { 1u8 })?;
+//! let weigh = Weigh::new([1; GREATEST_ID], call);
+//! let lines = [(1, 1), (2, 2)];
+//! assert_eq!(rt; cycle_len(&lines, &weigh), 5);
+//! assert_eq!(rt; item_at(&lines, &weigh, 3), Item::Block(2, 0));
+//! ```
 #![tactic(auto)]
 
 ghost use Rattle.std.specs.Prelude.{◌≡◌, ◌≤◌, ◌<◌, max, Some, length, slice_get};
@@ -14,7 +24,7 @@ ghost use Rattle.cycle_planner.specs.Rounds.{blocks_in_round};
 
 mod weigh;
 
-pub use weigh::{Call, GREATEST_ID, Weigh};
+pub use weigh::{Call, GREATEST_ID, GREATEST_WEIGHT, Weigh};
 
 /// What one section of a cycle carries.
 #[derive(Clone, Copy, Debug, PartialEq, Eq)]
@@ -27,8 +37,8 @@ pub enum Item {
     Block(u16, u16),
 }
 
-/// The greatest weight of a module.
-const GREATEST_WEIGHT: u8 = 8;
+/// The most items that one draw takes of a cycle. This project's own limit.
+pub const MOST_DRAWN: u32 = 1_048_576;
 
 /// How many items a cycle of these lines has: the DSI, the DII as often as the greatest weight says, and each module's
 /// blocks as often as it weighs. The lines aren't empty and their ids rise. Takes no memory.
@@ -77,7 +87,7 @@ fn greater(first: u64, second: u64) -> u64
 
 /// How many blocks of a module are sent in a round: all, or none.
 fn blocks_in(line: &(u16, u32), weigh: &Weigh, number: u8) -> u64
-    requires { (1 ≤ line.now.0) × (line.now.0 ≤ 2224) }
+    requires { (1 ≤ line.now.0) × (line.now.0 ≤ GREATEST_ID) }
     ensures { result ≡ length (blocks_in_round weigh.now.weights number line.now) }
 {
     if number < weigh.of(line.0) {

@@ -1,30 +1,34 @@
 ghost use Rattle.std.specs.Prelude.{◌≡◌, ◌≤◌, List, ℕ};
 ghost use Rattle.cycle_planner.specs.Weights.{AreWeights, weight};
+ghost use Rattle.cycle_planner.specs.declared.weigh.TheConstants.{GREATEST_ID};
 
 /// The greatest module id, and so the number of weights.
 pub const GREATEST_ID: usize = 2_224;
 
+/// The greatest weight of a module.
+pub const GREATEST_WEIGHT: u8 = 8;
+
 /// What answers the weight of a module, by its id.
 pub type Call = Box<dyn Fn(u16) -> u8 + Send + Sync + Drop>;
 
-/// How often each module is sent in a cycle: its weight, 1 to 8, for each module id, 1 to 2,224. A closure answers it. A `Weigh`
+/// How often each module is sent in a cycle: its weight, 1 to [`GREATEST_WEIGHT`], for each module id, 1 to [`GREATEST_ID`]. A closure answers it. A `Weigh`
 /// is seen as the list of the weights, from module 1 on. Weights are this project's own.
 #[derive(Drop)]
 pub struct Weigh {
     weights: [u8; GREATEST_ID],
     call: Call,
     pub ghost range: { AreWeights weights },
-    pub ghost callable: { (m : ℕ) → 1 ≤ m → m ≤ 2224 → Call.pre call m },
-    pub ghost answers: { (m r : ℕ) → 1 ≤ m → m ≤ 2224 → Call.post call m r → r ≡ weight weights m },
+    pub ghost callable: { (m : ℕ) → 1 ≤ m → m ≤ GREATEST_ID → Call.pre call m },
+    pub ghost answers: { (m r : ℕ) → 1 ≤ m → m ≤ GREATEST_ID → Call.post call m r → r ≡ weight weights m },
 }
 
 impl Weigh {
     /// The weights of a list, from module 1 on, as a closure answers them. Each is 1 to 8, and the closure may be called with each
-    /// id from 1 to 2,224 and answers the weight that the list has for it. Takes no memory.
+    /// id from 1 to [`GREATEST_ID`] and answers the weight that the list has for it. Takes no memory.
     pub fn new(weights: [u8; GREATEST_ID], call: Call) -> Weigh
         requires weights { AreWeights weights }
-        requires callable { (m : ℕ) → 1 ≤ m → m ≤ 2224 → Call.pre call m }
-        requires answers { (m r : ℕ) → 1 ≤ m → m ≤ 2224 → Call.post call m r → r ≡ weight weights m }
+        requires callable { (m : ℕ) → 1 ≤ m → m ≤ GREATEST_ID → Call.pre call m }
+        requires answers { (m r : ℕ) → 1 ≤ m → m ≤ GREATEST_ID → Call.post call m r → r ≡ weight weights m }
         ensures { result.weights ≡ weights }
     {
         Weigh { weights, call }
@@ -38,10 +42,10 @@ impl Weigh {
         self.weights
     }
 
-    /// The weight of a module, 1 to 8. The id is 1 to 2,224. Takes no memory.
+    /// The weight of a module, 1 to 8. The id is 1 to [`GREATEST_ID`]. Takes no memory.
     pub fn of(&self, id: u16) -> u8
         requires low { 1 ≤ id }
-        requires high { id ≤ 2224 }
+        requires high { id ≤ GREATEST_ID }
         ensures { result ≡ weight self.now.weights id }
     {
         (self.call)(id)

@@ -1,4 +1,4 @@
 pub mod Spans
-pub mod Bodies
 pub mod Steps
 pub mod Laws
+pub mod CallerLemmas

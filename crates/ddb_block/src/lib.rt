@@ -1,18 +1,36 @@
 //! Block messages, DDB (ISO/IEC 13818-6, clause 7.3.7: DownloadDataBlock), and how a module is cut into blocks.
+//!
+//! ```
+//! use ddb_block::{block_count, block_span, parts_of};
+//!
+//! let message = [0x11, 3, 0x10, 3, 0, 0, 0, 1, 0xFF, 0, 0, 7, 0, 2, 0, 0xFF, 0, 0, 65];
+//! let block = parts_of(&message).unwrap();
+//! assert_eq!(rt; (block.download, block.module, block.bytes), (1, 2, &[65][..]));
+//!
+//! assert_eq!(rt; block_count(4_067, 4_066), 2);
+//! assert_eq!(rt; block_span(4_067, 4_066, 1), 1);
+//! ```
 #![tactic(auto)]
 
-ghost use Rattle.std.specs.Prelude.{◌≡◌, ◌≤◌, ◌<◌, ◌++◌, ◌∷◌, [], Some, Ok, length, ◌+◌, IfOk, IsErrOf, IsOkAnd, OnErr};
+ghost use Rattle.std.specs.Prelude.{◌≡◌, ◌≤◌, ◌<◌, ◌++◌, ◌∷◌, [], Ok, length, ◌+◌, IfOk, IsErrOf, IsOkAnd, OnErr};
 ghost use Rattle.oc_bytes.specs.Cursor.{Cursor, value_only};
 ghost use Rattle.oc_bytes.specs.Numbers.{two_bytes};
 ghost use Rattle.oc_bytes.specs.Outcome.{Gives};
+ghost use Rattle.oc_bytes.specs.Cause.{place_of};
 ghost use Rattle.ddb_block.specs.Blocks.{Block, Fits, view, parts_view, Reads, read, spelling, cause, block_count_of, block_span_of, SpansFill};
 
 mod header;
 
-pub use header::{byte_of, four_bytes_of, header_bytes, message, messages_read, two_bytes_of};
-use oc_bytes::{Fields, NoMemory};
+pub use header::{header_bytes, message, messages_read};
+use oc_bytes::{Cut, NoMemory};
 use std::alloc::{AllocError, Global};
 use thiserror::Error;
+
+/// The most bytes of a block: what a section's payload has room for beside a block message's 18 bytes of fields.
+pub const MOST_BLOCK_SIZE: u16 = 4_066;
+
+/// The most blocks of a module: block numbers have 16 bits.
+pub const MOST_BLOCKS: u32 = 65_536;
 
 /// A block message: one block of a module.
 #[derive(Debug, Drop)]
@@ -50,12 +68,12 @@ impl From<AllocError> for DdbFault {
     }
 }
 
-impl From<usize> for DdbFault {
+impl From<Cut> for DdbFault {
     ghost use Rattle.ddb_block.specs.declared.DdbFault.TheVariants.{NotDdb};
 
-    ghost from_gives = { λ place e. e ≡ NotDdb place };
+    ghost from_gives = { λ cut e. e ≡ NotDdb cut.0 };
 
-    fn from(place: usize) -> DdbFault {
+    fn from(Cut(place): Cut) -> DdbFault {
         DdbFault::NotDdb(place)
     }
 }
@@ -88,13 +106,15 @@ fn block_fields(parts: &Parts<'_>) -> [u8; 6]
         bytes: _,
     } = parts;
     let _download = *download;
+    let [module_high, module_low] = module.to_be_bytes();
+    let [block_high, block_low] = block.to_be_bytes();
     [
-        (*module / 256) as u8,
-        (*module % 256) as u8,
+        module_high,
+        module_low,
         *version,
         0xFF,
-        (*block / 256) as u8,
-        (*block % 256) as u8,
+        block_high,
+        block_low,
     ]
 }
 
@@ -102,9 +122,9 @@ fn block_fields(parts: &Parts<'_>) -> [u8; 6]
 /// clause 7.3.7). With the block's bytes after them they are what `encode` writes, so that a writer that is lent the block's
 /// bytes copies them only once.
 ///
-/// `parts.bytes` has at most 4,066 bytes, so that the message fits in one section.
+/// `parts.bytes` has at most [`MOST_BLOCK_SIZE`] bytes, so that the message fits in one section.
 pub fn block_front(parts: &Parts<'_>) -> [u8; 18]
-    requires { length parts.now.bytes.now ≤ 4066 }
+    requires { length parts.now.bytes.now ≤ MOST_BLOCK_SIZE }
     ensures spells { spelling (parts_view parts.now) ≡ result ++ parts.now.bytes.now }
     ensures fits { Fits (parts_view parts.now) }
 {
@@ -117,7 +137,7 @@ pub fn block_front(parts: &Parts<'_>) -> [u8; 18]
 
 /// The bytes of a block message.
 fn written(alloc: Global, ddb: &Ddb) -> Result<Vec<u8>, NoMemory>
-    requires { length ddb.now.bytes.items ≤ 4066 }
+    requires { length ddb.now.bytes.items ≤ MOST_BLOCK_SIZE }
     ensures spells { IfOk result (λ bytes. bytes.items ≡ spelling (view ddb.now)) }
     ensures fits { IfOk result (λ _. Fits (view ddb.now)) }
 {
@@ -136,10 +156,10 @@ fn written(alloc: Global, ddb: &Ddb) -> Result<Vec<u8>, NoMemory>
 /// Writes a block message: its one spelling, without an adaptation header and with the reserved bytes 0xFF. It has 18 bytes
 /// and those of the block, and reads as the block.
 ///
-/// `ddb.bytes` has at most 4,066 bytes, so that the message fits in one section. `NoMemory` comes where the bytes find no
+/// `ddb.bytes` has at most [`MOST_BLOCK_SIZE`] bytes, so that the message fits in one section. `NoMemory` comes where the bytes find no
 /// memory.
 pub fn encode(alloc: Global, ddb: &Ddb) -> Result<Vec<u8>, NoMemory>
-    requires { length ddb.now.bytes.items ≤ 4066 }
+    requires { length ddb.now.bytes.items ≤ MOST_BLOCK_SIZE }
     ensures spells { IfOk result (λ bytes. bytes.items ≡ spelling (view ddb.now)) }
     ensures reads { IfOk result (λ bytes. Reads bytes.items (view ddb.now)) }
 {
@@ -150,21 +170,21 @@ pub fn encode(alloc: Global, ddb: &Ddb) -> Result<Vec<u8>, NoMemory>
 /// What holds of each spelling, whoever wrote it: it reads as its block, by the relation and by the reading function, and is
 /// 18 bytes longer.
 pub fn spellings_read()
-    ensures reads { (b : Block) → Fits b → length b.bytes ≤ 4066 → Reads (spelling b) b }
-    ensures is_read { (b : Block) → Fits b → length b.bytes ≤ 4066 → read (spelling b) ≡ Ok b }
+    ensures reads { (b : Block) → Fits b → length b.bytes ≤ MOST_BLOCK_SIZE → Reads (spelling b) b }
+    ensures is_read { (b : Block) → Fits b → length b.bytes ≤ MOST_BLOCK_SIZE → read (spelling b) ≡ Ok b }
     ensures length { (b : Block) → length (spelling b) ≡ length b.bytes + 18 }
 {}
 
-/// Reads a block message as `decode` does, copying nothing. An `Err` is the place that `decode` gives.
+/// Reads a block message as `decode` does, copying nothing. [`Cut`] has the place that `decode` gives.
 #[tactic(auto, unfolding(crate::specs::Blocks::block_at))]
-pub fn parts_of(payload: &[u8]) -> Result<Parts<'_>, usize>
-    ensures { Gives parts_view (λ place. Some place) result (read payload.now) }
+pub fn parts_of(payload: &[u8]) -> Result<Parts<'_>, Cut>
+    ensures { Gives parts_view place_of result (read payload.now) }
 {
     let (download, mut fields) = message(payload, 0x1003)?;
-    let module = two_bytes_of(&mut fields)?;
-    let version = byte_of(&mut fields)?;
-    byte_of(&mut fields)?;
-    let block = two_bytes_of(&mut fields)?;
+    let module = fields.u16()?;
+    let version = fields.u8()?;
+    fields.u8()?;
+    let block = fields.u16()?;
     Ok(Parts {
         download,
         module,

@@ -1,8 +1,4 @@
-pub mod Loops
-pub mod Places
-pub mod Headers
 pub mod Tags
-pub mod Parsing
 pub mod Lines
 pub mod Messages
 pub mod Laws

@@ -1,35 +1,34 @@
 -- What is written is read back.
-use Rattle.std.proofs.Common.{◌≡◌, ℕ, zero, suc, ◌+◌, ◌*◌, ◌/◌, ◌%◌, ◌<◌, ◌≤◌, Bool, true, false, cond, eqb, ltb, List, [], ◌∷◌, ◌++◌, length, get_or, All, Result, Ok, Err, refl, sym, ap, subst, ◌∙◌, arith, length-append}
+use Rattle.std.proofs.Common.{◌≡◌, ℕ, zero, suc, ◌+◌, ◌*◌, ◌/◌, ◌%◌, ◌<◌, Bool, true, false, cond, eqb, ltb, List, [], ◌∷◌, ◌++◌, length, get_or, All, Ok, refl, sym, ap, subst, ◌∙◌, arith, length-append}
 use Rattle.std.proofs.lemmas.Bool.{ltb-true}
 use Rattle.std.proofs.lemmas.List.Elements.{recursion_from_All}
 use Rattle.std.proofs.lemmas.List.Concat.{flat_map-cons}
 use Rattle.std.specs.Prelude.{replicate, ◌&&◌}
 use Rattle.std.specs.List.{flat_map, list_all, AllByRecursion}
-use Rattle.oc_bytes.specs.Cursor.{Cursor, Reading, from_start, read_from_start, value_only}
+use Rattle.oc_bytes.specs.Cursor.{Cursor, Reading, from_start, value_only}
 use Rattle.oc_bytes.specs.Numbers.{two_bytes, four_bytes}
-use Rattle.ddb_block.specs.Message.{message}
+use Rattle.ddb_block.specs.Message.{prefix_of}
 use Rattle.ior_tap.specs.Iors as iors
 use Rattle.ior_tap.specs.IorReading.{ior_at}
 use Rattle.ior_tap.specs.declared.Location.{Location}
 use Rattle.dsi_dii.specs.declared.ModuleLine.{ModuleLine}
-use Rattle.dsi_dii.specs.Controls.{Message, DsiFields, DiiFields, IsDsi, IsDii, LineFits, header_bytes, dii_head, line_bytes, written_info, dsi_body, dii_spelling, dsi_spelling}
-use Rattle.dsi_dii.specs.ControlReading.{read, message_id_of, dii_at, dsi_at, frame_at, gateway_at}
+use Rattle.dsi_dii.specs.Controls.{Message, DiiFields, IsDsi, IsDii, LineFits, dii_head, line_bytes, written_info, dsi_body, dii_spelling, dsi_spelling}
+use Rattle.dsi_dii.specs.ControlReading.{read, message_id_of, dii_at, dsi_at, gateway_at}
 use Rattle.dsi_dii.specs.Spellings.{IsSpellable}
-use Rattle.dsi_dii.proofs.Parsing.{IsBytes}
-use Rattle.dsi_dii.proofs.Messages.{message_id_is}
+use Rattle.dsi_dii.proofs.Messages.{EachFits, message_id_is}
 use Rattle.dsi_dii.proofs.Laws.{dii_again, frame_again, dsi_value}
 use Rattle.dsi_dii.proofs.Spelled.{dii_body, dii_body_length, dii_spelled, dsi_body_length, dsi_frame, written_private}
 
 -- ---- what is written are bytes
 
 record Fits (bytes : List ℕ) : Type 0 where
-  each : IsBytes bytes
+  each : EachFits bytes
 
-first : (x : ℕ) (a b : List ℕ) → x < 256 → IsBytes (a ++ b) → (i : ℕ) → get_or (x ∷ (a ++ b)) i 0 < 256
+first : (x : ℕ) (a b : List ℕ) → x < 256 → EachFits (a ++ b) → (i : ℕ) → get_or (x ∷ (a ++ b)) i 0 < 256
 first x a b lt h zero = lt
 first x a b lt h (suc i) = h i
 
-append_fits : (a b : List ℕ) → IsBytes a → IsBytes b → IsBytes (a ++ b)
+append_fits : (a b : List ℕ) → EachFits a → EachFits b → EachFits (a ++ b)
 append_fits [] b p q = q
 append_fits (x ∷ a) b p q = first x a b (p 0) (append_fits a b (λ k. p (suc k)) q)
 
@@ -41,7 +40,7 @@ none_fit = record { each = λ i. omega arith }
 
 one_fits : (x : ℕ) → x < 256 → Fits (x ∷ [])
 one_fits x lt = record { each = cases } where
-  cases : IsBytes (x ∷ [])
+  cases : EachFits (x ∷ [])
   cases zero = lt
   cases (suc i) = omega arith
 
@@ -61,7 +60,7 @@ literal_fits (x ∷ xs) e = go (ltb x 256) refl e (literal_fits xs) where
   go true lt h rest = more_fit x (ltb-true x 256 lt) (rest h)
   go false lt h rest = absurd cc
 
-header_fits : (id transaction size : ℕ) → Fits (header_bytes id transaction size)
+header_fits : (id transaction size : ℕ) → Fits (prefix_of id transaction size)
 header_fits id transaction size = both_fit (both_fit (both_fit (both_fit (literal_fits (0x11 ∷ 0x03 ∷ []) refl) (two_fit id)) (four_fit transaction)) (literal_fits (0xFF ∷ 0 ∷ []) refl)) (two_fit size)
 
 head_fits : (download modules : ℕ) → Fits (dii_head download modules)
@@ -94,7 +93,7 @@ dii_read_back d h =
     chosen_dii (message_id_of bytes) (dsi_at (from_start bytes)) (dii_at (from_start bytes)) (message_id_is 0x1002 bytes d.transaction _ reads.message) ∙ ap value_only again.1
 
 pub dii_size : (d : DiiFields) → length (dii_spelling d) ≡ 34 + 29 * length d.modules
-dii_size d = omega (arith, length-append (header_bytes 0x1002 d.transaction (length (dii_body d.download d.modules))) (dii_body d.download d.modules), dii_body_length d.download d.modules)
+dii_size d = omega (arith, length-append (prefix_of 0x1002 d.transaction (length (dii_body d.download d.modules))) (dii_body d.download d.modules), dii_body_length d.download d.modules)
 
 -- ---- a DSI
 
@@ -123,7 +122,7 @@ reference_length kind l four key =
 pub dsi_size : (transaction : ℕ) (kind : List ℕ) (l : Location) → iors.IsWritten (iors.written_form kind l) l → length (dsi_spelling transaction kind l) ≡ 103
 dsi_size transaction kind l h =
     let reference = iors.spelling kind l in
-    omega (arith, length-append (header_bytes 0x1006 transaction (length (dsi_body reference))) (dsi_body reference), dsi_body_length reference, reference_length kind l h.four h.key)
+    omega (arith, length-append (prefix_of 0x1006 transaction (length (dsi_body reference))) (dsi_body reference), dsi_body_length reference, reference_length kind l h.four h.key)
 
 gateway_read : (place : ℕ) (private : List ℕ) (g : iors.Fields) (d after : Cursor) → ior_at (from_start private) ≡ Ok (g, d) → gateway_at place private after ≡ Ok (g, after)
 gateway_read place private g d after e = rw e refl

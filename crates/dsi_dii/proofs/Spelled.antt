@@ -6,24 +6,17 @@ use Rattle.std.proofs.lemmas.List.Concat.{flat_map-cons}
 use Rattle.std.proofs.lemmas.Grind.{flat_map-append}
 use Rattle.std.specs.List.{flat_map, All, AllByRecursion}
 use Rattle.std.specs.Prelude.{replicate}
-use Rattle.ddb_block.specs.Message.{IsMessage, message}
+use Rattle.ddb_block.specs.Message.{IsMessage, message, prefix_of}
 use Rattle.ior_tap.specs.Iors as iors
-use Rattle.ior_tap.specs.Iors.{TapFields, ReadsEach}
+use Rattle.ior_tap.specs.Iors.{TapFields}
+use Rattle.oc_bytes.specs.Agreement.{ReadsEach}
 use Rattle.oc_bytes.specs.Numbers.{two_bytes, four_bytes}
 use Rattle.dsi_dii.specs.declared.ModuleLine.{ModuleLine}
-use Rattle.dsi_dii.specs.Controls.{DiiFields, DsiFields, ReadsInfo, ReadsLine, ReadsDii, ReadsDsi, IsDsiFrame, IsWrittenDii, dsi_body, header_bytes, line_bytes, written_info, LineFits, dii_head, dii_spelling}
+use Rattle.dsi_dii.specs.Controls.{DiiFields, DsiFields, ReadsInfo, ReadsLine, ReadsDii, ReadsDsi, IsDsiFrame, IsWrittenDii, dsi_body, line_bytes, written_info, LineFits, dii_head, dii_spelling}
 
 -- one field more
 pub put_more : (w u v a b : List ℕ) → u ≡ w ++ a → v ≡ u ++ b → v ≡ w ++ (a ++ b)
 put_more w u v a b e f = f ∙ ap (λ (t : List ℕ). t ++ b) e ∙ append_assoc w a b
-
-pub header_put : (id transaction size : ℕ) (w0 w1 w2 w3 w4 w5 : List ℕ) → w1 ≡ w0 ++ (0x11 ∷ 0x03 ∷ []) → w2 ≡ w1 ++ two_bytes id → w3 ≡ w2 ++ four_bytes transaction → w4 ≡ w3 ++ (0xFF ∷ 0 ∷ []) → w5 ≡ w4 ++ two_bytes size
-    → w5 ≡ w0 ++ header_bytes id transaction size
-header_put id transaction size w0 w1 w2 w3 w4 w5 e1 e2 e3 e4 e5 =
-    let f2 = put_more w0 w1 w2 (0x11 ∷ 0x03 ∷ []) (two_bytes id) e1 e2 in
-    let f3 = put_more w0 w2 w3 ((0x11 ∷ 0x03 ∷ []) ++ two_bytes id) (four_bytes transaction) f2 e3 in
-    let f4 = put_more w0 w3 w4 ((0x11 ∷ 0x03 ∷ []) ++ two_bytes id ++ four_bytes transaction) (0xFF ∷ 0 ∷ []) f3 e4 in
-    put_more w0 w4 w5 ((0x11 ∷ 0x03 ∷ []) ++ two_bytes id ++ four_bytes transaction ++ (0xFF ∷ 0 ∷ [])) (two_bytes size) f4 e5
 
 pub line_put : (l : ModuleLine) (w0 w1 w2 w3 w4 : List ℕ) → w1 ≡ w0 ++ two_bytes l.id → w2 ≡ w1 ++ four_bytes l.size → w3 ≡ w2 ++ (l.version ∷ 21 ∷ []) → w4 ≡ w3 ++ written_info → w4 ≡ w0 ++ line_bytes l
 line_put l w0 w1 w2 w3 w4 e1 e2 e3 e4 =
@@ -60,10 +53,10 @@ dii_body download ls = dii_head download (length ls) ++ flat_map line_bytes ls +
 pub dii_body_length : (download : ℕ) (ls : List ModuleLine) → length (dii_body download ls) ≡ 22 + 29 * length ls
 dii_body_length download ls = omega (arith, length-append (dii_head download (length ls) ++ flat_map line_bytes ls) (two_bytes 0), length-append (dii_head download (length ls)) (flat_map line_bytes ls), lines_length ls)
 
-pub dii_put : (d : DiiFields) (size count : ℕ) (w0 w1 w2 w3 w4 : List ℕ) → count ≡ length d.modules → w0 ≡ [] → w1 ≡ w0 ++ header_bytes 0x1002 d.transaction size → w2 ≡ w1 ++ dii_head d.download count
+pub dii_put : (d : DiiFields) (size count : ℕ) (w0 w1 w2 w3 w4 : List ℕ) → count ≡ length d.modules → w0 ≡ [] → w1 ≡ w0 ++ prefix_of 0x1002 d.transaction size → w2 ≡ w1 ++ dii_head d.download count
     → w3 ≡ w2 ++ flat_map line_bytes d.modules → w4 ≡ w3 ++ two_bytes 0 → size ≡ 22 + 29 * count → w4 ≡ dii_spelling d
 dii_put d size count w0 w1 w2 w3 w4 counted e0 e1 e2 e3 e4 sized =
-    let header = header_bytes 0x1002 d.transaction size in
+    let header = prefix_of 0x1002 d.transaction size in
     let head = dii_head d.download (length d.modules) in
     let lines = flat_map line_bytes d.modules in
     let f1 : w2 ≡ w1 ++ head = e2 ∙ ap (λ (k : ℕ). w1 ++ dii_head d.download k) counted in
@@ -71,7 +64,7 @@ dii_put d size count w0 w1 w2 w3 w4 counted e0 e1 e2 e3 e4 sized =
     let f3 = put_more w1 w3 w4 (head ++ lines) (two_bytes 0) f2 e4 in
     let f4 = put_more w0 w1 w4 header (dii_body d.download d.modules) e1 f3 in
     let number : size ≡ length (dii_body d.download d.modules) = omega (arith, sized, counted, dii_body_length d.download d.modules) in
-    f4 ∙ ap (λ (w : List ℕ). w ++ (header ++ dii_body d.download d.modules)) e0 ∙ ap (λ (k : ℕ). header_bytes 0x1002 d.transaction k ++ dii_body d.download d.modules) number
+    f4 ∙ ap (λ (w : List ℕ). w ++ (header ++ dii_body d.download d.modules)) e0 ∙ ap (λ (k : ℕ). prefix_of 0x1002 d.transaction k ++ dii_body d.download d.modules) number
 
 -- ---- what is written is read
 
@@ -81,7 +74,7 @@ message_spelled id transaction body id_fits transaction_fits body_fits = record 
   trailing = [];
   reserved = 0xFF;
   ranges = (id_fits, transaction_fits, omega arith, omega arith, omega arith);
-  whole = ap (λ (k : ℕ). header_bytes id transaction k ++ body) (sym (zero-add (length body))) ∙ sym (append-nil (header_bytes id transaction (0 + length body) ++ body));
+  whole = ap (λ (k : ℕ). prefix_of id transaction k ++ body) (sym (zero-add (length body))) ∙ sym (append-nil (prefix_of id transaction (0 + length body) ++ body));
 }
 
 no_stamps : List ℕ
@@ -136,10 +129,10 @@ dsi_body_length reference = omega (
   length-append (replicate 20 0xFF ++ two_bytes 0 ++ two_bytes (length reference + 4)) reference,
 )
 
-pub dsi_put : (transaction size count : ℕ) (reference w0 w1 w2 w3 w4 w5 w6 : List ℕ) → w0 ≡ [] → w1 ≡ w0 ++ header_bytes 0x1006 transaction size → w2 ≡ w1 ++ replicate 20 0xFF → w3 ≡ w2 ++ two_bytes 0 → w4 ≡ w3 ++ two_bytes count
+pub dsi_put : (transaction size count : ℕ) (reference w0 w1 w2 w3 w4 w5 w6 : List ℕ) → w0 ≡ [] → w1 ≡ w0 ++ prefix_of 0x1006 transaction size → w2 ≡ w1 ++ replicate 20 0xFF → w3 ≡ w2 ++ two_bytes 0 → w4 ≡ w3 ++ two_bytes count
     → w5 ≡ w4 ++ reference → w6 ≡ w5 ++ four_bytes 0 → size ≡ 28 + length reference → count ≡ length reference + 4 → w6 ≡ message 0x1006 transaction (dsi_body reference)
 dsi_put transaction size count reference w0 w1 w2 w3 w4 w5 w6 e0 e1 e2 e3 e4 e5 e6 sized counted =
-    let header = header_bytes 0x1006 transaction size in
+    let header = prefix_of 0x1006 transaction size in
     let length_bytes = two_bytes (length reference + 4) in
     let f4 : w4 ≡ w3 ++ length_bytes = e4 ∙ ap (λ (k : ℕ). w3 ++ two_bytes k) counted in
     let g3 = put_more w1 w2 w3 (replicate 20 0xFF) (two_bytes 0) e2 e3 in
@@ -148,7 +141,7 @@ dsi_put transaction size count reference w0 w1 w2 w3 w4 w5 w6 e0 e1 e2 e3 e4 e5 
     let g6 = put_more w1 w5 w6 (replicate 20 0xFF ++ two_bytes 0 ++ length_bytes ++ reference) (four_bytes 0) g5 e6 in
     let g7 = put_more w0 w1 w6 header (dsi_body reference) e1 g6 in
     let number : size ≡ length (dsi_body reference) = sized ∙ sym (dsi_body_length reference) in
-    g7 ∙ ap (λ (w : List ℕ). w ++ (header ++ dsi_body reference)) e0 ∙ ap (λ (k : ℕ). header_bytes 0x1006 transaction k ++ dsi_body reference) number
+    g7 ∙ ap (λ (w : List ℕ). w ++ (header ++ dsi_body reference)) e0 ∙ ap (λ (k : ℕ). prefix_of 0x1006 transaction k ++ dsi_body reference) number
 
 -- the private data of a written DSI
 abbrev pub written_private : List ℕ → List ℕ

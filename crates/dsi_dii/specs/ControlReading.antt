@@ -1,32 +1,21 @@
 -- Reading control messages from left to right, with the place of the first field that breaks a rule or is cut
 -- (ISO/IEC 13818-6, clauses 7.2, 7.3 and 11; ETSI TR 101 202, clause 4.7).
 use Rattle.std.specs.Prelude.{ℕ, ◌+◌, List, take, drop, Bool, false, Option, Some, None, Result, Ok, Err, ◌==◌, if◌then◌else◌}
-use Rattle.oc_bytes.specs.Cursor.{Cursor, Reading, ◌>>=◌, number_at, bytes_at, from_start, read_from_start, value_only, value_read}
+use Rattle.oc_bytes.specs.Cursor.{Cursor, Reading, ◌>>=◌, number_at, bytes_at, sized_at, skip_reading, from_start, read_from_start, value_only, value_read, each_at}
 use Rattle.oc_bytes.specs.Numbers.{number_of}
 use Rattle.ddb_block.specs.Message.{message_at}
 use Rattle.ior_tap.specs.Iors as iors
-use Rattle.ior_tap.specs.IorReading.{ior_at, each_at, tap_at}
+use Rattle.ior_tap.specs.IorReading.{ior_at, tap_at}
 use Rattle.dsi_dii.specs.declared.ModuleLine.{ModuleLine}
 use Rattle.dsi_dii.specs.declared.reading.Head.{Head}
 use Rattle.dsi_dii.specs.Controls.{Message, IsDsi, IsDii, is_compressed}
-
--- a field that says in n bytes how many bytes it has
-unfoldable pub sized_at : ℕ → Cursor → Reading (List ℕ)
-sized_at n c = do
-  size ← number_at n c
-  bytes_at size.0 size.1
-
--- what follows, where no field breaks a rule or is cut
-abbrev pub cursor_of : {A : Type 0} → Reading A → Option Cursor
-cursor_of (Ok x) = Some x.1
-cursor_of (Err place) = None
 
 -- the user info of a moduleInfo: after three time-outs and the taps
 unfoldable pub info_at : Cursor → Reading (List ℕ)
 info_at c = do
   times ← bytes_at 12 c
   taps_count ← number_at 1 times.1
-  taps ← each_at tap_at taps_count.0 taps_count.1
+  taps ← skip_reading (each_at tap_at taps_count.0 taps_count.1)
   sized_at 1 taps.1
 
 -- a moduleInfo that doesn't read is taken as one without user info (this project's own rule)
@@ -54,6 +43,12 @@ head_at c = do
   compatibility ← sized_at 2 download_scenario.1
   number_of_modules ← number_at 2 compatibility.1
   Ok (record { download = download.0; block_size = block_size.0; modules = number_of_modules.0 }, number_of_modules.1)
+
+-- the fields of a DII before its modules, in its message
+unfoldable pub opening_at : Cursor → Reading Head
+opening_at c = do
+  transaction ← message_at 0x1002 c
+  head_at transaction.1
 
 unfoldable pub dii_at : Cursor → Reading Message
 dii_at c = do

@@ -5,6 +5,7 @@ use Rattle.oc_bytes.specs.Numbers.{two_bytes, four_bytes}
 use Rattle.ddb_block.specs.Message.{IsMessage, message}
 use Rattle.ior_tap.specs.Iors as iors
 use Rattle.ior_tap.specs.declared.Location.{Location}
+use Rattle.dsi_dii.specs.declared.TheConstants.{BLOCK_SIZE}
 use Rattle.dsi_dii.specs.declared.Dsi.{Dsi}
 use Rattle.dsi_dii.specs.declared.Dii.{Dii}
 use Rattle.dsi_dii.specs.declared.ModuleLine.{ModuleLine}
@@ -12,6 +13,7 @@ use Rattle.dsi_dii.specs.declared.Control.{Control}
 use Rattle.dsi_dii.specs.declared.Control.TheVariants as code
 use Rattle.dsi_dii.specs.declared.ControlFault.{ControlFault}
 use Rattle.dsi_dii.specs.declared.ControlFault.TheVariants as faults
+use Rattle.oc_bytes.specs.Agreement.{ReadsEach}
 
 pub record DsiFields : Type 0 where
   pub transaction : ℕ
@@ -76,7 +78,7 @@ pub record ReadsInfo (bytes user_info : List ℕ) : Type 0 where
   pub trailing : List ℕ
   pub ranges : (length times ≡ 12) × (length taps < 256) × (length user_info < 256)
   pub whole : bytes ≡ times ++ length taps ∷ tap_lines ++ length user_info ∷ user_info ++ trailing
-  pub each : iors.ReadsEach iors.ReadsTap tap_lines taps
+  pub each : ReadsEach iors.ReadsTap tap_lines taps
 
 -- one that doesn't read is taken as one without user info
 abbrev pub IsInfo : List ℕ → Bool → Type 0
@@ -98,7 +100,7 @@ pub record ReadsDii (payload : List ℕ) (d : DiiFields) : Type 0 where
   pub ranges : (d.download < 4294967296) × (d.block_size < 65536) × (length windows ≡ 10) × (length compatibility < 65536) × (length d.modules < 65536) × (length private < 65536)
   pub message : IsMessage payload 0x1002 d.transaction (four_bytes d.download ++ two_bytes d.block_size ++ windows ++ two_bytes (length compatibility) ++ compatibility
       ++ two_bytes (length d.modules) ++ lines ++ two_bytes (length private) ++ private ++ trailing)
-  pub each : iors.ReadsEach ReadsLine lines d.modules
+  pub each : ReadsEach ReadsLine lines d.modules
 
 -- the gateway's IOR stands at the front of the private data; what follows it there is passed over
 pub record IsGateway (private : List ℕ) (gateway : iors.Fields) : Type 0 where
@@ -127,10 +129,6 @@ Reads payload (IsDii d) = ReadsDii payload d
 
 -- ---- what is written
 
--- the header of a message without an adaptation
-abbrev pub header_bytes : (id transaction size : ℕ) → List ℕ
-header_bytes id transaction size = (0x11 ∷ 0x03 ∷ []) ++ two_bytes id ++ four_bytes transaction ++ (0xFF ∷ 0 ∷ []) ++ two_bytes size
-
 -- a line whose numbers have room in their fields
 pub record LineFits (l : ModuleLine) : Type 0 where
   pub id : l.id < 65536
@@ -145,7 +143,7 @@ line_bytes l = two_bytes l.id ++ four_bytes l.size ++ l.version ∷ length writt
 
 -- the fields of a DII before its modules, the windows and the compatibility descriptor being empty
 abbrev pub dii_head : (download modules : ℕ) → List ℕ
-dii_head download modules = four_bytes download ++ two_bytes 4066 ++ replicate 10 0 ++ two_bytes 0 ++ two_bytes modules
+dii_head download modules = four_bytes download ++ two_bytes BLOCK_SIZE ++ replicate 10 0 ++ two_bytes 0 ++ two_bytes modules
 
 abbrev pub dii_spelling : DiiFields → List ℕ
 dii_spelling d = message 0x1002 d.transaction (dii_head d.download (length d.modules) ++ flat_map line_bytes d.modules ++ two_bytes 0)
@@ -158,7 +156,7 @@ abbrev pub dsi_spelling : ℕ → List ℕ → Location → List ℕ
 dsi_spelling transaction kind l = message 0x1006 transaction (dsi_body (iors.spelling kind l))
 
 pub record IsWrittenDii (d : DiiFields) : Type 0 where
-  pub blocks : d.block_size ≡ 4066
+  pub blocks : d.block_size ≡ BLOCK_SIZE
   pub plain : All (λ l. l.compressed ≡ false) d.modules
 
 abbrev pub cause : ControlFault → Option ℕ

@@ -3,6 +3,7 @@ use Rattle.std.specs.Prelude.{◌≡◌, ℕ, ◌+◌, ◌*◌, ◌<◌, ◌≤�
 use Rattle.std.specs.List.{All}
 use Rattle.ior_tap.specs.Iors as iors
 use Rattle.ior_tap.specs.declared.Location.{Location}
+use Rattle.dsi_dii.specs.declared.TheConstants.{MOST_MODULES}
 use Rattle.dsi_dii.specs.Controls.{DiiFields, IsWrittenDii, LineFits, IsDsi, IsDii, dii_spelling, dsi_spelling}
 use Rattle.dsi_dii.specs.ControlReading.{read}
 
@@ -10,7 +11,7 @@ use Rattle.dsi_dii.specs.ControlReading.{read}
 pub record IsSpellable (d : DiiFields) : Type 0 where
   pub written : IsWrittenDii d
   pub lines : All LineFits d.modules
-  pub few : length d.modules ≤ 139
+  pub few : length d.modules ≤ MOST_MODULES
   pub download : d.download < 4294967296
   pub transaction : d.transaction < 4294967296
 

@@ -3,21 +3,48 @@
 //!
 //! The layouts are those of ISO/IEC 13818-6, clauses 7.2 and 7.3, in the profile of ETSI TR 101 202, clauses 4.6
 //! and 4.7.
+//!
+//! ```
+//! use dsi_dii::{Control, ControlFault, TransactionId, decode};
+//! use std::alloc::Global;
+//!
+//! /// The generation's number of a DII, as far as its version tells it.
+//! fn version_of(alloc: Global, payload: &[u8]) -> Result<Option<u16>, ControlFault> {
+//!     let Control::Dii(dii) = decode(alloc, payload)? else { return Ok(None) };
+//!     Ok(Some(dii.transaction.version()))
+//! }
+//!
+//! assert_eq!(rt; TransactionId::dii(3).version(), 3);
+//! ```
 #![tactic(auto)]
 
 ghost use Rattle.std.specs.Prelude.{◌≡◌, ◌≤◌, ◌<◌};
 ghost use Rattle.dsi_dii.specs.Controls.{distance_of, dii_transaction, version_of, identification_of};
-ghost use Rattle.dsi_dii.specs.declared.ControlFault.TheVariants.{NoMemory as ControlNoMemory};
+ghost use Rattle.dsi_dii.specs.declared.ControlFault.TheVariants.{NotControl, NoMemory as ControlNoMemory};
 ghost use Rattle.dsi_dii.specs.declared.DiiFault.TheVariants.{NoMemory as DiiNoMemory};
 
 mod reading;
 mod writing;
 
+use ddb_block::MOST_BLOCK_SIZE;
 use ior_tap::Ior;
+use oc_bytes::Cut;
 pub use reading::decode;
 use std::alloc::{AllocError, AllocFailed};
 use thiserror::Error;
 pub use writing::{encode_dii, encode_dsi, spellings_read_back};
+
+/// The most modules of a DII: one section has no room for more.
+pub const MOST_MODULES: usize = 139;
+
+/// The block size of each DII that is written, in bytes: the greatest.
+pub const BLOCK_SIZE: u16 = MOST_BLOCK_SIZE;
+
+/// The most bytes that all modules of a carousel have together. This project's own limit.
+pub const MOST_TOTAL_SIZE: u32 = 268_435_456;
+
+/// The number of the last generation that a DII may have: a transactionId has 14 bits for it.
+pub const LAST_GENERATION: u64 = 16_383;
 
 /// The transactionId of a control message, 32 bits: who made it (bits 31 and 30), its version (29 to 16), its
 /// identification (15 to 1) and the updated flag (0). (ISO/IEC 13818-6, clause 11.4.1; ETSI TR 101 202, clause 4.6.5.)
@@ -32,10 +59,10 @@ impl TransactionId {
         TransactionId(0x8000_0000)
     }
 
-    /// That of the DII of this generation, 0 to 16,383: the generation is its version, the identification is 1,
+    /// That of the DII of this generation, 0 to [`LAST_GENERATION`]: the generation is its version, the identification is 1,
     /// and the flag is the generation's last bit, so that it changes with each generation.
     pub fn dii(generation: u64) -> TransactionId
-        requires { generation ≤ 16383 }
+        requires { generation ≤ LAST_GENERATION }
         ensures { result.0 ≡ dii_transaction generation }
     {
         TransactionId(0x8000_0002 + generation as u32 * 65536 + (generation % 2) as u32)
@@ -114,12 +141,20 @@ pub enum ControlFault {
 /// Why a DII wasn't written.
 #[derive(Clone, Copy, Debug, PartialEq, Eq, Error)]
 pub enum DiiFault {
-    /// It has more than 139 modules: one section has no room for more.
+    /// It has more than [`MOST_MODULES`] modules.
     #[error("the DII has more than 139 modules")]
     TooMany,
     /// There is no memory.
     #[error("out of memory")]
     NoMemory,
+}
+
+impl From<Cut> for ControlFault {
+    ghost from_gives = { λ cut fault. fault ≡ NotControl cut.0 };
+
+    fn from(Cut(place): Cut) -> ControlFault {
+        ControlFault::NotControl(place)
+    }
 }
 
 impl From<AllocError> for ControlFault {

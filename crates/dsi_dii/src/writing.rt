@@ -1,20 +1,16 @@
 ghost use Rattle.std.specs.Prelude.{◌≡◌, ◌≤◌, ◌<◌, ◌+◌, ◌*◌, ◌++◌, ◌∷◌, ◌↔◌, [], length, IfOk, OnOk, IsErrOf};
 ghost use Rattle.std.specs.List.{flat_map, All};
 ghost use Rattle.oc_bytes.specs.Numbers.{two_bytes, four_bytes};
-ghost use Rattle.dsi_dii.specs.Controls.{IsDsi, IsDii, view_dsi, view_dii, Reads, header_bytes, line_bytes, dii_head, dii_spelling, dsi_spelling, IsWrittenDii, LineFits};
+ghost use Rattle.dsi_dii.specs.Controls.{IsDsi, IsDii, view_dsi, view_dii, Reads, line_bytes, dii_head, dii_spelling, dsi_spelling, IsWrittenDii, LineFits};
+ghost use Rattle.ddb_block.specs.Message.{prefix_of};
 ghost use Rattle.ior_tap.specs.Iors as iors;
 ghost use Rattle.ior_tap.specs.declared.Location.{Location};
 ghost use Rattle.dsi_dii.specs.Spellings.{DiiSpellingsReadBack, DiiSpellingsHaveSize, DsiSpellingsReadBack, DsiSpellingsHaveSize};
 
-use crate::{Dii, DiiFault, Dsi, ModuleLine};
+use crate::{BLOCK_SIZE, Dii, DiiFault, Dsi, MOST_MODULES, ModuleLine};
+use ddb_block::header_bytes;
 use oc_bytes::{NoMemory, Writer};
 use std::alloc::Global;
-
-/// The most modules that a DII has room for.
-const MOST_MODULES: usize = 139;
-
-/// The block size that is written, in bytes: the most that a section has room for.
-const BLOCK_SIZE: u16 = 4066;
 
 /// The moduleInfo that is written: no time-outs, one tap for the blocks, no user info.
 static MODULE_INFO: [u8; 21] = [
@@ -23,15 +19,10 @@ static MODULE_INFO: [u8; 21] = [
 
 /// The header that all download messages share, without an adaptation.
 fn put_header(writer: &mut Writer, id: u16, transaction: u32, size: u16) -> Result<(), NoMemory>
-    ensures bytes { OnOk result (writer.new ≡ writer.old ++ header_bytes id transaction size) }
+    ensures bytes { OnOk result (writer.new ≡ writer.old ++ prefix_of id transaction size) }
     ensures fits { transaction < 4294967296 }
 {
-    writer.put_bytes(&[0x11, 0x03])?;
-    writer.put_u16(id)?;
-    writer.put_u32(transaction)?;
-    writer.put_bytes(&[0xFF, 0])?;
-    writer.put_u16(size)?;
-    Ok(())
+    writer.put_bytes(&header_bytes(id, transaction, size))
 }
 
 fn put_line(writer: &mut Writer, line: ModuleLine) -> Result<(), NoMemory>
@@ -68,15 +59,15 @@ fn put_head(writer: &mut Writer, download: u32, modules: u16) -> Result<(), NoMe
     Ok(())
 }
 
-/// The one spelling of a DII, as the payload of a section: of block size 4,066, with no compressed module.
+/// The one spelling of a DII, as the payload of a section: of block size [`BLOCK_SIZE`], with no compressed module.
 ///
-/// `TooMany` comes exactly where there are more than 139 modules. The windows are 0; there are no compatibility
+/// `TooMany` comes exactly where there are more than [`MOST_MODULES`] modules. The windows are 0; there are no compatibility
 /// descriptor and no private data; each module's line has 29 bytes.
 pub fn encode_dii(alloc: Global, dii: &Dii) -> Result<Vec<u8>, DiiFault>
     requires { IsWrittenDii (view_dii dii.now) }
     ensures spells { IfOk result (λ bytes. bytes.items ≡ dii_spelling (view_dii dii.now)) }
     ensures reads { IfOk result (λ bytes. Reads bytes.items (IsDii (view_dii dii.now))) }
-    ensures too_many { IsErrOf result DiiFault.TooMany ↔ (139 < length dii.now.modules.items) }
+    ensures too_many { IsErrOf result DiiFault.TooMany ↔ (MOST_MODULES < length dii.now.modules.items) }
 {
     let count = dii.modules.len();
     if count > MOST_MODULES {

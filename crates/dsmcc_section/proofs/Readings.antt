@@ -9,8 +9,9 @@ use Rattle.section_crc.specs.Crc.{crc_of}
 use Rattle.dsmcc_section.specs.declared.Table.{Table}
 use Rattle.dsmcc_section.specs.declared.Table.TheVariants.{Control, Blocks}
 use Rattle.dsmcc_section.specs.declared.Skip.{Skip}
-use Rattle.dsmcc_section.specs.Sections.{Fields, Fits, Reads, read, fields_of, prefix_with, length_of, length_field, table_id, spelling, IsFramed}
+use Rattle.dsmcc_section.specs.Sections.{Fields, Fits, Reads, read, fields_of, prefix_with, length_of, table_id, spelling, IsFramed}
 use Rattle.dsmcc_section.proofs.Checks.{its_own_crc}
+use Rattle.oc_bytes.specs.Lengths.{section_length}
 
 -- a list of at least this many elements, with the first ones written out
 one_off : (xs : List ℕ) (i : ℕ) → i < length xs → drop i xs ≡ get_or xs i 0 ∷ drop (suc i) xs
@@ -54,8 +55,8 @@ sixth_byte b5 h current = omega arith
 -- what holds of bytes that no skip fits
 pub record Passes (bytes : List ℕ) (s : Fields) : Type 0 where
   pub least : 12 ≤ length bytes
-  pub most : length_field bytes ≤ 4093
-  pub counted : length bytes ≡ length_field bytes + 3
+  pub most : section_length bytes ≤ 4093
+  pub counted : length bytes ≡ section_length bytes + 3
   pub table : (get_or bytes 0 0 ≡ 0x3B) ⊎ (get_or bytes 0 0 ≡ 0x3C)
   pub syntax : 128 ≤ get_or bytes 1 0
   pub current : get_or bytes 5 0 % 2 ≢ 0
@@ -195,7 +196,7 @@ odd v w e = omega arith
 written_length : (p q v crc : ℕ) (s : Fields) → length (prefix_with p q v s ++ four_bytes crc) ≡ length s.payload + 12
 written_length p q v crc s = omega (arith, lit<, length-append s.payload (four_bytes crc))
 
-written_field : (p q v crc : ℕ) (s : Fields) → p < 2 → q < 4 → length s.payload ≤ 4084 → length_field (prefix_with p q v s ++ four_bytes crc) ≡ length s.payload + 9
+written_field : (p q v crc : ℕ) (s : Fields) → p < 2 → q < 4 → length s.payload ≤ 4084 → section_length (prefix_with p q v s ++ four_bytes crc) ≡ length s.payload + 9
 written_field p q v crc s hp hq room = omega arith
 
 written_fields : (p q v crc : ℕ) (s : Fields) → v < 4 → Fits s → fields_of (cond (eqb (table_id s.table) 0x3B) Control Blocks) (prefix_with p q v s ++ four_bytes crc) ≡ s
@@ -209,8 +210,8 @@ written_is_read p q v crc s hp hq hv f right =
     let field = written_field p q v crc s hp hq f.payload in
     let whole = prefix_with p q v s ++ four_bytes crc in
     let least : 12 ≤ length whole = omega arith in
-    let most : length_field whole ≤ 4093 = omega (arith, f.payload) in
-    let counted : length whole ≡ length_field whole + 3 = omega arith in
+    let most : section_length whole ≤ 4093 = omega (arith, f.payload) in
+    let counted : length whole ≡ section_length whole + 3 = omega arith in
     go_on _ _ _ s (le-ltb _ _ least)
     (go_on _ _ _ s (or_from _ _ (le-ltb _ _ most) (not_from_true _ (eq-eqb _ _ counted)))
     (go_on _ _ _ s (is_table s.table)

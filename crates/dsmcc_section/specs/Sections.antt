@@ -2,6 +2,7 @@
 use Rattle.std.specs.Prelude.{◌≡◌, ◌≢◌, ℕ, ◌+◌, ◌*◌, ◌/◌, ◌%◌, ◌-◌, ◌<◌, ◌≤◌, List, [], ◌∷◌, ◌++◌, length, take, drop, slice_index, Option, Some, None, Result, Ok, Err, nat_lt, ◌==◌, not, ◌||◌, ◌&&◌, if◌then◌else◌}
 use Rattle.oc_bytes.specs.Numbers.{two_bytes, four_bytes, number_of}
 use Rattle.section_crc.specs.Crc.{crc_of}
+use Rattle.dsmcc_section.specs.declared.TheConstants.{MOST_PAYLOAD}
 use Rattle.dsmcc_section.specs.declared.Table.{Table}
 use Rattle.dsmcc_section.specs.declared.Table.TheVariants.{Control, Blocks}
 use Rattle.dsmcc_section.specs.declared.Section.{Section}
@@ -10,6 +11,8 @@ use Rattle.dsmcc_section.specs.declared.Skip.{Skip}
 use Rattle.dsmcc_section.specs.declared.Skip.TheVariants as skips
 use Rattle.dsmcc_section.specs.declared.SectionFault.{SectionFault}
 use Rattle.dsmcc_section.specs.declared.SectionFault.TheVariants as faults
+use Rattle.oc_bytes.specs.declared.lengths.TheConstants.{MOST_LENGTH, MOST_SECTION}
+use Rattle.oc_bytes.specs.Lengths.{section_length}
 
 -- a section's fields, its payload as a list
 pub record Fields : Type 0 where
@@ -52,7 +55,7 @@ pub record Fits (s : Fields) : Type 0 where
   pub version : s.version < 32
   pub number : s.number < 256
   pub last : s.last < 256
-  pub payload : length s.payload ≤ 4084
+  pub payload : length s.payload ≤ MOST_PAYLOAD
 
 -- the bytes are read as the section
 pub record Reads (bytes : List ℕ) (s : Fields) : Type 0 where
@@ -69,10 +72,6 @@ pub record Reads (bytes : List ℕ) (s : Fields) : Type 0 where
 abbrev pub spelling : Fields → List ℕ
 spelling s = let front = prefix_with 0 3 3 s in front ++ four_bytes (crc_of front)
 
--- the length field
-abbrev pub length_field : List ℕ → ℕ
-length_field bytes = slice_index bytes 1 % 16 * 256 + slice_index bytes 2
-
 -- the fields of a section of this table that takes all of the bytes
 abbrev pub fields_of : Table → List ℕ → Fields
 fields_of table bytes = record {
@@ -87,15 +86,15 @@ fields_of table bytes = record {
 -- a frame that a stream of sections can be cut by: its length field counts the bytes after it, and it doesn't begin with stuffing
 pub record IsFramed (bytes : List ℕ) : Type 0 where
   pub least : 12 ≤ length bytes
-  pub most : length bytes ≤ 4096
-  pub counted : length bytes ≡ length_field bytes + 3
+  pub most : length bytes ≤ MOST_SECTION
+  pub counted : length bytes ≡ section_length bytes + 3
   pub begins : slice_index bytes 0 ≢ 0xFF
 
 -- what reading gives: the fields, or the first skip that holds
 abbrev pub read : List ℕ → Result Fields Skip
 read bytes =
     if nat_lt (length bytes) 12 then Err skips.Short
-    else (if nat_lt 4093 (length_field bytes) || not (length bytes == length_field bytes + 3) then Err skips.Length
+    else (if nat_lt MOST_LENGTH (section_length bytes) || not (length bytes == section_length bytes + 3) then Err skips.Length
     else (if not (slice_index bytes 0 == 0x3B) && not (slice_index bytes 0 == 0x3C) then Err skips.OtherTable
     else (if nat_lt (slice_index bytes 1) 128 then Err skips.NoSyntax
     else (if slice_index bytes 5 % 2 == 0 then Err skips.NotCurrent

@@ -17,31 +17,17 @@ use Rattle.path_tree.specs.declared.tree.Edit.{Edit}
 use Rattle.path_tree.specs.declared.tree.Edit.TheVariants.{Put, Remove}
 use Rattle.path_tree.specs.declared.tree.EditFault.{EditFault}
 use Rattle.path_tree.specs.declared.tree.EditFault.TheVariants.{FolderThere, ThroughFile, FileTooLarge}
+use Rattle.path_tree.proofs.CallerLemmas.{path_total, same_path-is, same_path-refl}
 use Rattle.folder_store.specs.Folders.{FolderTree, IsFolderTree, content_of, entry_at}
 use Rattle.folder_store.specs.Walk.{HasFiles, PutsFile, PutsFiles, edits_of, path_in, size, text_below}
-use Rattle.folder_store.proofs.Naming.{In, each_in, in_from, same_name-is, same_name-refl, true_or_false}
+use Rattle.folder_store.proofs.Naming.{In, each_in, in_from, true_or_false}
 use Rattle.folder_store.proofs.Files.{Ascends, ascends_from, puts_files}
 
 -- ---- paths
 
-path_total : IsTotalOrder path_cmp
-path_total = lists_total nat_list_cmp_total
-
 both_true : (a b : Bool) → (a && b) ≡ true → (a ≡ true) × (b ≡ true)
 both_true true b e = (refl, e)
 both_true false b e = cc
-
-same_path-is : (p q : PathNames) → same_path p q ≡ true → p ≡ q
-same_path-is [] [] e = refl
-same_path-is [] (n ∷ q) e = cc
-same_path-is (m ∷ p) [] e = cc
-same_path-is (m ∷ p) (n ∷ q) e =
-    let b = both_true (same_name m n) (same_path p q) e in
-    ap (λ (x : Bytes). x ∷ p) (same_name-is m n b.0) ∙ ap (λ (r : PathNames). n ∷ r) (same_path-is p q b.1)
-
-same_path-refl : (p : PathNames) → same_path p p ≡ true
-same_path-refl [] = refl
-same_path-refl (n ∷ p) = rw (same_name-refl n) (same_path-refl p)
 
 not_less_itself : (p : PathNames) → path_cmp p p ≡ Less → ⊥
 not_less_itself p e = let t : path_cmp p p ≡ Equal = tied_itself path_total p in let z : Less ≡ Equal = sym e ∙ t in cc

@@ -14,10 +14,11 @@ use Rattle.path_tree.specs.Paths.{Bytes, PathNames, IsName, IsPath, name_cmp, pa
 use Rattle.path_tree.specs.Texts.{is_name, is_zero_or_slash}
 use Rattle.path_tree.specs.declared.tree.Edit.{Edit}
 use Rattle.path_tree.specs.declared.tree.Edit.TheVariants.{Put}
+use Rattle.path_tree.proofs.CallerLemmas.{name_total, same_name-is, same_name-refl}
 use Rattle.folder_store.specs.Folders.{Entry, AFile, AFolder, AnOther, FolderTree, IsFolderTree, after_prefix, content_of, entries_below, entry_at, is_folder_at, is_name_text, named_by}
 use Rattle.folder_store.specs.Walk.{Met, Walked, IsBadName, PutsFile, PutsFiles, edits_of, met_at, met_below, met_past, onto, path_in, size, sort_entries, text_below, walk_edits}
-use Rattle.folder_store.proofs.Naming.{In, AreDistinct, all_in, contains_from, distinct_from_pairs, each_in, in_map, names, named_at, named_is, same_name-is, same_name-refl, stands, true_or_false}
-use Rattle.folder_store.proofs.Sorting.{Climbs, name_total, sorted_all, sorted_climbs, sorted_only}
+use Rattle.folder_store.proofs.Naming.{In, AreDistinct, all_in, contains_from, distinct_from_pairs, each_in, in_map, names, named_at, named_is, stands, true_or_false}
+use Rattle.folder_store.proofs.Sorting.{Climbs, sorted_all, sorted_climbs, sorted_only}
 
 -- ---- what was walked of what was met
 

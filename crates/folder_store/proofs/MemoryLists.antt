@@ -8,12 +8,13 @@ use Rattle.std.specs.declared.string.String.{String}
 use Rattle.std.proofs.lemmas.List.{map-append, take_more}
 use Rattle.std.proofs.lemmas.List.Elements.{filter_map-append}
 use Rattle.path_tree.specs.Paths.{Bytes, same_name}
+use Rattle.path_tree.proofs.CallerLemmas.{same_name-is, same_name-refl}
 use Rattle.folder_store.specs.declared.folders.EntryKind.{EntryKind}
 use Rattle.folder_store.specs.declared.folders.EntryKind.TheVariants as kinds
 use Rattle.folder_store.specs.declared.folders.FolderEntry.{FolderEntry}
 use Rattle.folder_store.specs.Folders.{view_entry, Entry, AFile, AFolder, after_prefix, is_name_text, named_by, kind_of, entries_below}
 use Rattle.folder_store.specs.Memory.{entries_in, folders_above, file_name, folder_name, ends_in_slash, has_text, with_text, each_once, tree_of, files_below, folders_below, with_folder, with_folder_of}
-use Rattle.folder_store.proofs.MemoryTexts.{true_or_false, same-is, same-refl, same-pointwise, behind_is, name_behind, folder_right_below}
+use Rattle.folder_store.proofs.MemoryTexts.{true_or_false, behind_is, name_behind, folder_right_below}
 
 fold-append : {A B : Type 0} (f : B → A → B) (a : B) (xs ys : List A) → fold f a (xs ++ ys) ≡ fold f (fold f a xs) ys
 fold-append f a [] ys = refl
@@ -44,15 +45,15 @@ same-names q s t m n e f = go (true_or_false (same_name s t)) (true_or_false (sa
   go (inl a) (inl b) = a ∙ sym b
   go (inr a) (inr b) = a ∙ sym b
   go (inl a) (inr b) =
-      let one : s ≡ t = same-is s t a in
+      let one : s ≡ t = same_name-is s t a in
       let both : Some m ≡ Some n = sym e ∙ ap (name_behind q) one ∙ f in
       let same : m ≡ n = cc in
-      let self : same_name m n ≡ true = subst (λ (x : Bytes). same_name m x ≡ true) same (same-refl m) in
+      let self : same_name m n ≡ true = subst (λ (x : Bytes). same_name m x ≡ true) same (same_name-refl m) in
       cc
   go (inr a) (inl b) =
-      let same : m ≡ n = same-is m n b in
+      let same : m ≡ n = same_name-is m n b in
       let one : s ≡ t = in_s ∙ ap (λ r. q ++ r) same ∙ sym in_t in
-      let self : same_name s t ≡ true = subst (λ (x : Bytes). same_name s x ≡ true) one (same-refl s) in
+      let self : same_name s t ≡ true = subst (λ (x : Bytes). same_name s x ≡ true) one (same_name-refl s) in
       cc
 
 has_text-named : (q s n : Bytes) (texts : List Bytes) → name_behind q s ≡ Some n → has_text (filter_map (name_behind q) texts) n ≡ has_text texts s
@@ -61,7 +62,7 @@ has_text-named q s n (t ∷ ts) e = go (name_behind q t) refl (has_text-named q 
   go : (o : Option Bytes) → name_behind q t ≡ o → has_text (filter_map (name_behind q) ts) n ≡ has_text ts s → has_text (filter_map (name_behind q) (t ∷ ts)) n ≡ has_text (t ∷ ts) s
   go None f rest = other (true_or_false (same_name t s)) where
     other : (same_name t s ≡ true) ⊎ (same_name t s ≡ false) → has_text (filter_map (name_behind q) (t ∷ ts)) n ≡ has_text (t ∷ ts) s
-    other (inl is) = let both : None ≡ Some n = sym f ∙ ap (name_behind q) (same-is t s is) ∙ e in cc
+    other (inl is) = let both : None ≡ Some n = sym f ∙ ap (name_behind q) (same_name-is t s is) ∙ e in cc
     other (inr isnt) = rw (f, isnt) rest
   go (Some m) f rest = rw f (ap (λ b. b || has_text (filter_map (name_behind q) ts) n) (sym (same-names q t s m n f e)) ∙ ap (λ b. same_name t s || b) rest)
 
@@ -226,15 +227,9 @@ pub any-mapped : {X Y : Type 0} (p : Y → Bool) (f : X → Y) (xs : List X) →
 any-mapped p f [] = refl
 any-mapped p f (x ∷ xs) = ap (λ b. p (f x) || b) (any-mapped p f xs)
 
-pub any-alike : {X : Type 0} (p q : X → Bool) → ((x : X) → p x ≡ q x) → (xs : List X) → list_any p xs ≡ list_any q xs
-any-alike p q h [] = refl
-any-alike p q h (x ∷ xs) = rw (h x, any-alike p q h xs) refl
-
 -- the test of a listed name, by the names as they are kept
 pub is-found : (found : List FolderEntry) (name : Bytes) → list_any (λ e. same_name e.0 name) (map view_entry found) ≡ list_any (λ (e : FolderEntry). pointwise eqb (string_bytes e.name) name) found
-is-found found name =
-    any-mapped (λ e. same_name e.0 name) view_entry found
-    ∙ any-alike (λ (e : FolderEntry). same_name (string_bytes e.name) name) (λ (e : FolderEntry). pointwise eqb (string_bytes e.name) name) (λ (e : FolderEntry). same-pointwise (string_bytes e.name) name) found
+is-found found name = any-mapped (λ e. same_name e.0 name) view_entry found
 
 pub folder-kept : (found : List FolderEntry) (name : Bytes) → list_any (λ (e : FolderEntry). pointwise eqb (string_bytes e.name) name) found ≡ true → map view_entry found ≡ with_folder (map view_entry found) name
 folder-kept found name e = rw (is-found found name ∙ e) refl

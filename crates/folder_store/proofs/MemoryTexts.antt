@@ -13,27 +13,8 @@ pub true_or_false : (b : Bool) → (b ≡ true) ⊎ (b ≡ false)
 true_or_false true = inl refl
 true_or_false false = inr refl
 
-pub same-pointwise : (m n : Bytes) → same_name m n ≡ pointwise eqb m n
-same-pointwise [] [] = refl
-same-pointwise [] (b ∷ bs) = refl
-same-pointwise (a ∷ as') [] = refl
-same-pointwise (a ∷ as') (b ∷ bs) = ap (λ t. eqb a b && t) (same-pointwise as' bs)
-
-pub same-is : (m n : Bytes) → same_name m n ≡ true → m ≡ n
-same-is m n e = same_text m n (sym e ∙ same-pointwise m n)
-
-pub same-refl : (n : Bytes) → same_name n n ≡ true
-same-refl [] = refl
-same-refl (b ∷ bs) = grind (arith, nat_tests, same-refl bs)
-
 eqb-sym : (a b : ℕ) → eqb a b ≡ eqb b a
 eqb-sym a b = grind (arith, nat_tests)
-
-pub same-sym : (m n : Bytes) → same_name m n ≡ same_name n m
-same-sym [] [] = refl
-same-sym [] (b ∷ bs) = refl
-same-sym (a ∷ as') [] = refl
-same-sym (a ∷ as') (b ∷ bs) = rw (eqb-sym a b, same-sym as' bs) refl
 
 pub eqb-same : (a : ℕ) → eqb a a ≡ true
 eqb-same a = grind (arith, nat_tests)

@@ -12,10 +12,11 @@ use Rattle.folder_store.specs.declared.folders.FolderEntry.{FolderEntry}
 use Rattle.std.proofs.lemmas.List.Sorted.{IsPermutation-refl}
 use Rattle.std.proofs.lemmas.List.Folds.{list_any-append, list_any_at}
 use Rattle.path_tree.specs.Paths.{Bytes, same_name}
+use Rattle.path_tree.proofs.CallerLemmas.{same_name-flips, same_name-is, same_name-refl}
 use Rattle.folder_store.specs.declared.folders.EntryKind.{EntryKind}
 use Rattle.folder_store.specs.Folders.{view_entry, Entry, FolderTree, entry_at, after_prefix, is_name_text, named_by, entries_below, is_folder_at, content_of, IsListed, IsRead, IsFolderTree}
 use Rattle.folder_store.specs.Memory.{entries_in, folders_above, ends_in_slash, has_text, with_text, each_once, tree_of, all_apart, AreEntries, files_below, folders_below}
-use Rattle.folder_store.proofs.MemoryTexts.{true_or_false, same-is, same-refl, same-pointwise, same-sym, behind_is, behind_some, stands_in, stands_higher}
+use Rattle.folder_store.proofs.MemoryTexts.{true_or_false, behind_is, behind_some, stands_in, stands_higher}
 use Rattle.folder_store.proofs.MemoryLists.{Kept, Entries, view, a_file, a_folder, below, is_file, folder_texts, below-is}
 
 and_first : (a b : Bool) → (a && b) ≡ true → a ≡ true
@@ -49,7 +50,7 @@ pub apart-pairs : {X : Type 0} (xs : List (Bytes × X)) → all_apart xs ≡ tru
 apart-pairs [] e i j d up within = absurd (omega arith)
 apart-pairs (x ∷ xs) e i zero d up within = absurd (omega arith)
 apart-pairs (x ∷ xs) e zero (suc j) d up within =
-    same-sym x.0 (get_or xs j d).0 ∙ any_place (λ f. same_name f.0 x.0) xs j d (not_true (list_any (λ f. same_name f.0 x.0) xs) (and_first (not (list_any (λ f. same_name f.0 x.0) xs)) (all_apart xs) e)) (omega arith)
+    same_name-flips x.0 (get_or xs j d).0 ∙ any_place (λ f. same_name f.0 x.0) xs j d (not_true (list_any (λ f. same_name f.0 x.0) xs) (and_first (not (list_any (λ f. same_name f.0 x.0) xs)) (all_apart xs) e)) (omega arith)
 apart-pairs (x ∷ xs) e (suc i) (suc j) d up within = apart-pairs xs (and_second (not (list_any (λ f. same_name f.0 x.0) xs)) (all_apart xs) e) i j d (omega arith) (omega arith)
 
 -- an entry right below a folder has the folder's text, a slash and its name
@@ -70,8 +71,8 @@ other_name q e f x y g h apart = go (true_or_false (same_name y.0 x.0)) where
   go (inl is) =
       let in_e : e.0 ≡ q ++ x.0 = behind_is q e.0 x.0 (below_some q e x g) in
       let in_f : f.0 ≡ q ++ y.0 = behind_is q f.0 y.0 (below_some q f y h) in
-      let one : f.0 ≡ e.0 = in_f ∙ ap (λ r. q ++ r) (same-is y.0 x.0 is) ∙ sym in_e in
-      let self : same_name f.0 e.0 ≡ true = subst (λ (t : Bytes). same_name f.0 t ≡ true) one (same-refl f.0) in
+      let one : f.0 ≡ e.0 = in_f ∙ ap (λ r. q ++ r) (same_name-is y.0 x.0 is) ∙ sym in_e in
+      let self : same_name f.0 e.0 ≡ true = subst (λ (t : Bytes). same_name f.0 t ≡ true) one (same_name-refl f.0) in
       cc
 
 others_named : (q : Bytes) (e x : Bytes × Entry) (t : FolderTree) → below q e ≡ Some x → list_any (λ f. same_name f.0 e.0) t ≡ false → list_any (λ f. same_name f.0 x.0) (map view (filter_map (below q) t)) ≡ false
@@ -123,7 +124,7 @@ no_folder_there (f ∷ fs) texts p apart e = go (no_folder_there fs texts p (and
   no_folder = sym (among_folders texts f.0) ∙ or_second (list_any (λ g. same_name g.0 f.0) (map a_file fs)) (list_any (λ g. same_name g.0 f.0) (map a_folder texts)) (sym (list_any-append (λ g. same_name g.0 f.0) (map a_file fs) (map a_folder texts)) ∙ others)
 
   go : (list_any (λ e. same_name e.0 p) fs ≡ true → has_text texts p ≡ false) → (b : Bool) → same_name f.0 p ≡ b → (b || list_any (λ e. same_name e.0 p) fs) ≡ true → has_text texts p ≡ false
-  go deeper true g h = subst (λ (x : Bytes). has_text texts x ≡ false) (same-is f.0 p g) no_folder
+  go deeper true g h = subst (λ (x : Bytes). has_text texts x ≡ false) (same_name-is f.0 p g) no_folder
   go deeper false g h = deeper h
 
 has_text-append : (xs ys : List Bytes) (p : Bytes) → has_text (xs ++ ys) p ≡ (has_text xs p || has_text ys p)
@@ -142,7 +143,7 @@ has_text-with : (texts : List Bytes) (t p : Bytes) → has_text (with_text texts
 has_text-with texts t p = go (has_text texts t) refl where
   absorbed : (b : Bool) → same_name t p ≡ b → has_text texts t ≡ true → has_text texts p ≡ (has_text texts p || b)
   absorbed false e f = sym (or_false (has_text texts p))
-  absorbed true e f = let there : has_text texts p ≡ true = subst (λ (x : Bytes). has_text texts x ≡ true) (same-is t p e) f in rw there refl
+  absorbed true e f = let there : has_text texts p ≡ true = subst (λ (x : Bytes). has_text texts x ≡ true) (same_name-is t p e) f in rw there refl
 
   go : (b : Bool) → has_text texts t ≡ b → has_text (with_text texts t) p ≡ (has_text texts p || same_name t p)
   go true e = rw e (absorbed (same_name t p) refl e)
@@ -183,7 +184,7 @@ is-listed es path out apart there e =
 
 -- some entry of the tree has this text
 there_is : {X : Type 0} (t : List (Bytes × X)) (s : Bytes) (x : X) → Contains t (s, x) → list_any (λ e. same_name e.0 s) t ≡ true
-there_is t s x h = list_any_at (λ e. same_name e.0 s) t h.0 (s, x) h.1 (rw h.2 (same-refl s))
+there_is t s x h = list_any_at (λ e. same_name e.0 s) t h.0 (s, x) h.1 (rw h.2 (same_name-refl s))
 
 files_there : (es : Entries) (s : Bytes) → list_any (λ e. same_name e.0 s) (map a_file (filter is_file es)) ≡ true → list_any (λ e. same_name e.0 s) es ≡ true
 files_there [] s h = cc
@@ -211,7 +212,7 @@ or_any p q f (x ∷ xs) h = go (p x) (q x) refl refl (or_any p q f xs) h where
   go false false e g deeper h = rw g (deeper h)
 
 in_folder : (folder name s : Bytes) → same_name s (folder ++ 47 ∷ name) ≡ true → is_some (after_prefix (folder ++ 47 ∷ []) s) ≡ true
-in_folder folder name s e = ap is_some (behind_some (folder ++ 47 ∷ []) s name (same-is s (folder ++ 47 ∷ name) e ∙ simp append_assoc))
+in_folder folder name s e = ap is_some (behind_some (folder ++ 47 ∷ []) s name (same_name-is s (folder ++ 47 ∷ name) e ∙ simp append_assoc))
 
 pub inside : (es : Entries) (folder name : Bytes) → list_any (λ e. same_name e.0 (folder ++ 47 ∷ name)) (tree_of es) ≡ true → holds folder es ≡ true
 inside es folder name h = go (true_or_false (list_any (λ e. same_name e.0 (folder ++ 47 ∷ name)) (map a_file (filter is_file es)))) where
@@ -249,7 +250,7 @@ no_file_text (e ∷ es) texts p slash = go (no_file_text es texts p slash) (ends
   go : content_of (entry_at (map a_file (filter is_file es) ++ map a_folder texts) p) ≡ None → (a b : Bool) → ends_in_slash e.0 ≡ a → same_name e.0 p ≡ b
       → content_of (entry_at (map a_file (filter is_file (e ∷ es)) ++ map a_folder texts) p) ≡ None
   go rest true b f g = rw f rest
-  go rest false true f g = let both : ends_in_slash e.0 ≡ true = ap ends_in_slash (same-is e.0 p g) ∙ slash in cc
+  go rest false true f g = let both : ends_in_slash e.0 ≡ true = ap ends_in_slash (same_name-is e.0 p g) ∙ slash in cc
   go rest false false f g = rw (f, g) rest
 
 file_text : (es : Entries) (texts : List Bytes) (p : Bytes) → ends_in_slash p ≡ false → content_of (entry_at (map a_file (filter is_file es) ++ map a_folder texts) p) ≡ bytes_at p es
@@ -257,7 +258,7 @@ file_text [] texts p slash = no_content texts p
 file_text (e ∷ es) texts p slash = go (file_text es texts p slash) (ends_in_slash e.0) (same_name e.0 p) refl refl where
   go : content_of (entry_at (map a_file (filter is_file es) ++ map a_folder texts) p) ≡ bytes_at p es → (a b : Bool) → ends_in_slash e.0 ≡ a → same_name e.0 p ≡ b
       → content_of (entry_at (map a_file (filter is_file (e ∷ es)) ++ map a_folder texts) p) ≡ bytes_at p (e ∷ es)
-  go rest true true f g = let both : ends_in_slash e.0 ≡ false = ap ends_in_slash (same-is e.0 p g) ∙ slash in cc
+  go rest true true f g = let both : ends_in_slash e.0 ≡ false = ap ends_in_slash (same_name-is e.0 p g) ∙ slash in cc
   go rest true false f g = rw (f, g) rest
   go rest false true f g = rw (f, g) refl
   go rest false false f g = rw (f, g) rest
@@ -279,11 +280,11 @@ bytes-drop p xs i x within is = rw (drop-cons xs i x, ← is, add-one) (go (same
 
 pub bytes-next : {Z : Type 0} (p : Bytes) (xs : Kept Z) (i : ℕ) (x : String Z × Bytes) → i < length xs → x ≡ get_or xs i x → pointwise eqb (string_bytes x.0) p ≡ false
     → bytes_at p (entries_in (drop i xs)) ≡ bytes_at p (entries_in (drop (i + 1) xs))
-bytes-next p xs i x within is other = bytes-drop p xs i x within is ∙ rw (same-pointwise (string_bytes x.0) p, other) refl
+bytes-next p xs i x within is other = bytes-drop p xs i x within is ∙ rw other refl
 
 pub bytes-here : {Z : Type 0} (p : Bytes) (xs : Kept Z) (i : ℕ) (x : String Z × Bytes) → i < length xs → x ≡ get_or xs i x → pointwise eqb (string_bytes x.0) p ≡ true
     → bytes_at p (entries_in (drop i xs)) ≡ Some x.1
-bytes-here p xs i x within is same = bytes-drop p xs i x within is ∙ rw (same-pointwise (string_bytes x.0) p, same) refl
+bytes-here p xs i x within is same = bytes-drop p xs i x within is ∙ rw same refl
 
 pub bytes-end : {Z : Type 0} (p : Bytes) (xs : Kept Z) (i : ℕ) → length xs ≤ i → bytes_at p (entries_in (drop i xs)) ≡ None
 bytes-end p xs i past = rw (drop_all i xs past) refl

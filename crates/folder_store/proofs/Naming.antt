@@ -7,6 +7,7 @@ use Rattle.std.proofs.lemmas.List.Elements.{recursion_from_All}
 use Rattle.std.proofs.lemmas.Bool.Decides.{nat_tests}
 use Rattle.std.proofs.lemmas.Map.Keys.{IsDistinct-head, IsDistinct-tail}
 use Rattle.path_tree.specs.Paths.{Bytes, same_name}
+use Rattle.path_tree.proofs.CallerLemmas.{same_name-is, same_name-refl}
 use Rattle.folder_store.specs.Folders.{Entry, FolderTree, after_prefix, entries_below, entry_at, is_name_text, named_by}
 
 -- ---- names
@@ -14,28 +15,6 @@ use Rattle.folder_store.specs.Folders.{Entry, FolderTree, after_prefix, entries_
 pub true_or_false : (b : Bool) → (b ≡ true) ⊎ (b ≡ false)
 true_or_false true = inl refl
 true_or_false false = inr refl
-
-same_as : (m n : Bytes) → same_name m n ≡ pointwise eqb m n
-same_as [] [] = refl
-same_as [] (b ∷ n) = refl
-same_as (a ∷ m) [] = refl
-same_as (a ∷ m) (b ∷ n) = ap (λ (rest : Bool). eqb a b && rest) (same_as m n)
-
-pub same_name-is : (m n : Bytes) → same_name m n ≡ true → m ≡ n
-same_name-is m n e = same_text m n (sym e ∙ same_as m n)
-
-pub same_name-refl : (n : Bytes) → same_name n n ≡ true
-same_name-refl [] = refl
-same_name-refl (b ∷ bs) = grind (arith, nat_tests, same_name-refl bs)
-
-pub same_name-flips : (m n : Bytes) → same_name m n ≡ same_name n m
-same_name-flips [] [] = refl
-same_name-flips [] (b ∷ n) = refl
-same_name-flips (a ∷ m) [] = refl
-same_name-flips (a ∷ m) (b ∷ n) = go (true_or_false (a == b)) (same_name-flips m n) where
-  go : ((a == b) ≡ true) ⊎ ((a == b) ≡ false) → same_name m n ≡ same_name n m → ((a == b) && same_name m n) ≡ ((b == a) && same_name n m)
-  go (inl e) rest = grind (arith, nat_tests, e, rest)
-  go (inr e) rest = grind (arith, nat_tests, e, rest)
 
 -- ---- an element of a list
 

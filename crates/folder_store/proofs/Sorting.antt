@@ -16,22 +16,15 @@ use Rattle.std.proofs.lemmas.Bool.Decides.{nat_tests}
 use Rattle.std.proofs.lemmas.Map.Keys.{IsDistinct-head, IsDistinct-tail, IsDistinct-IsPermutation}
 use native.Mathlib.Numerals.{unary_clauses}
 use Rattle.path_tree.specs.Paths.{Bytes, name_cmp, same_name}
+use Rattle.path_tree.proofs.CallerLemmas.{name_cmp-is, name_total, same_name-flips, same_name-refl}
 use Rattle.folder_store.specs.declared.folders.EntryKind.{EntryKind}
 use Rattle.folder_store.specs.declared.folders.FolderEntry.{FolderEntry}
 use Rattle.folder_store.specs.Folders.{Entry, FolderTree, IsListed, entries_below, entry_at, kind_of, view_entry}
 use Rattle.folder_store.specs.Walk.{sort_entries}
 use Rattle.folder_store.specs.Gathering.{IsSortedListing}
-use Rattle.folder_store.proofs.Naming.{In, in_from, contains_from, all_in, each_in, in_map, from_map, names, AreDistinct, distinct_from_pairs, same_name-refl, same_name-flips, stands}
+use Rattle.folder_store.proofs.Naming.{In, in_from, contains_from, all_in, each_in, in_map, from_map, names, AreDistinct, distinct_from_pairs, stands}
 
 -- ---- the order of names
-
-pub name_total : IsTotalOrder name_cmp
-name_total = nat_list_cmp_total
-
-pub name_cmp-is : (m n : Bytes) → name_cmp m n ≡ Equal → m ≡ n
-name_cmp-is m n e = slice_cmp-IsAntisymmetric (λ a b h. nat_is a b h) m n e where
-  nat_is : (a b : ℕ) → nat_cmp a b ≡ Equal → a ≡ b
-  nat_is a b h = grind (arith, nat_tests, h)
 
 pub not_less_itself : (m : Bytes) → name_cmp m m ≡ Less → ⊥
 not_less_itself m e = let t : name_cmp m m ≡ Equal = tied_itself name_total m in let z : Less ≡ Equal = sym e ∙ t in cc

@@ -10,6 +10,9 @@ use Rattle.path_tree.specs.Trees.{Tree, content_at}
 use Rattle.path_tree.specs.declared.tree.Edit.{Edit}
 use Rattle.path_tree.specs.declared.tree.Edit.TheVariants.{Put, Remove}
 use Rattle.folder_store.specs.Folders.{Entry, AFile, AFolder, AnOther, FolderTree, IsFolderTree, content_of, entries_below, entry_at}
+use Rattle.path_tree.specs.declared.text.TheConstants.{MOST_NAMES}
+use Rattle.generation_catalogue.specs.declared.journal.TheConstants.{MOST_PUT_BYTES}
+use Rattle.folder_store.specs.declared.reading.TheConstants.{MOST_READ}
 
 pub data WalkFault : Type 0 where
   IsTooDeep : WalkFault
@@ -32,7 +35,7 @@ met_past (name, AFolder) = Err IsTooDeep ∷ []
 abbrev pub met_at : (PathNames → Bytes → List Met) → PathNames → Bytes → Bytes × Entry → List Met
 met_at deeper path text (name, AnOther) = []
 met_at deeper path text (name, AFile content) =
-    if is_name name then Ok (Put (path ++ name ∷ []) (take 16777217 content)) ∷ [] else Err IsBadName ∷ []
+    if is_name name then Ok (Put (path ++ name ∷ []) (take MOST_READ content)) ∷ [] else Err IsBadName ∷ []
 met_at deeper path text (name, AFolder) =
     if is_name name then deeper (path ++ name ∷ []) (text ++ 47 ∷ name) else Err IsBadName ∷ []
 
@@ -57,12 +60,12 @@ onto e (Err fault) = Err fault
 -- read, or at the first entry that breaks a rule.
 abbrev pub walk_edits : ℕ → List Met → Walked
 walk_edits n [] = Ok []
-walk_edits n (Err fault ∷ met) = if nat_lt 536870912 n then Ok [] else Err fault
-walk_edits n (Ok e ∷ met) = if nat_lt 536870912 n then Ok [] else onto e (walk_edits (n + size e) met)
+walk_edits n (Err fault ∷ met) = if nat_lt MOST_PUT_BYTES n then Ok [] else Err fault
+walk_edits n (Ok e ∷ met) = if nat_lt MOST_PUT_BYTES n then Ok [] else onto e (walk_edits (n + size e) met)
 
 -- the edits of a folder, or the first entry in walk order that breaks a rule
 abbrev pub edits_of : FolderTree → Bytes → Walked
-edits_of t root = walk_edits 0 (met_below t 16 [] root)
+edits_of t root = walk_edits 0 (met_below t MOST_NAMES [] root)
 
 -- ---- the edits as the folder's files
 
@@ -74,7 +77,7 @@ text_below root path = root ++ flat_map (λ name. 47 ∷ name) path
 pub record PutsFile (t : FolderTree) (root : Bytes) (e : Edit) : Type 0 where
   pub path : PathNames
   pub content : Bytes
-  pub form : e ≡ Put path (take 16777217 content)
+  pub form : e ≡ Put path (take MOST_READ content)
   pub file : content_of (entry_at t (text_below root path)) ≡ Some content
 
 abbrev pub path_in : Edit → PathNames
@@ -85,8 +88,8 @@ path_in (Remove path) = path
 pub record PutsFiles (t : FolderTree) (root : Bytes) (edits : List Edit) : Type 0 where
   pub in_order : AllPairs (λ e f. path_cmp (path_in e) (path_in f) ≡ Less) edits
   pub files : All (λ e. PutsFile t root e) edits
-  pub each : sum_by size edits ≤ 536870912 → (path : PathNames) (content : Bytes) → IsPath path → path ≢ []
-      → content_of (entry_at t (text_below root path)) ≡ Some content → Contains edits (Put path (take 16777217 content))
+  pub each : sum_by size edits ≤ MOST_PUT_BYTES → (path : PathNames) (content : Bytes) → IsPath path → path ≢ []
+      → content_of (entry_at t (text_below root path)) ≡ Some content → Contains edits (Put path (take MOST_READ content))
 
 -- the tree has a file of these bytes at a path exactly where the folder has it at the path's text
 pub record HasFiles (t : FolderTree) (root : Bytes) (tree : Tree) : Type 0 where
@@ -96,4 +99,4 @@ pub record HasFiles (t : FolderTree) (root : Bytes) (tree : Tree) : Type 0 where
 -- the edits of a folder, applied to the tree without files, make the tree of its files
 abbrev pub EditsMakeTheFiles : Type 0
 EditsMakeTheFiles = (t : FolderTree) (root : Bytes) (edits : List Edit) (tree : Tree)
-    → IsFolderTree t → edits_of t root ≡ Ok edits → sum_by size edits ≤ 536870912 → apply_all [] edits ≡ Ok tree → HasFiles t root tree
+    → IsFolderTree t → edits_of t root ≡ Ok edits → sum_by size edits ≤ MOST_PUT_BYTES → apply_all [] edits ≡ Ok tree → HasFiles t root tree

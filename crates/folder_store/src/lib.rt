@@ -1,4 +1,18 @@
 //! Folders of the outside as edits.
+//!
+//! ```
+//! use folder_store::{MemFolders, read_tree};
+//! use oc_bytes::Blob;
+//! use path_tree::Edit;
+//!
+//! let content = Blob::new(alloc, b"hello".to_vec(alloc)?)?;
+//! let entries = vec![in alloc; (String::from_str(alloc, "site/news/today.txt")?, content)]?;
+//! let mut folders = MemFolders::new(entries, Vec::new(alloc));
+//! let edits = read_tree(alloc, &mut folders, "site")?;
+//! let Some(Edit::Put(path, content)) = edits.first() else { panic!("no file") };
+//! assert_eq!(rt; path.print()?.as_str(), "/news/today.txt");
+//! assert_eq!(rt; content.bytes(), b"hello".as_slice());
+//! ```
 #![tactic(auto)]
 
 mod folders;

@@ -8,20 +8,14 @@ ghost use Rattle.folder_store.specs.Walk.{PutsFiles, edits_of, met_below, IsTooD
 ghost use Rattle.folder_store.specs.Gathering.{IsSortedListing, Walks, met_one, kind_at};
 
 use crate::folders::{EntryKind, FolderEntry, FolderFault, Folders};
-use generation_catalogue::Refusal;
+use generation_catalogue::{MOST_PUT_BYTES, Refusal};
 use oc_bytes::{Blob, NoMemory};
-use path_tree::{Edit, Path};
+use path_tree::{Edit, MOST_CONTENT, MOST_NAMES, Path};
 use std::alloc::{AllocError, AllocFailed, Global};
 use thiserror::Error;
 
 /// The most bytes that are read of one file: one more than a file of a carousel has, so that a longer one is refused later.
-const MOST_CONTENT: usize = 16_777_217;
-
-/// The most bytes of all puts of a station. Where more are read, nothing further of the folder is.
-const MOST_READ: u64 = 536_870_912;
-
-/// The most names of a path.
-const MOST_NAMES: usize = 16;
+pub(crate) const MOST_READ: usize = MOST_CONTENT + 1;
 
 /// Why a folder isn't published: its tree can't be read as edits, or the edits are refused.
 #[derive(Debug, Drop, Error)]
@@ -101,12 +95,12 @@ impl Place {
     /// The place of a name in the folder that stands here. It is too deep where the folder's path has sixteen names, and
     /// only then is the name looked at.
     fn below(&self, alloc: Global, name: &str) -> Result<Place, ReadTree>
-        ensures room { OnOk result (length self.now.path < 16) }
+        ensures room { OnOk result (length self.now.path < MOST_NAMES) }
         ensures name { OnOk result (is_name name.now ≡ true) }
         ensures path { IfOk result (λ p. p.path ≡ self.now.path ++ name.now ∷ []) }
         ensures text { IfOk result (λ p. string_bytes p.text ≡ string_bytes self.now.text ++ 47 ∷ name.now) }
-        ensures too_deep { IsErrOf result ReadTree.TooDeep → length self.now.path ≡ 16 }
-        ensures bad_name { IsErrOf result ReadTree.BadName → (length self.now.path < 16) × (is_name name.now ≡ false) }
+        ensures too_deep { IsErrOf result ReadTree.TooDeep → length self.now.path ≡ MOST_NAMES }
+        ensures bad_name { IsErrOf result ReadTree.BadName → (length self.now.path < MOST_NAMES) × (is_name name.now ≡ false) }
         ensures no_fault { IsErrOf result ReadTree.FolderFault → ⊥ }
     {
         if self.path.len() == MOST_NAMES {
@@ -132,9 +126,9 @@ struct Gathered {
 impl Gathered {
     /// Whether the walk is at its end, since more bytes were read than the limit.
     fn is_full(&self) -> bool
-        ensures { result ≡ nat_lt 536870912 self.now.read }
+        ensures { result ≡ nat_lt MOST_PUT_BYTES self.now.read }
     {
-        self.read > MOST_READ
+        self.read > MOST_PUT_BYTES
     }
 
     /// Adds the edit that puts a file.
@@ -176,15 +170,15 @@ fn read_file<F: Folders>(
     place: Place,
     gathered: &mut Gathered,
 ) -> Result<(), ReadTree>
-    requires { gathered.old.read ≤ 536870912 }
+    requires { gathered.old.read ≤ MOST_PUT_BYTES }
     ensures walk { (t : FolderTree) (content : Bytes) → F.tree folders.old ≡ Some t → entry_at t (string_bytes place.text) ≡ Some (AFile content)
-        → Walks (Ok (Edit.Put place.path (take 16777217 content)) ∷ []) gathered.old.edits.items gathered.old.read result gathered.new.edits.items gathered.new.read }
+        → Walks (Ok (Edit.Put place.path (take MOST_READ content)) ∷ []) gathered.old.edits.items gathered.old.read result gathered.new.edits.items gathered.new.read }
     ensures fault { IsErrOf result ReadTree.FolderFault → MayFail (Rose (F.faults folders.old) (F.faults folders.new)) (F.tree folders.old) (λ t. content_of (entry_at t (string_bytes place.text)) ≡ None) }
     ensures owed { (t : FolderTree) (content : Bytes) → F.tree folders.old ≡ Some t → entry_at t (string_bytes place.text) ≡ Some (AFile content) → F.strayed folders.new ≡ F.strayed folders.old }
     ensures same { F.tree folders.new ≡ F.tree folders.old }
     ensures later { F.faults folders.old ≤ F.faults folders.new }
 {
-    let content = folders.read(alloc, &place.text, MOST_CONTENT)?;
+    let content = folders.read(alloc, &place.text, MOST_READ)?;
     gathered.add(alloc, place.path, content)?;
     Ok(())
 }
@@ -198,7 +192,7 @@ fn walk_folder<F: Folders>(
     gathered: &mut Gathered,
 ) -> Result<(), ReadTree>
     ensures walk { (t : FolderTree) → F.tree folders.old ≡ Some t
-        → Walks (met_below t (16 - length place.now.path) place.now.path (string_bytes place.now.text)) gathered.old.edits.items gathered.old.read result gathered.new.edits.items gathered.new.read }
+        → Walks (met_below t (MOST_NAMES - length place.now.path) place.now.path (string_bytes place.now.text)) gathered.old.edits.items gathered.old.read result gathered.new.edits.items gathered.new.read }
     ensures fault { IsErrOf result ReadTree.FolderFault → MayFail (Rose (F.faults folders.old) (F.faults folders.new)) (F.tree folders.old) (λ t. is_folder_at t (string_bytes place.now.text) ≡ false) }
     ensures no_folder { (t : FolderTree) → F.tree folders.old ≡ Some t → is_folder_at t (string_bytes place.now.text) ≡ false
         → (result ≡ Err ReadTree.FolderFault) ⊎ (result ≡ Err ReadTree.NoMemory) }
@@ -223,7 +217,7 @@ fn walk_entry<F: Folders>(
     gathered: &mut Gathered,
 ) -> Result<(), ReadTree>
     ensures walk { (t : FolderTree) (e : Entry) → F.tree folders.old ≡ Some t → entry_at t (string_bytes place.now.text ++ 47 ∷ string_bytes entry.now.name) ≡ Some e → kind_of e ≡ entry.now.kind
-        → Walks (met_one t (16 - length place.now.path) place.now.path (string_bytes place.now.text) (string_bytes entry.now.name, e)) gathered.old.edits.items gathered.old.read result gathered.new.edits.items gathered.new.read }
+        → Walks (met_one t (MOST_NAMES - length place.now.path) place.now.path (string_bytes place.now.text) (string_bytes entry.now.name, e)) gathered.old.edits.items gathered.old.read result gathered.new.edits.items gathered.new.read }
     ensures fault { IsErrOf result ReadTree.FolderFault → MayFail (Rose (F.faults folders.old) (F.faults folders.new)) (F.tree folders.old)
         (λ t. kind_at t (string_bytes place.now.text ++ 47 ∷ string_bytes entry.now.name) ≡ Some entry.now.kind → ⊥) }
     ensures owed { (t : FolderTree) → F.tree folders.old ≡ Some t → kind_at t (string_bytes place.now.text ++ 47 ∷ string_bytes entry.now.name) ≡ Some entry.now.kind
@@ -252,8 +246,8 @@ fn walk_entry<F: Folders>(
 ///
 /// `root` is listed, and below it the path text of a file or a folder is its folder's text, `/` and its name. The entries of
 /// a folder are taken by the bytes of their names, a folder's content at its place. Links and other kinds are passed over,
-/// so that a folder in which nothing else stands gives no edit. A file's first 16,777,217 bytes are read, one more than a
-/// file of a carousel may have. After the file at which more than 536,870,912 bytes are read in all, the walk ends.
+/// so that a folder in which nothing else stands gives no edit. Of a file one byte more than
+/// [`MOST_CONTENT`] is read at most. After the file at which more than [`MOST_PUT_BYTES`] are read in all, the walk ends.
 ///
 /// The walk refuses the first entry that it can't take, and then alone. It is `TooDeep` where sixteen names lead to its folder
 /// already, whether it is a file or a folder. Else it is a `BadName` where its name is none of a path: without a byte, of 255

@@ -14,7 +14,7 @@ use Rattle.biop_object.specs.Spelled.{SpellingsReadBack}
 use Rattle.module_packer.specs.Kept.{KeptIsAPlacement}
 use Rattle.generation.specs.Publication.{gateway_spot}
 use Rattle.generation.specs.Layouts.{GenerationState, Placed, object_bytes, is_in, module_bytes, module_if_used, layout_of, greatest, first_of, next_of, gateway_before}
-use Rattle.generation.specs.Lawful.{IsLayout, Carries, HasBytes, IsPublishable, layout_at, tree_at}
+use Rattle.generation.specs.Lawful.{IsLayout, Carries, IsPublishable, layout_at, tree_at}
 use Rattle.generation.specs.Kept.{states_from, layouts_of, LayoutsAreLawful}
 use Rattle.generation.proofs.Placing.{total_length, listed_length, greatest_most, all_unmap}
 use Rattle.generation.proofs.Lists.{state_at, state_tree, state_layout, length_states}
@@ -73,21 +73,21 @@ pub record IsFine (layout : Layout) : Type 0 where
   pub total : sum_by (λ m. length m.1) layout ≤ 268435456
   pub sizes : All (λ m. length m.1 ≤ 16842752) layout
 
-byte_spots : (c : ℕ) (t : Tree) (objects : List Placed) → Made c t objects → HasBytes t → All (λ o. IsByteSpot o.spot) objects
-byte_spots c t objects made has =
+byte_spots : (c : ℕ) (t : Tree) (objects : List Placed) → Made c t objects → All (λ o. IsByteSpot o.spot) objects
+byte_spots c t objects made =
     let tree = made.sound.tree in
-    let names : All (λ e. All (λ n. IsBytes n × (length n ≤ 254)) e.0) t = λ i d lt. (λ j n l. (has.names i d lt j n l, ((tree.paths i d lt).0.names j n l).at_most)) in
-    all_unmap IsByteSpot (λ o. o.spot) objects (subst (All IsByteSpot) (sym made.sound.spots) (tree_octets t names has.contents))
+    let names : All (λ e. All (λ n. IsBytes n × (length n ≤ 254)) e.0) t = λ i d lt. (λ j n l. (((tree.paths i d lt).0.names j n l).in_byte, ((tree.paths i d lt).0.names j n l).at_most)) in
+    all_unmap IsByteSpot (λ o. o.spot) objects (subst (All IsByteSpot) (sym made.sound.spots) (tree_octets t names tree.contents))
 
 filled_of : (c : ℕ) (t : Tree) (objects : List Placed) → Made c t objects → Filled t objects
 filled_of c t objects made = record { tree = made.sound.tree; within = made.within; spots = made.sound.spots; placement = made.placement }
 
-fine : (c : ℕ) (t : Tree) (objects : List Placed) → Made c t objects → HasBytes t → IsFine (layout_of c objects)
-fine c t objects made has =
+fine : (c : ℕ) (t : Tree) (objects : List Placed) → Made c t objects → IsFine (layout_of c objects)
+fine c t objects made =
     let sound = made.sound in
     let top = greatest (map (λ o. o.module_id) objects) in
     let most : top ≤ 139 = greatest_most (map (λ o. o.module_id) objects) 139 made.placement.numbers in
-    let octets = byte_spots c t objects made has in
+    let octets = byte_spots c t objects made in
     let first : module_in (layout_of c objects) sound.gateway.module_id ≡ Some (module_bytes c objects sound.gateway.module_id) = module_found c objects sound.gateway sound.has_gateway (omega (arith, sound.is_gateway.2)) in
     let sum : sum_by (λ o. length (object_bytes c objects o)) objects ≤ 268435456 = rw (total_length c objects objects, sound.spots) made.within.total in
     record {
@@ -113,10 +113,9 @@ pub record State (c : ℕ) (s : GenerationState) : Type 0 where
   pub carousel : s.carousel ≡ c
   pub layout : s.layout ≡ layout_of c s.objects
   pub made : Made c s.tree s.objects
-  pub bytes : HasBytes s.tree
 
 empty_tree : IsTree []
-empty_tree = record { paths = λ i d lt. absurd (omega (arith, lt)); in_order = λ i j d lt l. absurd (omega (arith, l)); apart = λ i j d lt l. absurd (omega (arith, l)); sizes = λ i d lt. absurd (omega (arith, lt)) }
+empty_tree = record { paths = λ i d lt. absurd (omega (arith, lt)); in_order = λ i j d lt l. absurd (omega (arith, l)); apart = λ i j d lt l. absurd (omega (arith, l)); contents = λ i d lt. absurd (omega (arith, lt)); sizes = λ i d lt. absurd (omega (arith, lt)) }
 
 before_first : Before gateway_before
 before_first = record {
@@ -145,7 +144,6 @@ first_state places c small = record {
   carousel = refl;
   layout = refl;
   made = made_of places c [] gateway_before small empty_tree refl before_first;
-  bytes = record { names = λ i d lt. absurd (omega (arith, lt)); contents = λ i d lt. absurd (omega (arith, lt)) };
 }
 
 next_state : KeptIsAPlacement → (c : ℕ) → c < 4294967296 → (s : GenerationState) (t : Tree) → State c s → IsPublishable t → State c (next_of s t)
@@ -153,7 +151,6 @@ next_state places c small s t state publishable = record {
   carousel = state.carousel;
   layout = ap (λ k. layout_of k (next_of s t).objects) state.carousel;
   made = made_of places c t s.objects small publishable.tree publishable.within state.made.before;
-  bytes = publishable.bytes;
 }
 
 each_state : KeptIsAPlacement → (c : ℕ) → c < 4294967296 → (P : Layout → Type 0) → ((s : GenerationState) → State c s → P s.layout)
@@ -169,7 +166,7 @@ state_of places c small s state [] all (suc g) = state
 state_of places c small s state (t ∷ ts) all (suc g) = state_of places c small (next_of s t) (next_state places c small s t state (all 0 t (omega arith))) ts (λ i d lt. all (suc i) d (omega (arith, lt))) g
 
 fine_state : (c : ℕ) (s : GenerationState) → State c s → IsFine s.layout
-fine_state c s state = subst IsFine (sym state.layout) (fine c s.tree s.objects state.made state.bytes)
+fine_state c s state = subst IsFine (sym state.layout) (fine c s.tree s.objects state.made)
 
 pub lawful : SpellingsReadBack → KeptIsAPlacement → LayoutsAreLawful
 lawful spells places c trees publishable =

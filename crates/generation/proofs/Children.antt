@@ -7,9 +7,9 @@ use Rattle.std.proofs.lemmas.Bool.{cases_lt}
 use Rattle.std.proofs.lemmas.List.Elements.{filter_map-append, All-cons}
 use Rattle.path_tree.specs.Paths.{Bytes, PathNames, path_cmp, same_name, is_below, next_name}
 use Rattle.path_tree.specs.Trees.{Tree, IsTree, names_below}
+use Rattle.path_tree.proofs.CallerLemmas.{not_both_less, same_name-flips, same_name-is}
 use Rattle.generation.specs.Publication.{Spot, shared_folders, folder_of, folders_after, spots_after, spots_of, child_name}
-use Rattle.generation.proofs.Law.{same_name_is}
-use Rattle.generation.proofs.Treeing.{next_below, between, shared_less, shared_next, shared_outside, not_both, same_self}
+use Rattle.generation.proofs.Treeing.{next_below, between, shared_less, shared_next, shared_outside}
 
 -- the names of the objects right below a folder
 abbrev pub kids : PathNames → List Spot → List Bytes
@@ -135,11 +135,7 @@ past p f b m some less none (e ∷ es) later =
       go (Some n) h = let k = between p f b e.0 m n some h less later.0 in absurd (let bad : None ≡ Some k.0 = sym none ∙ k.1 in cc)
 
 flip : (a b : Bytes) (t : Bool) → same_name a b ≡ t → same_name b a ≡ t
-flip a b true e = subst (λ c. same_name c a ≡ true) (same_name_is a b e) (same_self a)
-flip a b false e = go (same_name b a) refl where
-  go : (t : Bool) → same_name b a ≡ t → same_name b a ≡ false
-  go true h = let back : same_name a b ≡ true = subst (λ c. same_name c b ≡ true) (same_name_is b a h) (same_self b) in cc
-  go false h = h
+flip a b t e = same_name-flips b a ∙ e
 
 begun : (p before : PathNames) (m : Bytes) (es : Tree) → next_name p before ≡ Some m → Later before es → Ordered es
     → dedup_from same_name m (below_names p es) ≡ m ∷ kids p (spots_after before es)
@@ -149,7 +145,7 @@ begun p before m (e ∷ es) some later ordered = go (next_name p e.0) refl (λ n
   less = shared_less before e.0 later.0
 
   differs : before ≢ e.0
-  differs h = not_both before e.0 later.0 (subst (λ q. path_cmp e.0 q ≡ Less) (sym h) (subst (λ q. path_cmp q e.0 ≡ Less) h later.0))
+  differs h = not_both_less before e.0 later.0 (subst (λ q. path_cmp e.0 q ≡ Less) (sym h) (subst (λ q. path_cmp q e.0 ≡ Less) h later.0))
 
   go : (n : Option Bytes) → next_name p e.0 ≡ n → ((n : Bytes) → next_name p e.0 ≡ Some n → dedup_from same_name n (below_names p es) ≡ n ∷ kids p (spots_after e.0 es))
       → dedup_from same_name m (cons_option (next_name p e.0) (below_names p es)) ≡ m ∷ kids p (spots_after before (e ∷ es))
@@ -158,7 +154,7 @@ begun p before m (e ∷ es) some later ordered = go (next_name p e.0) refl (λ n
       rw (h, over.0) (ap (λ ks. m ∷ ks) (sym (gives_none p before e.0 e.1 (spots_after e.0 es) less h ∙ over.1)))
   go (Some n) h rest = elim (shared_next p before e.0 m n some h later.1 differs) [
     | inl same ↦
-        let is : m ≡ n = same_name_is m n same.0 in
+        let is : m ≡ n = same_name-is m n same.0 in
         let test : same_name n m ≡ true = flip m n true same.0 in
         rw (h, test) (subst (λ k. dedup_from same_name k (below_names p es) ≡ k ∷ kids p (spots_after e.0 es)) (sym is) (rest n h)
         ∙ ap (λ ks. m ∷ ks) (sym (gives_shared p before e.0 e.1 (spots_after e.0 es) less same.1)))

@@ -9,6 +9,7 @@ use Rattle.std.proofs.lemmas.List.{drop_all}
 use Rattle.std.proofs.lemmas.Option.{same_Some}
 use Rattle.std.proofs.lemmas.Bool.{cases_lt}
 use Rattle.path_tree.specs.Paths.{Bytes, PathNames, name_cmp, path_cmp, same_name, same_path}
+use Rattle.path_tree.proofs.CallerLemmas.{cmp-ends}
 use Rattle.generation.specs.Publication.{shared_folders}
 
 -- what stands at a place begins what is left from there on
@@ -122,18 +123,11 @@ cmp_decided a b d e i m n o ld le em en is ne = cmp_at a b d e i m n ld le em en
   decided Equal p ne = absurd (ne refl)
   decided Greater p ne = refl
 
-cmp_ends : (p q : PathNames) (i : ℕ) → i ≡ min (length p) (length q) → path_cmp (drop i p) (drop i q) ≡ nat_cmp (length p) (length q)
-cmp_ends [] [] i e = rw (drop_all {X = Bytes} i [] (omega arith)) refl
-cmp_ends [] (n ∷ ns) i e = let z : i ≡ 0 = omega arith in rw z (grind (arith, nat_tests))
-cmp_ends (m ∷ ms) [] i e = let z : i ≡ 0 = omega arith in rw z (grind (arith, nat_tests))
-cmp_ends (m ∷ ms) (n ∷ ns) zero e = absurd (omega arith)
-cmp_ends (m ∷ ms) (n ∷ ns) (suc i) e = cmp_ends ms ns i (omega arith) ∙ grind (arith, nat_tests)
-
 pub cmp_over : (a b : PathNames) (d e i : ℕ) → d ≤ length a → e ≤ length b → i ≡ min d e → path_cmp (drop i (take d a)) (drop i (take e b)) ≡ nat_cmp d e
 cmp_over a b d e i ld le at =
     let nd : length (take d a) ≡ d = omega (arith, length-take d a, ld) in
     let ne : length (take e b) ≡ e = omega (arith, length-take e b, le) in
-    cmp_ends (take d a) (take e b) i (omega (arith, at, nd, ne)) ∙ (ap (λ k. nat_cmp k (length (take e b))) nd ∙ ap (λ k. nat_cmp d k) ne)
+    cmp-ends (take d a) (take e b) i (omega (arith, at, nd, ne)) ∙ (ap (λ k. nat_cmp k (length (take e b))) nd ∙ ap (λ k. nat_cmp d k) ne)
 
 -- the path of no names stands before each other
 pub cmp_none : (a b : PathNames) (d e : ℕ) → d ≤ length a → e ≤ length b → min d e ≡ 0 → path_cmp (take d a) (take e b) ≡ nat_cmp d e

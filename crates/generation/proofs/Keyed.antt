@@ -6,11 +6,9 @@ use Rattle.std.proofs.lemmas.Bool.Decides.{nat_tests}
 use Rattle.std.proofs.lemmas.Option.{same_Some}
 use Rattle.std.proofs.lemmas.List.Elements.{All-cons}
 use Rattle.path_tree.specs.Paths.{path_cmp, same_name}
+use Rattle.path_tree.proofs.CallerLemmas.{path_cmp-refl, same_name-is, same_name-refl, same_path-is}
 use Rattle.generation.specs.Publication.{Spot, AreRising}
 use Rattle.generation.specs.Layouts.{Placed, placed_at, key_in, old_keys, taken_in, free_keys, fill_keys, keys_of, is_same_spot, key_bytes}
-use Rattle.generation.proofs.Law.{same_name_is}
-use Rattle.generation.proofs.Treeing.{same_self, paths_self}
-use Rattle.generation.proofs.Rising.{same_paths}
 
 -- each number once
 abbrev pub Distinct : List ℕ → Type 0
@@ -133,11 +131,11 @@ kept_apart old d s o e (r ∷ ss) less = go (placed_at old r) refl (kept_apart o
     differs : (b : Bool) → (q.key == o.key) ≡ b → (q.key == o.key) ≡ false
     differs false same = same
     differs true same =
-        let left : o.spot.path ≡ s.path = same_paths o.spot.path s.path (and_first _ _ (found_passes (λ x. is_same_spot x.spot s) old o e)) in
-        let right : o.spot.path ≡ r.path = same_paths o.spot.path r.path (and_first _ _ (one_object old d (λ x. is_same_spot x.spot s) (λ x. is_same_spot x.spot r) o q e h same)) in
+        let left : o.spot.path ≡ s.path = same_path-is o.spot.path s.path (and_first _ _ (found_passes (λ x. is_same_spot x.spot s) old o e)) in
+        let right : o.spot.path ≡ r.path = same_path-is o.spot.path r.path (and_first _ _ (one_object old d (λ x. is_same_spot x.spot s) (λ x. is_same_spot x.spot r) o q e h same)) in
         let here : path_cmp s.path r.path ≡ Less = less 0 r (omega arith) in
         let self : path_cmp r.path r.path ≡ Less = subst (λ z. path_cmp z r.path ≡ Less) (sym left ∙ right) here in
-        let bad : Equal ≡ Less = sym (paths_self r.path) ∙ self in cc
+        let bad : Equal ≡ Less = sym (path_cmp-refl r.path) ∙ self in cc
 
 kept_distinct : (old : List Placed) → Distinct (map (λ x. x.key) old) → (spots : List Spot) → AreRising spots → Distinct (taken_in (old_keys old spots))
 kept_distinct old d [] rising = tt
@@ -178,12 +176,12 @@ keys_small old spots small few =
 pub same_keys : (a b : ℕ) → a < 8194 → b < 8194 → same_name (key_bytes a) (key_bytes b) ≡ (a == b)
 same_keys a b la lb = go (a == b) refl where
   go : (t : Bool) → (a == b) ≡ t → same_name (key_bytes a) (key_bytes b) ≡ t
-  go true e = let is : a ≡ b = grind (arith, nat_tests, e) in subst (λ z. same_name (key_bytes a) (key_bytes z) ≡ true) is (same_self (key_bytes a))
+  go true e = let is : a ≡ b = grind (arith, nat_tests, e) in subst (λ z. same_name (key_bytes a) (key_bytes z) ≡ true) is (same_name-refl (key_bytes a))
   go false e = step (same_name (key_bytes a) (key_bytes b)) refl where
     step : (t : Bool) → same_name (key_bytes a) (key_bytes b) ≡ t → same_name (key_bytes a) (key_bytes b) ≡ false
     step false h = h
     step true h =
-        let lists = same_name_is (key_bytes a) (key_bytes b) h in
+        let lists = same_name-is (key_bytes a) (key_bytes b) h in
         let low : a % 256 ≡ b % 256 = ap (λ l. get_or l 3 0) lists in
         let high : a / 256 % 256 ≡ b / 256 % 256 = ap (λ l. get_or l 2 0) lists in
         let is : a ≡ b = omega (arith, low, high, la, lb) in

@@ -20,7 +20,7 @@ use Rattle.cycle_planner.specs.declared.Item.TheVariants.{Dsi, Dii, Block}
 use Rattle.ddb_block.specs.Blocks.{block_count_of}
 use Rattle.dsi_dii.specs.Controls.{DiiFields, dii_spelling, dsi_spelling, dii_transaction}
 use Rattle.dsmcc_section.specs.Sections.{spelling}
-use Rattle.generation.specs.Layouts.{GenerationState, Placed, first_of, next_of, counts_after, count_after, count_in, same_module, module_if_used, layout_of, is_in, module_bytes, items_of, lines_of, section_of, dii_of, dii_lines, control_section, block_section, greatest, gateway_location}
+use Rattle.generation.specs.Layouts.{GenerationState, Placed, first_of, next_of, counts_after, count_after, count_in, same_module, module_if_used, layout_of, is_in, module_bytes, items_of, lines_in, lines_of, section_of, dii_of, dii_lines, control_section, block_section, greatest, gateway_location}
 use Rattle.generation.specs.Lawful.{layout_at, tree_at, one_if_changed, count_of, version_in, dii_in, section_in, IsItem}
 use Rattle.generation.specs.Kept.{states_from, layouts_of, IsGenerationOf, GenerationsAreOfTheLists}
 
@@ -233,6 +233,42 @@ item_is ls g s within el made (Block m b) (suc (suc k), lt, e) =
       in_layout layout e i lt = subst (λ l. i < length l → module_in l (get_or l i (0, [])).0 ≡ Some (get_or l i (0, [])).1) (sym e)
           (once s.carousel s.objects 1 (greatest (map (λ o. o.module_id) s.objects)) i (0, [])) lt
 
+-- the blocks of a module of the layout stand among those of its lines
+block_listed : (layout : Layout) (m b : ℕ) (bytes : Bytes) → module_in layout m ≡ Some bytes → b < block_count_of (length bytes) 4066 → Contains (flat_map blocks_in (lines_in layout)) (Block m b)
+block_listed [] m b bytes e lt = cc
+block_listed (l ∷ ls) m b bytes e lt = go (l.0 == m) refl (block_listed ls m b bytes) where
+  line : Line
+  line = (l.0, block_count_of (length l.1) 4066)
+
+  later : List Item
+  later = flat_map blocks_in (lines_in ls)
+
+  go : (t : Bool) → (l.0 == m) ≡ t → (module_in ls m ≡ Some bytes → b < block_count_of (length bytes) 4066 → Contains later (Block m b)) → Contains (blocks_in line ++ later) (Block m b)
+  go true t more =
+      let is : l.0 ≡ m = grind (arith, nat_tests, t) in
+      let same : l.1 ≡ bytes = same_Some l.1 bytes (rw t at e) in
+      let here : b < block_count_of (length l.1) 4066 = subst (λ c. b < block_count_of (length c) 4066) (sym same) lt in
+      let n = length-blocks_in line in (
+        b,
+        omega (arith, here, n, length-append (blocks_in line) later),
+        get_left (blocks_in line) later b (Block m b) (omega (arith, here, n))
+            ∙ (get_or-map-range_with_len (λ j. Block l.0 j) 0 line.1 b b (Block m b) here (omega arith) ∙ ap (λ i. Block i b) is),
+      )
+  go false t more =
+      let r = more (rw t at e) lt in
+      let n = length (blocks_in line) in (
+        n + r.0,
+        omega (arith, r.1, length-append (blocks_in line) later),
+        get_right (blocks_in line) later (n + r.0) (Block m b) (omega arith) ∙ (ap (λ k. get_or later k (Block m b)) (omega arith) ∙ r.2),
+      )
+
+item_listed : (ls : List Layout) (g : ℕ) (s : GenerationState) → s.layout ≡ layout_at ls g → (item : Item) → IsItem ls g item → Contains (items_of s) item
+item_listed ls g s el Dsi is = (0, omega arith, refl)
+item_listed ls g s el Dii is = (1, omega arith, refl)
+item_listed ls g s el (Block m b) is =
+    let r = block_listed s.layout m b is.1.0 (ap (λ l. module_in l m) el ∙ is.1.1) is.1.2 in
+    (suc (suc r.0), omega (arith, r.1), r.2)
+
 layout_made : (s : GenerationState) → s.layout ≡ layout_of s.carousel s.objects → (ts : List Tree) (g : ℕ) → (state_at s ts g).layout ≡ layout_of (state_at s ts g).carousel (state_at s ts g).objects
 unfolding state_at
 layout_made s e ts zero = e
@@ -278,5 +314,6 @@ of_the_lists c ts g le =
       layout = layout;
       counts = counts;
       items = item_is (layouts_of c ts) g s (omega (arith, states, le)) layout (layout_made (first_of c) refl ts g);
+      listed = item_listed (layouts_of c ts) g s layout;
       sections = λ item has. section_same c g (layouts_of c ts) s carousel number layout counts item;
     })

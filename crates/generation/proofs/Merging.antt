@@ -10,32 +10,22 @@ use Rattle.std.proofs.lemmas.Cmp.{lists_total, nat_list_cmp_total}
 use Rattle.std.proofs.lemmas.List.Elements.{All-head, All-tail, All-cons}
 use Rattle.path_tree.specs.Paths.{Bytes, PathNames, name_cmp, path_cmp, same_path}
 use Rattle.path_tree.specs.Trees.{Tree}
+use Rattle.path_tree.proofs.CallerLemmas.{path_cmp-is, path_total, same_path-refl}
 use Rattle.generation.specs.Publication.{Spot, AreRising}
 use Rattle.generation.specs.Layouts.{Placed, placed_at, key_in, module_of, same_kind, is_same_spot}
 use Rattle.generation.specs.Merging.{from_path, first_same}
 use Rattle.generation.specs.View.{view_placed, view_spot, path_at, bytes_at}
 use Rattle.generation.specs.declared.objects.Placed.{Placed as CodePlaced}
 use Rattle.generation.specs.declared.spots.Spot.{Spot as CodeSpot}
-use Rattle.generation.proofs.Treeing.{then_equal, names_equal}
-use Rattle.generation.proofs.Rising.{paths_trans, path_self, paths_differ, less_differ}
+use Rattle.generation.proofs.Treeing.{then_equal}
+use Rattle.generation.proofs.Rising.{paths_differ, less_differ}
 use Rattle.generation.proofs.Limiting.{drop_or}
 use Rattle.generation.proofs.Spotting.{kind_apart, kind_same}
 
 -- ---- the order of paths
 
-paths_total : IsTotalOrder path_cmp
-paths_total = lists_total nat_list_cmp_total
-
-pub paths_equal : (a b : PathNames) → path_cmp a b ≡ Equal → a ≡ b
-paths_equal [] [] e = refl
-paths_equal [] (y ∷ ys) e = cc
-paths_equal (x ∷ xs) [] e = cc
-paths_equal (x ∷ xs) (y ∷ ys) e =
-    let h = then_equal (name_cmp x y) (path_cmp xs ys) e in
-    ap (λ z. z ∷ xs) (names_equal x y h.0) ∙ ap (λ zs. y ∷ zs) (paths_equal xs ys h.1)
-
 paths_greater : (a b : PathNames) → path_cmp a b ≡ Greater → path_cmp b a ≡ Less
-paths_greater a b e = paths_total.antisymm b a ∙ ap ordering_reverse e
+paths_greater a b e = path_total.antisymm b a ∙ ap ordering_reverse e
 
 less_apart : (a b : PathNames) → path_cmp a b ≡ Less → same_path a b ≡ false
 less_apart a b e = paths_differ a b (less_differ a b e)
@@ -62,7 +52,7 @@ passed_same p (o ∷ os) r how = go (path_cmp o.spot.path p) refl (passed_same p
   less : path_cmp o.spot.path p ≡ Less → path_cmp o.spot.path r.path ≡ Less
   less e = elim how [
     | inl is ↦ subst (λ z. path_cmp o.spot.path z ≡ Less) is e
-    | inr more ↦ paths_trans o.spot.path p r.path e more
+    | inr more ↦ path_total.trans o.spot.path p r.path e more
   ]
 
   go : (c : Ordering) → path_cmp o.spot.path p ≡ c → placed_at os r ≡ placed_at (from_path p os) r → placed_at (o ∷ os) r ≡ placed_at (cond (is_lt c) (from_path p os) (o ∷ os)) r
@@ -82,8 +72,8 @@ first_found (o ∷ os) s rising = go (path_cmp o.spot.path s.path) refl (first_f
 
   go : (c : Ordering) → path_cmp o.spot.path s.path ≡ c → placed_at os s ≡ first_same (from_path s.path os) s → placed_at (o ∷ os) s ≡ first_same (cond (is_lt c) (from_path s.path os) (o ∷ os)) s
   go Less e rest = let apart : same_path o.spot.path s.path ≡ false = less_apart o.spot.path s.path e in rw apart rest
-  go Equal e rest = here (subst (λ z. All (λ q. path_cmp z q.spot.path ≡ Less) os) (paths_equal o.spot.path s.path e) later)
-  go Greater e rest = here (λ k d lt. paths_trans s.path o.spot.path (get_or os k d).spot.path (paths_greater o.spot.path s.path e) (later k d lt))
+  go Equal e rest = here (subst (λ z. All (λ q. path_cmp z q.spot.path ≡ Less) os) (path_cmp-is o.spot.path s.path e) later)
+  go Greater e rest = here (λ k d lt. path_total.trans s.path o.spot.path (get_or os k d).spot.path (paths_greater o.spot.path s.path e) (later k d lt))
 
 pub still_rising : (p : PathNames) (os : List Placed) → AreRising (map (λ o. o.spot) os) → AreRising (map (λ o. o.spot) (from_path p os))
 still_rising p [] rising = tt
@@ -186,7 +176,7 @@ one_object t u s o found e has lacks = elim (bools o.spot.whole s.whole) [
       ap (option_map (view_placed t)) (lacks h) ∙ sym (ap (λ b. cond b (Some (view_placed t o)) None) other)
 ] where
   same : same_path (view_placed t o).spot.path (view_spot u s).path ≡ true
-  same = subst (λ z. same_path (view_placed t o).spot.path z ≡ true) (paths_equal (view_placed t o).spot.path (view_spot u s).path e) (path_self (view_placed t o).spot.path)
+  same = subst (λ z. same_path (view_placed t o).spot.path z ≡ true) (path_cmp-is (view_placed t o).spot.path (view_spot u s).path e) (same_path-refl (view_placed t o).spot.path)
 
 pub one_here : (t u : Tree) (s : CodeSpot) (os : List CodePlaced) (i : ℕ) (d : CodePlaced) (found : Option CodePlaced) → i < length os
     → path_cmp (view_placed t (get_or os i d)).spot.path (view_spot u s).path ≡ Equal

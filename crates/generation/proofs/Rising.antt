@@ -8,51 +8,15 @@ use Rattle.std.proofs.Common.{length-take}
 use Rattle.std.proofs.lemmas.List.Elements.{All-cons, All-append}
 use Rattle.path_tree.specs.Paths.{Bytes, PathNames, name_cmp, path_cmp, same_name, same_path, is_below}
 use Rattle.path_tree.specs.Trees.{Tree, IsTree, content_at}
+use Rattle.path_tree.proofs.CallerLemmas.{below-less, name_cmp-is, name_cmp-refl, not_both_less, path_cmp-refl, path_total, same_name-refl, same_path-is, same_path-refl}
 use Rattle.generation.specs.Publication.{Spot, shared_folders, folder_of, folders_after, spots_after, spots_of, AreRising}
-use Rattle.generation.proofs.Law.{same_name_is}
-use Rattle.generation.proofs.Treeing.{same_self, then_less, names_equal, names_self, paths_self, not_both, below_later, shared_less, cmp_equal}
+use Rattle.generation.proofs.Treeing.{then_less, shared_less, cmp_equal}
 use Rattle.generation.proofs.Children.{Later, Ordered, ordered_from}
 
 -- ---- order is passed on
 
 less_less : (x y z : ℕ) → nat_cmp x y ≡ Less → nat_cmp y z ≡ Less → nat_cmp x z ≡ Less
 less_less x y z e f = grind (arith, nat_tests, e, f)
-
-names_trans : (a b c : Bytes) → name_cmp a b ≡ Less → name_cmp b c ≡ Less → name_cmp a c ≡ Less
-names_trans a [] c e f = absurd (none a e) where
-  none : (a : Bytes) → name_cmp a [] ≡ Less → ⊥
-  none [] e = cc
-  none (x ∷ xs) e = cc
-names_trans a (y ∷ ys) [] e f = cc
-names_trans [] (y ∷ ys) (z ∷ zs) e f = refl
-names_trans (x ∷ xs) (y ∷ ys) (z ∷ zs) e f = elim (then_less (nat_cmp x y) (name_cmp xs ys) e) [
-  | inl first ↦ elim (then_less (nat_cmp y z) (name_cmp ys zs) f) [
-    | inl second ↦ rw (less_less x y z first second) refl
-    | inr second ↦ let yz = cmp_equal y z second.0 in let h : nat_cmp x z ≡ Less = subst (λ w. nat_cmp x w ≡ Less) yz first in rw h refl
-  ]
-  | inr first ↦ let xy = cmp_equal x y first.0 in elim (then_less (nat_cmp y z) (name_cmp ys zs) f) [
-    | inl second ↦ let h : nat_cmp x z ≡ Less = subst (λ w. nat_cmp w z ≡ Less) (sym xy) second in rw h refl
-    | inr second ↦ let h : nat_cmp x z ≡ Equal = subst (λ w. nat_cmp w z ≡ Equal) (sym xy) second.0 in rw h (names_trans xs ys zs first.1 second.1)
-  ]
-]
-
-pub paths_trans : (a b c : PathNames) → path_cmp a b ≡ Less → path_cmp b c ≡ Less → path_cmp a c ≡ Less
-paths_trans a [] c e f = absurd (none a e) where
-  none : (a : PathNames) → path_cmp a [] ≡ Less → ⊥
-  none [] e = cc
-  none (x ∷ xs) e = cc
-paths_trans a (y ∷ ys) [] e f = cc
-paths_trans [] (y ∷ ys) (z ∷ zs) e f = refl
-paths_trans (x ∷ xs) (y ∷ ys) (z ∷ zs) e f = elim (then_less (name_cmp x y) (path_cmp xs ys) e) [
-  | inl first ↦ elim (then_less (name_cmp y z) (path_cmp ys zs) f) [
-    | inl second ↦ rw (names_trans x y z first second) refl
-    | inr second ↦ let yz = names_equal y z second.0 in let h : name_cmp x z ≡ Less = subst (λ w. name_cmp x w ≡ Less) yz first in rw h refl
-  ]
-  | inr first ↦ let xy = names_equal x y first.0 in elim (then_less (name_cmp y z) (path_cmp ys zs) f) [
-    | inl second ↦ let h : name_cmp x z ≡ Less = subst (λ w. name_cmp w z ≡ Less) (sym xy) second in rw h refl
-    | inr second ↦ let h : name_cmp x z ≡ Equal = subst (λ w. name_cmp w z ≡ Equal) (sym xy) second.0 in rw h (paths_trans xs ys zs first.1 second.1)
-  ]
-]
 
 -- ---- fronts
 
@@ -64,12 +28,12 @@ front_less : (q : PathNames) (k j : ℕ) → k < j → j ≤ length q → path_c
 front_less q k zero lt le = absurd (omega (arith, lt))
 front_less [] k (suc j) lt le = absurd (omega (arith, le))
 front_less (n ∷ ns) zero (suc j) lt le = refl
-front_less (n ∷ ns) (suc k) (suc j) lt le = rw (names_self n) (front_less ns k j (omega (arith, lt)) (omega (arith, le)))
+front_less (n ∷ ns) (suc k) (suc j) lt le = rw (name_cmp-refl n) (front_less ns k j (omega (arith, lt)) (omega (arith, le)))
 
 front_below : (q : PathNames) (k : ℕ) → k < length q → is_below (take k q) q ≡ true
 front_below [] k lt = absurd (omega (arith, lt))
 front_below (n ∷ ns) zero lt = refl
-front_below (n ∷ ns) (suc k) lt = rw (same_self n) (front_below ns k (omega (arith, lt)))
+front_below (n ∷ ns) (suc k) lt = rw (same_name-refl n) (front_below ns k (omega (arith, lt)))
 
 -- a prefix of a file's path stands before the folders and the file that come after it
 rises : (b q : PathNames) (k j : ℕ) → path_cmp b q ≡ Less → is_below b q ≡ false → k ≤ length b → shared_folders b q < j → j ≤ length q → path_cmp (take k b) (take j q) ≡ Less
@@ -81,8 +45,8 @@ rises (m ∷ ms) (n ∷ ns) zero (suc j) less apart lk lt lj = refl
 rises (m ∷ ms) (n ∷ ns) (suc k) (suc j) less apart lk lt lj = elim (then_less (name_cmp m n) (path_cmp ms ns) less) [
   | inl first ↦ rw first refl
   | inr first ↦
-      let is = names_equal m n first.0 in
-      let same : same_name m n ≡ true = subst (λ w. same_name m w ≡ true) is (same_self m) in
+      let is = name_cmp-is m n first.0 in
+      let same : same_name m n ≡ true = subst (λ w. same_name m w ≡ true) is (same_name-refl m) in
       rw first.0 (later ms ns (rw same at apart) first.1 (λ m' ms' e. subst (λ l. shared_folders (m ∷ l) (n ∷ ns) < suc j) e lt) same (λ a b l s. rises ms ns k j a b (omega (arith, lk)) s (omega (arith, lj))))
 ] where
   later : (ms ns : PathNames) → is_below ms ns ≡ false → path_cmp ms ns ≡ Less → ((m' : Bytes) (ms' : PathNames) → ms ≡ m' ∷ ms' → shared_folders (m ∷ m' ∷ ms') (n ∷ ns) < suc j) → same_name m n ≡ true
@@ -109,7 +73,7 @@ behind before (e ∷ es) later ordered k le =
     All-append (λ r. path_cmp (take k before) r.path ≡ Less) (folders_after before e.0) (record { path = e.0; content = Some e.1 } ∷ spots_after e.0 es)
     (folders_rise e.0 (take k before) (shared_folders before e.0 + 1) (length e.0 - 1 - shared_folders before e.0) (omega (arith, less)) (λ j l m. rises before e.0 k j later.0 later.1 le (omega (arith, l)) m))
     (All-cons (λ r. path_cmp (take k before) r.path ≡ Less) (record { path = e.0; content = Some e.1 }) (spots_after e.0 es) file
-    (λ i d lt. paths_trans (take k before) e.0 (get_or (spots_after e.0 es) i d).path file (subst (λ q. path_cmp q (get_or (spots_after e.0 es) i d).path ≡ Less) (take_all e.0) (rest i d lt))))
+    (λ i d lt. path_total.trans (take k before) e.0 (get_or (spots_after e.0 es) i d).path file (subst (λ q. path_cmp q (get_or (spots_after e.0 es) i d).path ≡ Less) (take_all e.0) (rest i d lt))))
 
 rising-append : (xs ys : List Spot) → AreRising xs → AreRising ys → ((i : ℕ) (d : Spot) → i < length xs → All (λ r. path_cmp (get_or xs i d).path r.path ≡ Less) ys) → AreRising (xs ++ ys)
 rising-append [] ys rx ry cross = ry
@@ -173,27 +137,14 @@ rising_all t tree = (each t (λ k d lt. (tree.paths k d lt).1), after_rising [] 
 
 -- ---- contents
 
-pub same_paths : (a b : PathNames) → same_path a b ≡ true → a ≡ b
-same_paths [] [] e = refl
-same_paths [] (n ∷ ns) e = cc
-same_paths (m ∷ ms) [] e = cc
-same_paths (m ∷ ms) (n ∷ ns) e = let h = and_both (same_name m n) (same_path ms ns) e in ap (λ z. z ∷ ms) (same_name_is m n h.0) ∙ ap (λ zs. n ∷ zs) (same_paths ms ns h.1) where
-  and_both : (a b : Bool) → (a && b) ≡ true → (a ≡ true) × (b ≡ true)
-  and_both true b e = (refl, e)
-  and_both false b e = cc
-
-pub path_self : (a : PathNames) → same_path a a ≡ true
-path_self [] = refl
-path_self (n ∷ ns) = rw (same_self n, path_self ns) refl
-
 pub paths_differ : (a b : PathNames) → a ≢ b → same_path a b ≡ false
 paths_differ a b ne = go (same_path a b) refl where
   go : (t : Bool) → same_path a b ≡ t → same_path a b ≡ false
-  go true e = absurd (ne (same_paths a b e))
+  go true e = absurd (ne (same_path-is a b e))
   go false e = e
 
 pub less_differ : (a b : PathNames) → path_cmp a b ≡ Less → a ≢ b
-less_differ a b e h = let s : path_cmp b b ≡ Less = subst (λ z. path_cmp z b ≡ Less) h e in let bad : Equal ≡ Less = sym (paths_self b) ∙ s in cc
+less_differ a b e h = let s : path_cmp b b ≡ Less = subst (λ z. path_cmp z b ≡ Less) h e in let bad : Equal ≡ Less = sym (path_cmp-refl b) ∙ s in cc
 
 -- an object's content is what stands at its path, and a folder lies above a file
 pub record Tells (t : Tree) (s : Spot) : Type 0 where
@@ -206,13 +157,13 @@ later_none q p [] later how = refl
 later_none q p (e ∷ es) later how =
     let differs : same_path p e.0 ≡ false = paths_differ p e.0 (elim how [
       | inl is ↦ λ h. less_differ q e.0 later.0 (sym is ∙ h)
-      | inr below ↦ λ h. not_both q e.0 later.0 (subst (λ z. path_cmp z q ≡ Less) h (below_later p q below))
+      | inr below ↦ λ h. not_both_less q e.0 later.0 (subst (λ z. path_cmp z q ≡ Less) h (below-less p q below))
     ]) in
     rw differs (later_none q p es later.2 how)
 
 tells_file : (e : PathNames × Bytes) (es : Tree) → Later e.0 es → Tells (e ∷ es) (record { path = e.0; content = Some e.1 })
 tells_file e es later = record {
-  content = rw (path_self e.0) refl;
+  content = rw (same_path-refl e.0) refl;
   folder = λ h. cc;
   fronts = λ q l. paths_differ e.0 q (λ h. less_differ q e.0 l.0 (sym h));
 }

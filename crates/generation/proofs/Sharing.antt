@@ -14,6 +14,7 @@ use Rattle.path_tree.specs.Paths.{Bytes, PathNames, path_cmp, same_name, same_pa
 use Rattle.path_tree.specs.Trees.{Tree, IsTree, content_at}
 use Rattle.path_tree.specs.Edits.{apply_all, path_in, OthersStay}
 use Rattle.path_tree.specs.declared.tree.Edit.{Edit}
+use Rattle.path_tree.proofs.CallerLemmas.{path_cmp-is, same_name-refl, same_path-refl}
 use Rattle.biop_object.specs.Names.{Layout, module_in}
 use Rattle.generation.specs.Layouts.{Placed, key_bytes, object_bytes, is_in, module_bytes, layout_of, same_module, count_in, count_after, counts_after}
 use Rattle.generation.specs.Stays.{AreAsBefore, part_bytes, SameModules, AreTheirs}
@@ -23,10 +24,8 @@ use Rattle.generation.specs.declared.objects.Placed.{Placed as CodePlaced}
 use Rattle.generation.specs.declared.spots.Spot.{Spot as CodeSpot}
 use Rattle.biop_object.specs.Objects.{file_spelling}
 use Rattle.generation.proofs.Children.{Later, Ordered, ordered_from}
-use Rattle.generation.proofs.Treeing.{same_self}
-use Rattle.generation.proofs.Rising.{path_self, paths_differ, less_differ, same_paths}
+use Rattle.generation.proofs.Rising.{paths_differ, less_differ}
 use Rattle.generation.proofs.Limiting.{drop_or}
-use Rattle.generation.proofs.Merging.{paths_equal}
 use Rattle.generation.proofs.Inside.{listed_bytes}
 
 -- ---- a tree's files by number
@@ -38,7 +37,7 @@ later_at q (e ∷ es) (suc i) later lt = later_at q es i later.2 (omega (arith, 
 
 here_in : (t : Tree) (i : ℕ) → Ordered t → i < length t → content_at t (path_at t i) ≡ Some (bytes_at t i)
 here_in [] i ordered lt = absurd (omega (arith, lt))
-here_in (e ∷ es) zero ordered lt = rw (path_self e.0) refl
+here_in (e ∷ es) zero ordered lt = rw (same_path-refl e.0) refl
 here_in (e ∷ es) (suc i) ordered lt =
     let less = later_at e.0 es i ordered.0 (omega (arith, lt)) in
     let apart : same_path (path_at es i) e.0 ≡ false = paths_differ (path_at es i) e.0 (λ h. less_differ e.0 (path_at es i) less (sym h)) in
@@ -111,7 +110,7 @@ pub same_file : (old t : Tree) (b o : CodePlaced) (flags : List Bool) → IsTree
     → (c : ℕ) (olds news : List Placed) → object_bytes c olds (view_placed old b) ≡ object_bytes c news (view_placed t o)
 same_file old t b o flags tree bv ov known bw ow key still same c olds news =
     let paths : path_at old b.spot.file ≡ path_at t o.spot.file =
-    sym (file_path old b.spot bv bw) ∙ (paths_equal (view_spot old b.spot).path (view_spot t o.spot).path same ∙ file_path t o.spot ov ow) in
+    sym (file_path old b.spot bv bw) ∙ (path_cmp-is (view_spot old b.spot).path (view_spot t o.spot).path same ∙ file_path t o.spot ov ow) in
     let bytes : bytes_at old b.spot.file ≡ bytes_at t o.spot.file =
     same_Some (bytes_at old b.spot.file) (bytes_at t o.spot.file)
     (sym (content_here old b.spot.file tree (bv.whole bw).0) ∙ (ap (content_at old) paths ∙ known o.spot.file (ov.whole ow).0 still)) in
@@ -174,7 +173,7 @@ are_theirs c olds news layout flags is same = λ m bytes on has.
 
 -- what the layout before has under the id is the same module
 pub marked_here : (before : Layout) (id : ℕ) (bytes other : Bytes) → module_in before id ≡ Some other → bytes ≡ other → true ≡ same_module (module_in before id) (Some bytes)
-marked_here before id bytes other has is = sym (ap (λ o. same_module o (Some bytes)) has ∙ (ap (same_name other) is ∙ same_self other))
+marked_here before id bytes other has is = sym (ap (λ o. same_module o (Some bytes)) has ∙ (ap (same_name other) is ∙ same_name-refl other))
 
 -- the counts by the marks
 pub counts_are : (before : Layout) (modules : List Listed) (counts : List (ℕ × ℕ)) → AreMarked before modules

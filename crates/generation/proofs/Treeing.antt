@@ -1,20 +1,16 @@
 -- The order of paths, and what stands between two files of one folder.
 use Rattle.std.proofs.Common.{◌≡◌, ◌≢◌, ℕ, suc, ◌<◌, ◌≤◌, Bool, true, false, ◌&&◌, ◌==◌, [], ◌∷◌, length, Option, Some, None, cond, refl, sym, ◌∙◌, ap, subst, arith, ◌⊎◌, inl, inr}
-use Rattle.std.specs.Ordering.{nat_cmp, ordering_then}
+use Rattle.std.specs.Ordering.{nat_cmp, ordering_then, ordering_reverse}
 use Rattle.std.specs.declared.cmp.Ordering.{Ordering}
 use Rattle.std.specs.declared.cmp.Ordering.TheVariants.{Less, Equal, Greater}
 use Rattle.std.proofs.lemmas.Bool.Decides.{nat_tests}
 use Rattle.std.proofs.lemmas.Option.{same_Some}
 use Rattle.path_tree.specs.Paths.{Bytes, PathNames, name_cmp, path_cmp, same_name, is_below, next_name}
+use Rattle.path_tree.proofs.CallerLemmas.{name_total, name_cmp-is, name_cmp-refl, same_name-is, same_name-refl}
 use Rattle.generation.specs.Publication.{shared_folders}
-use Rattle.generation.proofs.Law.{same_name_is}
-
-pub same_self : (a : Bytes) → same_name a a ≡ true
-same_self [] = refl
-same_self (x ∷ xs) = let e : (x == x) ≡ true = grind (arith, nat_tests) in rw (e, same_self xs) refl
 
 pub apart_names : (a b : Bytes) → same_name a b ≡ false → a ≢ b
-apart_names a b e h = let s : same_name a b ≡ true = subst (λ c. same_name a c ≡ true) h (same_self a) in cc
+apart_names a b e h = let s : same_name a b ≡ true = subst (λ c. same_name a c ≡ true) h (same_name-refl a) in cc
 
 -- numbers
 pub cmp_less : (x y : ℕ) → nat_cmp x y ≡ Less → nat_cmp y x ≡ Greater
@@ -37,55 +33,11 @@ then_equal Equal b e = (refl, e)
 then_equal Greater b e = cc
 
 -- names
-pub names_equal : (a b : Bytes) → name_cmp a b ≡ Equal → a ≡ b
-names_equal [] [] e = refl
-names_equal [] (y ∷ ys) e = cc
-names_equal (x ∷ xs) [] e = cc
-names_equal (x ∷ xs) (y ∷ ys) e = let h = then_equal (nat_cmp x y) (name_cmp xs ys) e in let p = cmp_equal x y h.0 in let q = names_equal xs ys h.1 in ap (λ z. z ∷ xs) p ∙ ap (λ zs. y ∷ zs) q
-
-pub names_self : (a : Bytes) → name_cmp a a ≡ Equal
-names_self [] = refl
-names_self (x ∷ xs) = rw (cmp_self x) (names_self xs)
-
 pub names_less : (a b : Bytes) → name_cmp a b ≡ Less → name_cmp b a ≡ Greater
-names_less [] [] e = cc
-names_less [] (y ∷ ys) e = refl
-names_less (x ∷ xs) [] e = cc
-names_less (x ∷ xs) (y ∷ ys) e = elim (then_less (nat_cmp x y) (name_cmp xs ys) e) [
-  | inl less ↦ rw (cmp_less x y less) refl
-  | inr same ↦ let is : x ≡ y = cmp_equal x y same.0 in let back : nat_cmp y x ≡ Equal = subst (λ z. nat_cmp y z ≡ Equal) (sym is) (cmp_self y) in rw back (names_less xs ys same.1)
-]
+names_less a b e = name_total.antisymm b a ∙ ap ordering_reverse e
 
 -- paths
-pub paths_self : (a : PathNames) → path_cmp a a ≡ Equal
-paths_self [] = refl
-paths_self (x ∷ xs) = rw (names_self x) (paths_self xs)
-
-pub paths_less : (a b : PathNames) → path_cmp a b ≡ Less → path_cmp b a ≡ Greater
-paths_less [] [] e = cc
-paths_less [] (y ∷ ys) e = refl
-paths_less (x ∷ xs) [] e = cc
-paths_less (x ∷ xs) (y ∷ ys) e = elim (then_less (name_cmp x y) (path_cmp xs ys) e) [
-  | inl less ↦ rw (names_less x y less) refl
-  | inr same ↦ let is : x ≡ y = names_equal x y same.0 in let back : name_cmp y x ≡ Equal = subst (λ z. name_cmp y z ≡ Equal) (sym is) (names_self y) in rw back (paths_less xs ys same.1)
-]
-
 -- a path that lies below another comes after it
-pub below_later : (a b : PathNames) → is_below a b ≡ true → path_cmp a b ≡ Less
-below_later [] [] e = cc
-below_later [] (n ∷ ns) e = refl
-below_later (m ∷ ms) [] e = cc
-below_later (m ∷ ms) (n ∷ ns) e =
-    let h = and_both (same_name m n) (is_below ms ns) e in
-    let is : name_cmp m n ≡ Equal = subst (λ z. name_cmp m z ≡ Equal) (same_name_is m n h.0) (names_self m) in
-    rw is (below_later ms ns h.1) where
-      and_both : (a b : Bool) → (a && b) ≡ true → (a ≡ true) × (b ≡ true)
-      and_both true b e = (refl, e)
-      and_both false b e = cc
-
-pub not_both : (a b : PathNames) → path_cmp a b ≡ Less → path_cmp b a ≡ Less → ⊥
-not_both a b e f = let g = paths_less a b e in cc
-
 -- ---- the next name below a path
 
 some_of_cond : (b : Bool) (o : Option Bytes) (n : Bytes) → cond b o None ≡ Some n → (b ≡ true) × (o ≡ Some n)
@@ -109,17 +61,17 @@ between (q ∷ p) (x ∷ f) [] (z ∷ e) m n ef ee less more = cc
 between (q ∷ p) (x ∷ f) (y ∷ b) (z ∷ e) m n ef ee less more =
     let hf = some_of_cond (same_name q x) (next_name p f) m ef in
     let he = some_of_cond (same_name q z) (next_name p e) n ee in
-    let xz : x ≡ z = sym (same_name_is q x hf.0) ∙ same_name_is q z he.0 in
+    let xz : x ≡ z = sym (same_name-is q x hf.0) ∙ same_name-is q z he.0 in
     elim (then_less (name_cmp x y) (path_cmp f b) less) [
       | inl first ↦ absurd (elim (then_less (name_cmp y z) (path_cmp b e) more) [
         | inl second ↦ let g = names_less x y first in let s : name_cmp y x ≡ Less = subst (λ w. name_cmp y w ≡ Less) (sym xz) second in (let bad : Less ≡ Greater = sym s ∙ g in cc)
-        | inr second ↦ let yz = names_equal y z second.0 in let s : name_cmp x x ≡ Less = subst (λ w. name_cmp x w ≡ Less) (yz ∙ sym xz) first in (let bad : Equal ≡ Less = sym (names_self x) ∙ s in cc)
+        | inr second ↦ let yz = name_cmp-is y z second.0 in let s : name_cmp x x ≡ Less = subst (λ w. name_cmp x w ≡ Less) (yz ∙ sym xz) first in (let bad : Equal ≡ Less = sym (name_cmp-refl x) ∙ s in cc)
       ])
       | inr first ↦
-          let xy = names_equal x y first.0 in
+          let xy = name_cmp-is x y first.0 in
           let same : same_name q y ≡ true = subst (λ w. same_name q w ≡ true) xy hf.0 in
           elim (then_less (name_cmp y z) (path_cmp b e) more) [
-            | inl second ↦ absurd (let s : name_cmp z z ≡ Less = subst (λ w. name_cmp w z ≡ Less) (sym xy ∙ xz) second in (let bad : Equal ≡ Less = sym (names_self z) ∙ s in cc))
+            | inl second ↦ absurd (let s : name_cmp z z ≡ Less = subst (λ w. name_cmp w z ≡ Less) (sym xy ∙ xz) second in (let bad : Equal ≡ Less = sym (name_cmp-refl z) ∙ s in cc))
             | inr second ↦ let r = between p f b e m n hf.1 he.1 first.1 second.1 in (r.0, rw same r.1)
           ]
     ]
@@ -134,7 +86,7 @@ shared_less (m ∷ m' ∷ ms) [] e = cc
 shared_less (m ∷ m' ∷ ms) (n ∷ ns) e = go (same_name m n) refl (shared_less (m' ∷ ms) ns) where
   go : (t : Bool) → same_name m n ≡ t → (path_cmp (m' ∷ ms) ns ≡ Less → shared_folders (m' ∷ ms) ns < length ns) → cond t (suc (shared_folders (m' ∷ ms) ns)) 0 < suc (length ns)
   go true h later =
-      let is : name_cmp m n ≡ Equal = subst (λ z. name_cmp m z ≡ Equal) (same_name_is m n h) (names_self m) in
+      let is : name_cmp m n ≡ Equal = subst (λ z. name_cmp m z ≡ Equal) (same_name-is m n h) (name_cmp-refl m) in
       let rest : path_cmp (m' ∷ ms) ns ≡ Less = rw is at e in
       omega (arith, later rest)
   go false h later = omega arith
@@ -146,7 +98,7 @@ shared_next [] [] q m n eb eq apart ne = cc
 shared_next [] (x ∷ b) [] m n eb eq apart ne = cc
 shared_next [] (x ∷ []) (y ∷ q) m n eb eq apart ne = go (same_name x y) refl where
   go : (t : Bool) → same_name x y ≡ t → ((same_name m n ≡ true) × (0 < 0)) ⊎ ((same_name m n ≡ false) × (0 ≤ 0))
-  go true h = absurd (alone q (same_name_is x y h) apart ne) where
+  go true h = absurd (alone q (same_name-is x y h) apart ne) where
     alone : (q : PathNames) → x ≡ y → is_below (x ∷ []) (y ∷ q) ≡ false → (x ∷ []) ≢ (y ∷ q) → ⊥
     alone [] is apart ne = ne (ap (λ z. z ∷ []) is)
     alone (k ∷ ks) is apart ne = let yes : is_below (x ∷ []) (y ∷ k ∷ ks) ≡ true = rw h refl in cc
@@ -164,8 +116,8 @@ shared_next (k ∷ p) (x ∷ []) (y ∷ q) m n eb eq apart ne = absurd (omega (a
 shared_next (k ∷ p) (x ∷ x' ∷ b) (y ∷ q) m n eb eq apart ne =
     let hb = some_of_cond (same_name k x) (next_name p (x' ∷ b)) m eb in
     let hq = some_of_cond (same_name k y) (next_name p q) n eq in
-    let xy : x ≡ y = sym (same_name_is k x hb.0) ∙ same_name_is k y hq.0 in
-    let same : same_name x y ≡ true = subst (λ z. same_name x z ≡ true) xy (same_self x) in
+    let xy : x ≡ y = sym (same_name-is k x hb.0) ∙ same_name-is k y hq.0 in
+    let same : same_name x y ≡ true = subst (λ z. same_name x z ≡ true) xy (same_name-refl x) in
     let apart' : is_below (x' ∷ b) q ≡ false = rw same at apart in
     let ne' : (x' ∷ b) ≢ q = λ e. ne (ap (λ z. z ∷ x' ∷ b) xy ∙ ap (λ zs. y ∷ zs) e) in
     elim (shared_next p (x' ∷ b) q m n hb.1 hq.1 apart' ne') [
@@ -186,7 +138,7 @@ shared_outside (k ∷ p) (x ∷ x' ∷ b) (y ∷ q) n eb eq = go (same_name x y)
 
   go : (t : Bool) → same_name x y ≡ t → (next_name p (x' ∷ b) ≡ None → shared_folders (x' ∷ b) q ≤ length p) → cond t (suc (shared_folders (x' ∷ b) q)) 0 ≤ suc (length p)
   go true h rest =
-      let kx : same_name k x ≡ true = subst (λ z. same_name k z ≡ true) (sym (same_name_is x y h)) hq.0 in
+      let kx : same_name k x ≡ true = subst (λ z. same_name k z ≡ true) (sym (same_name-is x y h)) hq.0 in
       let none : next_name p (x' ∷ b) ≡ None = rw kx at eb in
       omega (arith, rest none)
   go false h rest = omega arith

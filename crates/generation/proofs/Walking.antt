@@ -7,6 +7,7 @@ use Rattle.std.proofs.lemmas.Option.{same_Some}
 use Rattle.std.proofs.lemmas.List.Elements.{All-cons}
 use Rattle.path_tree.specs.Paths.{Bytes, PathNames, path_cmp, same_name, same_path, is_below, next_name}
 use Rattle.path_tree.specs.Trees.{Tree, IsTree, File, Folder, NoSuch, node_at, content_at, is_folder, names_below}
+use Rattle.path_tree.proofs.CallerLemmas.{below-less, next_name-none, not_both_less, same_name-is, same_name-refl, same_path-is}
 use Rattle.ior_tap.specs.declared.Location.{Location}
 use Rattle.biop_object.specs.Names.{Layout, thing_named, location_in, location_of as leads_to}
 use Rattle.biop_object.specs.Objects.{binding_of}
@@ -14,10 +15,8 @@ use Rattle.biop_object.specs.Spelled.{SpellingsReadBack}
 use Rattle.generation.specs.Publication.{Spot, spots_of, spots_after, child_name, gateway_spot}
 use Rattle.generation.specs.Layouts.{Placed, location_of, bound_of, entries_of, layout_of, gateway_location, key_bytes}
 use Rattle.generation.specs.Lawful.{IsNode}
-use Rattle.generation.proofs.Law.{same_name_is}
-use Rattle.generation.proofs.Treeing.{same_self, not_both, below_later}
 use Rattle.generation.proofs.Children.{kids, kids_are, Later, Ordered, ordered_from}
-use Rattle.generation.proofs.Rising.{tells_all, same_paths, paths_differ}
+use Rattle.generation.proofs.Rising.{tells_all, paths_differ}
 use Rattle.generation.proofs.Carrying.{seen, In, find_in, in_all, Sound, thing_found}
 
 -- a name is there, and is this one
@@ -55,20 +54,20 @@ binding_names c p (o ∷ os) = go (child_name p o.spot.path) refl (binding_names
 
 child_path : (p r : PathNames) (n : Bytes) → is_named n (child_name p r) ≡ true → r ≡ p ++ n ∷ []
 child_path [] [] n e = cc
-child_path [] (k ∷ []) n e = ap (λ z. z ∷ []) (sym (same_name_is n k e))
+child_path [] (k ∷ []) n e = ap (λ z. z ∷ []) (sym (same_name-is n k e))
 child_path [] (k ∷ k' ∷ ks) n e = cc
 child_path (m ∷ ms) [] n e = cc
 child_path (m ∷ ms) (k ∷ ks) n e = go (same_name m k) refl (λ h. child_path ms ks n h) where
   go : (t : Bool) → same_name m k ≡ t → (is_named n (child_name ms ks) ≡ true → ks ≡ ms ++ n ∷ []) → k ∷ ks ≡ m ∷ (ms ++ n ∷ [])
-  go true h rest = ap (λ z. z ∷ ks) (sym (same_name_is m k h)) ∙ ap (λ zs. m ∷ zs) (rest (rw h at e))
+  go true h rest = ap (λ z. z ∷ ks) (sym (same_name-is m k h)) ∙ ap (λ zs. m ∷ zs) (rest (rw h at e))
   go false h rest = let bad = rw h at e in cc
 
 -- what lies at or below a path has its next name below each folder above
 named_at : (p : PathNames) (n : Bytes) (ns q : PathNames) → same_path (p ++ n ∷ ns) q ≡ true → is_named n (next_name p q) ≡ true
-named_at p n ns q e = subst (λ z. is_named n (next_name p z) ≡ true) (same_paths (p ++ n ∷ ns) q e) (front p) where
+named_at p n ns q e = subst (λ z. is_named n (next_name p z) ≡ true) (same_path-is (p ++ n ∷ ns) q e) (front p) where
   front : (p : PathNames) → is_named n (next_name p (p ++ n ∷ ns)) ≡ true
-  front [] = same_self n
-  front (m ∷ ms) = rw (same_self m) (front ms)
+  front [] = same_name-refl n
+  front (m ∷ ms) = rw (same_name-refl m) (front ms)
 
 and_parts : (a b : Bool) → (a && b) ≡ true → (a ≡ true) × (b ≡ true)
 and_parts true b e = (refl, e)
@@ -112,25 +111,16 @@ no_node t p n ns none = node_none t (p ++ n ∷ ns) (no_content t p n ns none) (
 
 -- ---- nothing lies below a file
 
-not_next : (p q : PathNames) → is_below p q ≡ false → next_name p q ≡ None
-not_next [] [] e = refl
-not_next [] (k ∷ ks) e = cc
-not_next (m ∷ ms) [] e = refl
-not_next (m ∷ ms) (k ∷ ks) e = go (same_name m k) refl (λ h. not_next ms ks h) where
-  go : (t : Bool) → same_name m k ≡ t → (is_below ms ks ≡ false → next_name ms ks ≡ None) → cond t (next_name ms ks) None ≡ None
-  go true h rest = rest (rw h at e)
-  go false h rest = refl
-
 content_later : (q p : PathNames) (es : Tree) (b : Bytes) → Later q es → content_at es p ≡ Some b → path_cmp q p ≡ Less
 content_later q p [] b later e = cc
 content_later q p (x ∷ xs) b later e = go (same_path p x.0) refl (λ h. content_later q p xs b later.2 h) where
   go : (t : Bool) → same_path p x.0 ≡ t → (content_at xs p ≡ Some b → path_cmp q p ≡ Less) → path_cmp q p ≡ Less
-  go true h rest = subst (λ z. path_cmp q z ≡ Less) (sym (same_paths p x.0 h)) later.0
+  go true h rest = subst (λ z. path_cmp q z ≡ Less) (sym (same_path-is p x.0 h)) later.0
   go false h rest = rest (rw h at e)
 
 not_below_self : (p : PathNames) → is_below p p ≡ false
 not_below_self [] = refl
-not_below_self (n ∷ ns) = rw (same_self n) (not_below_self ns)
+not_below_self (n ∷ ns) = rw (same_name-refl n) (not_below_self ns)
 
 apart_later : (q : PathNames) (es : Tree) → Later q es → All (λ e. is_below q e.0 ≡ false) es
 apart_later q [] later = λ i d lt. absurd (omega (arith, lt))
@@ -140,18 +130,18 @@ alone : (p : PathNames) (b : Bytes) (t : Tree) → Ordered t → content_at t p 
 alone p b [] ordered e = cc
 alone p b (x ∷ xs) ordered e = go (same_path p x.0) refl (λ h. alone p b xs ordered.1 h) where
   go : (t : Bool) → same_path p x.0 ≡ t → (content_at xs p ≡ Some b → All (λ e. is_below p e.0 ≡ false) xs) → All (λ e. is_below p e.0 ≡ false) (x ∷ xs)
-  go true h rest = subst (λ z. All (λ e. is_below z e.0 ≡ false) (x ∷ xs)) (sym (same_paths p x.0 h)) (All-cons (λ e. is_below x.0 e.0 ≡ false) x xs (not_below_self x.0) (apart_later x.0 xs ordered.0))
+  go true h rest = subst (λ z. All (λ e. is_below z e.0 ≡ false) (x ∷ xs)) (sym (same_path-is p x.0 h)) (All-cons (λ e. is_below x.0 e.0 ≡ false) x xs (not_below_self x.0) (apart_later x.0 xs ordered.0))
   go false h rest =
       let c : content_at xs p ≡ Some b = rw h at e in
       All-cons (λ e. is_below p e.0 ≡ false) x xs (differs (is_below p x.0) refl c) (rest c) where
         differs : (u : Bool) → is_below p x.0 ≡ u → content_at xs p ≡ Some b → is_below p x.0 ≡ false
-        differs true f c = absurd (not_both p x.0 (below_later p x.0 f) (content_later x.0 p xs b ordered.0 c))
+        differs true f c = absurd (not_both_less p x.0 (below-less p x.0 f) (content_later x.0 p xs b ordered.0 c))
         differs false f c = f
 
 below_file : (t : Tree) (p : PathNames) (b n : Bytes) (ns : PathNames) → IsTree t → content_at t p ≡ Some b → node_at t (p ++ n ∷ ns) ≡ NoSuch
 below_file t p b n ns tree e =
     let none = alone p b t (ordered_from t tree.in_order tree.apart) e in
-    no_node t p n ns (λ i d lt. ap (is_named n) (not_next p (get_or t i d).0 (none i d lt)))
+    no_node t p n ns (λ i d lt. ap (is_named n) (next_name-none p (get_or t i d).0 (none i d lt)))
 
 -- ---- a name that no object has
 
@@ -174,7 +164,7 @@ dedup_any n k (x ∷ xs) e = go (same_name x k) refl (λ h. dedup_any n k xs h) 
       → (same_name n k ≡ false) × ((same_name n x || list_any (same_name n) xs) ≡ false)
   go true h first second =
       let r = first (rw h at e) in
-      let s : same_name n x ≡ false = subst (λ z. same_name n z ≡ false) (sym (same_name_is x k h)) r.0 in
+      let s : same_name n x ≡ false = subst (λ z. same_name n z ≡ false) (sym (same_name-is x k h)) r.0 in
       (r.0, both_none (same_name n x) (list_any (same_name n) xs) s r.1)
   go false h first second =
       let p = or_parts (same_name n k) _ (rw h at e) in

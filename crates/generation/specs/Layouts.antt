@@ -22,7 +22,8 @@ use Rattle.module_packer.specs.Kept.{kept_modules}
 use Rattle.cycle_planner.specs.Cycle.{Line}
 use Rattle.cycle_planner.specs.declared.Item.{Item}
 use Rattle.cycle_planner.specs.declared.Item.TheVariants.{Dsi, Dii, Block}
-use Rattle.generation.specs.Publication.{Spot, gateway_spot, spots_of, sizes_of, child_name, most_modules}
+use Rattle.generation.specs.Publication.{Spot, gateway_spot, spots_of, sizes_of, child_name}
+use Rattle.dsi_dii.specs.declared.TheConstants.{BLOCK_SIZE, MOST_MODULES}
 
 -- an object with its key and its module
 pub record Placed : Type 0 where
@@ -156,7 +157,7 @@ old_modules old spots = map (λ s. module_of (placed_at old s)) spots
 
 -- the module of each object: the one where it was, as far as there is room
 abbrev pub modules_for : List Placed → Tree → List ℕ
-modules_for old t = kept_modules most_modules (zip (sizes_of t) (old_modules old (spots_of t)))
+modules_for old t = kept_modules MOST_MODULES (zip (sizes_of t) (old_modules old (spots_of t)))
 
 abbrev pub make_generation : ℕ → ℕ → Tree → List Placed → Layout → List (ℕ × ℕ) → GenerationState
 make_generation carousel number t old before counts =
@@ -182,7 +183,7 @@ generation_of carousel trees = fold next_of (first_of carousel) trees
 -- ---- what a generation sends
 
 abbrev pub lines_in : Layout → List Line
-lines_in layout = map (λ m. (m.0, blocks.block_count_of (length m.1) 4066)) layout
+lines_in layout = map (λ m. (m.0, blocks.block_count_of (length m.1) BLOCK_SIZE)) layout
 
 abbrev pub lines_of : GenerationState → List Line
 lines_of g = lines_in g.layout
@@ -192,7 +193,7 @@ abbrev pub dii_lines : List (ℕ × ℕ) → Layout → List ModuleLine
 dii_lines counts layout = map (λ m. record { id = m.0; size = length m.1; version = count_in counts m.0 % 256; compressed = false }) layout
 
 abbrev pub dii_of : GenerationState → controls.DiiFields
-dii_of g = record { download = g.carousel; block_size = 4066; transaction = controls.dii_transaction g.number; modules = dii_lines g.counts g.layout }
+dii_of g = record { download = g.carousel; block_size = BLOCK_SIZE; transaction = controls.dii_transaction g.number; modules = dii_lines g.counts g.layout }
 
 abbrev pub gateway_location : ℕ → Location
 gateway_location carousel = record { carousel = carousel; «module» = 1; key = key_bytes 1 }
@@ -206,8 +207,8 @@ block_section carousel m version b bytes = record {
   extension = m;
   version = version % 32;
   number = b % 256;
-  last = min 255 (blocks.block_count_of (length bytes) 4066 - 1);
-  payload = blocks.spelling (record { download = carousel; module_id = m; version = version; number = b; bytes = blocks.block_of bytes 4066 b });
+  last = min 255 (blocks.block_count_of (length bytes) BLOCK_SIZE - 1);
+  payload = blocks.spelling (record { download = carousel; module_id = m; version = version; number = b; bytes = blocks.block_of bytes BLOCK_SIZE b });
 }
 
 -- the section of an item

@@ -7,6 +7,9 @@ use Rattle.oc_bytes.specs.Outcome.{cap_at_u64, cap_at_u32}
 use Rattle.path_tree.specs.Paths.{Bytes, PathNames, path_cmp, same_name}
 use Rattle.path_tree.specs.Trees.{Tree}
 use Rattle.module_packer.specs.Placement.{modules_needed}
+use Rattle.biop_object.specs.declared.written.TheConstants.{MOST_FOLDER_SIZE, FILE_FRONT, FOLDER_FRONT, FILE_BINDING, FOLDER_BINDING}
+use Rattle.dsi_dii.specs.declared.TheConstants.{MOST_MODULES, MOST_TOTAL_SIZE}
+use Rattle.generation.specs.declared.limit.TheConstants.{MOST_OBJECTS}
 
 -- an object's path, and its bytes where it is a file
 pub record Spot : Type 0 where
@@ -51,8 +54,8 @@ child_name _ _ = None
 
 -- what a binding takes beside the name
 abbrev pub binding_rest : Option Bytes → ℕ
-binding_rest (Some b) = 82
-binding_rest None = 74
+binding_rest (Some b) = FILE_BINDING
+binding_rest None = FOLDER_BINDING
 
 -- what an object's binding takes in a folder: nothing where it lies elsewhere
 abbrev pub binding_size : PathNames → Spot → ℕ
@@ -64,8 +67,8 @@ binding_size p s = go (child_name p s.path) where
 abbrev pub size_of : List Spot → Spot → ℕ
 size_of spots s = go s.content where
   go : Option Bytes → ℕ
-  go (Some b) = 44 + length b
-  go None = 34 + sum_by (binding_size s.path) spots
+  go (Some b) = FILE_FRONT + length b
+  go None = FOLDER_FRONT + sum_by (binding_size s.path) spots
 
 abbrev pub sizes_of : Tree → List ℕ
 sizes_of t = map (size_of (spots_of t)) (spots_of t)
@@ -81,7 +84,7 @@ abbrev pub is_large_folder : List Spot → Spot → Bool
 is_large_folder spots s = go s.content where
   go : Option Bytes → Bool
   go (Some b) = false
-  go None = nat_lt 1048576 (size_of spots s)
+  go None = nat_lt MOST_FOLDER_SIZE (size_of spots s)
 
 abbrev pub or_else : Option Passed → Option Passed → Option Passed
 or_else (Some p) rest = Some p
@@ -95,13 +98,9 @@ abbrev pub over : Bool → Passed → Option Passed
 over true p = Some p
 over false p = None
 
--- the modules that a generation may have
-abbrev pub most_modules : ℕ
-most_modules = 139
-
 abbrev pub limit_of : Tree → Option Passed
 limit_of t =
-    or_else (over (nat_lt 8192 (length (spots_of t))) (Objects (cap_at_u32 (length (spots_of t)))))
+    or_else (over (nat_lt MOST_OBJECTS (length (spots_of t))) (Objects (cap_at_u32 (length (spots_of t)))))
     (or_else (large_folder (find (is_large_folder (spots_of t)) (spots_of t)))
-    (or_else (over (nat_lt 268435456 (sum (sizes_of t))) (Total (cap_at_u64 (sum (sizes_of t)))))
-    (over (nat_lt most_modules (modules_needed (sizes_of t))) (Modules (cap_at_u64 (modules_needed (sizes_of t)))))))
+    (or_else (over (nat_lt MOST_TOTAL_SIZE (sum (sizes_of t))) (Total (cap_at_u64 (sum (sizes_of t)))))
+    (over (nat_lt MOST_MODULES (modules_needed (sizes_of t))) (Modules (cap_at_u64 (modules_needed (sizes_of t)))))))

@@ -8,12 +8,14 @@ use Rattle.biop_object.specs.Names.{Layout, module_in}
 use Rattle.biop_object.specs.declared.written.FolderKind.{FolderKind}
 use Rattle.biop_object.specs.declared.written.FolderKind.TheVariants.{Directory, Gateway}
 use Rattle.cycle_planner.specs.Cycle.{AreLines}
-use Rattle.generation.specs.Publication.{Spot as SpotFields, spots_of, gateway_spot, most_modules, AreRising}
+use Rattle.generation.specs.Publication.{Spot as SpotFields, spots_of, gateway_spot, AreRising}
 use Rattle.generation.specs.Layouts.{GenerationState, Placed as PlacedState, lines_of, object_bytes, layout_of, greatest, placed_at, module_of, same_module, count_in}
 use Rattle.generation.specs.declared.spots.Spot.{Spot}
 use Rattle.generation.specs.declared.objects.Placed.{Placed}
 use Rattle.generation.specs.declared.made.Listed.{Listed}
 use Rattle.generation.specs.declared.made.Generation.TheInside.{Inside}
+use Rattle.biop_object.specs.declared.written.TheConstants.{MOST_FOLDER_SIZE}
+use Rattle.dsi_dii.specs.declared.TheConstants.{LAST_GENERATION, MOST_MODULES, MOST_TOTAL_SIZE}
 
 -- the path and the bytes of an entry by its number
 abbrev pub path_at : Tree → ℕ → PathNames
@@ -76,7 +78,7 @@ view_generation g = record {
 -- the gateway has module 1
 pub record AreOld (old : List PlacedState) : Type 0 where
   pub rising : AreRising (map (λ o. o.spot) old)
-  pub ids : All (λ o. (1 ≤ o.module_id) × (o.module_id ≤ most_modules)) old
+  pub ids : All (λ o. (1 ≤ o.module_id) × (o.module_id ≤ MOST_MODULES)) old
   pub gateway : (m : ℕ) → module_of (placed_at old gateway_spot) ≡ Some m → m ≡ 1
 
 -- what holds of what is kept: the layout is that of the objects, the lines are those of the layout and make a cycle, and
@@ -86,10 +88,10 @@ pub record IsMade (g : Inside) : Type 0 where
   pub layout : map view_listed g.modules.items ≡ layout_of g.carousel (map (view_placed g.tree) g.objects.items)
   pub lines : g.lines.items ≡ lines_of (view_generation g)
   pub cycle : AreLines g.lines.items
-  pub number : g.number ≤ 16383
+  pub number : g.number ≤ LAST_GENERATION
   pub counts : All (λ c. c.1 ≤ g.number) g.counts.items
-  pub modules : length g.modules.items ≤ 139
-  pub sizes : All (λ m. length m.1 ≤ 268435456) (map view_listed g.modules.items)
+  pub modules : length g.modules.items ≤ MOST_MODULES
+  pub sizes : All (λ m. length m.1 ≤ MOST_TOTAL_SIZE) (map view_listed g.modules.items)
   pub spots : All (λ o. IsSpotIn g.tree o.spot) g.objects.items
   pub old : AreOld (view_generation g).objects
 
@@ -97,10 +99,10 @@ pub record IsMade (g : Inside) : Type 0 where
 pub record AreReady (carousel : ℕ) (t : Tree) (objects : List Placed) : Type 0 where
   pub tree : IsTree t
   pub spots : All (λ o. IsSpotIn t o.spot) objects
-  pub folders : All (λ o. o.spot.whole ≡ false → length (object_bytes carousel (map (view_placed t) objects) (view_placed t o)) ≤ 1048576) objects
-  pub numbers : greatest (map (λ o. o.module) objects) ≤ 139
-  pub modules : length (layout_of carousel (map (view_placed t) objects)) ≤ 139
-  pub sizes : All (λ m. length m.1 ≤ 268435456) (layout_of carousel (map (view_placed t) objects))
+  pub folders : All (λ o. o.spot.whole ≡ false → length (object_bytes carousel (map (view_placed t) objects) (view_placed t o)) ≤ MOST_FOLDER_SIZE) objects
+  pub numbers : greatest (map (λ o. o.module) objects) ≤ MOST_MODULES
+  pub modules : length (layout_of carousel (map (view_placed t) objects)) ≤ MOST_MODULES
+  pub sizes : All (λ m. length m.1 ≤ MOST_TOTAL_SIZE) (layout_of carousel (map (view_placed t) objects))
 
 -- the gateway is the folder of no names
 abbrev pub kind_in : ℕ → FolderKind

@@ -11,14 +11,19 @@ ghost use Rattle.ior_tap.specs.Iors.{view, written_form};
 ghost use Rattle.ddb_block.specs.Blocks.{block_of};
 ghost use Rattle.dsi_dii.specs.Controls.{dsi_spelling, dii_spelling, dii_transaction, DiiFields};
 ghost use Rattle.dsi_dii.specs.declared.ModuleLine.{ModuleLine};
+ghost use Rattle.dsi_dii.specs.declared.TheConstants.{LAST_GENERATION, MOST_MODULES, MOST_TOTAL_SIZE};
+ghost use Rattle.dsmcc_section.specs.declared.TheConstants.{MOST_PAYLOAD};
 
 use crate::made::{Listed, count_in as count_of, find_module};
 use ddb_block::{Parts, block_count, block_front};
-use dsi_dii::{Dii, DiiFault, Dsi, ModuleLine, TransactionId, encode_dii, encode_dsi};
+use dsi_dii::{BLOCK_SIZE, Dii, DiiFault, Dsi, ModuleLine, TransactionId, encode_dii, encode_dsi};
 use dsmcc_section::{EncodeFault, Header, Table, encode_parts};
 use ior_tap::{Binder, Ior, Key, Location, Profile, Tap};
 use oc_bytes::NoMemory;
 use std::alloc::{AllocError, Global};
+
+/// The block size, for places in a slice.
+const BLOCK_BYTES: usize = BLOCK_SIZE as usize;
 
 /// The section of the DSI: it names the gateway, which is the object of key 1 in module 1.
 pub(crate) fn dsi_section(alloc: Global, carousel: u32) -> Result<Vec<u8>, NoMemory>
@@ -66,17 +71,17 @@ pub(crate) fn dii_section(
     modules: &[Listed],
     counts: &[(u16, u64)],
 ) -> Result<Vec<u8>, NoMemory>
-    requires number { number ≤ 16383 }
-    requires modules { length modules.now ≤ 139 }
-    requires sizes { All (λ m. length m.1 ≤ 268435456) (map view_listed modules.now) }
-    ensures spells { IfOk result (λ v. v.items ≡ spelling (control_section (dii_transaction number % 65536) (dii_spelling (record { download = carousel; block_size = 4066; transaction = dii_transaction number; modules = dii_lines counts.now (map view_listed modules.now) })))) }
+    requires number { number ≤ LAST_GENERATION }
+    requires modules { length modules.now ≤ MOST_MODULES }
+    requires sizes { All (λ m. length m.1 ≤ MOST_TOTAL_SIZE) (map view_listed modules.now) }
+    ensures spells { IfOk result (λ v. v.items ≡ spelling (control_section (dii_transaction number % 65536) (dii_spelling (record { download = carousel; block_size = BLOCK_SIZE; transaction = dii_transaction number; modules = dii_lines counts.now (map view_listed modules.now) })))) }
     ensures framed { IfOk result (λ v. IsFramed v.items) }
 {
     let transaction = TransactionId::dii(number);
     let extension = (transaction.0 % 65536) as u16;
     let dii = Dii {
         download: carousel,
-        block_size: 4066,
+        block_size: BLOCK_SIZE,
         transaction,
         modules: module_lines(alloc, modules, counts)?,
     };
@@ -92,7 +97,7 @@ fn module_lines(
     modules: &[Listed],
     counts: &[(u16, u64)],
 ) -> Result<Vec<ModuleLine>, NoMemory>
-    requires { All (λ m. length m.1 ≤ 268435456) (map view_listed modules.now) }
+    requires { All (λ m. length m.1 ≤ MOST_TOTAL_SIZE) (map view_listed modules.now) }
     ensures { IfOk result (λ v. v.items ≡ dii_lines counts.now (map view_listed modules.now)) }
 {
     let mut lines = Vec::new(alloc);
@@ -109,7 +114,7 @@ fn module_lines(
 
 /// A section of a control message.
 fn control(alloc: Global, extension: u16, payload: Vec<u8>) -> Result<Vec<u8>, NoMemory>
-    requires { length payload.items ≤ 4084 }
+    requires { length payload.items ≤ MOST_PAYLOAD }
     ensures spells { IfOk result (λ v. v.items ≡ spelling (control_section extension payload.items)) }
     ensures framed { IfOk result (λ v. IsFramed v.items) }
 {
@@ -126,7 +131,7 @@ fn control(alloc: Global, extension: u16, payload: Vec<u8>) -> Result<Vec<u8>, N
 /// The section whose payload is both parts, one after the other.
 fn section(alloc: Global, header: &Header, front: &[u8], rest: &[u8]) -> Result<Vec<u8>, NoMemory>
     requires version { header.now.version < 32 }
-    requires room { length front.now + length rest.now ≤ 4084 }
+    requires room { length front.now + length rest.now ≤ MOST_PAYLOAD }
     ensures spells { IfOk result (λ v. v.items ≡ spelling (fields_with header.now (front.now ++ rest.now))) }
     ensures framed { IfOk result (λ v. IsFramed v.items) }
 {
@@ -146,7 +151,7 @@ pub(crate) fn block_of_module(
     id: u16,
     block: u16,
 ) -> Result<Vec<u8>, NoMemory>
-    requires { All (λ m. length m.1 ≤ 268435456) (map view_listed modules.now) }
+    requires { All (λ m. length m.1 ≤ MOST_TOTAL_SIZE) (map view_listed modules.now) }
     ensures spells { IfOk result (λ v. v.items ≡ spelling (section_of_block carousel id (count_in counts.now id % 256) block (unwrap_or (module_in (map view_listed modules.now) id) []))) }
     ensures framed { IfOk result (λ v. IsFramed v.items) }
 {
@@ -173,7 +178,7 @@ fn block_section(
     block: u16,
     bytes: &[u8],
 ) -> Result<Vec<u8>, NoMemory>
-    requires { length bytes.now ≤ 268435456 }
+    requires { length bytes.now ≤ MOST_TOTAL_SIZE }
     ensures spells { IfOk result (λ v. v.items ≡ spelling (section_of_block carousel id version block bytes.now)) }
     ensures framed { IfOk result (λ v. IsFramed v.items) }
 {
@@ -184,7 +189,7 @@ fn block_section(
         block,
         bytes: block_bytes(bytes, block),
     };
-    let blocks = block_count(bytes.len() as u32, 4066);
+    let blocks = block_count(bytes.len() as u32, BLOCK_SIZE);
     let header = Header {
         table: Table::Blocks,
         extension: id,
@@ -195,13 +200,13 @@ fn block_section(
     section(alloc, &header, &block_front(&parts), parts.bytes)
 }
 
-/// The bytes of a block: 4,066, or what is left.
+/// The bytes of a block: [`BLOCK_SIZE`], or what is left.
 fn block_bytes(bytes: &[u8], block: u16) -> &[u8]
-    requires { length bytes.now ≤ 268435456 }
-    ensures block { result.now ≡ block_of bytes.now 4066 block }
-    ensures short { length result.now ≤ 4066 }
+    requires { length bytes.now ≤ MOST_TOTAL_SIZE }
+    ensures block { result.now ≡ block_of bytes.now BLOCK_SIZE block }
+    ensures short { length result.now ≤ BLOCK_SIZE }
 {
-    let first = (usize::from(block) * 4066).min(bytes.len());
-    let end = (first + 4066).min(bytes.len());
+    let first = (usize::from(block) * BLOCK_BYTES).min(bytes.len());
+    let end = (first + BLOCK_BYTES).min(bytes.len());
     &bytes[first..end]
 }

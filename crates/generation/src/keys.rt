@@ -3,13 +3,14 @@
 ghost use Rattle.std.specs.Prelude.{◌≡◌, ◌==◌, ◌≤◌, ◌<◌, ◌+◌, ◌^◌, List, ℕ, Option, true, false, length, map, slice_set, get_or, IfOk, OnOk};
 ghost use Rattle.std.specs.List.{list_any};
 ghost use Rattle.generation.specs.Layouts.{taken_in, free_keys, fill_keys};
+ghost use Rattle.generation.specs.declared.limit.TheConstants.{MOST_OBJECTS};
 
 use oc_bytes::NoMemory;
 use std::alloc::Global;
 
 /// The key of each object: its own where it had one, and else the least that is free.
 pub(crate) fn keys(alloc: Global, former: &[Option<u32>]) -> Result<Vec<u32>, NoMemory>
-    requires { length former.now ≤ 8192 }
+    requires { length former.now ≤ MOST_OBJECTS }
     ensures { IfOk result (λ v. v.items ≡ fill_keys former.now (free_keys (taken_in former.now) (length former.now))) }
 {
     let taken = taken(alloc, former)?;
@@ -26,7 +27,7 @@ fn taken(alloc: Global, kept: &[Option<u32>]) -> Result<Vec<u32>, NoMemory>
 
 /// The numbers from 2 on that aren't taken, among so many.
 fn free(alloc: Global, taken: &[u32], count: u32) -> Result<Vec<u32>, NoMemory>
-    requires { count ≤ 8192 }
+    requires { count ≤ MOST_OBJECTS }
     ensures { IfOk result (λ v. v.items ≡ free_keys taken.now count) }
 {
     let is_taken = marks(alloc, taken, count + 2)?;

@@ -15,7 +15,8 @@ pub fn layouts_are_lawful()
     module_packer::kept_is_a_placement();
 }
 
-/// A generation has the number, the tree, the layout, the counts and the sections that the lists of trees and layouts give.
+/// A generation has the number, the tree, the layout, the counts and the sections that the lists of trees and layouts give,
+/// and its items are just the DSI, the DII and each block of each of its modules.
 pub fn generations_are_of_the_lists()
     ensures { GenerationsAreOfTheLists }
 {}

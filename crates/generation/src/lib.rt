@@ -1,4 +1,15 @@
 //! One published tree as the modules, control messages and blocks of an object carousel, one generation after another.
+//!
+//! ```
+//! use cycle_planner::Item;
+//! use generation::Generation;
+//!
+//! let first = Generation::first(alloc, 1)?;
+//! assert_eq!(rt; first.number(), 0);
+//! assert_eq!(rt; first.lines(), [(1, 1)].as_slice());
+//! let block = first.section(Item::Block(1, 0))?;
+//! assert!(rt; block.starts_with(&[0x3C]));
+//! ```
 #![tactic(auto)]
 
 mod control;
@@ -14,5 +25,5 @@ mod tests;
 mod unchanged;
 
 pub use laws::{equal_versions_mean_equal_bytes, generations_are_of_the_lists, layouts_are_lawful};
-pub use limit::{Limit, check};
+pub use limit::{Limit, MOST_OBJECTS, check};
 pub use made::Generation;

@@ -8,25 +8,30 @@ ghost use Rattle.path_tree.specs.Trees.{Tree, IsTree};
 ghost use Rattle.generation.specs.View.{view_spot, IsSpotIn, AreSpotsOf};
 
 use crate::spots::{Spot, child_name, content_of, path_of, spots};
+use biop_object::{FILE_BINDING, FILE_FRONT, FOLDER_BINDING, FOLDER_FRONT, MOST_FOLDER_SIZE};
+use dsi_dii::{MOST_MODULES, MOST_TOTAL_SIZE};
 use module_packer::need;
 use oc_bytes::NoMemory;
 use path_tree::{Path, Tree};
 use std::alloc::{AllocError, Global};
 use thiserror::Error;
 
+/// The most objects of a generation: the gateway, folders and files. This project's own limit.
+pub const MOST_OBJECTS: usize = 8_192;
+
 /// The first limit that a tree passes. These limits are this project's own.
 #[derive(Debug, Drop, Error)]
 pub enum Limit {
-    /// More than 8,192 objects (the gateway, folders and files): how many, or the greatest `u32`.
+    /// More than [`MOST_OBJECTS`] objects (the gateway, folders and files): how many, or the greatest `u32`.
     #[error("there are {0} objects, more than 8,192")]
     TooManyObjects(u32),
-    /// A folder whose object has more than 1,048,576 bytes: the first such folder in the order of objects.
+    /// A folder whose object has more than [`MOST_FOLDER_SIZE`] bytes: the first such folder in the order of objects.
     #[error("the object of folder {0} has more than 1,048,576 bytes")]
     FolderTooLarge(Path),
-    /// More than 268,435,456 bytes in all objects: how many.
+    /// More than [`MOST_TOTAL_SIZE`] bytes in all objects: how many.
     #[error("the objects have {0} bytes, more than 268,435,456")]
     TooManyBytes(u64),
-    /// More than 139 modules: how many the fresh placement takes.
+    /// More than [`MOST_MODULES`] modules: how many the fresh placement takes.
     #[error("the objects take {0} modules, more than 139")]
     TooManyModules(usize),
     /// Out of memory.
@@ -49,17 +54,17 @@ pub fn check(alloc: Global, tree: &Tree) -> Result<(), Limit>
     ensures { Gives (λ _. 0) limit_cause result (check_of tree.now) }
 {
     let spots = spots(alloc, tree)?;
-    if spots.len() > 8192 {
+    if spots.len() > MOST_OBJECTS {
         return Err(Limit::TooManyObjects(u32::try_from(spots.len()).unwrap_or(u32::MAX)));
     }
     let sizes = sizes(alloc, tree, &spots)?;
     check_folders(tree, &spots, &sizes)?;
     let total = total(&sizes);
-    if total > 268_435_456 {
+    if total > u64::from(MOST_TOTAL_SIZE) {
         return Err(Limit::TooManyBytes(total));
     }
     let modules = need(&sizes);
-    if modules > 139 {
+    if modules > MOST_MODULES {
         return Err(Limit::TooManyModules(modules));
     }
     Ok(())
@@ -85,7 +90,7 @@ fn check_folders(tree: &Tree, spots: &[Spot], sizes: &[u32]) -> Result<(), Limit
 fn is_large(spot: Spot, size: u32) -> bool
     ensures { (t : Tree) (spots : List SpotFields) → size ≡ size_in spots (view_spot t spot) → result ≡ is_large_folder spots (view_spot t spot) }
 {
-    !spot.whole && size > 1_048_576
+    !spot.whole && size > MOST_FOLDER_SIZE
 }
 
 /// The path of an object. That of the gateway is a prefix of any file's path.
@@ -101,7 +106,7 @@ fn front_of(tree: &Tree, spot: Spot) -> Result<Path, NoMemory>
 /// The sizes of a tree's objects, in their order.
 pub(crate) fn sizes(alloc: Global, tree: &Tree, spots: &[Spot]) -> Result<Vec<u32>, NoMemory>
     requires spots { AreSpotsOf tree.now spots.now }
-    requires few { length spots.now ≤ 8192 }
+    requires few { length spots.now ≤ MOST_OBJECTS }
     ensures { IfOk result (λ v. v.items ≡ map (size_in (map (view_spot tree.now) spots.now)) (map (view_spot tree.now) spots.now)) }
 {
     let mut sizes = Vec::new(alloc);
@@ -116,11 +121,11 @@ fn size_of(tree: &Tree, spots: &[Spot], spot: Spot) -> u32
     requires tree { IsTree tree.now }
     requires spots { All (IsSpotIn tree.now) spots.now }
     requires spot { IsSpotIn tree.now spot }
-    requires few { length spots.now ≤ 8192 }
+    requires few { length spots.now ≤ MOST_OBJECTS }
     ensures { result ≡ size_in (map (view_spot tree.now) spots.now) (view_spot tree.now spot) }
 {
     if spot.whole {
-        44 + content_of(tree, spot.file).len() as u32
+        FILE_FRONT + content_of(tree, spot.file).len() as u32
     } else {
         folder_size(tree, spots, spot)
     }
@@ -130,10 +135,10 @@ fn folder_size(tree: &Tree, spots: &[Spot], folder: Spot) -> u32
     requires tree { IsTree tree.now }
     requires spots { All (IsSpotIn tree.now) spots.now }
     requires folder { IsSpotIn tree.now folder }
-    requires few { length spots.now ≤ 8192 }
-    ensures { result ≡ 34 + sum_by (binding_in (view_spot tree.now folder).path) (map (view_spot tree.now) spots.now) }
+    requires few { length spots.now ≤ MOST_OBJECTS }
+    ensures { result ≡ FOLDER_FRONT + sum_by (binding_in (view_spot tree.now folder).path) (map (view_spot tree.now) spots.now) }
 {
-    let mut size = 34;
+    let mut size = FOLDER_FRONT;
     for spot in spots {
         size += binding_size(tree, folder, *spot);
     }
@@ -157,13 +162,17 @@ fn binding_size(tree: &Tree, folder: Spot, spot: Spot) -> u32
 /// What a binding takes beside the name.
 fn binding_rest(spot: Spot) -> u32
     ensures rest { (t : Tree) → result ≡ rest_of (view_spot t spot).content }
-    ensures small { result ≤ 82 }
+    ensures small { result ≤ FILE_BINDING }
 {
-    if spot.whole { 82 } else { 74 }
+    if spot.whole {
+        FILE_BINDING
+    } else {
+        FOLDER_BINDING
+    }
 }
 
 fn total(sizes: &[u32]) -> u64
-    requires { length sizes.now ≤ 8192 }
+    requires { length sizes.now ≤ MOST_OBJECTS }
     ensures { result ≡ sum sizes.now }
 {
     sizes.iter().map(|size| u64::from(*size)).sum()

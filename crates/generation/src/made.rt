@@ -12,6 +12,7 @@ ghost use Rattle.generation.specs.Kept.{StandsFor, layouts_of};
 ghost use Rattle.generation.specs.Publication.{limit_of, spots_of};
 ghost use Rattle.generation.specs.Stays.{AreAsBefore, AreTheirs};
 ghost use Rattle.generation.specs.View.{view_listed, view_placed, AreReady, AreOld, IsMarked, AreMarked, IsSpotIn, counted_by};
+ghost use Rattle.dsi_dii.specs.declared.TheConstants.{LAST_GENERATION, MOST_TOTAL_SIZE};
 
 use crate::control::{block_of_module, dii_section, dsi_section};
 use crate::former::{former_of, modules};
@@ -23,6 +24,7 @@ use crate::unchanged::{modules_that_stay, named_files};
 use biop_object::Module;
 use cycle_planner::Item;
 use ddb_block::block_count;
+use dsi_dii::BLOCK_SIZE;
 use oc_bytes::NoMemory;
 use path_tree::{Edit, Tree};
 use std::alloc::Global;
@@ -104,11 +106,11 @@ impl Generation {
     /// The generation after this one, with another tree.
     ///
     /// An object whose path and kind are in this generation keeps its key, and stays in its module as far as there is room.
-    /// A module whose bytes are as before is shared with this generation. The tree has to pass `check`, and this generation's number has to be below 16,383. The
+    /// A module whose bytes are as before is shared with this generation. The tree has to pass `check`, and this generation's number has to be below [`dsi_dii::LAST_GENERATION`]. The
     /// only refusal is out of memory.
     pub fn next(&self, tree: Tree) -> Result<Generation, NoMemory>
         requires tree { limit_of tree ≡ None }
-        requires number { self.now.number < 16383 }
+        requires number { self.now.number < LAST_GENERATION }
         ensures stands { IfOk result (λ g. (trees : List Tree) → StandsFor self.now trees → StandsFor g (trees ++ tree ∷ [])) }
         ensures exact { IfOk result (λ g. g ≡ next_of self.now tree) }
     {
@@ -119,10 +121,10 @@ impl Generation {
     ///
     /// It is the generation that `next` makes of that tree, for less work: where a module has the same files as here, in the
     /// same order, and no edit names any of them, its bytes are neither made nor compared. The tree has to pass `check`, and
-    /// this generation's number has to be below 16,383. The only refusal is out of memory.
+    /// this generation's number has to be below [`dsi_dii::LAST_GENERATION`]. The only refusal is out of memory.
     pub fn next_after(&self, tree: Tree, edits: &[Edit]) -> Result<Generation, NoMemory>
         requires tree { limit_of tree ≡ None }
-        requires number { self.now.number < 16383 }
+        requires number { self.now.number < LAST_GENERATION }
         requires edits { apply_all self.now.tree edits.now ≡ Ok tree }
         ensures stands { IfOk result (λ g. (trees : List Tree) → StandsFor self.now trees → StandsFor g (trees ++ tree ∷ [])) }
         ensures exact { IfOk result (λ g. g ≡ next_of self.now tree) }
@@ -134,7 +136,7 @@ impl Generation {
     /// The generation after this one. A file of the tree that has a flag which is off is as before.
     fn renewed(&self, tree: Tree, flags: &[bool]) -> Result<Generation, NoMemory>
         requires tree { limit_of tree ≡ None }
-        requires number { self.now.number < 16383 }
+        requires number { self.now.number < LAST_GENERATION }
         requires flags { AreAsBefore self.now.tree tree flags.now }
         ensures stands { IfOk result (λ g. (trees : List Tree) → StandsFor self.now trees → StandsFor g (trees ++ tree ∷ [])) }
         ensures exact { IfOk result (λ g. g ≡ next_of self.now tree) }
@@ -184,7 +186,7 @@ impl Generation {
         &self.tree
     }
 
-    /// The modules' ids, from 1 to 139 and rising, each with its number of blocks of 4,066 bytes. There is at least one, and
+    /// The modules' ids, from 1 to [`dsi_dii::MOST_MODULES`] and rising, each with its number of blocks of [`BLOCK_SIZE`] bytes. There is at least one, and
     /// each block's number is one of 16 bits.
     pub fn lines(&self) -> &[(u16, u32)]
         ensures exact { result.now ≡ lines_of self.now }
@@ -403,7 +405,7 @@ fn counts_next(
     modules: &[Listed],
     counts: &[(u16, u64)],
 ) -> Result<Vec<(u16, u64)>, NoMemory>
-    requires { All (λ c. c.1 < 16383) counts.now }
+    requires { All (λ c. c.1 < LAST_GENERATION) counts.now }
     ensures { IfOk result (λ v. v.items ≡ map (counted_by counts.now) modules.now ++ filter (λ c. is_none (module_in (map view_listed modules.now) c.0)) counts.now) }
 {
     let mut after = Vec::new(alloc);
@@ -420,7 +422,7 @@ fn counts_next(
 
 /// How often a listed module has changed: once more where it is new or has other bytes.
 fn count_after(listed: &Listed, counts: &[(u16, u64)]) -> u64
-    requires { All (λ c. c.1 < 16383) counts.now }
+    requires { All (λ c. c.1 < LAST_GENERATION) counts.now }
     ensures { (listed.now.id, result) ≡ counted_by counts.now listed.now }
 {
     let count = count_in(counts, listed.id);
@@ -440,14 +442,14 @@ pub(crate) fn count_in(counts: &[(u16, u64)], id: u16) -> u64
 
 /// Each module with its number of blocks.
 fn lines_of_modules(alloc: Global, modules: &[Listed]) -> Result<Vec<(u16, u32)>, NoMemory>
-    requires { All (λ m. length m.1 ≤ 268435456) (map view_listed modules.now) }
+    requires { All (λ m. length m.1 ≤ MOST_TOTAL_SIZE) (map view_listed modules.now) }
     ensures { IfOk result (λ v. v.items ≡ lines_in (map view_listed modules.now)) }
 {
     let mut lines = Vec::new(alloc);
     for listed in modules {
         lines.push((
             listed.id,
-            block_count(listed.module.bytes().len() as u32, 4066),
+            block_count(listed.module.bytes().len() as u32, BLOCK_SIZE),
         ))?;
     }
     Ok(lines)

@@ -7,6 +7,7 @@ ghost use Rattle.generation.specs.Publication.{size_of as size_in, spots_of, siz
 ghost use Rattle.generation.specs.Layouts.{placed_all, location_of, written_in, entries_of, object_bytes as bytes_of, module_bytes as bytes_in, is_in, key_bytes, bound_of};
 ghost use Rattle.generation.specs.View.{view_spot, view_placed, IsSpotIn, placed_from, AreReady, kind_in};
 ghost use Rattle.biop_object.specs.Objects.{folder_spelling, IsEntry};
+ghost use Rattle.biop_object.specs.declared.written.TheConstants.{MOST_FOLDER_SIZE};
 
 use crate::spots::{Spot, child_name, content_of};
 use biop_object::{Bound, FolderKind, ObjectFault, Written, encode_file, encode_folder};
@@ -140,7 +141,7 @@ fn object_bytes(
     requires tree { IsTree tree.now }
     requires objects { All (λ o. IsSpotIn tree.now o.spot) objects.now }
     requires object { IsSpotIn tree.now object.spot }
-    requires small { object.spot.whole ≡ false → length (bytes_of carousel (map (view_placed tree.now) objects.now) (view_placed tree.now object)) ≤ 1048576 }
+    requires small { object.spot.whole ≡ false → length (bytes_of carousel (map (view_placed tree.now) objects.now) (view_placed tree.now object)) ≤ MOST_FOLDER_SIZE }
     ensures { IfOk result (λ v. v.items ≡ bytes_of carousel (map (view_placed tree.now) objects.now) (view_placed tree.now object)) }
 {
     let key = key_of(alloc, object.key)?;
@@ -160,7 +161,7 @@ fn folder_bytes(
 ) -> Result<Vec<u8>, NoMemory>
     requires key { length key.now ≡ 4 }
     requires entries { All IsEntry entries.now }
-    requires small { length (folder_spelling (kind_in names) key.now entries.now) ≤ 1048576 }
+    requires small { length (folder_spelling (kind_in names) key.now entries.now) ≤ MOST_FOLDER_SIZE }
     ensures { IfOk result (λ v. v.items ≡ folder_spelling (kind_in names) key.now entries.now) }
 {
     let kind = if names == 0 {

@@ -6,6 +6,7 @@ ghost use Rattle.path_tree.specs.Paths.{path_cmp, same_name, same_path, Bytes};
 ghost use Rattle.path_tree.specs.Trees.{IsTree};
 ghost use Rattle.generation.specs.Publication.{spots_of, shared_folders, folders_after, child_name as name_in, binding_size, size_of as size_in};
 ghost use Rattle.generation.specs.View.{view_spot, path_at, bytes_at, before_of, IsSpotIn};
+ghost use Rattle.path_tree.specs.declared.tree.TheConstants.{MOST_CONTENT};
 
 use oc_bytes::NoMemory;
 use path_tree::{Path, Tree};
@@ -53,7 +54,7 @@ pub(crate) fn content_of(tree: &Tree, file: usize) -> &[u8]
     requires file { file < length tree.now }
     requires tree { IsTree tree.now }
     ensures bytes { result.now ≡ bytes_at tree.now file }
-    ensures small { length result.now ≤ 16777216 }
+    ensures small { length result.now ≤ MOST_CONTENT }
 {
     let (_, content) = tree.file(file);
     content.bytes()

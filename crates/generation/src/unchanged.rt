@@ -7,6 +7,7 @@ ghost use Rattle.path_tree.specs.Trees.{Tree as TreeFiles, IsTree};
 ghost use Rattle.generation.specs.Layouts.{Placed as PlacedState, greatest, module_bytes, object_bytes};
 ghost use Rattle.generation.specs.Stays.{AreAsBefore, SameModules, part_bytes};
 ghost use Rattle.generation.specs.View.{view_placed, IsSpotIn};
+ghost use Rattle.dsi_dii.specs.declared.TheConstants.{MOST_MODULES};
 
 use crate::made::{is_used, last_module};
 use crate::objects::Placed;
@@ -42,7 +43,7 @@ pub(crate) fn modules_that_stay(
     requires tree { IsTree tree.now }
     requires old { All (λ o. IsSpotIn old_tree.now o.spot) old.now }
     requires objects { All (λ o. IsSpotIn tree.now o.spot) objects.now }
-    requires numbers { greatest (map (λ o. o.«module») objects.now) ≤ 139 }
+    requires numbers { greatest (map (λ o. o.«module») objects.now) ≤ MOST_MODULES }
     requires named { AreAsBefore old_tree.now tree.now named.now }
     ensures { IfOk result (λ v. SameModules (map (view_placed old_tree.now) old.now) (map (view_placed tree.now) objects.now) v.items) }
 {

@@ -12,6 +12,7 @@ use Rattle.generation_catalogue.specs.declared.entry.CommitFault.TheVariants as 
 use Rattle.generation_catalogue.specs.declared.entry.DrawFault.{DrawFault}
 use Rattle.generation_catalogue.specs.declared.entry.DrawFault.TheVariants as draws
 use Rattle.generation_catalogue.specs.declared.entry.Batch.{Batch}
+use Rattle.generation_catalogue.specs.declared.journal.TheConstants.{MOST_DRAWS}
 
 -- A commit answers what the rules give. It makes its entry where it is accepted or refused by an edit or a limit, and changes
 -- nothing where the season or the journal is full, or out of memory, which comes only where neither is full.
@@ -38,7 +39,7 @@ draw_cause draws.NoMemory = None
 -- what a draw gives: the items from the cursor on, of the current generation, unless so many draws are entered already
 abbrev pub batch_of : CatalogueState → ℕ → Result BatchFields ℕ
 batch_of c asked =
-    if nat_le 16777216 (draws_of c) then Err 16777216
+    if nat_le MOST_DRAWS (draws_of c) then Err MOST_DRAWS
     else Ok (record { generation = current_of c; first = cursor_of c; items = items_drawn c asked })
 
 -- A draw answers what the rules give. It makes its entry where it gives items, and else changes nothing; out of memory comes
@@ -46,4 +47,4 @@ batch_of c asked =
 pub record IsDrawn (c : CatalogueState) (asked : ℕ) (result : Result Batch DrawFault) (d : CatalogueState) : Type 0 where
   pub answer : Gives view_batch draw_cause result (batch_of c asked)
   pub entry : MatchResult result (λ _. d ≡ with_draw c asked) (λ _. d ≡ c)
-  pub memory : IsErrOf result draws.NoMemory → draws_of c < 16777216
+  pub memory : IsErrOf result draws.NoMemory → draws_of c < MOST_DRAWS

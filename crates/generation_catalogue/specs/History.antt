@@ -19,6 +19,9 @@ use Rattle.generation_catalogue.specs.declared.entry.Refusal.{Refusal}
 use Rattle.generation_catalogue.specs.declared.entry.Refusal.TheVariants as refusals
 use Rattle.generation_catalogue.specs.declared.entry.Entry.{Entry}
 use Rattle.generation_catalogue.specs.declared.entry.Entry.TheVariants as entries
+use Rattle.dsi_dii.specs.declared.TheConstants.{LAST_GENERATION}
+use Rattle.cycle_planner.specs.declared.TheConstants.{MOST_DRAWN}
+use Rattle.generation_catalogue.specs.declared.journal.TheConstants.{MOST_PUT_BYTES, MOST_DRAWS}
 
 -- a catalogue is its carousel, the weights of its modules and its entries; all else follows from them
 pub record CatalogueState : Type 0 where
@@ -115,8 +118,8 @@ unless_edit number (Ok t) = unless_limit number (limits.limit_of t)
 -- what a commit answers: the first refusal that holds, or the new generation's number
 abbrev pub outcome_of : CatalogueState → List Edit → Result ℕ Refusal
 outcome_of c edits =
-    if (current_of c).number == 16383 then Err (refusals.SeasonFull 16383)
-    else (if nat_lt 536870912 (journal_of c + put_bytes edits) then Err (refusals.JournalFull (cap_at_u64 (journal_of c + put_bytes edits)))
+    if (current_of c).number == LAST_GENERATION then Err (refusals.SeasonFull LAST_GENERATION)
+    else (if nat_lt MOST_PUT_BYTES (journal_of c + put_bytes edits) then Err (refusals.JournalFull (cap_at_u64 (journal_of c + put_bytes edits)))
     else unless_edit ((current_of c).number + 1) (apply_all (last_tree (trees_of c)) edits))
 
 -- whether an outcome makes an entry: that a season or a journal is full makes none
@@ -144,7 +147,7 @@ entry_after c (entries.Draw asked generation first count) = entries.Draw asked (
 
 abbrev pub IsEntered : Entry → Type 0
 IsEntered (entries.Commit editor edits outcome) = is_entered outcome ≡ true
-IsEntered (entries.Draw asked generation first count) = (1 ≤ asked) × (asked ≤ 1048576)
+IsEntered (entries.Draw asked generation first count) = (1 ≤ asked) × (asked ≤ MOST_DRAWN)
 
 -- the weights are in their range, each entry is what the rules give after those before it, no entry is of an outcome that makes
 -- none, there are at most so many draws, and the tree of each accepted commit is one of bytes that passes the limits
@@ -152,5 +155,5 @@ pub record IsHistory (c : CatalogueState) : Type 0 where
   pub weights : AreWeights c.weights
   pub entered : All IsEntered c.entries
   pub each : (k : ℕ) (e : Entry) → slice_get c.entries k ≡ Some e → e ≡ entry_after (record c { entries = take k c.entries }) e
-  pub draws : draws_of c ≤ 16777216
+  pub draws : draws_of c ≤ MOST_DRAWS
   pub published : ArePublishable c.carousel (trees_of c)

@@ -6,6 +6,7 @@ ghost use Rattle.generation.specs.Lawful.{Lawful};
 ghost use Rattle.generation.specs.Layouts.{items_of};
 ghost use Rattle.generation_catalogue.specs.History.{IsHistory, current_of, trees_of};
 ghost use Rattle.generation_catalogue.specs.Calls.{IsCommitted, IsDrawn};
+ghost use Rattle.cycle_planner.specs.declared.TheConstants.{MOST_DRAWN};
 
 use crate::entry::{Batch, CommitFault, DrawFault, Entry};
 use crate::journal::Journal;
@@ -53,7 +54,7 @@ impl Catalogue {
         (journal, weigh)
     }
 
-    /// Makes the next generation by edits of the current one's tree, in order, and answers its number, 1 to 16,383. No
+    /// Makes the next generation by edits of the current one's tree, in order, and answers its number, 1 to [`dsi_dii::LAST_GENERATION`]. No
     /// edits make a generation of the same tree. `editor` is the number of whoever commits; it is only entered.
     ///
     /// The refusals come in the order of `Refusal`, each exactly where its number passes its limit. A commit that is
@@ -74,13 +75,13 @@ impl Catalogue {
     }
 
     /// Draws the items that are to be sent next: those of the current generation's weighted cycle from the end of the last draw on, or
-    /// from the first on where that was the cycle's end, or where the generation is new. They are `n`, 1 to 1,048,576, or as
+    /// from the first on where that was the cycle's end, or where the generation is new. They are `n`, 1 to [`cycle_planner::MOST_DRAWN`], or as
     /// many as are left in the cycle, at least one.
     ///
-    /// `DrawsFull` comes exactly where 16,777,216 draws are entered. Each other draw makes one entry, except out of memory,
+    /// `DrawsFull` comes exactly where [`MOST_DRAWS`](crate::MOST_DRAWS) draws are entered. Each other draw makes one entry, except out of memory,
     /// which changes nothing and comes only where there is room for the entry.
     pub fn draw(&mut self, n: u32) -> Result<Batch, DrawFault>
-        requires { (1 ≤ n) × (n ≤ 1048576) }
+        requires { (1 ≤ n) × (n ≤ MOST_DRAWN) }
         ensures drawn { IsDrawn (state self.old) n result (state self.new) }
         ensures some { IfOk result (λ b. (1 ≤ length b.items.items) × (length b.items.items ≤ n)) }
         ensures items { IfOk result (λ b. All (λ item. Contains (items_of (arc_value b.generation)) item) b.items.items) }

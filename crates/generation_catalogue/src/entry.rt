@@ -15,25 +15,25 @@ use thiserror::Error;
 /// Why a commit is refused: the first of these that holds.
 #[derive(Debug, Drop, Error)]
 pub enum Refusal {
-    /// The current generation has this number, 16,383, the greatest.
+    /// The current generation has this number, [`dsi_dii::LAST_GENERATION`], the greatest.
     #[error("the generation number is {0}, the greatest")]
     SeasonFull(u64),
-    /// The bytes put by all entries and by this commit, which are these, are more than 536,870,912.
+    /// The bytes put by all entries and by this commit, which are these, are more than [`MOST_PUT_BYTES`](crate::MOST_PUT_BYTES).
     #[error("all entries put {0} bytes, more than 536,870,912")]
     JournalFull(u64),
     /// The edit at this place, counted from 0, has this fault.
     #[error("edit {0}: {1}")]
     Edit(usize, EditFault),
-    /// The tree would have so many objects, more than 8,192.
+    /// The tree would have so many objects, more than [`generation::MOST_OBJECTS`].
     #[error("there would be {0} objects, more than 8,192")]
     TooManyObjects(u32),
-    /// The object of this folder would have more than 1,048,576 bytes.
+    /// The object of this folder would have more than [`biop_object::MOST_FOLDER_SIZE`] bytes.
     #[error("the object of folder {0} would have more than 1,048,576 bytes")]
     FolderTooLarge(Path),
-    /// The objects would have so many bytes, more than 268,435,456.
+    /// The objects would have so many bytes, more than [`dsi_dii::MOST_TOTAL_SIZE`].
     #[error("the objects would have {0} bytes, more than 268,435,456")]
     TooManyBytes(u64),
-    /// The objects would take so many modules, more than 139.
+    /// The objects would take so many modules, more than [`dsi_dii::MOST_MODULES`].
     #[error("the objects would take {0} modules, more than 139")]
     TooManyModules(usize),
 }
@@ -120,7 +120,7 @@ pub enum Entry {
         edits: Edits,
         outcome: Result<u64, Refusal>,
     },
-    /// A draw: how many items were asked for, 1 to 1,048,576, the number of the generation of which they are, the place in its
+    /// A draw: how many items were asked for, 1 to [`cycle_planner::MOST_DRAWN`], the number of the generation of which they are, the place in its
     /// cycle of the first, counted from 0, and how many were given.
     Draw {
         asked: u32,
@@ -133,7 +133,7 @@ pub enum Entry {
 /// Why a draw gives no items.
 #[derive(Debug, Drop, Error)]
 pub enum DrawFault {
-    /// So many draws are entered already, 16,777,216, the most.
+    /// So many draws are entered already, [`MOST_DRAWS`](crate::MOST_DRAWS).
     #[error("{0} draws are entered, the most")]
     DrawsFull(u64),
     /// Out of memory.

@@ -8,10 +8,11 @@ ghost use Rattle.generation.specs.Layouts.{items_of};
 ghost use Rattle.generation_catalogue.specs.History.{IsHistory, current_of, journal_of, put_bytes, put_size, outcome_of, is_entered, with_commit, draws_of, items_drawn, count_drawn, with_draw};
 ghost use Rattle.generation_catalogue.specs.Requests.{commit_cause, generation_after};
 ghost use Rattle.generation_catalogue.specs.Calls.{IsCommitted, IsDrawn};
+ghost use Rattle.cycle_planner.specs.declared.TheConstants.{MOST_DRAWN};
 
-use crate::bytes::tree_is_of_bytes;
 use crate::entry::{Batch, CommitFault, DrawFault, Entry, Refusal};
 use cycle_planner::{GREATEST_ID, Item, Weigh, cycle_len, item_at};
+use dsi_dii::LAST_GENERATION;
 use generation::{Generation, check};
 use oc_bytes::NoMemory;
 use path_tree::{Edit, Edits, apply};
@@ -19,14 +20,11 @@ use std::alloc::Global;
 use std::marker::Model;
 use std::sync::Arc;
 
-/// The greatest number of a generation.
-const LAST_NUMBER: u64 = 16_383;
+/// The most bytes that the entries of a history put. This project's own limit.
+pub const MOST_PUT_BYTES: u64 = 536_870_912;
 
-/// The most bytes that the entries put.
-const MOST_PUT_BYTES: u64 = 536_870_912;
-
-/// The most draws that are entered.
-const MOST_DRAWS: u64 = 16_777_216;
+/// The most draws that are entered. This project's own limit.
+pub const MOST_DRAWS: u64 = 16_777_216;
 
 /// The history of one carousel, with its current generation, and the list of the weights of its modules, without the closure that
 /// answers them: what a `Catalogue` keeps beside its `Weigh`. It can be kept where no closure can, as under a lock.
@@ -112,8 +110,8 @@ impl Journal {
         ensures tree { IfOk result (λ g. IsPublishable g.tree) }
         ensures memory { IsErrOf result CommitFault.NoMemory → is_entered (outcome_of self.now edits.now) ≡ true }
     {
-        if self.current.number() == LAST_NUMBER {
-            return Err(CommitFault::Refused(Refusal::SeasonFull(LAST_NUMBER)));
+        if self.current.number() == LAST_GENERATION {
+            return Err(CommitFault::Refused(Refusal::SeasonFull(LAST_GENERATION)));
         }
         let total = self.total_with(edits);
         if total > MOST_PUT_BYTES {
@@ -121,7 +119,6 @@ impl Journal {
         }
         let tree = apply(self.alloc, self.current.tree(), edits)?;
         check(self.alloc, &tree)?;
-        tree_is_of_bytes(&tree);
         Ok(self.current.next_after(tree, edits)?)
     }
 
@@ -195,10 +192,10 @@ impl Journal {
         Ok(())
     }
 
-    /// Draws at most so many items of the cycle, 1 to 1,048,576: what `Catalogue::draw` says. The weights have to be those of this
+    /// Draws at most so many items of the cycle, 1 to [`cycle_planner::MOST_DRAWN`]: what `Catalogue::draw` says. The weights have to be those of this
     /// history.
     pub fn draw(&mut self, weigh: &Weigh, asked: u32) -> Result<Batch, DrawFault>
-        requires asked { (1 ≤ asked) × (asked ≤ 1048576) }
+        requires asked { (1 ≤ asked) × (asked ≤ MOST_DRAWN) }
         requires weights { weigh.now.weights ≡ self.old.weights }
         ensures drawn { IsDrawn self.old asked result self.new }
         ensures some { IfOk result (λ b. (1 ≤ length b.items.items) × (length b.items.items ≤ asked)) }
@@ -209,7 +206,7 @@ impl Journal {
 
     /// The same, without what follows of the items.
     fn draw_next(&mut self, weigh: &Weigh, asked: u32) -> Result<Batch, DrawFault>
-        requires asked { (1 ≤ asked) × (asked ≤ 1048576) }
+        requires asked { (1 ≤ asked) × (asked ≤ MOST_DRAWN) }
         requires weights { weigh.now.weights ≡ self.old.weights }
         ensures { IsDrawn self.old asked result self.new }
     {
@@ -246,9 +243,9 @@ impl Journal {
     /// Enters a draw of so many items from the cursor on. Out of memory changes nothing.
     fn enter_draw(&mut self, weigh: &Weigh, asked: u32, count: u64) -> Result<(), NoMemory>
         requires weights { weigh.now.weights ≡ self.old.weights }
-        requires asked { (1 ≤ asked) × (asked ≤ 1048576) }
+        requires asked { (1 ≤ asked) × (asked ≤ MOST_DRAWN) }
         requires count { count ≡ count_drawn self.old asked }
-        requires room { draws_of self.old < 16777216 }
+        requires room { draws_of self.old < MOST_DRAWS }
         ensures entered { OnOk result (self.new ≡ with_draw self.old asked) }
         ensures unchanged { OnErr result (self.new ≡ self.old) }
     {

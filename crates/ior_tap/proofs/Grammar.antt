@@ -5,35 +5,33 @@ use Rattle.std.proofs.lemmas.List.{append-nil}
 use Rattle.oc_bytes.specs.Numbers.{IsBytes, byte, two_bytes, four_bytes}
 use Rattle.oc_bytes.specs.Cursor.{Cursor, Reading, from_start, value_read}
 use Rattle.ior_tap.specs.declared.Location.{Location}
-use Rattle.ior_tap.specs.Iors.{TapFields, ProfileFields, Biop, Other, Fields, ReadsEach, ReadsTap, Component, ReadsComponent, ReadsLocation, ReadsBinder, ReadsBiop, IsContent, ReadsProfile, Reads, component_of, biop_tag, location_tag, binder_tag}
+use Rattle.ior_tap.specs.Iors.{TapFields, ProfileFields, Biop, Other, Fields, ReadsTap, Component, ReadsComponent, ReadsLocation, ReadsBinder, ReadsBiop, IsContent, ReadsProfile, Reads, component_of, biop_tag, location_tag, binder_tag}
 use Rattle.ior_tap.specs.IorReading.{tap_at, component_at, location_at, taps_at, components_at, profile_at, profile_of, ior_at, both, part_of, biop_in, or_other}
-use Rattle.ior_tap.specs.Agreement.{Agrees, InBytes}
-use Rattle.ior_tap.proofs.Agree.{Then, Ends, IsNumber, AreBytes, IsThis, IsList, wide_1, wide_2, wide_4, then_agrees, done_agrees, agrees_by, number_agrees, bytes_agrees, this_agrees, each_agrees, value_taken, value_again, fits_front, fits_back, joined, last, then_same, put_number, put_last, put_this}
+use Rattle.oc_bytes.specs.Agreement.{Agrees, InBytes, ReadsEach}
+use Rattle.oc_bytes.proofs.CallerLemmas.{Then, Ends, IsNumber, AreBytes, IsThis, IsSized, IsList, wide_1, wide_2, wide_4, then_agrees, done_agrees, agrees_by, number_agrees, bytes_agrees, this_agrees, sized_agrees, each_agrees, value_taken, value_again, fits_front, fits_back, joined, last, then_same, put_number, put_sized_last, put_last, put_this}
 
 -- ---- a tap
 
 abbrev IsTap : List ℕ → TapFields → Type 0
-IsTap = Then (IsNumber 65536 two_bytes) (λ id. Then (IsNumber 65536 two_bytes) (λ use_code. Then (IsNumber 65536 two_bytes) (λ assoc. Then (IsNumber 256 byte) (λ n. Then (AreBytes n) (λ s.
-    Ends (record { id = id; use_code = use_code; assoc = assoc; selector = s }))))))
+IsTap = Then (IsNumber 65536 two_bytes) (λ id. Then (IsNumber 65536 two_bytes) (λ use_code. Then (IsNumber 65536 two_bytes) (λ assoc. Then (IsSized 256 byte) (λ s.
+    Ends (record { id = id; use_code = use_code; assoc = assoc; selector = s })))))
 
 tap_there : (bytes : List ℕ) (t : TapFields) → IsTap bytes t → ReadsTap bytes t
 tap_there bytes t h =
     let u = h.second in
     let a = u.second in
-    let n = a.second in
-    let s = n.second in
-    let whole : bytes ≡ two_bytes h.value ++ (two_bytes u.value ++ (two_bytes a.value ++ (byte n.value ++ s.value))) = joined h.whole h.first.1 (joined u.whole u.first.1 (joined a.whole a.first.1 (joined n.whole n.first.1 (last s.whole s.first.1 s.second.0)))) in
-    let counted : bytes ≡ two_bytes h.value ++ (two_bytes u.value ++ (two_bytes a.value ++ (byte (length s.value) ++ s.value))) = whole ∙ ap (λ (k : ℕ). two_bytes h.value ++ (two_bytes u.value ++ (two_bytes a.value ++ (byte k ++ s.value)))) (sym s.first.0) in
-    subst (λ (x : TapFields). ReadsTap bytes x) (sym s.second.1) (record { ranges = (h.first.0, u.first.0, a.first.0, omega (arith, s.first.0, n.first.0)); whole = counted })
+    let s = a.second in
+    let whole : bytes ≡ two_bytes h.value ++ (two_bytes u.value ++ (two_bytes a.value ++ (byte (length s.value) ++ s.value))) = joined h.whole h.first.1 (joined u.whole u.first.1 (joined a.whole a.first.1 (last s.whole s.first.1 s.second.0))) in
+    subst (λ (x : TapFields). ReadsTap bytes x) (sym s.second.1) (record { ranges = (h.first.0, u.first.0, a.first.0, s.first.0); whole = whole })
 
 tap_back : (bytes : List ℕ) (t : TapFields) → ReadsTap bytes t → IsTap bytes t
-tap_back bytes t h = then_same h.whole (put_number t.id _ h.ranges.0 (put_number t.use_code _ h.ranges.1 (put_number t.assoc _ h.ranges.2 (put_number (length t.selector) _ h.ranges.3 (put_last t.selector (refl, refl))))))
+tap_back bytes t h = then_same h.whole (put_number t.id _ h.ranges.0 (put_number t.use_code _ h.ranges.1 (put_number t.assoc _ h.ranges.2 (put_sized_last byte t.selector h.ranges.3 (refl, refl)))))
 
 pub tap_agrees : Agrees tap_at ReadsTap
 unfolding tap_at
 tap_agrees = agrees_by
     (then_agrees (number_agrees wide_2) (λ id. then_agrees (number_agrees wide_2) (λ use_code. then_agrees (number_agrees wide_2) (λ assoc.
-    then_agrees (number_agrees wide_1) (λ n. then_agrees (bytes_agrees n) (λ s. done_agrees (record { id = id; use_code = use_code; assoc = assoc; selector = s })))))))
+    then_agrees (sized_agrees wide_1) (λ s. done_agrees (record { id = id; use_code = use_code; assoc = assoc; selector = s }))))))
     (λ bytes t fits h. tap_there bytes t h)
     (λ bytes t h. tap_back bytes t h)
 
@@ -63,22 +61,20 @@ taps_agrees = agrees_by (then_agrees (number_agrees wide_1) (λ n. each_agrees t
 -- ---- a component, and components
 
 abbrev IsComponent : List ℕ → Component → Type 0
-IsComponent = Then (IsNumber 4294967296 four_bytes) (λ tag. Then (IsNumber 256 byte) (λ n. Then (AreBytes n) (λ s. Ends (tag, s))))
+IsComponent = Then (IsNumber 4294967296 four_bytes) (λ tag. Then (IsSized 256 byte) (λ s. Ends (tag, s)))
 
 component_there : (bytes : List ℕ) (x : Component) → IsComponent bytes x → ReadsComponent bytes x
 component_there bytes x h =
-    let n = h.second in
-    let s = n.second in
-    let whole : bytes ≡ four_bytes h.value ++ (byte n.value ++ s.value) = joined h.whole h.first.1 (joined n.whole n.first.1 (last s.whole s.first.1 s.second.0)) in
-    let counted : bytes ≡ four_bytes h.value ++ (byte (length s.value) ++ s.value) = whole ∙ ap (λ (k : ℕ). four_bytes h.value ++ (byte k ++ s.value)) (sym s.first.0) in
-    subst (λ (y : Component). ReadsComponent bytes y) (sym s.second.1) (record { ranges = (h.first.0, omega (arith, s.first.0, n.first.0)); whole = counted })
+    let s = h.second in
+    let whole : bytes ≡ four_bytes h.value ++ (byte (length s.value) ++ s.value) = joined h.whole h.first.1 (last s.whole s.first.1 s.second.0) in
+    subst (λ (y : Component). ReadsComponent bytes y) (sym s.second.1) (record { ranges = (h.first.0, s.first.0); whole = whole })
 
 component_back : (bytes : List ℕ) (x : Component) → ReadsComponent bytes x → IsComponent bytes x
-component_back bytes x h = then_same h.whole (put_number x.0 _ h.ranges.0 (put_number (length x.1) _ h.ranges.1 (put_last x.1 (refl, refl))))
+component_back bytes x h = then_same h.whole (put_number x.0 _ h.ranges.0 (put_sized_last byte x.1 h.ranges.1 (refl, refl)))
 
 pub component_agrees : Agrees component_at ReadsComponent
 unfolding component_at
-component_agrees = agrees_by (then_agrees (number_agrees wide_4) (λ tag. then_agrees (number_agrees wide_1) (λ n. then_agrees (bytes_agrees n) (λ s. done_agrees (tag, s)))))
+component_agrees = agrees_by (then_agrees (number_agrees wide_4) (λ tag. then_agrees (sized_agrees wide_1) (λ s. done_agrees (tag, s))))
     (λ bytes x fits h. component_there bytes x h) (λ bytes x h. component_back bytes x h)
 
 record AreComponents (bytes : List ℕ) (cs : List Component) : Type 0 where
@@ -115,27 +111,25 @@ record IsLocationFront (bytes : List ℕ) (l : Location) : Type 0 where
   whole : bytes ≡ four_bytes l.carousel ++ two_bytes l.module ++ 1 ∷ 0 ∷ length l.key ∷ l.key
 
 abbrev LocationParts : List ℕ → Location → Type 0
-LocationParts = Then (IsNumber 4294967296 four_bytes) (λ carousel. Then (IsNumber 65536 two_bytes) (λ id. Then (IsThis two_bytes 0x0100) (λ version. Then (IsNumber 256 byte) (λ n. Then (AreBytes n) (λ key.
-    Ends (record { carousel = carousel; «module» = id; key = key }))))))
+LocationParts = Then (IsNumber 4294967296 four_bytes) (λ carousel. Then (IsNumber 65536 two_bytes) (λ id. Then (IsThis two_bytes 0x0100) (λ version. Then (IsSized 256 byte) (λ key.
+    Ends (record { carousel = carousel; «module» = id; key = key })))))
 
 location_there : (bytes : List ℕ) (l : Location) → LocationParts bytes l → IsLocationFront bytes l
 location_there bytes l h =
     let m = h.second in
     let v = m.second in
-    let n = v.second in
-    let k = n.second in
-    let whole : bytes ≡ four_bytes h.value ++ (two_bytes m.value ++ (two_bytes 0x0100 ++ (byte n.value ++ k.value))) = joined h.whole h.first.1 (joined m.whole m.first.1 (joined v.whole v.first.1 (joined n.whole n.first.1 (last k.whole k.first.1 k.second.0)))) in
-    let counted : bytes ≡ four_bytes h.value ++ (two_bytes m.value ++ (two_bytes 0x0100 ++ (byte (length k.value) ++ k.value))) = whole ∙ ap (λ (j : ℕ). four_bytes h.value ++ (two_bytes m.value ++ (two_bytes 0x0100 ++ (byte j ++ k.value)))) (sym k.first.0) in
-    subst (λ (x : Location). IsLocationFront bytes x) (sym k.second.1) (record { ranges = (h.first.0, m.first.0, omega (arith, k.first.0, n.first.0)); whole = counted })
+    let k = v.second in
+    let whole : bytes ≡ four_bytes h.value ++ (two_bytes m.value ++ (two_bytes 0x0100 ++ (byte (length k.value) ++ k.value))) = joined h.whole h.first.1 (joined m.whole m.first.1 (joined v.whole v.first.1 (last k.whole k.first.1 k.second.0))) in
+    subst (λ (x : Location). IsLocationFront bytes x) (sym k.second.1) (record { ranges = (h.first.0, m.first.0, k.first.0); whole = whole })
 
 location_back : (bytes : List ℕ) (l : Location) → IsLocationFront bytes l → LocationParts bytes l
-location_back bytes l h = then_same h.whole (put_number l.carousel _ h.ranges.0 (put_number l.module _ h.ranges.1 (put_this two_bytes 0x0100 _ (put_number (length l.key) _ h.ranges.2 (put_last l.key (refl, refl))))))
+location_back bytes l h = then_same h.whole (put_number l.carousel _ h.ranges.0 (put_number l.module _ h.ranges.1 (put_this two_bytes 0x0100 _ (put_sized_last byte l.key h.ranges.2 (refl, refl)))))
 
 location_agrees : Agrees location_at IsLocationFront
 unfolding location_at
 location_agrees = agrees_by
-    (then_agrees (number_agrees wide_4) (λ carousel. then_agrees (number_agrees wide_2) (λ id. then_agrees (this_agrees wide_2 0x0100 (omega arith)) (λ version. then_agrees (number_agrees wide_1) (λ n.
-    then_agrees (bytes_agrees n) (λ key. done_agrees (record { carousel = carousel; «module» = id; key = key })))))))
+    (then_agrees (number_agrees wide_4) (λ carousel. then_agrees (number_agrees wide_2) (λ id. then_agrees (this_agrees wide_2 0x0100 (omega arith)) (λ version. then_agrees (sized_agrees wide_1) (λ key.
+    done_agrees (record { carousel = carousel; «module» = id; key = key }))))))
     (λ bytes l fits h. location_there bytes l h) (λ bytes l h. location_back bytes l h)
 
 -- ---- a BIOP profile

@@ -1,52 +1,10 @@
--- Reading values one after another, as a loop does.
-use Rattle.std.proofs.Common.{◌≡◌, ℕ, suc, Bool, true, false, cond, ◌==◌, ◌-◌, ◌+◌, ◌≤◌, ◌<◌, List, [], ◌∷◌, ◌++◌, Option, Some, None, MatchOption, Ok, Err, refl, sym, ap, ◌∙◌, append_assoc, arith}
+-- The first components of two tags, as a loop finds them.
+use Rattle.std.proofs.Common.{◌≡◌, ℕ, suc, Bool, true, false, cond, ◌==◌, ◌-◌, ◌+◌, ◌≤◌, ◌<◌, List, ◌∷◌, Option, Some, None, MatchOption, Ok, Err, refl, sym, ap, ◌∙◌, arith}
 use Rattle.std.specs.Prelude.{⊤}
-use Rattle.std.proofs.lemmas.List.{append-nil}
-use Rattle.oc_bytes.specs.Cursor.{Cursor, Reading, ◌>>=◌}
+use Rattle.oc_bytes.specs.Cursor.{Cursor, Reading, ◌>>=◌, each_at}
 use Rattle.std.specs.Option.{option_or}
 use Rattle.ior_tap.specs.Iors.{Component, component_of, location_tag, binder_tag}
-use Rattle.ior_tap.specs.IorReading.{Parts, each_at, component_at, parts_of, parts_at}
-
--- what was read before, and what is still read
-abbrev pub with_front : {A : Type 0} → List A → Reading (List A) → Reading (List A)
-with_front front read = read >>= λ x. Ok (front ++ x.0, x.1)
-
-regroup : {A : Type 0} (front : List A) (a : A) (read : Reading (List A)) → with_front front (read >>= λ x. Ok (a ∷ x.0, x.1)) ≡ with_front (front ++ a ∷ []) read
-regroup {A} front a (Ok x) = ap (λ (xs : List A). Ok (xs, x.1)) (simp append_assoc)
-regroup front a (Err place) = refl
-
-pub goes_on : {A : Type 0} (read : Cursor → Reading A) (front : List A) (count i : ℕ) (c d : Cursor) (a : A) (total : Reading (List A)) → i < count → read c ≡ Ok (a, d)
-    → with_front front (each_at read (count - i) c) ≡ total → with_front (front ++ a ∷ []) (each_at read (count - (i + 1)) d) ≡ total
-unfolding each_at
-goes_on read front count i c d a total lt h so_far =
-    let k : count - i ≡ suc (count - (i + 1)) = omega arith in
-    let one : with_front front (each_at read (count - i) c) ≡ with_front (front ++ a ∷ []) (each_at read (count - (i + 1)) d) = rw (k, h) (regroup front a (each_at read (count - (i + 1)) d)) in
-    sym one ∙ so_far
-
-pub ends : {A : Type 0} (read : Cursor → Reading A) (o : Option ℕ) (front : List A) (count i : ℕ) (c : Cursor) (total : Reading (List A)) → i < count → MatchOption o ⊤ (λ place. read c ≡ Err place)
-    → with_front front (each_at read (count - i) c) ≡ total → MatchOption o ⊤ (λ place. total ≡ Err place)
-unfolding each_at
-ends read None front count i c total lt h so_far = tt
-ends read (Some place) front count i c total lt h so_far =
-    let k : count - i ≡ suc (count - (i + 1)) = omega arith in
-    let one : with_front front (each_at read (count - i) c) ≡ Err place = rw (k, h) refl in
-    sym so_far ∙ one
-
-pub is_done : {A : Type 0} (read : Cursor → Reading A) (front : List A) (count i : ℕ) (c : Cursor) (total : Reading (List A)) → count ≤ i → with_front front (each_at read (count - i) c) ≡ total → total ≡ Ok (front, c)
-unfolding each_at
-is_done {A} read front count i c total le so_far =
-    let k : count - i ≡ 0 = omega arith in
-    let one : with_front front (each_at read (count - i) c) ≡ Ok (front, c) = rw k (ap (λ (xs : List A). Ok (xs, c)) (append-nil front)) in
-    sym so_far ∙ one
-
-unchanged : {A : Type 0} (r : Reading (List A)) → with_front [] r ≡ r
-unchanged (Ok x) = refl
-unchanged (Err place) = refl
-
-pub begins : {A : Type 0} (read : Cursor → Reading A) (count : ℕ) (c : Cursor) → with_front [] (each_at read (count - 0) c) ≡ each_at read count c
-begins read count c = let k : count - 0 ≡ count = omega arith in rw k (unchanged (each_at read count c))
-
--- ---- the first components of two tags
+use Rattle.ior_tap.specs.IorReading.{Parts, component_at, parts_of, parts_at}
 
 -- what was found before, and what is found after it
 abbrev pub with_parts : Parts → Reading Parts → Reading Parts

@@ -11,8 +11,8 @@ use Rattle.ior_tap.specs.declared.IorFault.{IorFault}
 use Rattle.ior_tap.specs.declared.Location.{Location}
 use Rattle.ior_tap.specs.Iors.{Biop, Fields, view, cause, ReadsTap, ReadsLocation, ReadsBinder, ReadsBiop, Reads, biop_tag, location_tag, binder_tag, written_tap, written_form, IsWritten, IsLocation, tap_bytes, component_bytes, location_bytes, biop_bytes, spelling}
 use Rattle.ior_tap.specs.IorReading.{ior_at}
-use Rattle.ior_tap.proofs.Agree.{fits_front}
-use Rattle.ior_tap.specs.Agreement.{at}
+use Rattle.oc_bytes.proofs.CallerLemmas.{fits_front}
+use Rattle.oc_bytes.specs.Agreement.{at}
 use Rattle.ior_tap.proofs.Grammar.{ior_agrees, parts_agree, biop_is, profile_put, ior_put, IorParts}
 
 -- ---- the written form

@@ -1,31 +1,21 @@
 -- Reading an IOR from left to right, with the place of the first field that breaks a rule or is cut.
-use Rattle.std.specs.Prelude.{ℕ, zero, suc, List, [], ◌∷◌, Option, Some, None, Ok, ◌==◌, if◌then◌else◌}
-use Rattle.oc_bytes.specs.Cursor.{Cursor, Reading, ◌>>=◌, number_at, bytes_at, this_at, from_start, value_read}
+use Rattle.std.specs.Prelude.{ℕ, List, Option, Some, None, Ok, ◌==◌, if◌then◌else◌}
+use Rattle.oc_bytes.specs.Cursor.{Cursor, Reading, ◌>>=◌, number_at, bytes_at, this_at, sized_at, each_at, from_start, value_read}
 use Rattle.ior_tap.specs.declared.Location.{Location}
 use Rattle.ior_tap.specs.Iors.{Fields, ProfileFields, Biop, Other, TapFields, Component, component_of, biop_tag, location_tag, binder_tag}
-
--- so many items one after another
-unfoldable pub each_at : {A : Type 0} → (Cursor → Reading A) → ℕ → Cursor → Reading (List A)
-each_at read zero c = Ok ([], c)
-each_at read (suc count) c = do
-  first ← read c
-  others ← each_at read count first.1
-  Ok (first.0 ∷ others.0, others.1)
 
 unfoldable pub tap_at : Cursor → Reading TapFields
 tap_at c = do
   id ← number_at 2 c
   use_code ← number_at 2 id.1
   assoc ← number_at 2 use_code.1
-  selector_length ← number_at 1 assoc.1
-  selector ← bytes_at selector_length.0 selector_length.1
+  selector ← sized_at 1 assoc.1
   Ok (record { id = id.0; use_code = use_code.0; assoc = assoc.0; selector = selector.0 }, selector.1)
 
 unfoldable pub component_at : Cursor → Reading Component
 component_at c = do
   tag ← number_at 4 c
-  size ← number_at 1 tag.1
-  content ← bytes_at size.0 size.1
+  content ← sized_at 1 tag.1
   Ok ((tag.0, content.0), content.1)
 
 unfoldable pub location_at : Cursor → Reading Location
@@ -33,8 +23,7 @@ location_at c = do
   carousel ← number_at 4 c
   module_id ← number_at 2 carousel.1
   version ← this_at 2 0x0100 module_id.1
-  key_length ← number_at 1 version.1
-  key ← bytes_at key_length.0 key_length.1
+  key ← sized_at 1 version.1
   Ok (record { carousel = carousel.0; «module» = module_id.0; key = key.0 }, key.1)
 
 unfoldable pub taps_at : Cursor → Reading (List TapFields)
@@ -91,6 +80,13 @@ profile_at c = do
   size ← number_at 4 tag.1
   content ← bytes_at size.0 size.1
   Ok (profile_of tag.0 content.0, content.1)
+
+-- the number of profiles, which stands before them
+unfoldable pub profile_count_at : Cursor → Reading ℕ
+profile_count_at c = do
+  type_id_length ← this_at 4 4 c
+  type_id ← bytes_at 4 type_id_length.1
+  number_at 4 type_id.1
 
 unfoldable pub ior_at : Cursor → Reading Fields
 ior_at c = do

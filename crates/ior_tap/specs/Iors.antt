@@ -2,6 +2,7 @@
 use Rattle.std.specs.Prelude.{◌≡◌, ℕ, ◌<◌, List, [], ◌∷◌, ◌++◌, length, map, take, drop, Option, Some, None, nat_le, ◌==◌, ◌&&◌, if◌then◌else◌}
 use Rattle.std.specs.List.{flat_map}
 use Rattle.oc_bytes.specs.Numbers.{two_bytes, four_bytes, number_of}
+use Rattle.oc_bytes.specs.Agreement.{ReadsEach}
 use Rattle.ior_tap.specs.declared.Location.{Location}
 use Rattle.ior_tap.specs.declared.Tap.{Tap}
 use Rattle.ior_tap.specs.declared.Profile.{Profile}
@@ -33,11 +34,6 @@ view_profile (code.Other tag bytes) = Other tag bytes.items
 
 abbrev pub view : Ior → Fields
 view ior = record { kind = ior.kind; profiles = map view_profile ior.profiles.items }
-
--- the bytes are these values one after another, each read by R
-abbrev pub ReadsEach : {A : Type 0} → (List ℕ → A → Type 0) → List ℕ → List A → Type 0
-ReadsEach R bytes [] = bytes ≡ []
-ReadsEach R bytes (x ∷ xs) = (front : List ℕ) × (rest : List ℕ) × (bytes ≡ front ++ rest) × R front x × ReadsEach R rest xs
 
 pub record ReadsTap (bytes : List ℕ) (t : TapFields) : Type 0 where
   pub ranges : (t.id < 65536) × (t.use_code < 65536) × (t.assoc < 65536) × (length t.selector < 256)

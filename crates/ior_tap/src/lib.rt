@@ -1,10 +1,21 @@
 //! IORs: references to objects of a carousel, with the place of the object and the taps that deliver it.
 //!
 //! The layout is that of ISO/IEC 13818-6, clause 11, in the profile of ETSI TR 101 202, clause 4.7.
+//!
+//! ```
+//! use ior_tap::{IorFault, biop_of, decode};
+//! use std::alloc::Global;
+//!
+//! fn module_of(alloc: Global, bytes: &[u8]) -> Result<Option<u16>, IorFault> {
+//!     let (ior, _) = decode(alloc, bytes)?;
+//!     let Some((location, _)) = biop_of(&ior) else { return Ok(None) };
+//!     Ok(Some(location.module))
+//! }
+//! ```
 #![tactic(auto)]
 
 ghost use Rattle.std.specs.Prelude.{◌≡◌};
-ghost use Rattle.ior_tap.specs.declared.IorFault.TheVariants.{NoMemory as OutOfMemory};
+ghost use Rattle.ior_tap.specs.declared.IorFault.TheVariants.{BadIor, NoMemory as OutOfMemory};
 
 mod key;
 mod lookup;
@@ -13,6 +24,7 @@ mod writing;
 
 pub use key::Key;
 pub use lookup::{biop_of, delivery_of};
+use oc_bytes::Cut;
 pub use reading::{decode, one_reading};
 use std::alloc::{AllocError, AllocFailed};
 use thiserror::Error;
@@ -88,6 +100,14 @@ const LOCATION_TAG: u32 = 0x49534F50;
 
 /// The tag of a ConnBinder.
 const BINDER_TAG: u32 = 0x49534F40;
+
+impl From<Cut> for IorFault {
+    ghost from_gives = { λ cut e. e ≡ BadIor cut.0 };
+
+    fn from(Cut(place): Cut) -> IorFault {
+        IorFault::BadIor(place)
+    }
+}
 
 impl From<AllocError> for IorFault {
     ghost from_gives = { λ _ e. e ≡ OutOfMemory };

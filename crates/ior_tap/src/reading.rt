@@ -1,56 +1,27 @@
-ghost use Rattle.std.specs.Prelude.{◌≡◌, ◌≤◌, ◌+◌, ◌++◌, ◌==◌, List, ℕ, Ok, Some, None, length, take, map, IfOk, IfErr, IfSome, if◌then◌else◌};
+ghost use Rattle.std.specs.Prelude.{◌≡◌, ◌≤◌, ◌<◌, ◌+◌, ◌++◌, ◌==◌, List, ℕ, Ok, Some, None, length, take, map, IfOk, IfErr, IfSome, IsErrOf, IsOkAnd, if◌then◌else◌};
 ghost use Rattle.std.specs.Option.{option_map, option_copied, option_or};
 ghost use Rattle.oc_bytes.specs.Outcome.{Gives};
-ghost use Rattle.oc_bytes.specs.Cursor.{from_start, number_at, bytes_at, this_at, read_from_start, value_read};
+ghost use Rattle.oc_bytes.specs.Cause.{place_of};
+ghost use Rattle.oc_bytes.specs.Cursor.{from_start, bytes_at, read_from_start, value_read, each_at};
 ghost use Rattle.ior_tap.specs.Iors.{Fields as IorFields, view, view_tap, view_profile, Reads, IsWritten, IsLocation, written_form, spelling, cause};
-ghost use Rattle.ior_tap.specs.IorReading.{ior_at, tap_at, taps_at, location_at, component_at, components_at, chosen_at, parts_at, biop_in, profile_at, profile_of, each_at};
-ghost use Rattle.ior_tap.specs.Agreement.{Agrees, InBytes, at};
+ghost use Rattle.ior_tap.specs.IorReading.{ior_at, profile_count_at, tap_at, taps_at, location_at, component_at, components_at, chosen_at, parts_at, biop_in, profile_at, profile_of};
+ghost use Rattle.oc_bytes.specs.Agreement.{Agrees, InBytes, at};
 ghost use Rattle.ior_tap.specs.declared.Location.{Location};
 
 use crate::{
     BINDER_TAG, BIOP_TAG, Binder, Ior, IorFault, Key, LOCATION_TAG, Location, Profile, Tap,
 };
-use oc_bytes::{Fields, NoMemory};
+use oc_bytes::{Cut, Fields, NoMemory};
 use std::alloc::{AllocError, Global};
-
-fn u8_of(fields: &mut Fields<'_>) -> Result<u8, IorFault>
-    ensures { Gives (λ n. (n, fields.new)) cause result (number_at 1 fields.old) }
-{
-    let at = fields.place();
-    fields.u8().map_err(|_| IorFault::BadIor(at))
-}
-
-fn u16_of(fields: &mut Fields<'_>) -> Result<u16, IorFault>
-    ensures { Gives (λ n. (n, fields.new)) cause result (number_at 2 fields.old) }
-{
-    let at = fields.place();
-    fields.u16().map_err(|_| IorFault::BadIor(at))
-}
-
-fn u32_of(fields: &mut Fields<'_>) -> Result<u32, IorFault>
-    ensures { Gives (λ n. (n, fields.new)) cause result (number_at 4 fields.old) }
-{
-    let at = fields.place();
-    fields.u32().map_err(|_| IorFault::BadIor(at))
-}
-
-fn bytes_of<'a>(fields: &mut Fields<'a>, count: usize) -> Result<&'a [u8], IorFault>
-    ensures { Gives (λ x. (x.now, fields.new)) cause result (bytes_at count fields.old) }
-{
-    let at = fields.place();
-    fields.take(count).map_err(|_| IorFault::BadIor(at))
-}
 
 #[tactic(auto, unfolding(crate::specs::IorReading::tap_at))]
 fn tap_of(alloc: Global, fields: &mut Fields<'_>) -> Result<Tap, IorFault>
     ensures { Gives (λ t. (view_tap t, fields.new)) cause result (tap_at fields.old) }
 {
-    let id = u16_of(fields)?;
-    let use_code = u16_of(fields)?;
-    let assoc = u16_of(fields)?;
-    let selector_length = u8_of(fields)?;
-    let selector = bytes_of(fields, usize::from(selector_length))?;
-    let selector = Vec::from_slice(alloc, selector)?;
+    let id = fields.u16()?;
+    let use_code = fields.u16()?;
+    let assoc = fields.u16()?;
+    let selector = Vec::from_slice(alloc, fields.sized8()?)?;
     Ok(Tap {
         id,
         use_code,
@@ -70,41 +41,11 @@ fn taps_of(alloc: Global, fields: &mut Fields<'_>, count: u8) -> Result<Vec<Tap>
     Ok(taps)
 }
 
-fn this_u8(fields: &mut Fields<'_>, value: u8) -> Result<(), IorFault>
-    ensures { Gives (λ _. (value, fields.new)) cause result (this_at 1 value fields.old) }
-{
-    let at = fields.place();
-    if u8_of(fields)? != value {
-        return Err(IorFault::BadIor(at));
-    }
-    Ok(())
-}
-
-fn this_u16(fields: &mut Fields<'_>, value: u16) -> Result<(), IorFault>
-    ensures { Gives (λ _. (value, fields.new)) cause result (this_at 2 value fields.old) }
-{
-    let at = fields.place();
-    if u16_of(fields)? != value {
-        return Err(IorFault::BadIor(at));
-    }
-    Ok(())
-}
-
-fn this_u32(fields: &mut Fields<'_>, value: u32) -> Result<(), IorFault>
-    ensures { Gives (λ _. (value, fields.new)) cause result (this_at 4 value fields.old) }
-{
-    let at = fields.place();
-    if u32_of(fields)? != value {
-        return Err(IorFault::BadIor(at));
-    }
-    Ok(())
-}
-
 #[tactic(auto, unfolding(crate::specs::IorReading::taps_at))]
 fn binder_of(alloc: Global, fields: &mut Fields<'_>) -> Result<Binder, IorFault>
     ensures { Gives (λ b. (map view_tap b.taps.items, fields.new)) cause result (taps_at fields.old) }
 {
-    let count = u8_of(fields)?;
+    let count = fields.u8()?;
     let taps = taps_of(alloc, fields, count)?;
     Ok(Binder { taps })
 }
@@ -113,12 +54,10 @@ fn binder_of(alloc: Global, fields: &mut Fields<'_>) -> Result<Binder, IorFault>
 fn location_of(alloc: Global, fields: &mut Fields<'_>) -> Result<Location, IorFault>
     ensures { Gives (λ l. (l, fields.new)) cause result (location_at fields.old) }
 {
-    let carousel = u32_of(fields)?;
-    let module = u16_of(fields)?;
-    this_u16(fields, 0x0100)?;
-    let key_length = u8_of(fields)?;
-    let key = bytes_of(fields, usize::from(key_length))?;
-    let key = Key::new(Vec::from_slice(alloc, key)?);
+    let carousel = fields.u32()?;
+    let module = fields.u16()?;
+    fields.this_u16(0x0100)?;
+    let key = Key::new(Vec::from_slice(alloc, fields.sized8()?)?);
     Ok(Location {
         carousel,
         module,
@@ -158,12 +97,11 @@ struct Component<'a> {
 }
 
 #[tactic(auto, unfolding(crate::specs::IorReading::component_at))]
-fn component_of<'a>(fields: &mut Fields<'a>) -> Result<Component<'a>, IorFault>
-    ensures { Gives (λ c. ((c.tag, c.content.now), fields.new)) cause result (component_at fields.old) }
+fn component_of<'a>(fields: &mut Fields<'a>) -> Result<Component<'a>, Cut>
+    ensures { Gives (λ c. ((c.tag, c.content.now), fields.new)) place_of result (component_at fields.old) }
 {
-    let tag = u32_of(fields)?;
-    let size = u8_of(fields)?;
-    let content = bytes_of(fields, usize::from(size))?;
+    let tag = fields.u32()?;
+    let content = fields.sized8()?;
     Ok(Component { tag, content })
 }
 
@@ -197,8 +135,8 @@ impl<'a> Parts<'a> {
     }
 }
 
-fn parts_of<'a>(fields: &mut Fields<'a>, count: u8) -> Result<Parts<'a>, IorFault>
-    ensures { Gives (λ p. ((option_copied p.location, option_copied p.binder), fields.new)) cause result (parts_at count fields.old) }
+fn parts_of<'a>(fields: &mut Fields<'a>, count: u8) -> Result<Parts<'a>, Cut>
+    ensures { Gives (λ p. ((option_copied p.location, option_copied p.binder), fields.new)) place_of result (parts_at count fields.old) }
 {
     let mut parts = Parts {
         location: None,
@@ -212,11 +150,11 @@ fn parts_of<'a>(fields: &mut Fields<'a>, count: u8) -> Result<Parts<'a>, IorFaul
 }
 
 #[tactic(auto, unfolding(crate::specs::IorReading::components_at))]
-fn parts_in<'a>(fields: &mut Fields<'a>) -> Result<Parts<'a>, IorFault>
-    ensures { Gives (λ p. ((option_copied p.location, option_copied p.binder), fields.new)) cause result (chosen_at fields.old) }
+fn parts_in<'a>(fields: &mut Fields<'a>) -> Result<Parts<'a>, Cut>
+    ensures { Gives (λ p. ((option_copied p.location, option_copied p.binder), fields.new)) place_of result (chosen_at fields.old) }
 {
-    this_u8(fields, 0)?;
-    let count = u8_of(fields)?;
+    fields.this_u8(0)?;
+    let count = fields.u8()?;
     parts_of(fields, count)
 }
 
@@ -225,10 +163,8 @@ fn biop_in(alloc: Global, content: &[u8]) -> Result<Option<Profile>, NoMemory>
     ensures { IfOk result (λ p. option_map view_profile p ≡ biop_in (value_read (components_at (from_start content.now)))) }
 {
     let mut fields = Fields::new(content);
-    let parts = match parts_in(&mut fields) {
-        Ok(parts) => parts,
-        Err(IorFault::BadIor(_)) => return Ok(None),
-        Err(IorFault::NoMemory) => return Err(AllocError),
+    let Ok(parts) = parts_in(&mut fields) else {
+        return Ok(None);
     };
     let (Some(location), Some(binder)) = (parts.location, parts.binder) else {
         return Ok(None);
@@ -259,15 +195,16 @@ fn profile_in(alloc: Global, tag: u32, content: &[u8]) -> Result<Profile, NoMemo
 fn profile_of(alloc: Global, fields: &mut Fields<'_>) -> Result<Profile, IorFault>
     ensures { Gives (λ p. (view_profile p, fields.new)) cause result (profile_at fields.old) }
 {
-    let tag = u32_of(fields)?;
-    let size = u32_of(fields)?;
-    let content = bytes_of(fields, size as usize)?;
+    let tag = fields.u32()?;
+    let size = fields.u32()?;
+    let content = fields.take(size as usize)?;
     let profile = profile_in(alloc, tag, content)?;
     Ok(profile)
 }
 
 fn profiles_of(alloc: Global, fields: &mut Fields<'_>, count: u32) -> Result<Vec<Profile>, IorFault>
-    ensures { Gives (λ v. (map view_profile v.items, fields.new)) cause result (each_at profile_at count fields.old) }
+    ensures exact { Gives (λ v. (map view_profile v.items, fields.new)) cause result (each_at profile_at count fields.old) }
+    ensures memory { IsErrOf result IorFault.NoMemory → 0 < count }
 {
     let mut profiles = Vec::new(alloc);
     for _ in 0..count {
@@ -277,26 +214,28 @@ fn profiles_of(alloc: Global, fields: &mut Fields<'_>, count: u32) -> Result<Vec
     Ok(profiles)
 }
 
-fn kind_of(fields: &mut Fields<'_>) -> Result<[u8; 4], IorFault>
-    ensures { Gives (λ k. (k, fields.new)) cause result (bytes_at 4 fields.old) }
+fn kind_of(fields: &mut Fields<'_>) -> Result<[u8; 4], Cut>
+    ensures { Gives (λ k. (k, fields.new)) place_of result (bytes_at 4 fields.old) }
 {
-    let kind = bytes_of(fields, 4)?;
+    let kind = fields.take(4)?;
     Ok([kind[0], kind[1], kind[2], kind[3]])
 }
 
-#[tactic(auto, unfolding(crate::specs::IorReading::ior_at))]
+#[tactic(auto, unfolding(crate::specs::IorReading::ior_at, crate::specs::IorReading::profile_count_at))]
 fn ior_of(alloc: Global, fields: &mut Fields<'_>) -> Result<Ior, IorFault>
-    ensures { Gives (λ i. (view i, fields.new)) cause result (ior_at fields.old) }
+    ensures exact { Gives (λ i. (view i, fields.new)) cause result (ior_at fields.old) }
+    ensures memory { IsErrOf result IorFault.NoMemory → IsOkAnd (profile_count_at fields.old) (λ x. 0 < x.0) }
 {
-    this_u32(fields, 4)?;
+    fields.this_u32(4)?;
     let kind = kind_of(fields)?;
-    let count = u32_of(fields)?;
+    let count = fields.u32()?;
     let profiles = profiles_of(alloc, fields, count)?;
     Ok(Ior { kind, profiles })
 }
 
 fn read(alloc: Global, bytes: &[u8]) -> Result<(Ior, usize), IorFault>
-    ensures { Gives (λ x. (view x.0, x.1)) cause result (read_from_start (ior_at (from_start bytes.now))) }
+    ensures exact { Gives (λ x. (view x.0, x.1)) cause result (read_from_start (ior_at (from_start bytes.now))) }
+    ensures memory { IsErrOf result IorFault.NoMemory → IsOkAnd (profile_count_at (from_start bytes.now)) (λ x. 0 < x.0) }
 {
     let mut fields = Fields::new(bytes);
     let ior = ior_of(alloc, &mut fields)?;
@@ -311,7 +250,8 @@ fn read(alloc: Global, bytes: &[u8]) -> Result<(Ior, usize), IorFault>
 /// profile's last component, after a location's key and after a binder's taps are passed over.
 ///
 /// `BadIor(place)` comes exactly where a field outside the profiles' bytes is cut, or the type_id_length isn't 4; the
-/// place is the first byte of the first such field.
+/// place is the first byte of the first such field. `NoMemory` comes only where the fields before the first profile are
+/// read and there is to be a profile.
 /// (ISO/IEC 13818-6, clause 11.3; ETSI TR 101 202, clause 4.7.3.)
 pub fn decode(alloc: Global, bytes: &[u8]) -> Result<(Ior, usize), IorFault>
     ensures found { IfOk result (λ x. (x.1 ≤ length bytes.now) × Reads (take x.1 bytes.now) (view x.0)) }
@@ -321,6 +261,7 @@ pub fn decode(alloc: Global, bytes: &[u8]) -> Result<(Ior, usize), IorFault>
         → Gives {Y = IorFields × ℕ} (λ x. (view x.0, x.1)) cause result (Ok (written_form kind l, length (spelling kind l))) }
     ensures exact { Gives (λ x. (view x.0, x.1)) cause result (read_from_start (ior_at (from_start bytes.now))) }
     ensures inside { IfErr result (λ e. IfSome (cause e) (λ place. place ≤ length bytes.now)) }
+    ensures memory { IsErrOf result IorFault.NoMemory → IsOkAnd (profile_count_at (from_start bytes.now)) (λ x. 0 < x.0) }
 {
     read(alloc, bytes)
 }

@@ -1,5 +1,21 @@
 //! What a receiver of an object carousel holds of modules: the modules that one DII (ISO/IEC 13818-6, DownloadInfoIndication)
 //! lists, whole or in part, and what of them stays when another DII takes its place.
+//!
+//! ```
+//! use ddb_block::Parts;
+//! use dsi_dii::{Dii, ModuleLine, TransactionId};
+//! use module_cache::{Cache, Slot, Taken, is_within};
+//!
+//! let mut cache = Cache::new(alloc);
+//! let line = ModuleLine { id: 1, size: 7, version: 0, compressed: false };
+//! let dii = Dii { download: 9, block_size: 4, transaction: TransactionId(0x8000_0002), modules: vec![in alloc; line]? };
+//! assert!(rt; is_within(&dii));
+//! cache.turn(&dii, false)?;
+//! let block = Parts { download: 9, module: 1, version: 0, block: 0, bytes: b"abcd" };
+//! assert_eq!(rt; cache.offer_parts(&block)?, Taken::New);
+//! assert_eq!(rt; cache.offer_parts(&block)?, Taken::Again);
+//! assert!(rt; matches!(cache.module(1), Slot::Partial));
+//! ```
 #![tactic(auto)]
 
 mod cache;

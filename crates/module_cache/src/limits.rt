@@ -5,15 +5,16 @@ ghost use Rattle.dsi_dii.specs.Controls.{view_dii};
 ghost use Rattle.std.specs.List.{list_all, list_any, sum_by};
 ghost use Rattle.module_cache.specs.Limits as limits;
 
-use ddb_block::block_count;
-use dsi_dii::{Dii, ModuleLine};
+use block_assembler::MOST_MODULE_SIZE;
+use ddb_block::{MOST_BLOCK_SIZE, MOST_BLOCKS, block_count};
+use dsi_dii::{Dii, MOST_TOTAL_SIZE, ModuleLine};
 
-/// A module of at most 16,842,752 bytes and 65,536 blocks.
+/// A module of at most [`MOST_MODULE_SIZE`] bytes and [`MOST_BLOCKS`] blocks.
 fn is_small(block_size: u16, line: &ModuleLine) -> bool
     requires { 1 ≤ block_size }
     ensures { result ≡ limits.is_small block_size line.now }
 {
-    line.size <= 16_842_752 && block_count(line.size, block_size) <= 65_536
+    line.size <= MOST_MODULE_SIZE && block_count(line.size, block_size) <= MOST_BLOCKS
 }
 
 /// Each module is small.
@@ -43,11 +44,11 @@ fn each_once(lines: &[ModuleLine]) -> bool
     true
 }
 
-/// The modules have at most 268,435,456 bytes together.
+/// The modules have at most [`MOST_TOTAL_SIZE`] bytes together.
 fn fit_together(lines: &[ModuleLine]) -> bool
-    ensures { result ≡ nat_le (sum_by (λ l. l.size) lines.now) 268435456 }
+    ensures { result ≡ nat_le (sum_by (λ l. l.size) lines.now) MOST_TOTAL_SIZE }
 {
-    let mut left: u32 = 268_435_456;
+    let mut left = MOST_TOTAL_SIZE;
     for line in lines {
         if line.size > left {
             return false;
@@ -57,13 +58,13 @@ fn fit_together(lines: &[ModuleLine]) -> bool
     true
 }
 
-/// The modules of a DII can be received: blocks of 1 to 4,066 bytes, modules of at most 16,842,752 bytes and 65,536 blocks each
-/// and 268,435,456 bytes together, and no module listed twice.
+/// The modules of a DII can be received: blocks of 1 to [`MOST_BLOCK_SIZE`] bytes, modules of at most [`MOST_MODULE_SIZE`]
+/// bytes and [`MOST_BLOCKS`] blocks each and [`MOST_TOTAL_SIZE`] bytes together, and no module listed twice.
 pub fn is_within(dii: &Dii) -> bool
     ensures { result ≡ limits.is_within (view_dii dii.now) }
 {
     dii.block_size >= 1
-        && dii.block_size <= 4066
+        && dii.block_size <= MOST_BLOCK_SIZE
         && are_small(dii.block_size, &dii.modules)
         && fit_together(&dii.modules)
         && each_once(&dii.modules)

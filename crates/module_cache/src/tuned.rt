@@ -11,6 +11,7 @@ ghost use Rattle.module_cache.specs.Limits.{no_id_twice};
 ghost use Rattle.module_cache.specs.Keeping.{line_keeping, lines_keeping, tuned_keeping};
 ghost use Rattle.module_cache.specs.Spans.{same_line};
 ghost use Rattle.module_cache.specs.Held.{line_fresh, fresh_tuned, taken_line, taken_tuned, line_after, lines_after, tuned_after};
+ghost use Rattle.ddb_block.specs.declared.TheConstants.{MOST_BLOCK_SIZE};
 
 use crate::stored::{Line, Stored};
 use crate::taken::Taken;
@@ -123,7 +124,7 @@ fn line_of(alloc: Global, block_size: u16, line: ModuleLine) -> Result<Line, NoM
 
 /// The lines of modules of which nothing has come yet.
 fn lines_of(alloc: Global, block_size: u16, modules: &[ModuleLine]) -> Result<Vec<Line>, NoMemory>
-    requires blocks { (1 ≤ block_size) × (block_size ≤ 4066) }
+    requires blocks { (1 ≤ block_size) × (block_size ≤ MOST_BLOCK_SIZE) }
     requires small { IsTrue (list_all (limits.is_small block_size) modules.now) }
     ensures ok { IfOk result (λ v. v.items ≡ map (line_fresh block_size) modules.now) }
     ensures memory { OnErr result (modules.now ≢ []) }

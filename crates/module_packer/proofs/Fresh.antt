@@ -8,7 +8,8 @@ use Rattle.std.proofs.lemmas.List.Elements.{All-nil, All-cons}
 use Rattle.std.proofs.lemmas.Bool.{cases_eq, eq-eqb, ne_eqb, ltb-true, ltb-false, leb-true}
 use Rattle.module_packer.specs.declared.packing.Shared.{Shared}
 use Rattle.module_packer.specs.declared.packing.Packing.{Packing}
-use Rattle.module_packer.specs.Placement.{room, none_opened, place_next, fits_shared, shared_number, shared_sum, fresh_from, fresh, modules_needed, IsSound, sum_in, FreshIsAPlacement}
+use Rattle.module_packer.specs.declared.packing.TheConstants.{ROOM}
+use Rattle.module_packer.specs.Placement.{none_opened, place_next, fits_shared, shared_number, shared_sum, fresh_from, fresh, modules_needed, IsSound, sum_in, FreshIsAPlacement}
 
 -- ---- one object more: the three ways that it may go
 
@@ -18,7 +19,7 @@ pub data Way : Type 0 where
   Opens : Way
 
 way : Packing → ℕ → Way
-way s size = cond (ltb room size) Alone (cond (fits_shared s.shared size) Joins Opens)
+way s size = cond (ltb ROOM size) Alone (cond (fits_shared s.shared size) Joins Opens)
 
 by_way : Packing → ℕ → Way → ℕ × Packing
 by_way s size Alone = (s.count + 1, record s { count = s.count + 1 })
@@ -27,33 +28,33 @@ by_way s size Opens = (s.count + 1, record { count = s.count + 1; shared = Some 
 
 -- what the way says of the object
 abbrev IsWay : Packing → ℕ → Way → Type 0
-IsWay s size Alone = room < size
-IsWay s size Joins = (shared_sum s.shared + size ≤ room) × (1 ≤ shared_number s.shared)
-IsWay s size Opens = size ≤ room
+IsWay s size Alone = ROOM < size
+IsWay s size Joins = (shared_sum s.shared + size ≤ ROOM) × (1 ≤ shared_number s.shared)
+IsWay s size Opens = size ≤ ROOM
 
-shared_parts : (o : Option Shared) (count : ℕ) → MatchOption o ⊤ (λ x. (1 ≤ x.number) × (x.number ≤ count) × (x.sum ≤ room)) → (shared_number o ≤ count) × (shared_sum o ≤ room)
+shared_parts : (o : Option Shared) (count : ℕ) → MatchOption o ⊤ (λ x. (1 ≤ x.number) × (x.number ≤ count) × (x.sum ≤ ROOM)) → (shared_number o ≤ count) × (shared_sum o ≤ ROOM)
 shared_parts None count h = (omega arith, omega arith)
 shared_parts (Some x) count h = (h.1, h.2)
 
-sound_parts : (s : Packing) → IsSound s → (shared_number s.shared ≤ s.count) × (shared_sum s.shared ≤ room)
+sound_parts : (s : Packing) → IsSound s → (shared_number s.shared ≤ s.count) × (shared_sum s.shared ≤ ROOM)
 sound_parts s sound = shared_parts s.shared s.count sound
 
-joining : (o : Option Shared) (count size : ℕ) → MatchOption o ⊤ (λ x. (1 ≤ x.number) × (x.number ≤ count) × (x.sum ≤ room)) → fits_shared o size ≡ true
-    → (shared_sum o + size ≤ room) × (1 ≤ shared_number o)
+joining : (o : Option Shared) (count size : ℕ) → MatchOption o ⊤ (λ x. (1 ≤ x.number) × (x.number ≤ count) × (x.sum ≤ ROOM)) → fits_shared o size ≡ true
+    → (shared_sum o + size ≤ ROOM) × (1 ≤ shared_number o)
 joining None count size h f = cc
-joining (Some x) count size h f = (leb-true (x.sum + size) room f, h.0)
+joining (Some x) count size h f = (leb-true (x.sum + size) ROOM f, h.0)
 
 is_way : (s : Packing) (size : ℕ) → IsSound s → IsWay s size (way s size) × (place_next s size ≡ by_way s size (way s size))
 unfolding way by_way
-is_way s size sound = by_size (ltb room size) refl (fits_shared s.shared size) refl where
-  by_size : (large : Bool) → ltb room size ≡ large → (fitting : Bool) → fits_shared s.shared size ≡ fitting
+is_way s size sound = by_size (ltb ROOM size) refl (fits_shared s.shared size) refl where
+  by_size : (large : Bool) → ltb ROOM size ≡ large → (fitting : Bool) → fits_shared s.shared size ≡ fitting
       → IsWay s size (cond large Alone (cond fitting Joins Opens))
       × (cond large (s.count + 1, record s { count = s.count + 1 }) (cond fitting (by_way s size Joins) (by_way s size Opens)) ≡ by_way s size (cond large Alone (cond fitting Joins Opens)))
-  by_size true e fitting f = (ltb-true room size e, refl)
+  by_size true e fitting f = (ltb-true ROOM size e, refl)
   by_size false e true f = (joining s.shared s.count size sound f, refl)
-  by_size false e false f = (ltb-false room size e, refl)
+  by_size false e false f = (ltb-false ROOM size e, refl)
 
-sound_on : (o : Option Shared) (c d : ℕ) → c ≤ d → MatchOption o ⊤ (λ x. (1 ≤ x.number) × (x.number ≤ c) × (x.sum ≤ room)) → MatchOption o ⊤ (λ x. (1 ≤ x.number) × (x.number ≤ d) × (x.sum ≤ room))
+sound_on : (o : Option Shared) (c d : ℕ) → c ≤ d → MatchOption o ⊤ (λ x. (1 ≤ x.number) × (x.number ≤ c) × (x.sum ≤ ROOM)) → MatchOption o ⊤ (λ x. (1 ≤ x.number) × (x.number ≤ d) × (x.sum ≤ ROOM))
 sound_on None c d h s = s
 sound_on (Some x) c d h s = (s.0, omega (arith, s.1), s.2)
 
@@ -66,9 +67,9 @@ sound_after s size Opens sound h = (omega arith, omega arith, h)
 -- ---- how many objects are still to come into a module, and how many bytes with them
 
 record Holds (count shared sum m n t : ℕ) : Type 0 where
-  in_shared : m ≡ shared → sum + t ≤ room
+  in_shared : m ≡ shared → sum + t ≤ ROOM
   in_closed : m ≤ count → m ≢ shared → (n ≡ 0) × (t ≡ 0)
-  in_later : count < m → 2 ≤ n → t ≤ room
+  in_later : count < m → 2 ≤ n → t ≤ ROOM
 
 here : (count shared sum x m size n t : ℕ) → x ≡ m → Holds count shared sum m (1 + n) (size + t) → Holds count shared sum m (cond (eqb x m) 1 0 + n) (cond (eqb x m) size 0 + t)
 here count shared sum x m size n t e h = rw (eq-eqb x m e) h
@@ -89,19 +90,19 @@ joins : (count shared sum m size n t : ℕ) → shared ≤ count → Holds count
 joins count shared sum m size n t l h = by_place (cases_eq shared m) where
   by_place : (shared ≡ m) ⊎ (shared ≡ m → ⊥) → Holds count shared sum m (cond (eqb shared m) 1 0 + n) (cond (eqb shared m) size 0 + t)
   by_place (inl same) =
-      let all : sum + size + t ≤ room = h.in_shared (sym same) in
+      let all : sum + size + t ≤ ROOM = h.in_shared (sym same) in
       here count shared sum shared m size n t same (record { in_shared = λ e. omega arith; in_closed = λ a b. absurd (b (sym same)); in_later = λ a b. absurd (omega arith) })
   by_place (inr other) =
       elsewhere count shared sum shared m size n t other (record { in_shared = λ e. absurd (other (sym e)); in_closed = λ a b. h.in_closed a b; in_later = λ a b. h.in_later a b })
 
-opens : (count shared sum m size n t : ℕ) → shared ≤ count → sum ≤ room → size ≤ room → Holds (count + 1) (count + 1) size m n t → Holds count shared sum m (cond (eqb (count + 1) m) 1 0 + n) (cond (eqb (count + 1) m) size 0 + t)
+opens : (count shared sum m size n t : ℕ) → shared ≤ count → sum ≤ ROOM → size ≤ ROOM → Holds (count + 1) (count + 1) size m n t → Holds count shared sum m (cond (eqb (count + 1) m) 1 0 + n) (cond (eqb (count + 1) m) size 0 + t)
 opens count shared sum m size n t l r q h = by_place (cases_eq (count + 1) m) where
   closed : m ≤ count → (n ≡ 0) × (t ≡ 0)
   closed a = h.in_closed (omega arith) (omega arith)
 
   by_place : (count + 1 ≡ m) ⊎ (count + 1 ≡ m → ⊥) → Holds count shared sum m (cond (eqb (count + 1) m) 1 0 + n) (cond (eqb (count + 1) m) size 0 + t)
   by_place (inl same) =
-      let all : size + t ≤ room = h.in_shared (sym same) in
+      let all : size + t ≤ ROOM = h.in_shared (sym same) in
       here count shared sum (count + 1) m size n t same (record { in_shared = λ e. absurd (omega arith); in_closed = λ a b. absurd (omega arith); in_later = λ a b. all })
   by_place (inr other) =
       elsewhere count shared sum (count + 1) m size n t other (record { in_shared = λ e. omega (arith, (closed (omega arith)).1); in_closed = λ a b. closed a; in_later = λ a b. h.in_later (omega arith) b })
@@ -173,8 +174,8 @@ numbers_within [] a = All-nil (λ m. m ≤ a)
 numbers_within (x ∷ xs) a = All-cons (λ m. m ≤ fold max (max a x) xs) x xs (omega (arith, greatest_from xs (max a x))) (numbers_within xs (max a x))
 
 first_number : (size : ℕ) → (place_next none_opened size).0 ≡ 1
-first_number size = by_size (ltb room size) refl where
-  by_size : (large : Bool) → ltb room size ≡ large → (place_next none_opened size).0 ≡ 1
+first_number size = by_size (ltb ROOM size) refl where
+  by_size : (large : Bool) → ltb ROOM size ≡ large → (place_next none_opened size).0 ≡ 1
   by_size true e = rw e refl
   by_size false e = rw e refl
 
@@ -182,7 +183,7 @@ first_is_one : (sizes : List ℕ) → 0 < length sizes → slice_get (fresh size
 first_is_one [] h = absurd (omega arith)
 first_is_one (size ∷ sizes) h = ap (λ (n : ℕ). Some n) (first_number size)
 
-sums_within : (sizes : List ℕ) (m : ℕ) → 1 < count_by (λ n. eqb n m) (fresh sizes) → sum_in (zip (fresh sizes) sizes) m ≤ room
+sums_within : (sizes : List ℕ) (m : ℕ) → 1 < count_by (λ n. eqb n m) (fresh sizes) → sum_in (zip (fresh sizes) sizes) m ≤ ROOM
 sums_within sizes zero n = omega (arith, (held sizes none_opened 0 tt).in_shared refl)
 sums_within sizes (suc m) n = (held sizes none_opened (suc m) tt).in_later (omega arith) n
 

@@ -5,14 +5,15 @@ use Rattle.std.specs.Option.{unwrap_or}
 use Rattle.std.proofs.lemmas.List.Sums.{sum_by-cons, sum_by_push, AllPass-from_list_all}
 use Rattle.std.proofs.lemmas.List.Elements.{All-nil, All-cons, All-head, All-tail}
 use Rattle.std.proofs.lemmas.Bool.{cases_eq, eq-eqb, ne_eqb, leb-true}
-use Rattle.module_packer.specs.Placement.{room, fresh, sum_in, IsPlacement}
+use Rattle.module_packer.specs.declared.packing.TheConstants.{ROOM}
+use Rattle.module_packer.specs.Placement.{fresh, sum_in, IsPlacement}
 use Rattle.module_packer.specs.Kept.{Placed, Filled, sizes_in, in_use, has_room, stays, if_stays, filled_with, first_pass, first_filled, least_with, shared_by, or_new, moved_to, second_pass, two_passes, within, kept_modules, KeptIsAPlacement}
 use Rattle.module_packer.proofs.Fresh.{fresh_is}
 
 -- ---- how many objects a module has, and that none is overfull
 
 abbrev IsFilled : Filled → Type 0
-IsFilled filled = (m : ℕ) → 1 < count_by (λ e. eqb e.0 m) filled → sum_in filled m ≤ room
+IsFilled filled = (m : ℕ) → 1 < count_by (λ e. eqb e.0 m) filled → sum_in filled m ≤ ROOM
 
 none_in : (filled : Filled) (m : ℕ) → in_use filled m ≡ false → count_by (λ e. eqb e.0 m) filled ≡ 0
 none_in [] m e = refl
@@ -24,7 +25,7 @@ none_in (x ∷ xs) m e = go (eqb x.0 m) refl e (λ f. none_in xs m f) where
       omega (arith, none, rest f, sum_by-cons (λ (e : ℕ × ℕ). cond (eqb e.0 m) 1 0) x xs)
 
 -- one more object: where it is alone, or where there is room for it
-fill : (filled : Filled) (n size : ℕ) → IsFilled filled → (in_use filled n ≡ false) ⊎ (sum_in filled n + size ≤ room) → IsFilled (filled ++ (n, size) ∷ [])
+fill : (filled : Filled) (n size : ℕ) → IsFilled filled → (in_use filled n ≡ false) ⊎ (sum_in filled n + size ≤ ROOM) → IsFilled (filled ++ (n, size) ∷ [])
 fill filled n size is where' m many = by_place (cases_eq n m) where
   counted : count_by (λ e. eqb e.0 m) (filled ++ (n, size) ∷ []) ≡ count_by (λ e. eqb e.0 m) filled + cond (eqb n m) 1 0
   counted = sum_by_push (λ e. cond (eqb e.0 m) 1 0) filled (n, size)
@@ -32,17 +33,17 @@ fill filled n size is where' m many = by_place (cases_eq n m) where
   summed : sum_in (filled ++ (n, size) ∷ []) m ≡ sum_in filled m + cond (eqb n m) size 0
   summed = sum_by_push (λ e. cond (eqb e.0 m) e.1 0) filled (n, size)
 
-  here : n ≡ m → (in_use filled n ≡ false) ⊎ (sum_in filled n + size ≤ room) → sum_in (filled ++ (n, size) ∷ []) m ≤ room
+  here : n ≡ m → (in_use filled n ≡ false) ⊎ (sum_in filled n + size ≤ ROOM) → sum_in (filled ++ (n, size) ∷ []) m ≤ ROOM
   here e (inl alone) =
       let none : count_by (λ e. eqb e.0 m) filled ≡ 0 = none_in filled m (subst (λ k. in_use filled k ≡ false) e alone) in
       let one : cond {A = ℕ} (eqb n m) 1 0 ≡ 1 = rw (eq-eqb n m e) refl in
       absurd (omega (arith, many, counted, none, one))
   here e (inr fits) =
       let all : cond (eqb n m) size 0 ≡ size = rw (eq-eqb n m e) refl in
-      let h : sum_in filled m + size ≤ room = subst (λ k. sum_in filled k + size ≤ room) e fits in
+      let h : sum_in filled m + size ≤ ROOM = subst (λ k. sum_in filled k + size ≤ ROOM) e fits in
       omega (arith, summed, all, h)
 
-  by_place : (n ≡ m) ⊎ (n ≡ m → ⊥) → sum_in (filled ++ (n, size) ∷ []) m ≤ room
+  by_place : (n ≡ m) ⊎ (n ≡ m → ⊥) → sum_in (filled ++ (n, size) ∷ []) m ≤ ROOM
   by_place (inl e) = here e where'
   by_place (inr e) =
       let none : cond {A = ℕ} (eqb n m) 1 0 ≡ 0 = rw (ne_eqb n m e) refl in
@@ -51,14 +52,14 @@ fill filled n size is where' m many = by_place (cases_eq n m) where
 
 -- ---- the first pass
 
-stays_well : (filled : Filled) (size m : ℕ) → stays filled size m ≡ true → (in_use filled m ≡ false) ⊎ (sum_in filled m + size ≤ room)
-stays_well filled size m e = go (leb size room) e where
+stays_well : (filled : Filled) (size m : ℕ) → stays filled size m ≡ true → (in_use filled m ≡ false) ⊎ (sum_in filled m + size ≤ ROOM)
+stays_well filled size m e = go (leb size ROOM) e where
   by_use : (b : Bool) → in_use filled m ≡ b → not b ≡ true → in_use filled m ≡ false
   by_use true u f = cc
   by_use false u f = u
 
-  go : (small : Bool) → cond small (has_room filled size m) (not (in_use filled m)) ≡ true → (in_use filled m ≡ false) ⊎ (sum_in filled m + size ≤ room)
-  go true f = inr (leb-true (sum_in filled m + size) room f)
+  go : (small : Bool) → cond small (has_room filled size m) (not (in_use filled m)) ≡ true → (in_use filled m ≡ false) ⊎ (sum_in filled m + size ≤ ROOM)
+  go true f = inr (leb-true (sum_in filled m + size) ROOM f)
   go false f = inl (by_use (in_use filled m) refl f)
 
 fill_staying : (filled : Filled) (size : ℕ) (old : Option ℕ) → IsFilled filled → IsFilled (filled_with filled (if_stays filled size old) size)
@@ -86,16 +87,16 @@ least_passes test (suc n) a m e = go (test a) refl e (λ f. least_passes test n 
 -- where an object goes that doesn't stay
 record IsNew (limit : ℕ) (filled : Filled) (size m : ℕ) : Type 0 where
   one : 1 ≤ m
-  room_there : m ≤ limit → (in_use filled m ≡ false) ⊎ (sum_in filled m + size ≤ room)
+  room_there : m ≤ limit → (in_use filled m ≡ false) ⊎ (sum_in filled m + size ≤ ROOM)
 
 new_is : (limit : ℕ) (filled : Filled) (size : ℕ) (shared : Option ℕ) → shared_by limit filled size ≡ shared → IsNew limit filled size (or_new limit filled shared)
-new_is limit filled size (Some m) e = go (leb size room) e where
+new_is limit filled size (Some m) e = go (leb size ROOM) e where
   go : (small : Bool) → cond small (least_with (λ m. in_use filled m && has_room filled size m) limit 1) None ≡ Some m → IsNew limit filled size m
   go true f =
       let is = least_passes (λ m. in_use filled m && has_room filled size m) limit 1 m f in
       record { one = is.1; room_there = λ le. inr (fits (in_use filled m) (has_room filled size m) refl is.0) } where
-        fits : (u r : Bool) → has_room filled size m ≡ r → (u && r) ≡ true → sum_in filled m + size ≤ room
-        fits true true h f = leb-true (sum_in filled m + size) room h
+        fits : (u r : Bool) → has_room filled size m ≡ r → (u && r) ≡ true → sum_in filled m + size ≤ ROOM
+        fits true true h f = leb-true (sum_in filled m + size) ROOM h
         fits true false h f = cc
         fits false r h f = cc
   go false f = cc

@@ -4,29 +4,30 @@ use Rattle.std.specs.List.{count_by}
 use Rattle.std.proofs.lemmas.Option.{same_Some}
 use Rattle.std.proofs.lemmas.List.Sums.{sum_by-cons, sum_by_push}
 use Rattle.std.proofs.lemmas.Bool.Decides.{nat_tests}
-use Rattle.module_packer.specs.Placement.{room, fresh, sum_in}
+use Rattle.module_packer.specs.declared.packing.TheConstants.{ROOM}
+use Rattle.module_packer.specs.Placement.{fresh, sum_in}
 use Rattle.module_packer.specs.Kept.{Placed, Filled, sizes_in, in_use, stays, if_stays, filled_with, first_pass, first_filled, filled_after, second_pass, two_passes, within, kept_modules, from_one, is_module, bytes_of, HasRoomAfter, ObjectsStay}
 use Rattle.module_packer.proofs.Telling.{none_summed, used_push}
 
 -- there is room for it beside what is placed and what comes before it
 record Fits (filled : Filled) (m : ℕ) (before : List Placed) (size : ℕ) : Type 0 where
-  or_alone : (sum_in filled m + bytes_of m before + size ≤ room) ⊎ ((in_use filled m ≡ false) × (count_by (λ (o : Placed). is_module m o.1) before ≡ 0))
+  or_alone : (sum_in filled m + bytes_of m before + size ≤ ROOM) ⊎ ((in_use filled m ≡ false) × (count_by (λ (o : Placed). is_module m o.1) before ≡ 0))
 
 fits_here : (filled : Filled) (m size : ℕ) → Fits filled m [] size → stays filled size m ≡ true
 fits_here filled m size fits = go fits.or_alone where
-  small : sum_in filled m + size ≤ room → stays filled size m ≡ true
+  small : sum_in filled m + size ≤ ROOM → stays filled size m ≡ true
   small le =
-      let a : leb size room ≡ true = grind (arith, nat_tests) in
-      let b : leb (sum_in filled m + size) room ≡ true = grind (arith, nat_tests) in
+      let a : leb size ROOM ≡ true = grind (arith, nat_tests) in
+      let b : leb (sum_in filled m + size) ROOM ≡ true = grind (arith, nat_tests) in
       rw (a, b) refl
 
-  unused : in_use filled m ≡ false → (b : Bool) → leb size room ≡ b → stays filled size m ≡ true
-  unused none true e = let le : size ≤ room = grind (arith, nat_tests, e) in small (omega (arith, le, none_summed filled m none))
+  unused : in_use filled m ≡ false → (b : Bool) → leb size ROOM ≡ b → stays filled size m ≡ true
+  unused none true e = let le : size ≤ ROOM = grind (arith, nat_tests, e) in small (omega (arith, le, none_summed filled m none))
   unused none false e = rw (e, none) refl
 
-  go : (sum_in filled m + 0 + size ≤ room) ⊎ ((in_use filled m ≡ false) × (count_by (λ (o : Placed). is_module m o.1) [] ≡ 0)) → stays filled size m ≡ true
+  go : (sum_in filled m + 0 + size ≤ ROOM) ⊎ ((in_use filled m ≡ false) × (count_by (λ (o : Placed). is_module m o.1) [] ≡ 0)) → stays filled size m ≡ true
   go (inl le) = small (omega (arith, le))
-  go (inr none) = unused none.0 (leb size room) refl
+  go (inr none) = unused none.0 (leb size ROOM) refl
 
 -- one more object that is placed where it was
 fits_with : (filled : Filled) (m n size : ℕ) (os : List Placed) (small : ℕ) → Fits filled m ((size, Some n) ∷ os) small → Fits (filled ++ (n, size) ∷ []) m os small
@@ -45,8 +46,8 @@ fits_with filled m n size os small fits = record { or_alone = go fits.or_alone }
   other true e none zero_is = absurd (omega (arith, zero_is))
   other false e none zero_is = (used_push filled n size m ∙ rw (none, e) refl, omega (arith, zero_is))
 
-  go : (sum_in filled m + bytes_of m ((size, Some n) ∷ os) + small ≤ room) ⊎ ((in_use filled m ≡ false) × (count_by (λ (o : Placed). is_module m o.1) ((size, Some n) ∷ os) ≡ 0))
-      → (sum_in (filled ++ (n, size) ∷ []) m + bytes_of m os + small ≤ room) ⊎ ((in_use (filled ++ (n, size) ∷ []) m ≡ false) × (count_by (λ (o : Placed). is_module m o.1) os ≡ 0))
+  go : (sum_in filled m + bytes_of m ((size, Some n) ∷ os) + small ≤ ROOM) ⊎ ((in_use filled m ≡ false) × (count_by (λ (o : Placed). is_module m o.1) ((size, Some n) ∷ os) ≡ 0))
+      → (sum_in (filled ++ (n, size) ∷ []) m + bytes_of m os + small ≤ ROOM) ⊎ ((in_use (filled ++ (n, size) ∷ []) m ≡ false) × (count_by (λ (o : Placed). is_module m o.1) os ≡ 0))
   go (inl le) = inl (omega (arith, le, summed, later))
   go (inr none) = inr (other (eqb n m) refl none.0 (sym counted ∙ none.1))
 
@@ -59,8 +60,8 @@ fits_without filled m size old os small fits = record { or_alone = go fits.or_al
   counted : count_by (λ (o : Placed). is_module m o.1) ((size, old) ∷ os) ≡ cond (is_module m old) 1 0 + count_by (λ (o : Placed). is_module m o.1) os
   counted = sum_by-cons (λ (o : Placed). cond (is_module m o.1) 1 0) (size, old) os
 
-  go : (sum_in filled m + bytes_of m ((size, old) ∷ os) + small ≤ room) ⊎ ((in_use filled m ≡ false) × (count_by (λ (o : Placed). is_module m o.1) ((size, old) ∷ os) ≡ 0))
-      → (sum_in filled m + bytes_of m os + small ≤ room) ⊎ ((in_use filled m ≡ false) × (count_by (λ (o : Placed). is_module m o.1) os ≡ 0))
+  go : (sum_in filled m + bytes_of m ((size, old) ∷ os) + small ≤ ROOM) ⊎ ((in_use filled m ≡ false) × (count_by (λ (o : Placed). is_module m o.1) ((size, old) ∷ os) ≡ 0))
+      → (sum_in filled m + bytes_of m os + small ≤ ROOM) ⊎ ((in_use filled m ≡ false) × (count_by (λ (o : Placed). is_module m o.1) os ≡ 0))
   go (inl le) = inl (omega (arith, le, later))
   go (inr none) = inr (none.0, omega (arith, none.1, counted))
 
@@ -92,8 +93,8 @@ tried_stays limit (x ∷ xs) (suc k) m o at was fits =
       before : List Placed
       before = (x.0, Some 1) ∷ take k xs
 
-      begins : (bytes_of m before + o.0 ≤ room) ⊎ (count_by (λ (y : Placed). is_module m y.1) before ≡ 0)
-          → (sum_in [] m + bytes_of m before + o.0 ≤ room) ⊎ ((in_use [] m ≡ false) × (count_by (λ (y : Placed). is_module m y.1) before ≡ 0))
+      begins : (bytes_of m before + o.0 ≤ ROOM) ⊎ (count_by (λ (y : Placed). is_module m y.1) before ≡ 0)
+          → (sum_in [] m + bytes_of m before + o.0 ≤ ROOM) ⊎ ((in_use [] m ≡ false) × (count_by (λ (y : Placed). is_module m y.1) before ≡ 0))
       begins (inl le) = inl (omega (arith, le))
       begins (inr none) = inr (refl, none)
 

@@ -8,7 +8,8 @@ use Rattle.std.proofs.lemmas.List.Quantifiers.{position-Some}
 use Rattle.std.proofs.lemmas.List.Sums.{sum_by-cons, sum_by_push}
 use Rattle.std.proofs.lemmas.Bool.{cases_eq, eq-eqb, ne_eqb, leb-true}
 use Rattle.std.proofs.lemmas.Bool.Decides.{nat_tests}
-use Rattle.module_packer.specs.Placement.{room, sum_in}
+use Rattle.module_packer.specs.declared.packing.TheConstants.{ROOM}
+use Rattle.module_packer.specs.Placement.{sum_in}
 use Rattle.module_packer.specs.Kept.{Filled, in_use, has_room, stays, if_stays, filled_with, least_with, shared_by, or_new, moved_to, settled_in, filled_after}
 use Rattle.module_packer.specs.Sums.{known_sum, Tells, sum_at, stays_by, takes_more, number_at, shared_of, or_unused, moved_by}
 
@@ -43,9 +44,9 @@ told_takes filled size m = go (in_use filled m) where
   go false = refl
 
 told_stays : (filled : Filled) (size m : ℕ) → stays_by size (known_sum filled m) ≡ stays filled size m
-told_stays filled size m = go (leb size room) where
-  go : (b : Bool) → cond b (leb (unwrap_or (known_sum filled m) 0 + size) room) (is_none (known_sum filled m)) ≡ cond b (has_room filled size m) (not (in_use filled m))
-  go true = ap (λ n. leb (n + size) room) (told_sum filled m)
+told_stays filled size m = go (leb size ROOM) where
+  go : (b : Bool) → cond b (leb (unwrap_or (known_sum filled m) 0 + size) ROOM) (is_none (known_sum filled m)) ≡ cond b (has_room filled size m) (not (in_use filled m))
+  go true = ap (λ n. leb (n + size) ROOM) (told_sum filled m)
   go false = told_none filled m
 
 told_at : (limit : ℕ) (sums : List (Option ℕ)) (filled : Filled) (m : ℕ) → Tells limit sums filled → 1 ≤ m → m ≤ limit → get_or sums (m - 1) None ≡ known_sum filled m
@@ -149,7 +150,7 @@ least_is test passes (x ∷ xs) (suc n) a e same =
 shared_told : (limit : ℕ) (sums : List (Option ℕ)) (filled : Filled) (size : ℕ) → Tells limit sums filled → shared_of size sums ≡ shared_by limit filled size
 unfolding shifted
 shared_told limit sums filled size tells =
-    ap (λ o. cond (leb size room) o None)
+    ap (λ o. cond (leb size ROOM) o None)
     (least_is (takes_more size) (λ m. in_use filled m && has_room filled size m) sums limit 1 tells.all (λ k lt. ap (takes_more size) (tells.each k lt) ∙ told_takes filled size (k + 1)))
 
 unused_told : (limit : ℕ) (sums : List (Option ℕ)) (filled : Filled) → Tells limit sums filled → number_at (position is_none sums) ≡ least_with (λ m. not (in_use filled m)) limit 1
@@ -167,13 +168,13 @@ moved_told limit sums filled size tells = go (shared_of size sums) (shared_told 
 -- ---- there is room in the sums
 
 pub stays_fit : (size : ℕ) (sum : Option ℕ) → size < 4294967296 → stays_by size sum ≡ true → unwrap_or sum 0 + size < 4294967296
-stays_fit size sum small e = go (leb size room) e where
+stays_fit size sum small e = go (leb size ROOM) e where
   nothing : (o : Option ℕ) → is_none o ≡ true → unwrap_or o 0 + size < 4294967296
   nothing None f = omega (arith, small)
   nothing (Some n) f = cc
 
-  go : (b : Bool) → cond b (leb (unwrap_or sum 0 + size) room) (is_none sum) ≡ true → unwrap_or sum 0 + size < 4294967296
-  go true f = omega (arith, leb-true (unwrap_or sum 0 + size) room f)
+  go : (b : Bool) → cond b (leb (unwrap_or sum 0 + size) ROOM) (is_none sum) ≡ true → unwrap_or sum 0 + size < 4294967296
+  go true f = omega (arith, leb-true (unwrap_or sum 0 + size) ROOM f)
   go false f = nothing sum f
 
 -- a module that is found has a place, and its sum has room
@@ -190,10 +191,10 @@ found test size sums fits = go (position test sums) refl where
       (omega arith, omega (arith, is.0), subst (λ j. sum_at sums j + size < 4294967296) (sym back) (fits (get_or sums k None) is.1))
 
 pub moved_fits : (size : ℕ) (sums : List (Option ℕ)) → size < 4294967296 → IfSome (moved_by size sums) (Has size sums)
-moved_fits size sums small = by_shared (shared_of size sums) (shared (leb size room)) where
+moved_fits size sums small = by_shared (shared_of size sums) (shared (leb size ROOM)) where
   takes : (o : Option ℕ) → takes_more size o ≡ true → unwrap_or o 0 + size < 4294967296
   takes None f = cc
-  takes (Some n) f = omega (arith, leb-true (n + size) room f)
+  takes (Some n) f = omega (arith, leb-true (n + size) ROOM f)
 
   nothing : (o : Option ℕ) → is_none o ≡ true → unwrap_or o 0 + size < 4294967296
   nothing None f = omega (arith, small)

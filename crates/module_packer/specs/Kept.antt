@@ -2,7 +2,8 @@
 use Rattle.std.specs.Prelude.{◌≡◌, ℕ, zero, suc, ◌+◌, ◌<◌, ◌≤◌, not, ◌&&◌, List, [], ◌∷◌, ◌++◌, length, map, take, slice_get, ◌⊎◌, Option, Some, None, nat_le, ◌==◌, Bool, false, if◌then◌else◌}
 use Rattle.std.specs.Option.{unwrap_or, option_and_then}
 use Rattle.std.specs.List.{All, list_all, list_any, sum_by, count_by}
-use Rattle.module_packer.specs.Placement.{room, fresh, modules_needed, sum_in, IsPlacement}
+use Rattle.module_packer.specs.declared.packing.TheConstants.{ROOM}
+use Rattle.module_packer.specs.Placement.{fresh, modules_needed, sum_in, IsPlacement}
 
 -- an object's size, and the module in which it was
 abbrev pub Placed : Type 0
@@ -19,11 +20,11 @@ abbrev pub in_use : Filled → ℕ → Bool
 in_use filled m = list_any (λ e. e.0 == m) filled
 
 abbrev pub has_room : Filled → ℕ → ℕ → Bool
-has_room filled size m = nat_le (sum_in filled m + size) room
+has_room filled size m = nat_le (sum_in filled m + size) ROOM
 
 -- a small object stays where there is room for it, a large one where nothing is
 abbrev pub stays : Filled → ℕ → ℕ → Bool
-stays filled size m = if nat_le size room then has_room filled size m else not (in_use filled m)
+stays filled size m = if nat_le size ROOM then has_room filled size m else not (in_use filled m)
 
 abbrev pub if_stays : Filled → ℕ → Option ℕ → Option ℕ
 if_stays filled size None = None
@@ -52,7 +53,7 @@ least_with test (suc n) m = let later : Option ℕ = least_with test n (m + 1) i
 -- the least module in use that has room for a small object
 abbrev pub shared_by : ℕ → Filled → ℕ → Option ℕ
 shared_by limit filled size =
-    if nat_le size room then least_with (λ m. in_use filled m && has_room filled size m) limit 1 else None
+    if nat_le size ROOM then least_with (λ m. in_use filled m && has_room filled size m) limit 1 else None
 
 -- that module, or the least number that isn't in use; one above the limit where each up to it is
 abbrev pub or_new : ℕ → Filled → Option ℕ → ℕ
@@ -120,7 +121,7 @@ bytes_of m objects = sum_by (λ o. if is_module m o.1 then o.0 else 0) objects
 
 -- an object of this size has room in a module after the objects before it that were there, or it is the first of these
 abbrev pub HasRoomAfter : ℕ → List Placed → ℕ → Type 0
-HasRoomAfter m before size = (bytes_of m before + size ≤ room) ⊎ (count_by (λ o. is_module m o.1) before ≡ 0)
+HasRoomAfter m before size = (bytes_of m before + size ≤ ROOM) ⊎ (count_by (λ o. is_module m o.1) before ≡ 0)
 
 -- Unless the whole placement is the fresh one, an object stays in its old module where the objects before it that were
 -- there leave room for it.

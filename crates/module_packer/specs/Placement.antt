@@ -1,12 +1,9 @@
 -- Which module each object goes to.
 use Rattle.std.specs.Prelude.{◌≡◌, ℕ, ◌+◌, ◌<◌, ◌≤◌, max, Bool, false, List, [], ◌∷◌, length, slice_get, Option, Some, None, MatchOption, ⊤, nat_le, nat_lt, ◌==◌, if◌then◌else◌}
 use Rattle.std.specs.List.{All, fold, sum_by, count_by, zip}
+use Rattle.module_packer.specs.declared.packing.TheConstants.{ROOM}
 use Rattle.module_packer.specs.declared.packing.Shared.{Shared}
 use Rattle.module_packer.specs.declared.packing.Packing.{Packing}
-
--- what a module of more than one object has room for
-abbrev pub room : ℕ
-room = 65536
 
 -- ---- fresh placement, from the modules opened so far and the one of them that takes small objects
 
@@ -15,7 +12,7 @@ none_opened = record { count = 0; shared = None }
 
 abbrev pub fits_shared : Option Shared → ℕ → Bool
 fits_shared None size = false
-fits_shared (Some o) size = nat_le (o.sum + size) room
+fits_shared (Some o) size = nat_le (o.sum + size) ROOM
 
 abbrev pub shared_number : Option Shared → ℕ
 shared_number None = 0
@@ -28,7 +25,7 @@ shared_sum (Some o) = o.sum
 -- the module of one more object, and what is open after it
 abbrev pub place_next : Packing → ℕ → ℕ × Packing
 place_next s size =
-    if nat_lt room size then (s.count + 1, record s { count = s.count + 1 })
+    if nat_lt ROOM size then (s.count + 1, record s { count = s.count + 1 })
     else (if fits_shared s.shared size
     then (shared_number s.shared, record s { shared = Some (record { number = shared_number s.shared; sum = shared_sum s.shared + size }) })
     else (s.count + 1, record { count = s.count + 1; shared = Some (record { number = s.count + 1; sum = size }) }))
@@ -46,7 +43,7 @@ modules_needed sizes = fold max 0 (fresh sizes)
 
 -- the module that small objects go to is one of those opened, and isn't overfull
 abbrev pub IsSound : Packing → Type 0
-IsSound s = MatchOption s.shared ⊤ (λ o. (1 ≤ o.number) × (o.number ≤ s.count) × (o.sum ≤ room))
+IsSound s = MatchOption s.shared ⊤ (λ o. (1 ≤ o.number) × (o.number ≤ s.count) × (o.sum ≤ ROOM))
 
 -- ---- what every placement has
 
@@ -59,7 +56,7 @@ pub record IsPlacement (limit : ℕ) (sizes modules : List ℕ) : Type 0 where
   pub each : length modules ≡ length sizes
   pub numbers : All (λ m. (1 ≤ m) × (m ≤ limit)) modules
   pub first : slice_get modules 0 ≡ Some 1
-  pub sums : (m : ℕ) → 1 < count_by (λ n. n == m) modules → sum_in (zip modules sizes) m ≤ room
+  pub sums : (m : ℕ) → 1 < count_by (λ n. n == m) modules → sum_in (zip modules sizes) m ≤ ROOM
 
 abbrev pub FreshIsAPlacement : Type 0
 FreshIsAPlacement = (limit : ℕ) (sizes : List ℕ) → 0 < length sizes → modules_needed sizes ≤ limit → IsPlacement limit sizes (fresh sizes)

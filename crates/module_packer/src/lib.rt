@@ -1,8 +1,16 @@
 //! Which module each object of a generation goes to.
 //!
-//! A module that carries more than one object has at most 65,536 bytes; only an object that is larger by itself has a
+//! A module that carries more than one object has at most [`ROOM`] bytes; only an object that is larger by itself has a
 //! larger module, of its own. Which objects share a module is left to the broadcaster by ETSI TR 101 202; the rule
 //! here is this project's own.
+//!
+//! ```
+//! use module_packer::{need, place_fresh};
+//!
+//! let sizes = [117, 65_000, 65_537, 400];
+//! assert_eq!(rt; need(&sizes), 2);
+//! assert_eq!(rt; place_fresh(alloc, &sizes)?.as_slice(), [1, 1, 2, 1].as_slice());
+//! ```
 #![tactic(auto)]
 
 ghost use Rattle.std.specs.Prelude.{◌≡◌, ◌≤◌, ◌<◌, length, IfOk};
@@ -13,13 +21,12 @@ mod filling;
 mod keeping;
 mod packing;
 
+use dsi_dii::MOST_MODULES;
 pub use keeping::place;
 use oc_bytes::NoMemory;
 use packing::Packing;
+pub use packing::ROOM;
 use std::alloc::Global;
-
-/// The most modules that a placement has; they are numbered from 1.
-const MOST_MODULES: usize = 139;
 
 /// How many modules a fresh placement of objects of these sizes opens. `sizes` has the objects' sizes in bytes, in
 /// object order, and isn't empty. Takes no memory.
@@ -34,18 +41,18 @@ pub fn need(sizes: &[u32]) -> usize
     packing.modules()
 }
 
-/// The module of each object, a number from 1 to 139, of a fresh placement.
+/// The module of each object, a number from 1 to [`MOST_MODULES`], of a fresh placement.
 ///
-/// The objects are taken in order. One of more than 65,536 bytes gets a module of its own. Any other goes into the
-/// module that was opened last for such objects while the sum of sizes stays at most 65,536 there, and else opens a new
+/// The objects are taken in order. One of more than [`ROOM`] bytes gets a module of its own. Any other goes into the
+/// module that was opened last for such objects while the sum of sizes stays at most [`ROOM`] there, and else opens a new
 /// one. Modules are numbered from 1 in order of opening, so the first object is in module 1.
 ///
-/// `sizes` isn't empty, and `need` of it is at most 139. Out of memory is the only refusal.
+/// `sizes` isn't empty, and `need` of it is at most [`MOST_MODULES`]. Out of memory is the only refusal.
 pub fn place_fresh(alloc: Global, sizes: &[u32]) -> Result<Vec<u16>, NoMemory>
     requires some { 0 < length sizes.now }
-    requires few { modules_needed sizes.now ≤ 139 }
+    requires few { modules_needed sizes.now ≤ MOST_MODULES }
     ensures fresh { IfOk result (λ ms. ms.items ≡ fresh sizes.now) }
-    ensures fits { IfOk result (λ ms. IsPlacement 139 sizes.now ms.items) }
+    ensures fits { IfOk result (λ ms. IsPlacement MOST_MODULES sizes.now ms.items) }
 {
     let mut packing = Packing::new();
     let mut modules = Vec::with_capacity(alloc, sizes.len())?;
@@ -69,7 +76,7 @@ pub fn objects_stay_where_there_is_room()
 {}
 
 /// The law of `place_fresh`, for every limit: each object has a module from 1 to the limit, the first object is in
-/// module 1, and no module of more than one object has more than 65,536 bytes.
+/// module 1, and no module of more than one object has more than [`ROOM`] bytes.
 pub fn fresh_is_a_placement()
     ensures { FreshIsAPlacement }
 {}

@@ -4,7 +4,7 @@ ghost use Rattle.std.specs.Prelude.{◌≡◌, ◌≤◌, ◌<◌, ◌+◌, ◌^
 ghost use Rattle.module_packer.specs.Placement.{place_next, none_opened, IsSound};
 
 /// The most bytes that more than one object has in one module.
-pub(crate) const ROOM: u32 = 65_536;
+pub const ROOM: u32 = 65_536;
 
 /// The module that takes the next small object, if it has room for it.
 #[derive(Clone, Copy)]

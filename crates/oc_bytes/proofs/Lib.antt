@@ -1,3 +1,6 @@
+pub mod Agree
+pub mod CallerLemmas
+pub mod Loops
 pub mod Outcomes
 pub mod Reading
 pub mod Within

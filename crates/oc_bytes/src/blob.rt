@@ -1,9 +1,16 @@
 ghost use Rattle.std.specs.Prelude.{◌≡◌, IfOk};
+ghost use Rattle.oc_bytes.specs.Numbers.{IsBytes};
 
 use crate::NoMemory;
 use std::alloc::Global;
 use std::marker::Model;
 use std::sync::Arc;
+
+/// The numbers of a slice of bytes are below 256. Nothing is done: the slice's type says so, but no contract of those who
+/// lend bytes.
+pub fn are_bytes(bytes: &[u8])
+    ensures { IsBytes bytes.now }
+{}
 
 /// Bytes that several owners share. They never change.
 #[derive(Drop)]

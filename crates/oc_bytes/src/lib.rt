@@ -3,18 +3,29 @@
 //!
 //! Numbers on the wire are big-endian (ISO/IEC 13818-1 and ISO/IEC 13818-6). The traits, their counts of
 //! faults and their forms in memory are this project's own.
+//!
+//! ```
+//! use oc_bytes::{Cut, Fields};
+//!
+//! let mut fields = Fields::new(&[0x12, 0x34, 2, 7, 8, 9]);
+//! assert_eq!(rt; fields.u16(), Ok(0x1234));
+//! assert_eq!(rt; fields.sized8(), Ok(&[7, 8][..]));
+//! assert_eq!(rt; fields.u16(), Err(Cut(5)));
+//! ```
 #![tactic(auto)]
 
 mod blob;
 mod fields;
+mod lengths;
 mod memory;
 mod real;
 mod sink;
 mod source;
 mod writer;
 
-pub use blob::Blob;
-pub use fields::{Fields, Short};
+pub use blob::{Blob, are_bytes};
+pub use fields::{Cut, Fields};
+pub use lengths::{MOST_LENGTH, MOST_SECTION, length_field};
 pub use memory::{MemSink, MemSource};
 pub use real::{StdSink, StdSource};
 pub use sink::{Sink, WriteFault, write_all};

@@ -61,6 +61,7 @@ impl Source for MemSource {
         ensures planned { IsErr result ↔ Contains (failing_reads self.old) (reads_made self.old) }
         ensures piece { IfOk result (λ n. n ≡ min (min (read_piece self.old) (length into.old)) (length (left_of self.old))) }
         ensures alone { IfOk result (λ _. reads_failed self.new ≡ reads_failed self.old) }
+        ensures once { OnErr result (reads_failed self.new ≡ cap_at_u64 (reads_failed self.old + 1)) }
         ensures made { reads_made self.new ≡ cap_at_u64 (reads_made self.old + 1) }
         ensures same { (failing_reads self.new ≡ failing_reads self.old) × (read_piece self.new ≡ read_piece self.old) }
     {
@@ -152,6 +153,7 @@ impl Sink for MemSink {
         ensures planned { IsErrOf result WriteFault.Failed ↔ Contains (failing_writes self.old) (writes_made self.old) }
         ensures piece { IfOk result (λ n. n ≡ min (write_piece self.old) (length from.now)) }
         ensures alone { (IsErrOf result WriteFault.Failed → ⊥) → writes_failed self.new ≡ writes_failed self.old }
+        ensures once { IsErrOf result WriteFault.Failed → writes_failed self.new ≡ cap_at_u64 (writes_failed self.old + 1) }
         ensures made { writes_made self.new ≡ cap_at_u64 (writes_made self.old + 1) }
         ensures same { (failing_writes self.new ≡ failing_writes self.old) × (write_piece self.new ≡ write_piece self.old) }
     {

@@ -1,5 +1,5 @@
 use crate::{
-    Blob, Failed, Fields, MemSink, MemSource, Short, Sink, Source, StdSink, StdSource, WriteFault,
+    Blob, Cut, Failed, Fields, MemSink, MemSource, Sink, Source, StdSink, StdSource, WriteFault,
     Writer, write_all,
 };
 use std::io;
@@ -31,8 +31,27 @@ fn reads_fields(rt: HostRuntime) {
     assert_eq!(rt; fields.u32(), Ok(0x0000_0100));
     assert_eq!(rt; fields.place(), 10);
     assert_eq!(rt; fields.u64(), Ok(0x0000_0000_0001_0068));
-    assert_eq!(rt; fields.u16(), Err(Short));
+    assert_eq!(rt; fields.u16(), Err(Cut(18)));
     assert_eq!(rt; fields.rest(), b"i".as_slice());
+}
+
+#[test]
+fn reads_values_and_parts(rt: HostRuntime) -> Result<(), Fail> {
+    let mut fields = Fields::new(b"\x01\0\x02\0\0\0\x03\0\0\0\0\0\0\0\x04\x02hi\0\x01!abc");
+    assert_eq!(rt; fields.this_u8(2), Err(Cut(0)));
+    assert_eq!(rt; fields.this_u8(1), Ok(()));
+    assert_eq!(rt; fields.this_u16(2), Ok(()));
+    assert_eq!(rt; fields.this_u32(3), Ok(()));
+    assert_eq!(rt; fields.this_u64(4), Ok(()));
+    assert_eq!(rt; fields.sized8(), Ok(b"hi".as_slice()));
+    assert_eq!(rt; fields.sized16(), Ok(b"!".as_slice()));
+    assert_eq!(rt; fields.sized8(), Err(Cut(22)));
+    assert_eq!(rt; fields.place(), 21);
+    let part = fields.part(2).ok().ok_or("no part")?;
+    assert_eq!(rt; part.place(), 21);
+    assert_eq!(rt; part.rest(), b"ab".as_slice());
+    assert_eq!(rt; fields.rest(), b"c".as_slice());
+    Ok(())
 }
 
 #[test]
@@ -133,8 +152,11 @@ fn repeats_interrupted_calls(rt: HostRuntime) {
 
 #[test]
 fn faults_as_text(rt: HostRuntime) -> Result<(), Fail> {
-    let text = format!(in rt.alloc(); "{}", Short)?;
-    assert_eq!(rt; text.as_str(), "fewer bytes are left than were asked for");
+    let text = format!(in rt.alloc(); "{}", Cut(12))?;
+    assert_eq!(rt;
+        text.as_str(),
+        "the field at byte 12 is cut or breaks its rule"
+    );
     let text = format!(in rt.alloc(); "{}", WriteFault::NoMemory)?;
     assert_eq!(rt; text.as_str(), "out of memory");
     Ok(())

@@ -8,16 +8,6 @@ use Rattle.path_tree.specs.Paths.{Bytes, PathNames, same_name}
 use Rattle.path_resolver.specs.declared.answer.Answer.{Answer}
 use Rattle.path_resolver.specs.Resolving.{Held, Target, walk, turn}
 
--- the code's comparison of two names
-same_as : (m n : Bytes) → same_name m n ≡ pointwise nat_eq m n
-same_as [] [] = refl
-same_as [] (b ∷ n) = refl
-same_as (a ∷ m) [] = refl
-same_as (a ∷ m) (b ∷ n) = ap (λ (rest : Bool). (a == b) && rest) (same_as m n)
-
-pub same_when : (m n : Bytes) (r : Bool) → r ≡ pointwise nat_eq m n → same_name m n ≡ r
-same_when m n r e = same_as m n ∙ sym e
-
 pub here : {A B : Type 0} (v : A → B) (p : B → Bool) (xs : List A) (i : ℕ) (x : A) (all : Option B) → i < length xs → x ≡ get_or xs i x → p (v x) ≡ true → find p (map v (drop i xs)) ≡ all → Some (v x) ≡ all
 here {A = A} v p xs i x all lt is e so_far =
     let front : drop i xs ≡ x ∷ drop (suc i) xs = drop-cons xs i x lt ∙ ap (λ (y : A). y ∷ drop (suc i) xs) (sym is) in

@@ -1,5 +1,22 @@
 //! Shots of a receiver, and the answers to paths on them: a whole path is resolved on one shot, through the folders
 //! of the modules that it holds, without copying a byte or a name.
+//!
+//! A receiver has heard where the gateway lies, and nothing yet of the module that holds it:
+//!
+//! ```
+//! use dsi_dii::ModuleLine;
+//! use ior_tap::{Key, Location};
+//! use path_resolver::{Answer, Gateway, Held, Shot, resolve};
+//! use path_tree::Path;
+//!
+//! let key = Key::new(vec![in alloc; 0, 0, 0, 1]?);
+//! let gateway = Some(Gateway { location: Location { carousel: 1, module: 5, key }, delivery: None });
+//! let line = ModuleLine { id: 5, size: 34, version: 0, compressed: false };
+//! let table = vec![in alloc; Held { line, module: None }]?;
+//! let shot = Shot { number: 0, draws: 0, mark: 2, epoch: 0, label: Some(0), identification: 1, gateway, table };
+//! let path = Path::parse(alloc, b"/news/today.txt")?;
+//! assert!(rt; matches!(resolve(&shot, &path)?, Answer::NotYet(5)));
+//! ```
 #![tactic(auto)]
 
 mod answer;

@@ -5,6 +5,7 @@ use Rattle.std.specs.BTreeMap.{insert_entry}
 use Rattle.std.specs.Map.{remove_entry}
 use Rattle.std.proofs.lemmas.Bool.{ltb-false}
 use Rattle.std.proofs.lemmas.List.{drop_all}
+use Rattle.oc_bytes.specs.Numbers.{IsBytes}
 use Rattle.path_tree.specs.Paths.{Bytes, PathNames, path_cmp, same_path, is_below, IsPath}
 use Rattle.path_tree.specs.Trees.{Tree, IsTree, File, Folder, NoSuch, content_at, is_folder, is_through_file, names_below, node_at}
 use Rattle.path_tree.specs.Edits.{fault_of, after_edit, apply_from}
@@ -52,13 +53,13 @@ root_is_folder : (t : Tree) (p : PathNames) → is_folder t p ≡ false → (p �
 root_is_folder t [] e = cc
 root_is_folder t (n ∷ ns) e = (λ same. cc, e)
 
-pub tree_put : (t : Tree) (p : PathNames) (b : Bytes) → IsTree t → IsPath p → fault_of t (Put p b) ≡ None → IsTree (insert_entry path_cmp t p b)
-tree_put t p b h path none = go (is_folder t p) (is_through_file t p) (nat_lt 16777216 (length b)) refl refl refl none where
+pub tree_put : (t : Tree) (p : PathNames) (b : Bytes) → IsTree t → IsPath p → IsBytes b → fault_of t (Put p b) ≡ None → IsTree (insert_entry path_cmp t p b)
+tree_put t p b h path content none = go (is_folder t p) (is_through_file t p) (nat_lt 16777216 (length b)) refl refl refl none where
   go : (f a l : Bool) → is_folder t p ≡ f → is_through_file t p ≡ a → nat_lt 16777216 (length b) ≡ l → cond f (Some FolderThere) (cond a (Some ThroughFile) (cond l (Some FileTooLarge) None)) ≡ None → IsTree (insert_entry path_cmp t p b)
   go true a l x y z none = cc
   go false true l x y z none = cc
   go false false true x y z none = cc
-  go false false false x y z none = let root = root_is_folder t p x in tree_insert t p b h path root.0 (ltb-false 16777216 (length b) z) root.1 y
+  go false false false x y z none = let root = root_is_folder t p x in tree_insert t p b h path root.0 content (ltb-false 16777216 (length b) z) root.1 y
 
 -- ---- what stands at a path
 

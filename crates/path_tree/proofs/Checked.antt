@@ -4,7 +4,7 @@ use Rattle.std.specs.List.{list_any, slice_split}
 use Rattle.std.proofs.lemmas.List.Folds.{list_any-append}
 use Rattle.path_tree.specs.Paths.{Bytes, PathNames}
 use Rattle.path_tree.specs.Texts.{TextFault, BadName, TooDeep, Plain, undo_all, if_plain, undo_escapes, is_name, is_zero_or_slash, checked_name, name_of, with_name, names_of, is_slash}
-use Rattle.path_tree.specs.Steps.{Undoes, checked}
+use Rattle.path_tree.specs.Steps.{Undoes, verdict_of}
 use Rattle.path_tree.proofs.Read.{after-nothing, names_of-cons, read_none, read_deep}
 
 -- so many bytes are undone, and what is left of the text is still to be
@@ -49,29 +49,29 @@ undone_all text left count clean h ended =
 
 -- ---- the names of a text
 
-checked-with_name : (o : Option Bytes) (place : ℕ) (r : Result PathNames TextFault) → is_some o ≡ true → checked (with_name o place r) ≡ checked r
-checked-with_name None place r e = cc
-checked-with_name (Some name) place (Ok names) e = refl
-checked-with_name (Some name) place (Err fault) e = refl
+verdict_of-with_name : (o : Option Bytes) (place : ℕ) (r : Result PathNames TextFault) → is_some o ≡ true → verdict_of (with_name o place r) ≡ verdict_of r
+verdict_of-with_name None place r e = cc
+verdict_of-with_name (Some name) place (Ok names) e = refl
+verdict_of-with_name (Some name) place (Err fault) e = refl
 
 not_some : (o : Option Bytes) → is_some o ≡ false → o ≡ None
 not_some None e = refl
 not_some (Some name) e = cc
 
 -- a piece is a name, and a slash follows it
-pub check_more : (place n : ℕ) (text piece rest : Bytes) → n < 16 → slice_split is_slash text ≡ piece ∷ slice_split is_slash rest → is_some (name_of piece) ≡ true → checked (names_of place n (slice_split is_slash text)) ≡ checked (names_of (place + length piece + 1) (n + 1) (slice_split is_slash rest))
+pub check_more : (place n : ℕ) (text piece rest : Bytes) → n < 16 → slice_split is_slash text ≡ piece ∷ slice_split is_slash rest → is_some (name_of piece) ≡ true → verdict_of (names_of place n (slice_split is_slash text)) ≡ verdict_of (names_of (place + length piece + 1) (n + 1) (slice_split is_slash rest))
 check_more place n text piece rest few cut e =
-    rw (cut, names_of-cons place n piece (slice_split is_slash rest) few) (checked-with_name (name_of piece) place _ e)
+    rw (cut, names_of-cons place n piece (slice_split is_slash rest) few) (verdict_of-with_name (name_of piece) place _ e)
 
 -- the last piece is a name
-pub check_last : (place n : ℕ) (text piece : Bytes) → n < 16 → slice_split is_slash text ≡ piece ∷ [] → is_some (name_of piece) ≡ true → checked (names_of place n (slice_split is_slash text)) ≡ Ok tt
+pub check_last : (place n : ℕ) (text piece : Bytes) → n < 16 → slice_split is_slash text ≡ piece ∷ [] → is_some (name_of piece) ≡ true → verdict_of (names_of place n (slice_split is_slash text)) ≡ Ok tt
 check_last place n text piece few cut e =
-    rw (cut, names_of-cons place n piece [] few) (checked-with_name (name_of piece) place _ e)
+    rw (cut, names_of-cons place n piece [] few) (verdict_of-with_name (name_of piece) place _ e)
 
 -- a piece is no name
-pub check_none : (place n : ℕ) (text piece : Bytes) (pieces : List Bytes) → n < 16 → slice_split is_slash text ≡ piece ∷ pieces → is_some (name_of piece) ≡ false → checked (names_of place n (slice_split is_slash text)) ≡ Err (BadName place)
+pub check_none : (place n : ℕ) (text piece : Bytes) (pieces : List Bytes) → n < 16 → slice_split is_slash text ≡ piece ∷ pieces → is_some (name_of piece) ≡ false → verdict_of (names_of place n (slice_split is_slash text)) ≡ Err (BadName place)
 check_none place n text piece pieces few cut e =
-    ap checked (sym (after-nothing (names_of place n (slice_split is_slash text))) ∙ read_none [] place n text piece pieces few cut (not_some (name_of piece) e))
+    ap verdict_of (sym (after-nothing (names_of place n (slice_split is_slash text))) ∙ read_none [] place n text piece pieces few cut (not_some (name_of piece) e))
 
-pub check_deep : (place n : ℕ) (text : Bytes) → n ≡ 16 → checked (names_of place n (slice_split is_slash text)) ≡ Err TooDeep
-check_deep place n text e = ap checked (sym (after-nothing (names_of place n (slice_split is_slash text))) ∙ read_deep [] place n text e)
+pub check_deep : (place n : ℕ) (text : Bytes) → n ≡ 16 → verdict_of (names_of place n (slice_split is_slash text)) ≡ Err TooDeep
+check_deep place n text e = ap verdict_of (sym (after-nothing (names_of place n (slice_split is_slash text))) ∙ read_deep [] place n text e)

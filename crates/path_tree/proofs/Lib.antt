@@ -1,3 +1,4 @@
+pub mod CallerLemmas
 pub mod Escapes
 pub mod Pieces
 pub mod Read

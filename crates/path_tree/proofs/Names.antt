@@ -10,7 +10,7 @@ use Rattle.std.proofs.lemmas.List.Kept.{Contains-from_dedup, Contains-dedup}
 use Rattle.std.proofs.lemmas.Cmp.{nat_list_eq_equiv}
 use Rattle.path_tree.specs.Paths.{Bytes, PathNames, name_cmp, path_cmp, same_name, next_name}
 use Rattle.path_tree.specs.Trees.{Tree, IsTree, names_below, IsListing}
-use Rattle.path_tree.proofs.Order.{true_or_false, same_name-is, same_name-pointwise, same_name-refl, name_total, name_cmp-is, name_cmp-refl}
+use Rattle.path_tree.proofs.Order.{true_or_false, same_name-is, same_name-refl, name_total, name_cmp-is, name_cmp-refl}
 use Rattle.path_tree.proofs.Places.{File, Rises, Apart, rises_tree}
 use Rattle.path_tree.proofs.Listing.{names_in}
 
@@ -138,7 +138,7 @@ every_name p (e ∷ es) n a = go (next_name p e.0) refl (every_name p es n) a wh
 names_equiv : IsEquivalence same_name
 names_equiv = record {
   refl = same_name-refl;
-  symm = λ x y. same_name-pointwise x y ∙ nat_list_eq_equiv.symm x y ∙ sym (same_name-pointwise y x);
+  symm = nat_list_eq_equiv.symm;
   congr = λ x y z e. ap (λ w. same_name w z) (same_name-is x y e);
 }
 

@@ -6,7 +6,7 @@ use Rattle.std.specs.Ordering.{nat_cmp, is_eq, ordering_then}
 use Rattle.std.specs.Cmp.{IsTotalOrder}
 use Rattle.std.specs.Cmp.Lexicographic.{pointwise, same_text}
 use Rattle.std.specs.FinMap.{slice_cmp-IsAntisymmetric}
-use Rattle.std.proofs.lemmas.Cmp.{lists_total, nat_list_cmp_total}
+use Rattle.std.proofs.lemmas.Cmp.{lists_total, nat_list_cmp_total, nat_list_eq_equiv}
 use Rattle.std.proofs.Math.Bool.{and-false}
 use Rattle.std.proofs.lemmas.List.{drop_all}
 use Rattle.std.proofs.lemmas.Bool.Decides.{nat_tests}
@@ -18,18 +18,15 @@ path_total = lists_total nat_list_cmp_total
 pub name_total : IsTotalOrder name_cmp
 name_total = nat_list_cmp_total
 
-pub same_name-pointwise : (m n : Bytes) → same_name m n ≡ pointwise nat_eq m n
-same_name-pointwise [] [] = refl
-same_name-pointwise [] (b ∷ bs) = refl
-same_name-pointwise (a ∷ as') [] = refl
-same_name-pointwise (a ∷ as') (b ∷ bs) = ap (λ t. nat_eq a b && t) (same_name-pointwise as' bs)
-
 pub same_name-is : (m n : Bytes) → same_name m n ≡ true → m ≡ n
-same_name-is m n e = same_text m n (sym e ∙ same_name-pointwise m n)
+same_name-is m n e = same_text m n (sym e)
 
 pub same_name-refl : (n : Bytes) → same_name n n ≡ true
 same_name-refl [] = refl
 same_name-refl (b ∷ bs) = grind (arith, nat_tests, same_name-refl bs)
+
+pub same_name-flips : (m n : Bytes) → same_name m n ≡ same_name n m
+same_name-flips = nat_list_eq_equiv.symm
 
 and_first : (a b : Bool) → (a && b) ≡ true → a ≡ true
 and_first true b e = refl

@@ -11,6 +11,7 @@ use Rattle.std.proofs.lemmas.List.Elements.{All-from_recursion, recursion_from_A
 use Rattle.std.specs.List.Sorted.{IsPartitionedBy}
 use Rattle.std.proofs.lemmas.Bool.{ne_eqb}
 use Rattle.std.proofs.lemmas.List.{take_all, drop_all}
+use Rattle.oc_bytes.specs.Numbers.{IsBytes}
 use Rattle.path_tree.specs.Paths.{Bytes, PathNames, path_cmp, same_path, is_below, same_name, IsPath}
 use Rattle.path_tree.specs.Trees.{Tree, IsTree, content_at, is_folder, is_through_file}
 use Rattle.path_tree.specs.Places.{is_before, place_in, first_is, first_is_below, last_is_above, count_below, last_name_is}
@@ -278,24 +279,29 @@ rises_insert (e ∷ es) p b under over r = go (path_cmp p e.0) refl (rises_inser
 abbrev IsFile : File → Type 0
 IsFile e = IsPath e.0 × (e.0 ≢ [])
 
+abbrev HasContent : File → Type 0
+HasContent e = IsBytes e.1
+
 abbrev Fits : File → Type 0
 Fits e = length e.1 ≤ 16777216
 
-tree_from : (t : Tree) → AllByRecursion IsFile t → AllByRecursion Fits t → Rises t → IsTree t
-tree_from t files sizes r = record {
+tree_from : (t : Tree) → AllByRecursion IsFile t → AllByRecursion HasContent t → AllByRecursion Fits t → Rises t → IsTree t
+tree_from t files contents sizes r = record {
   paths = All-from_recursion IsFile t files;
   in_order = order_from t r;
   apart = apart_from t r;
+  contents = All-from_recursion HasContent t contents;
   sizes = All-from_recursion Fits t sizes;
 }
 
 pub rises_tree : (t : Tree) → IsTree t → Rises t
 rises_tree t h = rises_from t h.in_order h.apart
 
-pub tree_insert : (t : Tree) (p : PathNames) (b : Bytes) → IsTree t → IsPath p → p ≢ [] → length b ≤ 16777216 → list_any (λ e. is_below p e.0) t ≡ false → is_through_file t p ≡ false → IsTree (insert_entry path_cmp t p b)
-tree_insert t p b h path deep size under over =
+pub tree_insert : (t : Tree) (p : PathNames) (b : Bytes) → IsTree t → IsPath p → p ≢ [] → IsBytes b → length b ≤ 16777216 → list_any (λ e. is_below p e.0) t ≡ false → is_through_file t p ≡ false → IsTree (insert_entry path_cmp t p b)
+tree_insert t p b h path deep content size under over =
     tree_from (insert_entry path_cmp t p b)
     (each_insert IsFile t p b (path, deep) (λ e k. k) (recursion_from_All IsFile t h.paths))
+    (each_insert HasContent t p b content (λ e k. content) (recursion_from_All HasContent t h.contents))
     (each_insert Fits t p b size (λ e k. size) (recursion_from_All Fits t h.sizes))
     (rises_insert t p b (none_from_any (λ e. is_below p e.0) t under) (none_from_any (λ e. is_below e.0 p) t over) (rises_tree t h))
 
@@ -303,6 +309,7 @@ pub tree_remove : (t : Tree) (p : PathNames) → IsTree t → IsTree (remove_ent
 tree_remove t p h =
     tree_from (remove_entry (same_path p) t)
     (each_remove IsFile (same_path p) t (recursion_from_All IsFile t h.paths))
+    (each_remove HasContent (same_path p) t (recursion_from_All HasContent t h.contents))
     (each_remove Fits (same_path p) t (recursion_from_All Fits t h.sizes))
     (rises_remove (same_path p) t (rises_tree t h))
 

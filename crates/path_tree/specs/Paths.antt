@@ -1,9 +1,10 @@
 -- Paths as lists of names, names as lists of bytes. The path of no names is the root.
-use Rattle.std.specs.Prelude.{ℕ, ◌≤◌, ◌<◌, ◌≢◌, Bool, true, false, ◌&&◌, ◌==◌, List, [], ◌∷◌, length, Option, Some, None, cond}
+use Rattle.std.specs.Prelude.{ℕ, ◌≤◌, ◌<◌, ◌≢◌, Bool, true, false, ◌&&◌, nat_eq, List, [], ◌∷◌, length, Option, Some, None, cond}
 use Rattle.std.specs.List.{All}
 use Rattle.std.specs.Ordering.{nat_cmp}
-use Rattle.std.specs.Cmp.Lexicographic.{slice_cmp}
+use Rattle.std.specs.Cmp.Lexicographic.{slice_cmp, pointwise}
 use Rattle.std.specs.declared.cmp.Ordering.{Ordering}
+use Rattle.path_tree.specs.declared.text.TheConstants.{MOST_NAMES}
 
 abbrev pub Bytes : Type 0
 Bytes = List ℕ
@@ -18,15 +19,12 @@ name_cmp = slice_cmp nat_cmp
 abbrev pub path_cmp : PathNames → PathNames → Ordering
 path_cmp = slice_cmp name_cmp
 
+-- equal names and equal paths, by std's word for equal slices
 abbrev pub same_name : Bytes → Bytes → Bool
-same_name [] [] = true
-same_name (a ∷ rest) (b ∷ more) = (a == b) && same_name rest more
-same_name _ _ = false
+same_name = pointwise nat_eq
 
 abbrev pub same_path : PathNames → PathNames → Bool
-same_path [] [] = true
-same_path (m ∷ ms) (n ∷ ns) = same_name m n && same_path ms ns
-same_path _ _ = false
+same_path = pointwise same_name
 
 -- the second path lies below the first
 abbrev pub is_below : PathNames → PathNames → Bool
@@ -50,5 +48,5 @@ pub record IsName (name : Bytes) : Type 0 where
   pub in_byte : All (λ b. b < 256) name
 
 pub record IsPath (path : PathNames) : Type 0 where
-  pub depth : length path ≤ 16
+  pub depth : length path ≤ MOST_NAMES
   pub names : All IsName path

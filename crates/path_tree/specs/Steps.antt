@@ -1,13 +1,10 @@
 -- What the steps of reading a text say of each other.
 use Rattle.std.specs.Prelude.{◌≡◌, ℕ, ◌+◌, ◌*◌, ◌<◌, ◌++◌, [], ◌∷◌, length, Option, Some, None, Result, Ok, Err, ⊤}
-use Rattle.std.specs.List.{All, slice_split}
+use Rattle.std.specs.List.{slice_split}
 use Rattle.path_tree.specs.Paths.{Bytes, PathNames, IsName}
 use Rattle.path_tree.specs.Texts.{TextFault, Plain, undo_all, if_plain, name_of, is_slash}
 use Rattle.path_tree.specs.declared.path.PathFault.{PathFault}
 use Rattle.path_tree.specs.declared.path.PathFault.TheVariants as faults
-
-abbrev pub AreBytes : Bytes → Type 0
-AreBytes bytes = All (λ b. b < 256) bytes
 
 -- the byte that two digits write, where both are digits
 abbrev pub byte_of_digits : Option ℕ → Option ℕ → Option ℕ
@@ -33,6 +30,6 @@ IsNameAt text place (Err faults.TooDeep) = ⊥
 IsNameAt text place (Err faults.NoMemory) = Unit {0}
 
 -- whether there are names, or the fault
-abbrev pub checked : Result PathNames TextFault → Result ⊤ TextFault
-checked (Ok names) = Ok tt
-checked (Err fault) = Err fault
+abbrev pub verdict_of : Result PathNames TextFault → Result ⊤ TextFault
+verdict_of (Ok names) = Ok tt
+verdict_of (Err fault) = Err fault

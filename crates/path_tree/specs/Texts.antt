@@ -4,6 +4,7 @@ use Rattle.std.specs.List.{flat_map, list_any, slice_split}
 use Rattle.path_tree.specs.Paths.{Bytes, PathNames}
 use Rattle.path_tree.specs.declared.path.PathFault.{PathFault}
 use Rattle.path_tree.specs.declared.path.PathFault.TheVariants as faults
+use Rattle.path_tree.specs.declared.text.TheConstants.{MOST_NAMES}
 
 -- what is wrong with a text: the place of a name, or too many names
 pub data TextFault : Type 0 where
@@ -61,7 +62,7 @@ is_name name = nat_le 1 (length name) && nat_le (length name) 254 && not (list_a
 
 -- the path of one name more, where the name is a name of a path and the path has fewer than sixteen
 abbrev pub with_below : PathNames → Bytes → Option PathNames
-with_below path name = if is_name name && nat_lt (length path) 16 then Some (path ++ name ∷ []) else None
+with_below path name = if is_name name && nat_lt (length path) MOST_NAMES then Some (path ++ name ∷ []) else None
 
 abbrev pub checked_name : Option Bytes → Option Bytes
 checked_name (Some name) = if is_name name then Some name else None
@@ -84,7 +85,7 @@ with_name (Some name) place (Err fault) = Err fault
 abbrev pub names_of : ℕ → ℕ → List Bytes → Result PathNames TextFault
 names_of place n [] = Ok []
 names_of place n (piece ∷ pieces) =
-    if n == 16 then Err TooDeep else with_name (name_of piece) place (names_of (place + length piece + 1) (n + 1) pieces)
+    if n == MOST_NAMES then Err TooDeep else with_name (name_of piece) place (names_of (place + length piece + 1) (n + 1) pieces)
 
 abbrev pub is_slash : ℕ → Bool
 is_slash b = b == 47

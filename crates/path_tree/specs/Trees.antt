@@ -3,7 +3,9 @@ use Rattle.std.specs.Prelude.{◌≡◌, ◌≤◌, ◌≢◌, Bool, true, false
 use Rattle.std.specs.List.{All, AllPairs, Any, Contains, list_any, filter_map, dedup}
 use Rattle.std.specs.Map.{lookup}
 use Rattle.std.specs.declared.cmp.Ordering.TheVariants.{Less}
+use Rattle.oc_bytes.specs.Numbers.{IsBytes}
 use Rattle.path_tree.specs.Paths.{Bytes, PathNames, name_cmp, path_cmp, is_below, next_name, same_name, same_path, IsPath}
+use Rattle.path_tree.specs.declared.tree.TheConstants.{MOST_CONTENT}
 
 abbrev pub Tree : Type 0
 Tree = List (PathNames × Bytes)
@@ -15,7 +17,8 @@ pub record IsTree (t : Tree) : Type 0 where
   pub paths : All (λ e. IsPath e.0 × (e.0 ≢ [])) t
   pub in_order : AllPairs (λ e f. path_cmp e.0 f.0 ≡ Less) t
   pub apart : AllPairs (λ e f. is_below e.0 f.0 ≡ false) t
-  pub sizes : All (λ e. length e.1 ≤ 16777216) t
+  pub contents : All (λ e. IsBytes e.1) t
+  pub sizes : All (λ e. length e.1 ≤ MOST_CONTENT) t
 
 -- the root, and each proper prefix of a file's path
 abbrev pub is_folder : Tree → PathNames → Bool

@@ -1,4 +1,16 @@
 //! Paths and their texts, trees of files, and edits of trees.
+//!
+//! ```
+//! use oc_bytes::Blob;
+//! use path_tree::{Edit, Path, Tree, apply};
+//!
+//! let path = Path::parse(alloc, b"/news/index.html")?;
+//! let page = Blob::new(alloc, Vec::from_slice(alloc, b"<p>")?)?;
+//! let edits = [Edit::Put(path.share()?, page)];
+//! let tree = apply(alloc, &Tree::empty(alloc), &edits)?;
+//! assert_eq!(rt; tree.len(), 1);
+//! assert_eq!(rt; tree.find(&path), Some(0));
+//! ```
 #![tactic(auto)]
 
 mod files;
@@ -7,8 +19,10 @@ mod text;
 mod tree;
 
 pub use path::{Name, Path, PathFault};
-pub use text::print_name;
-pub use tree::{ApplyFault, Edit, EditFault, Edits, Lookup, Tree, apply, others_stay};
+pub use text::{MOST_NAMES, print_name};
+pub use tree::{
+    ApplyFault, Edit, EditFault, Edits, Lookup, MOST_CONTENT, Tree, apply, others_stay,
+};
 
 #[cfg(test)]
 mod tests;

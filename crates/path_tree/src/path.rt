@@ -98,7 +98,7 @@ impl<T: Drop> From<AllocFailed<T>> for PathFault {
     }
 }
 
-/// A path below the root of a carousel: 0 to 16 names, each of 1 to 254 bytes without zero and `/`. The
+/// A path below the root of a carousel: 0 to [`MOST_NAMES`] names, each of 1 to 254 bytes without zero and `/`. The
 /// path of no names is the root. Two paths that are shared hold the same names in memory once.
 #[derive(Debug, Drop)]
 pub struct Path {
@@ -140,7 +140,7 @@ impl Path {
         })
     }
 
-    /// The number of names, 0 to 16.
+    /// The number of names, 0 to [`MOST_NAMES`].
     pub fn len(&self) -> usize
         ensures names { result ≡ length self.now }
         ensures path { IsPath self.now }

@@ -3,10 +3,11 @@ ghost use Rattle.std.specs.Prelude.{◌≡◌, true, ◌<◌, ◌++◌, length, 
 ghost use Rattle.std.specs.List.{list_any, flat_map};
 ghost use Rattle.std.specs.String.{string_bytes};
 ghost use Rattle.std.specs.Fmt.{DisplaysOnOk};
+ghost use Rattle.oc_bytes.specs.Numbers.{IsBytes};
 ghost use Rattle.oc_bytes.specs.Outcome.{Gives};
 ghost use Rattle.path_tree.specs.Paths.{IsName, IsPath};
 ghost use Rattle.path_tree.specs.Texts.{digit, upper_digit, printed_byte, printed_name, text_cause, is_name, is_slash, is_zero_or_slash, undo_escapes, name_of, names_after};
-ghost use Rattle.path_tree.specs.Steps.{AreBytes, byte_of_digits, Undoes, IsNameAt, Cuts, checked};
+ghost use Rattle.path_tree.specs.Steps.{byte_of_digits, Undoes, IsNameAt, Cuts, verdict_of};
 
 use crate::path::{Name, PathFault};
 use oc_bytes::NoMemory;
@@ -14,7 +15,7 @@ use std::alloc::Global;
 use std::fmt;
 
 /// The most names of a path.
-pub(crate) const MOST_NAMES: usize = 16;
+pub const MOST_NAMES: usize = 16;
 
 /// The value of a hexadecimal digit of either case.
 fn hex_digit(byte: u8) -> Option<u8>
@@ -58,7 +59,7 @@ fn first_byte(text: &[u8]) -> Option<(u8, &[u8])>
 /// The bytes that a name's text stands for, or none where a `%` lacks its two digits.
 fn unescaped(alloc: Global, text: &[u8]) -> Result<Option<Vec<u8>>, NoMemory>
     ensures bytes { IfOk result (λ bytes. option_map (λ v. v.items) bytes ≡ undo_escapes text.now) }
-    ensures in_byte { IfOk result (λ bytes. IfSome bytes (λ v. AreBytes v.items)) }
+    ensures in_byte { IfOk result (λ bytes. IfSome bytes (λ v. IsBytes v.items)) }
 {
     let mut bytes = Vec::new(alloc);
     let mut rest = text;
@@ -139,7 +140,7 @@ fn first_piece(text: &[u8]) -> (&[u8], Option<&[u8]>)
 /// Whether the text after a first `/` stands for names, or its first fault from the left. It takes no memory.
 fn check_names(text: &[u8]) -> Result<(), PathFault>
     requires { 0 < length text.now }
-    ensures read { Gives (λ _. tt) text_cause result (checked (names_after (drop 1 text.now))) }
+    ensures read { Gives (λ _. tt) text_cause result (verdict_of (names_after (drop 1 text.now))) }
     ensures memory { IsErrOf result PathFault.NoMemory → ⊥ }
 {
     let mut rest = &text[1..];
@@ -162,7 +163,7 @@ pub(crate) fn read_names(alloc: Global, text: &[u8]) -> Result<Vec<Name>, PathFa
     requires { 0 < length text.now }
     ensures read { Gives (λ names. names.items) text_cause result (names_after (drop 1 text.now)) }
     ensures path { IfOk result (λ names. IsPath names.items) }
-    ensures no_memory { IsErrOf result PathFault.NoMemory → checked (names_after (drop 1 text.now)) ≡ Ok tt }
+    ensures no_memory { IsErrOf result PathFault.NoMemory → verdict_of (names_after (drop 1 text.now)) ≡ Ok tt }
 {
     check_names(text)?;
     let mut names = Vec::new(alloc);

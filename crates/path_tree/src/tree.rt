@@ -1,21 +1,22 @@
-ghost use Rattle.std.specs.Prelude.{◌≡◌, ◌≤◌, ◌<◌, [], length, slice_get, None, Some, IfOk, IfNone, IfSome, OnSome, ◌≢◌, OnErr};
+ghost use Rattle.std.specs.Prelude.{◌≡◌, ◌≤◌, ◌<◌, [], length, slice_get, None, Some, IfOk, IfNone, IfSome, IsErrOf, OnSome, ◌≢◌, OnErr};
 ghost use Rattle.std.specs.Slice.Iter.{iter_rest};
+ghost use Rattle.oc_bytes.specs.Numbers.{IsBytes};
 ghost use Rattle.oc_bytes.specs.Outcome.{Gives};
-ghost use Rattle.path_tree.specs.Edits.{apply_all, apply_cause, fault_of, after_edit, OthersStay};
+ghost use Rattle.path_tree.specs.Edits.{apply_all, apply_cause, fault_of, first_fault, after_edit, OthersStay};
 ghost use Rattle.path_tree.specs.Paths.{IsPath};
 ghost use Rattle.path_tree.specs.Places.{place_in};
 ghost use Rattle.path_tree.specs.Trees.{IfFolder, IsListing, IsTree, NoSuch, node_at};
 
 use crate::files::{first_is, is_folder, last_is_above, names_below, place_of};
 use crate::path::{Name, Path};
-use oc_bytes::{Blob, NoMemory};
+use oc_bytes::{Blob, NoMemory, are_bytes};
 use std::alloc::{AllocError, AllocFailed, Global};
 use std::marker::Model;
 use std::slice;
 use thiserror::Error;
 
 /// The most bytes of a file: the greatest content of a BIOP file message that this project writes.
-const MOST_CONTENT: usize = 16_777_216;
+pub const MOST_CONTENT: usize = 16_777_216;
 
 /// A change of a tree.
 #[derive(Drop)]
@@ -51,7 +52,7 @@ pub enum EditFault {
     /// The path that a file is to be put at leads through a file.
     #[error("the path leads through a file")]
     ThroughFile,
-    /// The file that is to be put has more than 16,777,216 bytes.
+    /// The file that is to be put has more than [`MOST_CONTENT`] bytes.
     #[error("the file has more than 16,777,216 bytes")]
     FileTooLarge,
 }
@@ -120,7 +121,7 @@ impl Edits {
     }
 }
 
-/// A tree of files: a finite map from paths below the root to bytes, at most 16,777,216 of them a file.
+/// A tree of files: a finite map from paths below the root to bytes, at most [`MOST_CONTENT`] of them a file.
 /// No file stands at a path that leads to another file. Folders are there because files stand in them.
 #[derive(Drop)]
 pub struct Tree {
@@ -227,7 +228,9 @@ fn put_fault(files: &[(Path, Blob)], place: usize, path: &Path, content: &Blob) 
     requires within { place ≤ length files.now }
     ensures fault { result ≡ fault_of files.now (Edit.Put path.now content.now) }
     ensures path { IsPath path.now }
+    ensures content { IsBytes content.now }
 {
+    are_bytes(content.bytes());
     if is_folder(files, place, path) {
         Some(EditFault::FolderThere)
     } else if last_is_above(&files[..place], path) {
@@ -264,6 +267,20 @@ fn put(
     Ok(None)
 }
 
+/// Why no file can be taken out at a path, which stands at this place among the files.
+fn remove_fault(files: &[(Path, Blob)], place: usize, path: &Path) -> Option<EditFault>
+    requires tree { IsTree files.now }
+    requires place { place ≡ place_in files.now path.now }
+    requires within { place ≤ length files.now }
+    ensures { result ≡ fault_of files.now (Edit.Remove path.now) }
+{
+    if first_is(&files[place..], path) {
+        None
+    } else {
+        Some(EditFault::NoSuchFile)
+    }
+}
+
 /// Takes a file out, or answers why it can't be.
 fn remove(files: &mut Vec<(Path, Blob)>, path: &Path) -> Option<EditFault>
     requires { IsTree files.old.items }
@@ -278,6 +295,29 @@ fn remove(files: &mut Vec<(Path, Blob)>, path: &Path) -> Option<EditFault>
     }
     files.remove(place);
     None
+}
+
+/// Why an edit is refused, or none where it isn't.
+fn refusal(files: &[(Path, Blob)], edit: &Edit) -> Option<EditFault>
+    requires { IsTree files.now }
+    ensures { result ≡ fault_of files.now edit.now }
+{
+    let place = place_of(files, edit.path());
+    match edit {
+        Edit::Put(path, content) => put_fault(files, place, path, content),
+        Edit::Remove(path) => remove_fault(files, place, path),
+    }
+}
+
+/// Why the first of the edits is refused, or none where it isn't, or where there are no edits.
+fn first_refusal(files: &[(Path, Blob)], edits: &[Edit]) -> Option<EditFault>
+    requires { IsTree files.now }
+    ensures { result ≡ first_fault files.now edits.now }
+{
+    match edits.first() {
+        Some(edit) => refusal(files, edit),
+        None => None,
+    }
 }
 
 /// Makes one edit, or answers why it is refused.
@@ -296,10 +336,16 @@ fn apply_one(files: &mut Vec<(Path, Blob)>, edit: &Edit) -> Result<Option<EditFa
 
 /// One new tree, after all of the edits in order, or the place and fault of the first that is refused; the
 /// old tree stays as it is. The bytes of files are shared between both, and an edit costs a number of
-/// comparisons of paths that grows with the logarithm of the number of files.
+/// comparisons of paths that grows with the logarithm of the number of files. Memory is asked for only once the
+/// first edit has been checked, so that its refusal is never hidden by a lack of it; of a later one it may be.
 pub fn apply(alloc: Global, tree: &Tree, edits: &[Edit]) -> Result<Tree, ApplyFault>
-    ensures { Gives (λ t. t) apply_cause result (apply_all tree.now edits.now) }
+    ensures applied { Gives (λ t. t) apply_cause result (apply_all tree.now edits.now) }
+    ensures tree { IfOk result (λ t. IsTree t) }
+    ensures no_memory { IsErrOf result ApplyFault.NoMemory → first_fault tree.now edits.now ≡ None }
 {
+    if let Some(fault) = first_refusal(&tree.files, edits) {
+        return Err(ApplyFault::Edit(0, fault));
+    }
     let mut files = shared(alloc, &tree.files)?;
     for (place, edit) in edits.iter().enumerate() {
         if let Some(fault) = apply_one(&mut files, edit)? {

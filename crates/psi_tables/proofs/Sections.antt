@@ -5,8 +5,9 @@ use Rattle.std.proofs.lemmas.Bool.{ltb-false, leb-true, eqb-true, eqb-false, not
 use Rattle.std.proofs.lemmas.List.{length-take-le, get_or-drop, take_at}
 use Rattle.oc_bytes.specs.Numbers.{four_bytes, number_of}
 use Rattle.section_crc.specs.Crc.{crc_of}
-use Rattle.psi_tables.specs.Frames.{Fields, Fits, IsSection, header_fault, crc_fault, other_table, wrong_length, not_current, fields_of, prefix_with, length_of, length_field, spelling}
+use Rattle.psi_tables.specs.Frames.{Fields, Fits, IsSection, header_fault, crc_fault, other_table, wrong_length, not_current, fields_of, prefix_with, length_of, spelling}
 use Rattle.psi_tables.proofs.Checks.{its_own_crc}
+use Rattle.oc_bytes.specs.Lengths.{section_length}
 
 abbrev pub AreBytes : List ℕ → Type 0
 AreBytes bytes = (i : ℕ) → get_or bytes i 0 < 256
@@ -49,8 +50,8 @@ sixth_byte b5 h current = omega arith
 -- what holds of bytes whose header has no fault
 pub record Passes (id : ℕ) (bytes : List ℕ) : Type 0 where
   pub least : 12 ≤ length bytes
-  pub most : length_field bytes ≤ 1021
-  pub counted : length bytes ≡ length_field bytes + 3
+  pub most : section_length bytes ≤ 1021
+  pub counted : length bytes ≡ section_length bytes + 3
   pub table : get_or bytes 0 0 ≡ id
   pub syntax : 128 ≤ get_or bytes 1 0
   pub current : get_or bytes 5 0 % 2 ≢ 0
@@ -164,7 +165,7 @@ odd v w e = omega arith
 written_length : (id p q v crc : ℕ) (s : Fields) → length (prefix_with id p q v s ++ four_bytes crc) ≡ length s.body + 12
 written_length id p q v crc s = omega (arith, lit<, length-append s.body (four_bytes crc))
 
-written_field : (id p q v crc : ℕ) (s : Fields) → p < 2 → q < 4 → length s.body ≤ 1012 → length_field (prefix_with id p q v s ++ four_bytes crc) ≡ length s.body + 9
+written_field : (id p q v crc : ℕ) (s : Fields) → p < 2 → q < 4 → length s.body ≤ 1012 → section_length (prefix_with id p q v s ++ four_bytes crc) ≡ length s.body + 9
 written_field id p q v crc s hp hq room = omega arith
 
 written_fields : (id p q v crc : ℕ) (s : Fields) → v < 4 → Fits s → fields_of (prefix_with id p q v s ++ four_bytes crc) ≡ s
@@ -178,8 +179,8 @@ written_has_none id p q v crc s hp hq hv f =
     let field = written_field id p q v crc s hp hq f.body in
     let whole = prefix_with id p q v s ++ four_bytes crc in
     let least : 12 ≤ length whole = omega arith in
-    let most : length_field whole ≤ 1021 = omega (arith, f.body) in
-    let counted : length whole ≡ length_field whole + 3 = omega arith in
+    let most : section_length whole ≤ 1021 = omega (arith, f.body) in
+    let counted : length whole ≡ section_length whole + 3 = omega arith in
     let some : length whole ≢ 0 = λ e. omega (arith, e) in
     go_on (other_table id whole) _ _ (or_from _ _ (ne_eqb _ _ some) (not_from_true _ (eq-eqb id id refl)))
     (go_on (wrong_length whole) _ _ (or_from _ _ (or_from _ _ (le-ltb (length whole) 3 (omega arith)) (le-ltb _ _ (syntax_set p q (length_of s)))) (not_from_true _ (and_from _ _ (le-leb _ _ most) (eq-eqb _ _ counted))))

@@ -8,6 +8,7 @@ use Rattle.psi_tables.specs.declared.finder.Find.{Find}
 use Rattle.psi_tables.specs.declared.finder.Find.TheVariants.{NoPat, NotNamed, At}
 use Rattle.psi_tables.specs.Pats.{PatFields, read_pat}
 use Rattle.psi_tables.specs.Pmts.{PmtFields, read_pmt}
+use Rattle.psi_tables.specs.declared.directory.TheConstants.{MOST_FOLLOWED}
 
 -- ---- sections that are accepted
 
@@ -96,11 +97,8 @@ abbrev pub first_of_each : List ℕ → List (ℕ × ℕ) → List (ℕ × ℕ)
 first_of_each seen [] = []
 first_of_each seen (x ∷ xs) = if is_in x.0 seen then first_of_each seen xs else x ∷ first_of_each (x.0 ∷ seen) xs
 
-abbrev pub most_followed : ℕ
-most_followed = 64
-
 abbrev pub choose : List (ℕ × ℕ) → List (ℕ × ℕ)
-choose xs = take most_followed (first_of_each [] xs)
+choose xs = take MOST_FOLLOWED (first_of_each [] xs)
 
 -- each followed PID, with the number of packets that are passed over on it: those up to the one that completed the first section that
 -- lists it

@@ -7,6 +7,8 @@ use Rattle.section_crc.specs.Crc.{crc_of}
 use Rattle.psi_tables.specs.declared.frame.Frame.{Frame}
 use Rattle.psi_tables.specs.declared.tables.PsiFault.{PsiFault}
 use Rattle.psi_tables.specs.declared.tables.PsiFault.TheVariants as faults
+use Rattle.psi_tables.specs.declared.frame.TheConstants.{MOST_LENGTH}
+use Rattle.oc_bytes.specs.Lengths.{section_length}
 
 pub record Fields : Type 0 where
   -- transport_stream_id of a PAT, program_number of a PMT
@@ -36,7 +38,7 @@ pub record Fits (f : Fields) : Type 0 where
   pub version : f.version < 32
   pub number : f.number < 256
   pub last : f.last < 256
-  pub body : length f.body ≤ 1012
+  pub body : length f.body ≤ MOST_LENGTH - 9
 
 -- the bytes are a whole section of this table
 pub record IsSection (id : ℕ) (bytes : List ℕ) (f : Fields) : Type 0 where
@@ -53,12 +55,9 @@ pub record IsSection (id : ℕ) (bytes : List ℕ) (f : Fields) : Type 0 where
 abbrev pub spelling : ℕ → Fields → List ℕ
 spelling id f = let front = prefix_with id 0 3 3 f in front ++ four_bytes (crc_of front)
 
-abbrev pub length_field : List ℕ → ℕ
-length_field bytes = slice_index bytes 1 % 16 * 256 + slice_index bytes 2
-
 -- the length field is the number of the bytes after it, and within its limit
 abbrev pub is_counted : List ℕ → Bool
-is_counted bytes = nat_le (length_field bytes) 1021 && (length bytes == length_field bytes + 3)
+is_counted bytes = nat_le (section_length bytes) MOST_LENGTH && (length bytes == section_length bytes + 3)
 
 -- table_id is cut or another one
 abbrev pub other_table : ℕ → List ℕ → Bool

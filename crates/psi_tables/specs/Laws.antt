@@ -10,6 +10,7 @@ use Rattle.psi_tables.specs.Pats.{PatFields}
 use Rattle.psi_tables.specs.Pmts.{PmtFields}
 use Rattle.psi_tables.specs.Written.{written_line, pat_value, pmt_value, announcer_start, announcer_packets}
 use Rattle.psi_tables.specs.Finding.{pat_in, arrivals, listed_pids, first_of_each, pats_in, pmts_in, newest_in, section_among, lines_of_sections, is_program, names, followed_in, found_in}
+use Rattle.psi_tables.specs.declared.directory.TheConstants.{MOST_FOLLOWED}
 
 -- ---- a PAT of one section
 
@@ -76,7 +77,7 @@ first_pat packets = slice_get (filter_map (λ (a : Bytes × ℕ). option_map (λ
 -- completed the first section on
 abbrev pub EachIsFollowed : Type 0
 EachIsFollowed = (packets : List Bytes) (p : PatFields) (l : PatLine) → All (λ (r : PatFields). r ≡ p) (pats_in packets) → Contains p.lines l → is_program l ≡ true
-    → length (first_of_each [] (listed_pids 0 p.lines)) ≤ 64 → followed_since packets l.pid ≡ first_pat packets
+    → length (first_of_each [] (listed_pids 0 p.lines)) ≤ MOST_FOLLOWED → followed_since packets l.pid ≡ first_pat packets
 
 -- ---- the premises can be met
 
@@ -92,7 +93,7 @@ pub record PremisesMet : Type 0 where
   pub line : Contains pat_value.lines written_line × (is_program written_line ≡ true)
   pub named : names 1 (pmt_value 1) ≡ Some 256
   pub came : Came example (λ (n : ℕ). pmt_value 1) written_line
-  pub few : length (first_of_each [] (listed_pids 0 pat_value.lines)) ≤ 64
+  pub few : length (first_of_each [] (listed_pids 0 pat_value.lines)) ≤ MOST_FOLLOWED
   pub found : found_in 1 example ≡ At 256
   pub too_early : found_in 1 (take 1 example) ≡ NotNamed
   pub other : found_in 2 example ≡ NotNamed

@@ -8,6 +8,7 @@ use Rattle.psi_tables.specs.declared.tables.PmtLine.{PmtLine}
 use Rattle.psi_tables.specs.declared.tables.Pmt.{Pmt}
 use Rattle.psi_tables.specs.Frames.{Fields, IsSection, header_fault, crc_fault, fields_of, or_else}
 use Rattle.psi_tables.specs.Pats.{ok_unless}
+use Rattle.oc_bytes.specs.Lengths.{twelve_bits}
 
 -- a stream of type 0x0B, and the carousels that it names
 pub record LineFields : Type 0 where
@@ -106,12 +107,12 @@ pub record ReadsPmt (bytes : List ℕ) (p : PmtFields) : Type 0 where
 -- the stream that stands whole at the front
 abbrev pub next_stream : List ℕ → Option (Stream × List ℕ)
 next_stream (kind ∷ a ∷ b ∷ c ∷ d ∷ bytes) =
-    let n = c % 16 * 256 + d in
+    let n = twelve_bits c d in
     if nat_le n (length bytes) then Some (record { kind = kind; pid = a % 32 * 256 + b; info = take n bytes }, drop n bytes) else None
 next_stream _ = None
 
 abbrev pub info_length : List ℕ → ℕ
-info_length body = slice_index body 2 % 16 * 256 + slice_index body 3
+info_length body = twelve_bits (slice_index body 2) (slice_index body 3)
 
 abbrev pub stream_bytes : List ℕ → List ℕ
 stream_bytes body = drop (4 + info_length body) body

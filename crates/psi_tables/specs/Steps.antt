@@ -6,10 +6,11 @@ use Rattle.psi_tables.specs.declared.tables.PatLine.{PatLine}
 use Rattle.psi_tables.specs.declared.followed.Followed.{Followed}
 use Rattle.psi_tables.specs.declared.followed.Program.{Program}
 use Rattle.psi_tables.specs.Pmts.{PmtFields}
-use Rattle.psi_tables.specs.Finding.{pats_among, listed_by, names, pmt_in, is_program, most_followed}
+use Rattle.psi_tables.specs.Finding.{pats_among, listed_by, names, pmt_in, is_program}
 use Rattle.psi_tables.specs.Pats.{PatFields}
 use Rattle.psi_tables.specs.Receiving.{HeardOn}
 use Rattle.psi_tables.specs.Stands.{FollowedState, FinderState, Hears, Keeps}
+use Rattle.psi_tables.specs.declared.directory.TheConstants.{MOST_FOLLOWED}
 
 -- an item in the place of the first that passes a test, and else after all
 abbrev pub put : {A : Type 0} → (A → Bool) → A → List A → List A
@@ -51,4 +52,4 @@ pub record TablesHeard (packet : Bytes) (listed : Bool) (before after : FinderSt
 
 -- a line's PID is followed from now on: it is a program's, there is room, and it isn't followed yet
 abbrev pub becomes_followed : List Followed → PatLine → Bool
-becomes_followed followed l = is_program l && nat_lt (length followed) most_followed && not (list_any (λ f. f.pid == l.pid) followed)
+becomes_followed followed l = is_program l && nat_lt (length followed) MOST_FOLLOWED && not (list_any (λ f. f.pid == l.pid) followed)

@@ -19,7 +19,7 @@ use section_stream::PacketDemux;
 use std::alloc::{AllocError, Global};
 
 /// The most PIDs that are followed (this project's own limit).
-const MOST_FOLLOWED: usize = 64;
+pub const MOST_FOLLOWED: usize = 64;
 
 /// The sections of the PAT, and what came on the PIDs that it listed.
 #[derive(Drop)]

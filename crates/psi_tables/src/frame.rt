@@ -2,10 +2,11 @@ ghost use Rattle.std.specs.Prelude.{◌≡◌, ◌≤◌, ◌<◌, Some, None, l
 ghost use Rattle.psi_tables.specs.Frames as frames;
 ghost use Rattle.psi_tables.specs.Frames.{header_fault, fields_of};
 
+use oc_bytes::{Cut, length_field};
 use section_crc::crc;
 
-/// The bytes of a section after its section_length, at most: 1,021.
-const MOST_LENGTH: usize = 1021;
+/// The most bytes of a table's section after its section_length.
+pub const MOST_LENGTH: usize = 1021;
 
 /// The bytes round the body: the header's 8 and the CRC's 4.
 const ROUND: usize = 12;
@@ -20,10 +21,10 @@ pub struct Frame<'a> {
     pub body: &'a [u8],
 }
 
-/// The section of table `id` that takes all of the bytes, or the place of the first field before its body that breaks its rule or is cut.
+/// The section of table `id` that takes all of the bytes, or the first field before its body that breaks its rule or is cut.
 /// The CRC isn't looked at.
-pub fn frame_of(id: u8, bytes: &[u8]) -> Result<Frame<'_>, usize>
-    ensures { MatchResult result (λ f. (header_fault id bytes.now ≡ None) × (frames.view f ≡ fields_of bytes.now) × (12 ≤ length bytes.now)) (λ place. header_fault id bytes.now ≡ Some place) }
+pub fn frame_of(id: u8, bytes: &[u8]) -> Result<Frame<'_>, Cut>
+    ensures { MatchResult result (λ f. (header_fault id bytes.now ≡ None) × (frames.view f ≡ fields_of bytes.now) × (12 ≤ length bytes.now)) (λ cut. header_fault id bytes.now ≡ Some cut.0) }
 {
     check_header(id, bytes)?;
     Ok(Frame {
@@ -35,24 +36,24 @@ pub fn frame_of(id: u8, bytes: &[u8]) -> Result<Frame<'_>, usize>
     })
 }
 
-/// The place of the first field before the body that breaks its rule or is cut.
-fn check_header(id: u8, bytes: &[u8]) -> Result<(), usize>
-    ensures { MatchResult result (λ _. (header_fault id bytes.now ≡ None) × (12 ≤ length bytes.now)) (λ place. header_fault id bytes.now ≡ Some place) }
+/// The first field before the body that breaks its rule or is cut.
+fn check_header(id: u8, bytes: &[u8]) -> Result<(), Cut>
+    ensures { MatchResult result (λ _. (header_fault id bytes.now ≡ None) × (12 ≤ length bytes.now)) (λ cut. header_fault id bytes.now ≡ Some cut.0) }
 {
     if bytes.is_empty() || bytes[0] != id {
-        return Err(0);
+        return Err(Cut(0));
     }
     if bytes.len() < 3 || bytes[1] < 128 || !is_counted(bytes) {
-        return Err(1);
+        return Err(Cut(1));
     }
     if bytes.len() < 5 {
-        return Err(3);
+        return Err(Cut(3));
     }
     if bytes.len() < 6 || bytes[5] % 2 == 0 {
-        return Err(5);
+        return Err(Cut(5));
     }
     if bytes.len() < ROUND {
-        return Err(bytes.len().min(8));
+        return Err(Cut(bytes.len().min(8)));
     }
     Ok(())
 }
@@ -62,18 +63,18 @@ fn is_counted(bytes: &[u8]) -> bool
     requires { 3 ≤ length bytes.now }
     ensures { result ≡ frames.is_counted bytes.now }
 {
-    let length = usize::from(bytes[1]) % 16 * 256 + usize::from(bytes[2]);
+    let length = length_field(bytes[1], bytes[2]);
     length <= MOST_LENGTH && bytes.len() == length + 3
 }
 
 /// The CRC over all of the bytes is that of a section that wasn't damaged; else its place.
-pub fn check_crc(bytes: &[u8]) -> Result<(), usize>
+pub fn check_crc(bytes: &[u8]) -> Result<(), Cut>
     requires { 12 ≤ length bytes.now }
-    ensures { MatchResult result (λ _. frames.crc_fault bytes.now ≡ None) (λ place. frames.crc_fault bytes.now ≡ Some place) }
+    ensures { MatchResult result (λ _. frames.crc_fault bytes.now ≡ None) (λ cut. frames.crc_fault bytes.now ≡ Some cut.0) }
 {
     if crc(bytes) == 0 {
         Ok(())
     } else {
-        Err(bytes.len() - 4)
+        Err(Cut(bytes.len() - 4))
     }
 }

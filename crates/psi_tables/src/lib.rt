@@ -1,5 +1,17 @@
 //! Program specific information (ISO/IEC 13818-1, 2.4.4): the program association table, the map tables of programs, and the
 //! PID of the carousel that they name.
+//!
+//! ```
+//! use psi_tables::{Announcer, Find, Finder};
+//!
+//! let mut packets = Vec::new(alloc);
+//! Announcer::new(alloc, 7)?.packets(&mut packets)?;
+//! let mut finder = Finder::new(alloc, 7)?;
+//! for packet in packets.iter() {
+//!     finder.feed(packet)?;
+//! }
+//! assert_eq!(rt; finder.find(), Find::At(256));
+//! ```
 #![tactic(auto)]
 
 mod announcer;

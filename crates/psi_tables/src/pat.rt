@@ -5,6 +5,7 @@ ghost use Rattle.psi_tables.specs.Pats.{PatFields, ReadsPat, view_pat, read_pat,
 
 use crate::frame::{Frame, check_crc, frame_of};
 use crate::{Pat, PatLine, PsiFault};
+use oc_bytes::Cut;
 use std::alloc::{AllocError, Global};
 
 /// The line that these four bytes are.
@@ -31,13 +32,13 @@ fn lines_from(alloc: Global, body: &[u8]) -> Result<Vec<PatLine>, AllocError>
 }
 
 /// The frame of a section of the PAT whose bytes read, or the place of the first fault.
-fn checked(bytes: &[u8]) -> Result<Frame<'_>, usize>
-    ensures { MatchResult result (λ f. (pat_fault bytes.now ≡ None) × (view f ≡ fields_of bytes.now)) (λ place. pat_fault bytes.now ≡ Some place) }
+fn checked(bytes: &[u8]) -> Result<Frame<'_>, Cut>
+    ensures { MatchResult result (λ f. (pat_fault bytes.now ≡ None) × (view f ≡ fields_of bytes.now)) (λ cut. pat_fault bytes.now ≡ Some cut.0) }
 {
     let frame = frame_of(0x00, bytes)?;
     let size = frame.body.len();
     if size % 4 != 0 {
-        return Err(8 + size / 4 * 4);
+        return Err(Cut(8 + size / 4 * 4));
     }
     check_crc(bytes)?;
     Ok(frame)
@@ -55,10 +56,7 @@ pub fn decode_pat(alloc: Global, bytes: &[u8]) -> Result<Pat, PsiFault>
     ensures exact { Gives view_pat cause result (read_pat bytes.now) }
     ensures no_memory { IsErrOf result PsiFault.NoMemory → pat_fault bytes.now ≡ None }
 {
-    let frame = match checked(bytes) {
-        Ok(frame) => frame,
-        Err(place) => return Err(PsiFault::NotPsi(place)),
-    };
+    let frame = checked(bytes)?;
     let lines = lines_from(alloc, frame.body)?;
     Ok(Pat {
         stream: frame.extension,

@@ -8,6 +8,7 @@ ghost use Rattle.psi_tables.specs.Pmts.{PmtFields, ReadsPmt, view_pmt, view_line
 
 use crate::frame::{Frame, check_crc, frame_of};
 use crate::{Pmt, PmtLine, PsiFault};
+use oc_bytes::{Cut, length_field};
 use std::alloc::{AllocError, Global};
 
 /// The type of streams that carry DSM-CC messages (ISO/IEC 13818-6, clause 9.2.3): user-to-network messages, among them object carousels.
@@ -57,7 +58,7 @@ fn next_stream(bytes: &[u8]) -> Option<(Stream<'_>, &[u8])>
     let [kind, a, b, c, d, following @ ..] = bytes else {
         return None;
     };
-    let size = usize::from(*c) % 16 * 256 + usize::from(*d);
+    let size = length_field(*c, *d);
     if size > following.len() {
         return None;
     }
@@ -128,18 +129,18 @@ fn lines_from(alloc: Global, bytes: &[u8]) -> Result<Vec<PmtLine>, AllocError>
 }
 
 /// The bytes of the streams, or the place of the first field of the body that doesn't fit.
-fn streams_of(body: &[u8]) -> Result<&[u8], usize>
-    ensures { MatchResult result (λ x. (body_fault body.now ≡ None) × (x.now ≡ stream_bytes body.now)) (λ place. body_fault body.now ≡ Some place) }
+fn streams_of(body: &[u8]) -> Result<&[u8], Cut>
+    ensures { MatchResult result (λ x. (body_fault body.now ≡ None) × (x.now ≡ stream_bytes body.now)) (λ cut. body_fault body.now ≡ Some cut.0) }
 {
     if body.len() < 2 {
-        return Err(8);
+        return Err(Cut(8));
     }
     if body.len() < 4 {
-        return Err(10);
+        return Err(Cut(10));
     }
-    let info = usize::from(body[2]) % 16 * 256 + usize::from(body[3]);
+    let info = length_field(body[2], body[3]);
     if body.len() < 4 + info {
-        return Err(12);
+        return Err(Cut(12));
     }
     let streams = &body[4 + info..];
     let left = left_after_streams(streams).len();
@@ -147,12 +148,12 @@ fn streams_of(body: &[u8]) -> Result<&[u8], usize>
         return Ok(streams);
     }
     let place = 8 + body.len() - left;
-    Err(if left < 5 { place } else { place + 5 })
+    Err(Cut(if left < 5 { place } else { place + 5 }))
 }
 
 /// The frame of a section of a PMT whose bytes read with the bytes of its streams, or the place of the first fault.
-fn checked(bytes: &[u8]) -> Result<(Frame<'_>, &[u8]), usize>
-    ensures { MatchResult result (λ x. (pmt_fault bytes.now ≡ None) × (view x.0 ≡ fields_of bytes.now) × (x.1.now ≡ stream_bytes (fields_of bytes.now).body)) (λ place. pmt_fault bytes.now ≡ Some place) }
+fn checked(bytes: &[u8]) -> Result<(Frame<'_>, &[u8]), Cut>
+    ensures { MatchResult result (λ x. (pmt_fault bytes.now ≡ None) × (view x.0 ≡ fields_of bytes.now) × (x.1.now ≡ stream_bytes (fields_of bytes.now).body)) (λ cut. pmt_fault bytes.now ≡ Some cut.0) }
 {
     let frame = frame_of(0x02, bytes)?;
     let streams = streams_of(frame.body)?;
@@ -174,10 +175,7 @@ pub fn decode_pmt(alloc: Global, bytes: &[u8]) -> Result<Pmt, PsiFault>
     ensures exact { Gives view_pmt cause result (read_pmt bytes.now) }
     ensures no_memory { IsErrOf result PsiFault.NoMemory → pmt_fault bytes.now ≡ None }
 {
-    let (frame, streams) = match checked(bytes) {
-        Ok(checked) => checked,
-        Err(place) => return Err(PsiFault::NotPsi(place)),
-    };
+    let (frame, streams) = checked(bytes)?;
     let lines = lines_from(alloc, streams)?;
     Ok(Pmt {
         program: frame.extension,

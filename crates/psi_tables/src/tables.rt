@@ -1,5 +1,6 @@
 ghost use Rattle.std.specs.Prelude.{◌≡◌};
 
+use oc_bytes::Cut;
 use std::alloc::AllocError;
 use thiserror::Error;
 
@@ -56,6 +57,16 @@ pub enum PsiFault {
     /// There is no memory.
     #[error("out of memory")]
     NoMemory,
+}
+
+impl From<Cut> for PsiFault {
+    ghost use Rattle.psi_tables.specs.declared.tables.PsiFault.TheVariants.{NotPsi};
+
+    ghost from_gives = { λ cut e. e ≡ NotPsi cut.0 };
+
+    fn from(Cut(place): Cut) -> PsiFault {
+        PsiFault::NotPsi(place)
+    }
 }
 
 impl From<AllocError> for PsiFault {

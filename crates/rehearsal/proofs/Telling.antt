@@ -1,5 +1,5 @@
 -- A report, line by line.
-use Rattle.std.proofs.Common.{◌≡◌, List, [], ◌∷◌, ◌++◌, map, refl, ap, ◌∙◌, sym}
+use Rattle.std.proofs.Common.{◌≡◌, List, [], ◌∷◌, ◌++◌, map, refl, ap}
 use Rattle.std.specs.List.{flat_map}
 use Rattle.carousel_world.specs.Events.{view}
 use Rattle.carousel_world.specs.declared.event.Event.{Event}

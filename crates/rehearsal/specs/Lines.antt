@@ -7,6 +7,7 @@ use Rattle.path_tree.specs.declared.tree.Edit.TheVariants as edits
 use Rattle.session_script.specs.Scripts.{Act, LineFields, Fields}
 use Rattle.session_script.specs.Scripts as lines
 use Rattle.carousel_world.specs.Events.{Step, Commit, Draw, Open}
+use Rattle.cycle_planner.specs.declared.TheConstants.{MOST_DRAWN}
 
 -- of each editor, the edits of its lines that no commit line of it followed yet
 abbrev pub Pending : Type 0
@@ -38,7 +39,7 @@ pending_after p _ = p
 
 -- a settling draw asks for the most that one may, and all its packets arrive
 abbrev pub settling_step : Step
-settling_step = Draw 1048576 []
+settling_step = Draw MOST_DRAWN []
 
 -- the events of a line
 abbrev pub events_of_line : Pending → Act → List Step

@@ -1,6 +1,7 @@
 //! The files of `fill` lines.
 ghost use Rattle.std.specs.Prelude.{◌≡◌, ◌<◌, ◌≤◌, IfOk};
 ghost use Rattle.rehearsal.specs.Lines as lines;
+ghost use Rattle.session_script.specs.declared.line.TheConstants.{MOST_FILLED};
 
 use oc_bytes::{Blob, NoMemory};
 use std::alloc::Global;
@@ -9,7 +10,7 @@ use std::alloc::Global;
 ///
 /// Out of memory is the only refusal.
 pub fn filled(alloc: Global, size: u32, from: u8) -> Result<Blob, NoMemory>
-    requires { size ≤ 16777217 }
+    requires { size ≤ MOST_FILLED }
     ensures { IfOk result (λ content. content ≡ lines.filled_bytes size from) }
 {
     let mut bytes = Vec::with_capacity(alloc, size as usize)?;
@@ -20,7 +21,7 @@ pub fn filled(alloc: Global, size: u32, from: u8) -> Result<Blob, NoMemory>
 }
 
 fn filled_byte(from: u8, place: u32) -> u8
-    requires { place < 16777217 }
+    requires { place < MOST_FILLED }
     ensures { result ≡ lines.filled_byte from place }
 {
     ((u32::from(from) + 7 * place + place / 256) % 256) as u8

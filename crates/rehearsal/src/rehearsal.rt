@@ -12,7 +12,7 @@ use crate::pending::PendingEdits;
 use crate::report::put_line;
 use crate::subject::Subject;
 use carousel_world::{Event, World, every_run_meets_the_headline};
-use cycle_planner::Weigh;
+use cycle_planner::{MOST_DRAWN, Weigh};
 use oc_bytes::NoMemory;
 use path_tree::{Edit, Edits};
 use session_script::{Action, Script};
@@ -23,10 +23,10 @@ use std::alloc::Global;
 const CAROUSEL: u32 = 1;
 
 /// How many items a settling draw asks for: the most that one may.
-const SETTLING: u32 = 1_048_576;
+const SETTLING: u32 = MOST_DRAWN;
 
 /// Runs a script in one world of carousel 1, each of whose modules is sent as often a cycle as it weighs: each line's events happen when
-/// the line is met, and after each event its line of the report is put. `settle` is two draws of 1,048,576 sections all of whose packets
+/// the line is met, and after each event its line of the report is put. `settle` is two draws of [`cycle_planner::MOST_DRAWN`] sections all of whose packets
 /// arrive. Edits that no commit line of their editor follows are given up.
 ///
 /// The script's numbers are within their ranges, as those of each script that `session_script::parse` gives. After `Failed` and

@@ -20,3 +20,4 @@ pub mod Calling
 pub mod Rows
 pub mod CallerLemmas
 pub mod Later
+pub mod Counting

@@ -7,6 +7,8 @@ use Rattle.std.specs.List.{filter_map, enumerate_from}
 use Rattle.std.specs.Str.{bytes_eq}
 use Rattle.ts_packet.specs.Packets.{Fields, parse_packet}
 use Rattle.ts_packet.specs.declared.PacketFault.{PacketFault}
+use Rattle.oc_bytes.specs.declared.lengths.TheConstants.{MOST_LENGTH}
+use Rattle.oc_bytes.specs.Lengths.{section_length}
 
 abbrev pub Bytes : Type 0
 Bytes = List ℕ
@@ -59,8 +61,8 @@ going_on counter (q ∷ qs) =
 -- the length of the section at the front of these bytes, where it is whole there
 abbrev pub whole_len : Bytes → Option ℕ
 whole_len bytes =
-    let n = slice_index bytes 1 % 16 * 256 + slice_index bytes 2 in
-    if nat_le 3 (length bytes) && nat_le n 4093 && nat_le (3 + n) (length bytes) then Some (3 + n) else None
+    let n = section_length bytes in
+    if nat_le 3 (length bytes) && nat_le n MOST_LENGTH && nat_le (3 + n) (length bytes) then Some (3 + n) else None
 
 -- a candidate: in which packet and at which of its 188 bytes it opened, and its bytes
 pub record Cut : Type 0 where
@@ -101,7 +103,7 @@ candidates pid packets = map (λ c. c.bytes) (cuts pid packets)
 abbrev pub back_to_back_in : ℕ → Bytes → List Bytes
 back_to_back_in zero bytes = []
 back_to_back_in (suc steps) bytes =
-    let n = 3 + (slice_index bytes 1 % 16 * 256 + slice_index bytes 2) in
+    let n = 3 + section_length bytes in
     if nat_le 3 (length bytes) && nat_le n (length bytes) then take n bytes ∷ back_to_back_in steps (drop n bytes) else []
 
 abbrev pub back_to_back : Bytes → List Bytes

@@ -7,3 +7,4 @@ pub mod Kept
 pub mod Classes
 pub mod Groups
 pub mod Laws
+pub mod Counting

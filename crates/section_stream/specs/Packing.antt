@@ -4,6 +4,8 @@
 use Rattle.std.specs.Prelude.{◌≡◌, ℕ, zero, suc, ◌+◌, ◌-◌, ◌*◌, ◌%◌, ◌≤◌, ◌≢◌, Bool, true, false, List, [], ◌∷◌, ◌++◌, length, take, drop, replicate, slice_index, nat_le, nat_lt, ◌==◌, if◌then◌else◌}
 use Rattle.ts_packet.specs.Packets.{packet_bytes}
 use Rattle.section_stream.specs.Cuts.{Bytes}
+use Rattle.oc_bytes.specs.declared.lengths.TheConstants.{MOST_SECTION}
+use Rattle.oc_bytes.specs.Lengths.{section_length}
 
 -- the PID, the counter of the next packet, the bytes left of a section that was begun in packets already given, and the bytes of the
 -- sections that begin in the packet under way
@@ -17,11 +19,11 @@ pub record MuxState : Type 0 where
 abbrev pub idle : ℕ → ℕ → MuxState
 idle pid counter = record { pid = pid; counter = counter; tail = []; body = [] }
 
--- 12 to 4,096 bytes, of which the second and third say how many follow them, and which don't begin as
+-- 12 bytes at least and those of a section at most, of which the second and third say how many follow them, and which don't begin as
 -- stuffing does
 pub record IsSectionLike (section : Bytes) : Type 0 where
-  pub size : (12 ≤ length section) × (length section ≤ 4096)
-  pub length_field : slice_index section 1 % 16 * 256 + slice_index section 2 + 3 ≡ length section
+  pub size : (12 ≤ length section) × (length section ≤ MOST_SECTION)
+  pub length_field : section_length section + 3 ≡ length section
   pub first : slice_index section 0 ≢ 0xFF
 
 -- a payload with stuffing after these bytes

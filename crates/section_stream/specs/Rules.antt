@@ -9,6 +9,8 @@ use Rattle.ts_packet.specs.declared.PacketFault.{PacketFault}
 use Rattle.ts_packet.specs.declared.PacketFault.TheVariants.{NoSync, Errored, Scrambled, Reserved, BadField}
 use Rattle.section_stream.specs.Cuts.{Bytes}
 use Rattle.section_stream.specs.declared.counts.Counts.{Counts}
+use Rattle.oc_bytes.specs.declared.lengths.TheConstants.{MOST_LENGTH}
+use Rattle.oc_bytes.specs.Lengths.{section_length}
 
 pub record Receiving : Type 0 where
   pub pid : ℕ
@@ -56,9 +58,9 @@ pub data Grown : Type 0 where
 
 abbrev pub as_grown : Bytes → Grown
 as_grown bytes =
-    let n = slice_index bytes 1 % 16 * 256 + slice_index bytes 2 in
+    let n = section_length bytes in
     if nat_lt (length bytes) 3 then Growing
-    else (if nat_lt 4093 n then Oversize else (if nat_le (3 + n) (length bytes) then Whole (3 + n) else Growing))
+    else (if nat_lt MOST_LENGTH n then Oversize else (if nat_le (3 + n) (length bytes) then Whole (3 + n) else Growing))
 
 -- what one packet leaves: the open section, the candidates, and the counts
 pub record After : Type 0 where

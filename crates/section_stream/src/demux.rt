@@ -12,6 +12,9 @@ use std::alloc::Global;
 use std::marker::Model;
 use std::mem::swap;
 
+/// The most bytes that are taken at once. This project's own limit.
+pub const MOST_PIECE: usize = 65_536;
+
 /// Cuts the sections of one PID out of transport packets (ISO/IEC 13818-1, 2.4.4), packet by packet, or out of
 /// their bytes in pieces of any size.
 ///
@@ -79,14 +82,14 @@ impl Demux {
         Ok(out)
     }
 
-    /// Takes the next bytes, at most 65,536: 188 bytes from the beginning are one packet, and so on, however they are
+    /// Takes the next bytes, at most [`MOST_PIECE`]: 188 bytes from the beginning are one packet, and so on, however they are
     /// cut into pieces. Gives the sections that the packets complete that end in this piece, as `feed` gives them.
     ///
     /// A piece that ends no packet, or whose packets complete no section, takes no memory, so out of memory comes only of
     /// one with which a section is complete. After it, also in the middle of a piece, everything is as it was, what is
     /// counted too.
     pub fn feed_bytes(&mut self, piece: &[u8]) -> Result<Vec<Vec<u8>>, NoMemory>
-        requires { length piece.now ≤ 65536 }
+        requires { length piece.now ≤ MOST_PIECE }
         ensures stands { OnOk result ((bytes : Bytes) → StandsForBytes self.old bytes → StandsForBytes self.new (bytes ++ piece.now)) }
         ensures pid { OnOk result (self.new.pid ≡ self.old.pid) }
         ensures short { OnOk result (self.new.counts.short_tail ≡ self.old.counts.short_tail) }

@@ -1,3 +1,4 @@
+ghost use Rattle.section_stream.specs.Counting.{CountsAreNumbers};
 ghost use Rattle.section_stream.specs.Groups.{CallsGiveTheGroup, GroupsOpenAtTheirStarts, LaterGroupsAreGiven, PacketsGiveTheGroups, StartsRise};
 ghost use Rattle.section_stream.specs.Laws.{CandidatesGrow, CutsComeInOrder};
 
@@ -41,4 +42,11 @@ pub fn groups_open_at_their_starts()
 /// a later byte of the same packet.
 pub fn starts_rise()
     ensures { StartsRise }
+{}
+
+/// Each count is a number over all packets: whatever packets a demultiplexer had, one by one or as bytes in pieces, it is at how
+/// many of them happens what is counted, as the packet and those before it say, up to the greatest `u64`. `oversize` is the sum of
+/// two such numbers, since one packet can show two such sections; of `short_tail` nothing is said.
+pub fn counts_are_numbers()
+    ensures { CountsAreNumbers }
 {}

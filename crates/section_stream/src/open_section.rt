@@ -2,12 +2,9 @@ ghost use Rattle.std.specs.Prelude.{◌≡◌, ◌≤◌, ◌+◌, ◌++◌, Non
 ghost use Rattle.std.specs.Option.{option_copied, ForSome};
 ghost use Rattle.section_stream.specs.Steps.{kept_unless, open_after};
 
-use oc_bytes::NoMemory;
+use oc_bytes::{MOST_SECTION, NoMemory};
 use std::alloc::Global;
 use std::marker::Model;
-
-/// The most bytes that a section has.
-pub const MOST: usize = 4096;
 
 /// What a packet makes of the open section.
 #[derive(Clone, Copy)]
@@ -30,12 +27,13 @@ pub struct OpenSection {
 
 impl Model for OpenSection {
     ghost use Rattle.std.specs.Prelude.{◌≤◌, ℕ, List, Option, Some, None, vec_capacity, vec_len, if◌then◌else◌};
+    ghost use Rattle.oc_bytes.specs.declared.lengths.TheConstants.{MOST_SECTION};
 
     ghost Value = { Option (List ℕ) };
 
     ghost view = { λ s. if s.is_open then Some s.bytes.items else None };
 
-    ghost invariant = { λ s. (vec_len s.bytes ≤ 4096) × (4096 ≤ vec_capacity s.bytes) };
+    ghost invariant = { λ s. (vec_len s.bytes ≤ MOST_SECTION) × (MOST_SECTION ≤ vec_capacity s.bytes) };
 }
 
 impl OpenSection {
@@ -44,7 +42,7 @@ impl OpenSection {
     {
         Ok(OpenSection {
             is_open: false,
-            bytes: Vec::with_capacity(alloc, MOST)?,
+            bytes: Vec::with_capacity(alloc, MOST_SECTION)?,
         })
     }
 
@@ -82,7 +80,7 @@ impl OpenSection {
     /// What is open after a packet; it is no longer than the longest section.
     #[inline]
     pub fn turn(&mut self, turn: Turn<'_>)
-        requires { ForSome (open_after self.old turn) (λ bytes. length bytes ≤ 4096) }
+        requires { ForSome (open_after self.old turn) (λ bytes. length bytes ≤ MOST_SECTION) }
         ensures { self.new ≡ open_after self.old turn.entry }
     {
         match turn {

@@ -5,14 +5,12 @@ ghost use Rattle.std.specs.Option.{option_copied, ForSome};
 ghost use Rattle.section_stream.specs.Kept.{view_bytes};
 ghost use Rattle.section_stream.specs.Rules as rules;
 ghost use Rattle.section_stream.specs.Steps.{done_by, growth_of, no_section_in, open_all, open_after, HasDone, HasOut};
+ghost use Rattle.oc_bytes.specs.declared.lengths.TheConstants.{MOST_SECTION};
 
 use crate::counts::{Counts, up};
 use crate::open_section::Turn;
-use oc_bytes::NoMemory;
+use oc_bytes::{MOST_LENGTH, NoMemory, length_field};
 use std::alloc::Global;
-
-/// The greatest length field that a section may have: 4,096 bytes with the three before and in it.
-const MOST_LENGTH: usize = 4093;
 
 /// The byte in the place of a table id with which the rest of a packet is filled.
 const STUFFING: u8 = 0xFF;
@@ -57,8 +55,7 @@ fn growth_with(front: &[u8], back: &[u8]) -> Growth
     if !have(front, back, 3) {
         return Growth::Growing;
     }
-    let high = usize::from(byte_at(front, back, 1) & 0x0F);
-    let length = high << 8 | usize::from(byte_at(front, back, 2));
+    let length = length_field(byte_at(front, back, 1), byte_at(front, back, 2));
     if length > MOST_LENGTH {
         return Growth::Oversize;
     }
@@ -98,7 +95,7 @@ fn goes_on<'a>(
     counts: &mut Counts,
 ) -> Result<Turn<'a>, NoMemory>
     ensures done { IfOk result (λ turn. HasDone (rules.goes_on (option_copied opened.entry) payload.now counts.old) (open_after (option_copied opened.entry) turn) (map view_bytes out.old.items) (map view_bytes out.new.items) counts.new) }
-    ensures room { IfOk result (λ turn. ForSome (open_after (option_copied opened.entry) turn) (λ bytes. length bytes ≤ 4096)) }
+    ensures room { IfOk result (λ turn. ForSome (open_after (option_copied opened.entry) turn) (λ bytes. length bytes ≤ MOST_SECTION)) }
     ensures memory { OnErr result (HasOut (rules.goes_on (option_copied opened.entry) payload.now counts.old)) }
 {
     let Some(opened) = opened else {
@@ -162,7 +159,7 @@ fn open_sections<'a>(
 ) -> Result<Option<&'a [u8]>, NoMemory>
     requires { length here.now ≤ 188 }
     ensures done { IfOk result (λ opened. HasDone (open_all here.now counts.old) (option_copied opened) (map view_bytes out.old.items) (map view_bytes out.new.items) counts.new) }
-    ensures room { IfOk result (λ opened. ForSome opened (λ bytes. length bytes.now ≤ 4096)) }
+    ensures room { IfOk result (λ opened. ForSome opened (λ bytes. length bytes.now ≤ MOST_SECTION)) }
     ensures memory { OnErr result (0 < length (open_all here.now counts.old).out) }
 {
     while !has_no_section(here) {
@@ -192,7 +189,7 @@ fn starts<'a>(
 ) -> Result<Turn<'a>, NoMemory>
     requires { (0 < length payload.now) × (length payload.now ≤ 184) }
     ensures done { IfOk result (λ turn. HasDone (rules.starts (option_copied opened.entry) payload.now counts.old) (open_after (option_copied opened.entry) turn) (map view_bytes out.old.items) (map view_bytes out.new.items) counts.new) }
-    ensures room { IfOk result (λ turn. ForSome (open_after (option_copied opened.entry) turn) (λ bytes. length bytes ≤ 4096)) }
+    ensures room { IfOk result (λ turn. ForSome (open_after (option_copied opened.entry) turn) (λ bytes. length bytes ≤ MOST_SECTION)) }
     ensures memory { OnErr result (HasOut (rules.starts (option_copied opened.entry) payload.now counts.old)) }
 {
     let pointer = usize::from(payload[0]);
@@ -219,7 +216,7 @@ pub fn payload_done<'a>(
 ) -> Result<Turn<'a>, NoMemory>
     requires { (0 < length payload.now) × (length payload.now ≤ 184) }
     ensures done { IfOk result (λ turn. HasDone (done_by start (option_copied opened.entry) payload.now counts.old) (open_after (option_copied opened.entry) turn) (map view_bytes out.old.items) (map view_bytes out.new.items) counts.new) }
-    ensures room { IfOk result (λ turn. ForSome (open_after (option_copied opened.entry) turn) (λ bytes. length bytes ≤ 4096)) }
+    ensures room { IfOk result (λ turn. ForSome (open_after (option_copied opened.entry) turn) (λ bytes. length bytes ≤ MOST_SECTION)) }
     ensures memory { OnErr result (HasOut (done_by start (option_copied opened.entry) payload.now counts.old)) }
 {
     if start {

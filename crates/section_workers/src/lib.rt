@@ -2,6 +2,18 @@
 //!
 //! A gate is handed in by whoever runs several actors at once, and is told where each of them is. It has no answer, so it
 //! changes nothing but time: a test uses one to see that actors overlap.
+//!
+//! ```
+//! use cycle_planner::Item;
+//! use generation::Generation;
+//! use section_workers::{NoGate, encode_batch};
+//!
+//! let generation = Generation::first(alloc, 1)?;
+//! let items = [Item::Dsi, Item::Dii, Item::Block(1, 0)];
+//! let sections = encode_batch(&rt, alloc, &generation, &items, &NoGate)?;
+//! assert_eq!(rt; sections.len(), 3);
+//! assert_eq!(rt; sections[2].as_slice(), generation.section(Item::Block(1, 0))?.as_slice());
+//! ```
 #![tactic(auto)]
 
 mod encoding;

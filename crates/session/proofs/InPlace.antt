@@ -1,12 +1,12 @@
 -- The opens of a merge stand right after their draws, by their readers' numbers.
-use Rattle.std.proofs.Common.{◌≡◌, ℕ, zero, suc, ◌+◌, ◌≤◌, List, [], ◌∷◌, ◌++◌, map, filter, drop, sym, ap, subst, arith, append_assoc}
+use Rattle.std.proofs.Common.{ℕ, zero, suc, ◌+◌, ◌≤◌, List, [], ◌∷◌, ◌++◌, map, filter, drop, sym, subst, arith, append_assoc}
 use Rattle.std.specs.Prelude.{◌==◌}
 use Rattle.std.specs.List.{flat_map, range_with_len}
 use Rattle.ts_packet.specs.declared.Fate.{Fate}
 use Rattle.generation_catalogue.specs.declared.entry.Entry.{Entry}
 use Rattle.generation_catalogue.specs.declared.entry.Entry.TheVariants as entries
 use Rattle.session_history.specs.declared.opens.Open.{Open}
-use Rattle.session_history.specs.Merging.{opens_by, opens_of, opens_at, merge_entries, merge_of}
+use Rattle.session_history.specs.Merging.{opens_by, opens_of, merge_entries, merge_of}
 use Rattle.session_history.specs.Merges.{ReaderFields, opened_of, session_merge}
 use Rattle.session.specs.Sessions.{OpensInPlace}
 use Rattle.session.proofs.Telling.{Told}

@@ -31,6 +31,7 @@ use Rattle.session.specs.declared.plan.Deed.{Deed}
 use Rattle.session.specs.Lines.{commits_by, draws_in, opens_by, asked_from, staged_events, settles, IsArranged}
 use Rattle.session.specs.Gathering.{IsGathered}
 use Rattle.session.specs.Acting.{Setting, draws_of, draws_before, readers_of, view_deed}
+use Rattle.cycle_planner.specs.declared.TheConstants.{MOST_DRAWN}
 
 abbrev pub steps : List (Stage × Step) → List Step
 steps events = map (λ (e : Stage × Step). e.1) events
@@ -43,11 +44,11 @@ at_end ends = map (λ (e : Step). (After, e)) ends
 -- what may come at the end: a draw of 1 to 1,048,576 items, or an open
 abbrev pub IsEnd : Step → Type 0
 IsEnd (Commit editor edits) = ⊥
-IsEnd (Draw asked fates) = (1 ≤ asked) × (asked ≤ 1048576)
+IsEnd (Draw asked fates) = (1 ≤ asked) × (asked ≤ MOST_DRAWN)
 IsEnd (Open reader path) = Unit {0}
 
 abbrev pub settling_line : DrawFields
-settling_line = record { asked = 1048576; fates = [] }
+settling_line = record { asked = MOST_DRAWN; fates = [] }
 
 -- each editor, of the number at its place, made all its commits among these events
 abbrev pub EditorsDone : {X : _} {F : _} {g : _} → Station X F g → List ℕ → List Step → List EditorSeat → Type 0

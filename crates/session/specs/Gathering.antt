@@ -13,6 +13,9 @@ use Rattle.session_history.specs.Merging.{Each}
 use Rattle.session_history.specs.Merges.{drawings_of}
 use Rattle.session_history.specs.Merged.{IsPlaced, is_commit_at}
 use Rattle.session_actors.specs.Chains.{Seen, nothing_seen, Commits, Draws, DrawFields}
+use Rattle.cycle_planner.specs.declared.TheConstants.{MOST_DRAWN}
+use Rattle.dsi_dii.specs.declared.TheConstants.{LAST_GENERATION}
+use Rattle.generation_catalogue.specs.declared.journal.TheConstants.{MOST_DRAWS, MOST_PUT_BYTES}
 
 abbrev pub is_made : Entry → Bool
 is_made (entries.Commit editor edits (Ok number)) = true
@@ -21,7 +24,7 @@ is_made (entries.Draw asked generation first count) = false
 
 -- after these entries there is no room for a commit of these edits
 abbrev pub IsFullAfter : List Entry → List Edit → Type 0
-IsFullAfter part edits = (16383 ≤ count_by is_made part) ⊎ (536870912 < sum_by put_bytes_of part + put_bytes edits)
+IsFullAfter part edits = (LAST_GENERATION ≤ count_by is_made part) ⊎ (MOST_PUT_BYTES < sum_by put_bytes_of part + put_bytes edits)
 
 -- the entries before the next commit of this place's editor
 abbrev pub entries_to_next : ℕ → List Entry → List Entry
@@ -70,5 +73,5 @@ ActorsGather = (editors : List (List (List Edit))) (draws : List DrawFields) (dr
 -- a draw more, by who has the whole catalogue
 abbrev pub GatherGrows : Type 0
 GatherGrows = (editors : List (List (List Edit))) (draws : List DrawFields) (drawings : List Drawing) (c : CatalogueState) (line : DrawFields)
-    → IsGathered editors draws c drawings → draws_of c < 16777216 → 1 ≤ line.asked → line.asked ≤ 1048576
+    → IsGathered editors draws c drawings → draws_of c < MOST_DRAWS → 1 ≤ line.asked → line.asked ≤ MOST_DRAWN
     → IsGathered editors (draws ++ line ∷ []) (with_draw c line.asked) (drawings ++ drawing_of c line.asked line.fates ∷ [])

@@ -18,6 +18,7 @@ use Rattle.session_actors.specs.Opened.{HasOpened}
 use Rattle.session.specs.Lines.{IsArranged, commits_by, draws_in, asked_of, settles}
 use Rattle.session.specs.Gathering.{IsGathered}
 use Rattle.session.specs.Sessions.{IsSession}
+use Rattle.cycle_planner.specs.declared.TheConstants.{MOST_DRAWN}
 
 -- an open without the number of its shot
 abbrev pub open_of : OpenEntry → Open
@@ -36,7 +37,7 @@ AllRead script shots (r ∷ rs) (v ∷ vs) =
 
 -- the last two entries are the draws of `settle`
 abbrev pub IsSettled : CatalogueState → Type 0
-IsSettled c = (before : CatalogueState) × (c ≡ with_draw (with_draw before 1048576) 1048576)
+IsSettled c = (before : CatalogueState) × (c ≡ with_draw (with_draw before MOST_DRAWN) MOST_DRAWN)
 
 -- the script was played: this is the catalogue at the end, and what was drawn, shown and opened
 pub record IsPlayed (script : Fields) (c : CatalogueState) (drawings : List Drawing) (shots : List Shot) (readers : List ReaderView) : Type 0 where

@@ -20,6 +20,8 @@ use Rattle.session_script.specs.Scripts.{Fields}
 use Rattle.rehearsal.specs.Lines.{events_of, settling_step}
 use Rattle.session_actors.specs.Opened.{Asked}
 use Rattle.session.specs.Lines.{commits_by, draws_in, asked_of, settles}
+use Rattle.dsi_dii.specs.declared.TheConstants.{LAST_GENERATION}
+use Rattle.generation_catalogue.specs.declared.journal.TheConstants.{MOST_PUT_BYTES}
 
 -- ---- commits
 
@@ -44,7 +46,7 @@ put_in told = sum_by (λ (x : Step × Reply). put_by_step x.0) told
 
 -- after these events there is no room for a commit of these edits: the season is full, or the journal would be
 abbrev pub IsFull : List (Step × Reply) → List Edit → Type 0
-IsFull part edits = (16383 ≤ accepted_in part) ⊎ (536870912 < put_in part + put_bytes edits)
+IsFull part edits = (LAST_GENERATION ≤ accepted_in part) ⊎ (MOST_PUT_BYTES < put_in part + put_bytes edits)
 
 -- what comes before this editor's next commit; all of it where there is none
 abbrev pub up_to_next : ℕ → List (Step × Reply) → List (Step × Reply)

@@ -19,6 +19,7 @@ ghost use Rattle.session.specs.Acting.{Setting, draws_of};
 ghost use Rattle.session.specs.Played.{open_of, opens_of as opens_in_history};
 ghost use Rattle.session.specs.Sessions.{IsSession};
 ghost use Rattle.session.specs.Ending.{EditorsDone, HasGathered, HasOpenedLast, AllOpenedLast, MayOpenLast, IsEnd, IsToEnd, AreDone, drawn_all, open_step, opens_in, paths_of, steps_of, view_closed};
+ghost use Rattle.cycle_planner.specs.declared.TheConstants.{MOST_DRAWN};
 
 use crate::laws::{actors_gather, gathers_grow, played_is_a_session};
 use crate::plan::Deed;
@@ -97,8 +98,8 @@ fn end_of_threads(
 }
 
 impl Closed {
-    /// Draws 1 to 1,048,576 items, sends them, each packet with its fate, and shows the next shot. Out of memory is the only refusal;
-    /// it also comes where 16,777,216 draws are entered.
+    /// Draws 1 to [`cycle_planner::MOST_DRAWN`] items, sends them, each packet with its fate, and shows the next shot. Out of memory is the only refusal;
+    /// it also comes where [`generation_catalogue::MOST_DRAWS`] draws are entered.
     fn draw<R: Threads + Wait + Sync, G: Gate>(
         &mut self,
         rt: &R,
@@ -108,7 +109,7 @@ impl Closed {
         asked: u32,
         fates: Vec<Fate>,
     ) -> Result<(), NoMemory>
-        requires asked { (1 ≤ asked) × (asked ≤ 1048576) }
+        requires asked { (1 ≤ asked) × (asked ≤ MOST_DRAWN) }
         requires room { length (shown_by shower.old) ≤ most_by shower.old }
         ensures board { IsSameBoard shower.old shower.new }
         ensures count { OnOk result (length (shown_by shower.new) ≡ length (shown_by shower.old) + 1) }

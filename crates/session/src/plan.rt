@@ -10,6 +10,7 @@ ghost use Rattle.session.specs.Lines.{staged_from, staged_of};
 ghost use Rattle.session.specs.Acting.{view_staged, AreInRange};
 
 use carousel_world::Fate;
+use cycle_planner::MOST_DRAWN;
 use oc_bytes::NoMemory;
 use path_tree::{Edit, Path};
 use rehearsal::{PendingEdits, filled};
@@ -17,14 +18,14 @@ use session_script::{Action, Line, Stage};
 use std::alloc::Global;
 
 /// How many items a settling draw asks for: the most that one may.
-const SETTLING: u32 = 1_048_576;
+const SETTLING: u32 = MOST_DRAWN;
 
 /// What a line of a script has an actor do. Editors and readers are 1 to 64.
 #[derive(Drop)]
 pub(crate) enum Deed {
     /// This editor commits these edits.
     Commit(u32, Vec<Edit>),
-    /// So many items are drawn, 1 to 1,048,576, and their packets meet these fates.
+    /// So many items are drawn, 1 to [`MOST_DRAWN`], and their packets meet these fates.
     Draw(u32, Vec<Fate>),
     /// This reader opens this path.
     Open(u32, Path),

@@ -10,6 +10,7 @@ use Rattle.station.specs.declared.kept.Kept.{Kept}
 use Rattle.station.specs.declared.kept.KeptItem.{KeptItem}
 use Rattle.station.specs.Passes.{entries_seen, own_entries}
 use Rattle.carousel_world.specs.World.{Drawing, drawing_of}
+use Rattle.generation_catalogue.specs.declared.journal.TheConstants.{MOST_DRAWS}
 
 -- the entries that a pass has seen, and the places of its own ones
 pub record Seen : Type 0 where
@@ -51,5 +52,5 @@ Draws id weights s [] [] t = t ≡ s
 Draws id weights s [] (d ∷ ds) t = ⊥
 Draws id weights s (l ∷ lines) [] t = ⊥
 Draws id weights s (l ∷ lines) (d ∷ ds) t =
-    (c : CatalogueState) × (GoesOnWith id weights s c) × (draws_of c < 16777216) × (d ≡ drawing_of c l.asked l.fates)
+    (c : CatalogueState) × (GoesOnWith id weights s c) × (draws_of c < MOST_DRAWS) × (d ≡ drawing_of c l.asked l.fates)
     × (Draws id weights (seen_after s c (with_draw c l.asked)) lines ds t)

@@ -26,6 +26,7 @@ use Rattle.session_actors.specs.declared.reader.ReaderSeat.{ReaderSeat}
 use Rattle.session_actors.specs.Chains.{Commits, Draws, DrawFields, GoesOnWith, nothing_seen, seen_in}
 use Rattle.session_actors.specs.Shown.{HasShown}
 use Rattle.session_actors.specs.Opened.{Asked, HasOpened}
+use Rattle.cycle_planner.specs.declared.TheConstants.{MOST_DRAWN}
 
 -- ---- editors
 
@@ -91,7 +92,7 @@ abbrev pub IsEditorSeat : {X : _} {F : _} {g : _} → Station X F g → EditorSe
 IsEditorSeat s seat = IsStationPass s seat.pass
 
 abbrev pub IsDrawLine : DrawLine → Type 0
-IsDrawLine line = (1 ≤ line.asked) × (line.asked ≤ 1048576)
+IsDrawLine line = (1 ≤ line.asked) × (line.asked ≤ MOST_DRAWN)
 
 -- there is room for all opens
 abbrev pub IsReaderSeat : ReaderSeat → Type 0

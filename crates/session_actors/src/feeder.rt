@@ -13,6 +13,7 @@ ghost use Rattle.station.specs.Passes.{IsStationPass};
 ghost use Rattle.session_actors.specs.Chains.{DrawFields};
 ghost use Rattle.session_actors.specs.Shown.{HasShown};
 ghost use Rattle.session_actors.specs.Seats.{HasFed, DidFeed, IsDrawLine, draw_of, drawing_in};
+ghost use Rattle.cycle_planner.specs.declared.TheConstants.{MOST_DRAWN};
 
 use carousel_world::{Downlink, Fate};
 use cycle_planner::Item;
@@ -34,7 +35,7 @@ const PIECE: usize = 1024;
 /// A draw that the feeder has still to make.
 #[derive(Drop)]
 pub struct DrawLine {
-    /// How many items are asked for, 1 to 1,048,576.
+    /// How many items are asked for, 1 to [`cycle_planner::MOST_DRAWN`].
     pub asked: u32,
     /// What becomes of the draw's packets.
     pub fates: Vec<Fate>,
@@ -63,7 +64,7 @@ pub fn send_and_show<R: Threads + Wait + Sync, G: Gate>(
     fates: &[Fate],
 ) -> Result<(), NoMemory>
     requires items { All (λ item. Contains (items_of (arc_value batch.now.generation)) item) batch.now.items.items }
-    requires few { length batch.now.items.items ≤ 1048576 }
+    requires few { length batch.now.items.items ≤ MOST_DRAWN }
     requires room { length (shown_by shower.old) ≤ most_by shower.old }
     ensures board { IsSameBoard shower.old shower.new }
     ensures count { OnOk result (length (shown_by shower.new) ≡ length (shown_by shower.old) + 1) }
@@ -101,7 +102,7 @@ fn send<R: Threads + Sync, G: Gate>(
     fates: &[Fate],
 ) -> Result<(), NoMemory>
     requires items { All (λ item. Contains (items_of generation.now) item) items.now }
-    requires few { length items.now ≤ 1048576 }
+    requires few { length items.now ≤ MOST_DRAWN }
     ensures { OnOk result ((pid : ℕ) (groups : List (List Bytes)) (packets : List Bytes) → DownlinkStands downlink.old pid groups [] packets
         → (let sections = map (section_of generation.now) items.now in
         DownlinkStands downlink.new pid (groups ++ sections ∷ []) [] (packets ++ received_under fates.now 0 (packets_of_group downlink.old.mux sections)))) }
@@ -120,7 +121,7 @@ fn send<R: Threads + Sync, G: Gate>(
     }
 }
 
-/// Makes one draw, sends it, and shows the next shot. Out of memory is the only refusal; it also comes where 16,777,216 draws are
+/// Makes one draw, sends it, and shows the next shot. Out of memory is the only refusal; it also comes where [`generation_catalogue::MOST_DRAWS`] draws are
 /// entered.
 pub fn draw<R: Threads + Wait + Sync, G: Gate>(
     rt: &R,

@@ -5,8 +5,9 @@ use Rattle.ts_packet.specs.declared.Fate.{Fate}
 use Rattle.ts_packet.specs.declared.Fate.TheVariants.{Keep, Lose, Flip}
 use Rattle.ddb_block.specs.Message.{message_at}
 use Rattle.ddb_block.specs.Blocks.{block_at}
-use Rattle.ior_tap.specs.IorReading.{each_at, tap_at, component_at, location_at, taps_at, components_at, profile_at, ior_at}
-use Rattle.dsi_dii.specs.ControlReading.{info_at, line_at, dii_at, dsi_at, head_at, sized_at, frame_at, private_at}
+use Rattle.ior_tap.specs.IorReading.{tap_at, component_at, location_at, taps_at, components_at, profile_at, ior_at}
+use Rattle.oc_bytes.specs.Cursor.{each_at, sized_at}
+use Rattle.dsi_dii.specs.ControlReading.{info_at, line_at, dii_at, dsi_at, head_at, frame_at, private_at}
 use Rattle.biop_object.specs.ObjectReading.{binding_at, context_at, file_at, folder_at, object_at, inside_at}
 use Rattle.path_resolver.specs.declared.answer.Answer.TheVariants as answers
 use Rattle.module_packer.specs.Kept as placement

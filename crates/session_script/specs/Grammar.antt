@@ -15,6 +15,8 @@ use Rattle.session_script.specs.declared.script.Stage.TheVariants.{Before, Durin
 use Rattle.session_script.specs.Keywords.{keyword_of}
 use Rattle.session_script.specs.Values.{actor_of, path_in, content_in, fates_of}
 use Rattle.session_script.specs.Scripts.{Fields, LineFields, Act, Put, Fill, Remove, Commit, Draw, Open, Settle}
+use Rattle.cycle_planner.specs.declared.TheConstants.{MOST_DRAWN}
+use Rattle.session_script.specs.declared.line.TheConstants.{MOST_FILLED}
 
 -- What a line says: nothing; that the session starts below it; what is done; what is done after all others.
 pub data Saying : Type 0 where
@@ -54,7 +56,7 @@ abbrev pub fill_by : List Bytes → Result Act LineCause
 fill_by words = do
   editor ← word_by actor_of BadNumber words
   path ← word_by path_in BadPath editor.1
-  size ← word_by (decimal_in 0 16777217) BadNumber path.1
+  size ← word_by (decimal_in 0 MOST_FILLED) BadNumber path.1
   from ← word_by (decimal_in 0 255) BadNumber size.1
   no_more (Fill editor.0 path.0 size.0 from.0) from.1
 
@@ -71,7 +73,7 @@ commit_by words = do
 
 abbrev pub draw_by : List Bytes → Result Act LineCause
 draw_by words = do
-  asked ← word_by (decimal_in 1 1048576) BadNumber words
+  asked ← word_by (decimal_in 1 MOST_DRAWN) BadNumber words
   fates ← or_cause BadFate [] (fates_of asked.1)
   Ok (Draw asked.0 fates.0)
 

@@ -2,17 +2,20 @@
 use Rattle.std.specs.Prelude.{ℕ, ◌≤◌, ◌<◌, nat_eq, List, length}
 use Rattle.std.specs.List.{All, IsDistinct}
 use Rattle.session_script.specs.Scripts.{Act, Put, Fill, Remove, Commit, Draw, Open, Settle, Fields}
+use Rattle.cycle_planner.specs.declared.TheConstants.{MOST_DRAWN}
+use Rattle.session_script.specs.declared.line.TheConstants.{MOST_FILLED}
+use Rattle.session_script.specs.declared.values.TheConstants.{MOST_ACTORS, MOST_FATES}
 
 pub record IsActor (n : ℕ) : Type 0 where
   pub at_least : 1 ≤ n
-  pub at_most : n ≤ 64
+  pub at_most : n ≤ MOST_ACTORS
 
 abbrev pub IsInRange : Act → Type 0
 IsInRange (Put editor path content) = IsActor editor
-IsInRange (Fill editor path size from) = IsActor editor × (size ≤ 16777217) × (from < 256)
+IsInRange (Fill editor path size from) = IsActor editor × (size ≤ MOST_FILLED) × (from < 256)
 IsInRange (Remove editor path) = IsActor editor
 IsInRange (Commit editor) = IsActor editor
-IsInRange (Draw asked fates) = (1 ≤ asked) × (asked ≤ 1048576) × (length fates ≤ 65536)
+IsInRange (Draw asked fates) = (1 ≤ asked) × (asked ≤ MOST_DRAWN) × (length fates ≤ MOST_FATES)
 IsInRange (Open reader path) = IsActor reader
 IsInRange Settle = Unit {0}
 
@@ -20,7 +23,7 @@ IsInRange Settle = Unit {0}
 pub record AreActors (numbers : List ℕ) : Type 0 where
   pub each : All IsActor numbers
   pub once : IsDistinct nat_eq numbers
-  pub most : length numbers ≤ 64
+  pub most : length numbers ≤ MOST_ACTORS
 
 pub record IsInRanges (script : Fields) : Type 0 where
   pub editors : AreActors script.editors

@@ -8,10 +8,11 @@ use Rattle.path_tree.specs.Paths.{Bytes, PathNames}
 use Rattle.path_tree.specs.Texts.{path_of}
 use Rattle.ts_packet.specs.declared.Fate.{Fate}
 use Rattle.ts_packet.specs.declared.Fate.TheVariants.{Keep, Lose, Flip}
+use Rattle.session_script.specs.declared.values.TheConstants.{MOST_ACTORS, MOST_FATES}
 
 -- an editor or a reader
 abbrev pub actor_of : Bytes → Option ℕ
-actor_of word = decimal_in 1 64 word
+actor_of word = decimal_in 1 MOST_ACTORS word
 
 abbrev pub path_in : Bytes → Option PathNames
 path_in word = result_ok (path_of word)
@@ -26,8 +27,8 @@ content_in (c ∷ d ∷ digits) = result_ok (decode_of (c ∷ d ∷ digits))
 abbrev pub fates_in : Bytes → Option (List Fate)
 fates_in [] = None
 fates_in (c ∷ number) =
-    if c == 107 then option_map (λ count. replicate count Keep) (decimal_in 1 65536 number)
-    else (if c == 100 then option_map (λ count. replicate count Lose) (decimal_in 1 65536 number)
+    if c == 107 then option_map (λ count. replicate count Keep) (decimal_in 1 MOST_FATES number)
+    else (if c == 100 then option_map (λ count. replicate count Lose) (decimal_in 1 MOST_FATES number)
     else (if c == 102 then option_map (λ bit. Flip bit ∷ []) (decimal_in 0 1503 number)
     else None))
 
@@ -40,7 +41,7 @@ all_fates [] = Some []
 all_fates (word ∷ words) = fates_onto (fates_in word) (all_fates words)
 
 abbrev pub within_limit : List Fate → Option (List Fate)
-within_limit fates = if nat_le (length fates) 65536 then Some fates else None
+within_limit fates = if nat_le (length fates) MOST_FATES then Some fates else None
 
 abbrev pub if_within_limit : Option (List Fate) → Option (List Fate)
 if_within_limit (Some fates) = within_limit fates

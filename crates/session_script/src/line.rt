@@ -11,13 +11,12 @@ use crate::keyword::Keyword;
 use crate::script::{Action, LineCause};
 use crate::values::{actor, content, fates, number, path};
 use crate::words::{LineFault, Words};
+use cycle_planner::MOST_DRAWN;
+use path_tree::MOST_CONTENT;
 use std::alloc::Global;
 
-/// The most sections of one draw.
-const MOST_ASKED: u32 = 1_048_576;
-
 /// The most bytes that a line fills a file with: one more than a file may have.
-const MOST_FILLED: u32 = 16_777_217;
+pub const MOST_FILLED: u32 = MOST_CONTENT as u32 + 1;
 
 /// The part of a script that a line stands in.
 #[derive(Clone, Copy, Debug, PartialEq, Eq)]
@@ -94,7 +93,7 @@ fn draw(alloc: Global, mut words: Words) -> Result<Action, LineFault>
     ensures gives { Gives view_action line_cause result (draw_by (words_left words.entry)) }
     ensures memory { result ≡ Err LineFault.NoMemory → is_ok (draw_by (words_left words.entry)) ≡ true }
 {
-    let asked = number(&mut words, 1, MOST_ASKED)?;
+    let asked = number(&mut words, 1, MOST_DRAWN)?;
     let fates = fates(alloc, words)?;
     Ok(Action::Draw(asked, fates))
 }

@@ -18,10 +18,10 @@ use std::alloc::Global;
 use ts_packet::Fate;
 
 /// The most editors, and the most readers.
-const MOST_ACTORS: u32 = 64;
+pub const MOST_ACTORS: u32 = 64;
 
 /// The most fates of one draw.
-const MOST_FATES: usize = 65_536;
+pub const MOST_FATES: usize = 65_536;
 
 /// The last bit of a packet, which has 188 bytes.
 const LAST_BIT: u32 = 1_503;
@@ -39,7 +39,7 @@ pub fn number(words: &mut Words, least: u32, greatest: u32) -> Result<u32, LineF
     }
 }
 
-/// Takes the number of an editor or of a reader, 1 to 64.
+/// Takes the number of an editor or of a reader, 1 to [`MOST_ACTORS`].
 pub fn actor(words: &mut Words) -> Result<u32, LineFault>
     ensures takes { Takes (λ n. n) result (words_left words.new) (word_by actor_of LineCause.BadNumber (words_left words.old)) }
     ensures plain { result ≡ Err LineFault.NoMemory → ⊥ }
@@ -84,10 +84,10 @@ fn bytes_of(alloc: Global, digits: &[u8]) -> Result<Vec<u8>, LineFault>
     }
 }
 
-/// What one word of a draw says: a fate, and how many packets have it one after another, 1 to 65,536.
+/// What one word of a draw says: a fate, and how many packets have it one after another, 1 to [`MOST_FATES`].
 fn fate_run(word: &[u8]) -> Option<(Fate, usize)>
     ensures fates { option_map (λ run. replicate run.1 run.0) result ≡ fates_in word.now }
-    ensures most { IfSome result (λ run. run.1 ≤ 65536) }
+    ensures most { IfSome result (λ run. run.1 ≤ MOST_FATES) }
 {
     match word {
         [b'k', count @ ..] => Some((Fate::Keep, packets(count)?)),
@@ -97,19 +97,19 @@ fn fate_run(word: &[u8]) -> Option<(Fate, usize)>
     }
 }
 
-/// How many packets have the same fate, 1 to 65,536.
+/// How many packets have the same fate, 1 to [`MOST_FATES`].
 fn packets(count: &[u8]) -> Option<usize>
-    ensures value { result ≡ decimal_in 1 65536 count.now }
-    ensures most { IfSome result (λ n. n ≤ 65536) }
+    ensures value { result ≡ decimal_in 1 MOST_FATES count.now }
+    ensures most { IfSome result (λ n. n ≤ MOST_FATES) }
 {
     let count = decimal(count, 1, MOST_FATES as u32)?;
     Some(count as usize)
 }
 
-/// How many fates the words that are left make, 0 to 65,536, where each word makes some.
+/// How many fates the words that are left make, 0 to [`MOST_FATES`], where each word makes some.
 fn fate_count(mut words: Words) -> Option<usize>
     ensures count { result ≡ option_map length (fates_of (words_left words.entry)) }
-    ensures most { IfSome result (λ n. n ≤ 65536) }
+    ensures most { IfSome result (λ n. n ≤ MOST_FATES) }
 {
     let mut count = 0;
     while let Some(word) = words.next() {

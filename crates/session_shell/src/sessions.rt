@@ -3,7 +3,7 @@ ghost use Rattle.shell_streams.specs.Sending.{IsInTime};
 ghost use Rattle.carousel_shell.specs.Over.{over, sink_over};
 ghost use Rattle.session_shell.specs.Session.{Plays};
 
-use carousel_shell::Status;
+use carousel_shell::{MOST_SCRIPT_BYTES, Status};
 use cycle_planner::Weigh;
 use oc_bytes::Source;
 use rehearsal::put_report;
@@ -15,13 +15,10 @@ use std::alloc::Global;
 use std::sync::Wait;
 use std::thread::Threads;
 
-/// The most bytes of a script.
-const MOST_BYTES: usize = 16_777_216;
-
 /// Reads a script, plays its session, in which each module is sent as often a cycle as it weighs, and writes a line for each commit, draw
 /// and open of it, in one order in which they happened. The language, the order in which actors run and the lines are this project's own.
 ///
-/// `ReadFault` comes where the source fails, and `InputTooLong` exactly where at least a byte more than 16,777,216 is read. The whole
+/// `ReadFault` comes where the source fails, and `InputTooLong` exactly where at least a byte more than [`MOST_SCRIPT_BYTES`] is read. The whole
 /// input is read before anything else is done. `BadLine` comes exactly where it is no script; it names the first line that doesn't fit,
 /// and that line's first cause. In these three cases nothing is written. Then the session is played to its end, and nothing is written
 /// before that. `Done` comes where the whole report was written, and after `WriteFault`, where the sink fails, a prefix of it was. After
@@ -42,7 +39,7 @@ pub(crate) fn play_session<R: Threads + Wait + Sync, S: Source, O: Output, G: Ga
     ensures in_time { IsInTime (O.state out.old) (O.state out.new) }
 {
     texts_are_arranged();
-    let text = match read_all(alloc, source, MOST_BYTES) {
+    let text = match read_all(alloc, source, MOST_SCRIPT_BYTES) {
         Ok(text) => text,
         Err(fault) => return Status::from(fault),
     };

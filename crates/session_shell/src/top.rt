@@ -51,7 +51,7 @@ pub fn run<R: Threads + Wait + Sync, S: Source, K: Sink, F: Folders, G: Gate>(
 ///
 /// - `Words` comes before all else: where the words are those of another command or of none. Nothing was read or written.
 /// - `session` reads the whole input before anything else is done. While it reads come `ReadFault`, where the source fails, and
-///   `InputTooLong` where a byte is left after 16,777,216. Then comes `BadLine` where the input is no script. Nothing was written up to
+///   `InputTooLong` where a byte is left after [`carousel_shell::MOST_SCRIPT_BYTES`]. Then comes `BadLine` where the input is no script. Nothing was written up to
 ///   there.
 /// - Then the session is played to its end. What the actors did is one history: each editor's commits stand in written order, but for
 ///   those that found no room; the draws stand in written order; and so do each reader's opens, each after the draws that it has to have

@@ -7,7 +7,7 @@ use Rattle.std.proofs.lemmas.Option.{cond_some, same_Some}
 use Rattle.std.proofs.lemmas.List.{get_or_append_left, take-append-le, drop-append-le, take-append-drop, take_at, take_all}
 use Rattle.std.proofs.lemmas.List.Folds.{concat-append}
 use Rattle.oc_bytes.specs.Outcome.{Known}
-use Rattle.shell_streams.proofs.CallerLemmas.{told_here}
+use Rattle.shell_streams.proofs.Putting.{told_here}
 use Rattle.shell_streams.specs.Cuts.{Bytes, back_to_back_in, back_to_back, prefix_length}
 use Rattle.shell_streams.specs.Held.{onto_left, IsDry, AreCut, IsRear, AllTaken, is_over_sections, Stopped}
 use Rattle.shell_streams.specs.declared.input.InputFault.{InputFault}

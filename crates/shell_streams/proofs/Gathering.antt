@@ -8,7 +8,7 @@ use Rattle.shell_streams.specs.Cuts.{Bytes}
 use Rattle.shell_streams.specs.Held.{AllTaken, IsRear, Stopped, is_longer}
 use Rattle.shell_streams.specs.declared.input.InputFault.{InputFault}
 use Rattle.shell_streams.specs.declared.input.InputFault.TheVariants as faults
-use Rattle.shell_streams.proofs.CallerLemmas.{told_then, told_weaker}
+use Rattle.shell_streams.proofs.Putting.{told_then, told_weaker}
 
 -- these bytes were taken from the front of the input
 abbrev pub TakenFirst : Bytes → Bytes → Bytes → Type 0

@@ -8,7 +8,7 @@ use Rattle.shell_streams.specs.declared.packets.PacketReader.{PacketReader}
 use Rattle.shell_streams.specs.Held.{Stopped}
 use Rattle.shell_streams.specs.declared.input.InputFault.{InputFault}
 use Rattle.shell_streams.specs.declared.input.InputFault.TheVariants as faults
-use Rattle.shell_streams.proofs.CallerLemmas.{told_weaker}
+use Rattle.shell_streams.proofs.Putting.{told_weaker}
 use Rattle.shell_streams.proofs.Cutting.{stopped_other, rear_of}
 
 pub halted : {pid : ℕ} {candidates : List Bytes} {s : InputFault} {a b : Option Bytes} → Known a b (Halts pid candidates s) → Known a b (Stopped (is_over_packets 16777216) s)

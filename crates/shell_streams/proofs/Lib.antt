@@ -6,3 +6,4 @@ mod Halting
 mod Hearing
 mod Gathering
 pub mod CallerLemmas
+pub mod Putting

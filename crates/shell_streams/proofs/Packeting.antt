@@ -16,7 +16,7 @@ use Rattle.shell_streams.specs.declared.packets.PacketReader.{PacketReader}
 use Rattle.shell_streams.specs.declared.input.InputFault.{InputFault}
 use Rattle.shell_streams.specs.declared.input.InputFault.TheVariants as faults
 use Rattle.shell_streams.proofs.Cutting.{dry_end, nil_by_cases}
-use Rattle.shell_streams.proofs.CallerLemmas.{told_weaker, told_here}
+use Rattle.shell_streams.proofs.Putting.{told_weaker, told_here}
 
 -- ---- the packets at the front of some bytes
 

@@ -8,7 +8,7 @@ use Rattle.oc_bytes.specs.declared.sink.WriteFault.TheVariants as writes
 use Rattle.shell_streams.specs.Sending.{OutputState, Puts, IsInTime, output_fault}
 use Rattle.shell_streams.specs.declared.output.OutputFault.{OutputFault}
 use Rattle.shell_streams.specs.declared.output.OutputFault.TheVariants as faults
-use Rattle.shell_streams.proofs.CallerLemmas.{told_weaker, told_same}
+use Rattle.shell_streams.proofs.Putting.{told_weaker, told_same}
 
 -- all of these bytes were written, and they are what was pending and then the text
 pub all_written : {T : Type 0} {x : T} {old new : OutputState} {text : Bytes} (all : Bytes) → new.name ≡ old.name → old.pending ++ text ≡ all → new.pending ≡ []

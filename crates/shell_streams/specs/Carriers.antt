@@ -8,6 +8,7 @@ use Rattle.shell_streams.specs.declared.carrier.Carrier.{Carrier}
 use Rattle.shell_streams.specs.declared.carrier.Carrier.TheVariants as carriers
 use Rattle.shell_streams.specs.declared.input.InputFault.{InputFault}
 use Rattle.shell_streams.specs.declared.input.InputFault.TheVariants as inputs
+use Rattle.shell_streams.specs.declared.packets.TheConstants.{MOST_PACKETS}
 
 -- all sections of an input
 abbrev pub candidates_in : Carrier → Bytes → List Bytes
@@ -17,7 +18,7 @@ candidates_in (carriers.Packets pid) = candidates_of pid
 -- the most was taken, and at least a byte more is there
 abbrev pub is_over : Carrier → Bytes → Bool
 is_over (carriers.Sections most) = is_over_sections most
-is_over (carriers.Packets pid) = is_over_packets 16777216
+is_over (carriers.Packets pid) = is_over_packets MOST_PACKETS
 
 -- a way of reading an input: what stands in it, and whether it goes on after the most that is taken
 pub record Reading : Type 0 where
@@ -30,7 +31,7 @@ sections_by carrier = record { standing_in = candidates_in carrier; goes_on = is
 
 -- its packets, whatever their PIDs
 abbrev pub all_packets : Reading
-all_packets = record { standing_in = packets_of; goes_on = is_over_packets 16777216 }
+all_packets = record { standing_in = packets_of; goes_on = is_over_packets MOST_PACKETS }
 
 -- the input was read to its end and within its limit, and all that stands in it was heard
 pub record HeardAll (reading : Reading) (Heard : List Bytes → Type 0) (before after : Option Bytes) : Type 0 where

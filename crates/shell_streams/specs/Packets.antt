@@ -9,6 +9,7 @@ use Rattle.shell_streams.specs.Held.{onto_left, AllTaken}
 use Rattle.shell_streams.specs.declared.packets.PacketReader.{PacketReader}
 use Rattle.shell_streams.specs.declared.input.InputFault.{InputFault}
 use Rattle.shell_streams.specs.declared.input.InputFault.TheVariants as faults
+use Rattle.shell_streams.specs.declared.packets.TheConstants.{MOST_PACKETS}
 
 -- packets of 188 bytes; a last piece that is shorter is passed over
 abbrev pub packets_in : ℕ → Bytes → List Bytes
@@ -38,7 +39,7 @@ pub record AreTaken (packets : List Bytes) (input rest : Bytes) : Type 0 where
 
 -- these packets were taken from the front of an input, of which this is left, and so many may still be taken
 pub record HasTaken (packets : List Bytes) (most : ℕ) (start rest : Option Bytes) : Type 0 where
-  pub number : length packets + most ≡ 16777216
+  pub number : length packets + most ≡ MOST_PACKETS
   pub taken : Known start rest (AreTaken packets)
 
 -- what was taken of an input when reading stopped: these packets, and perhaps others after them; where it stopped at the limit, the
@@ -48,16 +49,16 @@ pub record Stops (packets : List Bytes) (s : InputFault) (input left : Bytes) : 
   pub whole : input ≡ taken ++ left
   pub others : List Bytes
   pub split : packets_of taken ≡ packets ++ others
-  pub too_long : s ≡ faults.TooLong → is_over_packets 16777216 input ≡ true
+  pub too_long : s ≡ faults.TooLong → is_over_packets MOST_PACKETS input ≡ true
 
 -- these are all packets of the input, which was read to its end and within the limit
 abbrev pub AreAllTaken : List Bytes → Bytes → Bytes → Type 0
-AreAllTaken packets = AllTaken packets_of (is_over_packets 16777216) packets
+AreAllTaken packets = AllTaken packets_of (is_over_packets MOST_PACKETS) packets
 
 -- the reader took packets from the front of an input, and these are all their candidates
 pub record HasCut (pid : ℕ) (reader : PacketReader) (start left : Option Bytes) (candidates_so_far : List Bytes) : Type 0 where
   pub packets : List Bytes
-  pub number : length packets + reader.most ≡ 16777216
+  pub number : length packets + reader.most ≡ MOST_PACKETS
   pub pid_is : reader.demux.pid ≡ pid
   pub stands : StandsFor reader.demux packets
   pub taken : Known start (onto_left reader.unread left) (AreTaken packets)
@@ -72,8 +73,8 @@ pub record Halts (pid : ℕ) (candidates_so_far : List Bytes) (s : InputFault) (
   pub others : List Bytes
   pub split : packets_of taken ≡ packets ++ others
   pub all : candidates pid packets ≡ candidates_so_far
-  pub too_long : s ≡ faults.TooLong → is_over_packets 16777216 input ≡ true
+  pub too_long : s ≡ faults.TooLong → is_over_packets MOST_PACKETS input ≡ true
 
 -- all candidates of the input, which was read to its end and within the limit
 abbrev pub HasEnded : ℕ → List Bytes → Bytes → Bytes → Type 0
-HasEnded pid candidates_so_far = AllTaken (candidates_of pid) (is_over_packets 16777216) candidates_so_far
+HasEnded pid candidates_so_far = AllTaken (candidates_of pid) (is_over_packets MOST_PACKETS) candidates_so_far

@@ -24,7 +24,7 @@ pub trait PacketListener {
 /// Lets a listener that heard nothing hear all packets of the source, whatever their PIDs. A last piece of fewer than 188 bytes is
 /// passed over.
 ///
-/// `TooLong` comes exactly where 16,777,216 packets were taken and at least a byte more is read, `Failed` where the source fails, and
+/// `TooLong` comes exactly where [`MOST_PACKETS`](crate::MOST_PACKETS) packets were taken and at least a byte more is read, `Failed` where the source fails, and
 /// `NoMemory` where there is no memory.
 pub fn hear_all_packets<S: Source, L: PacketListener>(
     alloc: Global,

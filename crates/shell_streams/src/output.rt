@@ -6,7 +6,7 @@ use std::alloc::{AllocError, Global};
 use thiserror::Error;
 
 /// The most bytes that are pending.
-const ROOM: usize = 65_536;
+pub const MOST_PENDING: usize = 65_536;
 
 /// Why output wasn't taken.
 #[derive(Clone, Copy, Debug, PartialEq, Eq, Error)]
@@ -53,7 +53,7 @@ pub trait Output {
     /// Puts more bytes after what is pending.
     fn put(&mut self, more: &[u8]) -> Result<(), OutputFault>
         ensures puts { Puts result (state self.old) (state self.new) more.now }
-        ensures few { OnOk result (length (state self.new).pending ≤ 65536) };
+        ensures few { OnOk result (length (state self.new).pending ≤ MOST_PENDING) };
 
     /// Writes what is pending.
     fn flush(&mut self) -> Result<(), OutputFault>
@@ -65,10 +65,10 @@ pub trait Output {
 pub fn room(alloc: Global) -> Result<Vec<u8>, NoMemory>
     ensures { IfOk result (λ room. room.items ≡ []) }
 {
-    Ok(Vec::with_capacity(alloc, ROOM)?)
+    Ok(Vec::with_capacity(alloc, MOST_PENDING)?)
 }
 
-/// Output on its way to a sink, in pieces of up to 65,536 bytes or of one put.
+/// Output on its way to a sink, in pieces of up to [`MOST_PENDING`] bytes or of one put.
 #[derive(Drop)]
 pub struct Buffered<'a, K: Sink> {
     sink: &'a mut K,
@@ -95,12 +95,12 @@ impl<K: Sink> Output for Buffered<'_, K> {
 
     fn put(&mut self, more: &[u8]) -> Result<(), OutputFault> {
         let used = self.pending.len();
-        if used <= ROOM && more.len() <= ROOM - used {
+        if used <= MOST_PENDING && more.len() <= MOST_PENDING - used {
             self.pending.extend_from_slice(more)?;
             return Ok(());
         }
         self.flush()?;
-        if more.len() <= ROOM {
+        if more.len() <= MOST_PENDING {
             self.pending.extend_from_slice(more)?;
             return Ok(());
         }

@@ -42,7 +42,7 @@ impl PacketReader {
     /// Takes the next packet, and gives the sections that it completes, in order; `None` where the input has ended. A last
     /// piece of fewer than 188 bytes is counted and passed over.
     ///
-    /// `TooLong` comes exactly where 16,777,216 packets were taken and at least a byte more is read, `Failed` where
+    /// `TooLong` comes exactly where [`MOST_PACKETS`] packets were taken and at least a byte more is read, `Failed` where
     /// the source fails, and `NoMemory` where the sections find no memory.
     pub fn next<S: Source>(&mut self, source: &mut S) -> Result<Option<Vec<Vec<u8>>>, InputFault>
         ensures next { IfOk result (λ out. IfSome out (λ out. (pid : ℕ) (start : Option Bytes) (cs : List Bytes) → HasCut pid self.old start (S.left source.old) cs

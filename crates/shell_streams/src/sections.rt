@@ -2,19 +2,20 @@ ghost use Rattle.std.specs.Prelude.{◌≡◌, ◌≢◌, ◌<◌, ◌≤◌, �
 ghost use Rattle.oc_bytes.specs.Outcome.{Rose};
 ghost use Rattle.shell_streams.specs.Cuts.{Bytes, prefix_length};
 ghost use Rattle.shell_streams.specs.Held.{onto_left, IsDry};
+ghost use Rattle.shell_streams.specs.declared.unread.TheConstants.{MOST_HELD};
 
 use crate::unread::Unread;
-use oc_bytes::{Failed, Source};
+use oc_bytes::{Failed, Source, length_field};
 
 /// The length of the section at the front of the bytes, its three first bytes included, where it is whole there.
 fn section_len(bytes: &[u8]) -> Option<usize>
     ensures len { result ≡ prefix_length bytes.now }
-    ensures short { result ≡ None → length bytes.now < 4098 }
+    ensures short { result ≡ None → length bytes.now < MOST_HELD }
 {
     if bytes.len() < 3 {
         return None;
     }
-    let len = 3 + (usize::from(bytes[1] % 16) * 256 + usize::from(bytes[2]));
+    let len = 3 + length_field(bytes[1], bytes[2]);
     if len <= bytes.len() { Some(len) } else { None }
 }
 

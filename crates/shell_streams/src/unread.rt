@@ -61,7 +61,7 @@ impl Unread {
 
     /// Reads at least one byte more after those that are held, and says whether there was one.
     pub fn more<S: Source>(&mut self, source: &mut S) -> Result<bool, Failed>
-        requires { length self.old < 4098 }
+        requires { length self.old < MOST_HELD }
         ensures rest { onto_left self.new (S.left source.new) ≡ onto_left self.old (S.left source.old) }
         ensures grew { result ≡ Ok true → length self.old < length self.new }
         ensures ended { result ≡ Ok false → (self.new ≡ self.old) × IsDry (S.left source.new) }
@@ -81,9 +81,9 @@ impl Unread {
 
 /// Moves the `n` bytes from `at` on to the front, where they stand far after it, and says from where on they stand.
 fn with_room(bytes: &mut [u8], at: usize, n: usize) -> usize
-    requires few { n < 4098 }
+    requires few { n < MOST_HELD }
     requires within { at + n ≤ length bytes.old }
-    ensures front { result < 4098 }
+    ensures front { result < MOST_HELD }
     ensures within { result ≤ at }
     ensures same { take n (drop result bytes.new) ≡ take n (drop at bytes.old) }
 {

@@ -12,6 +12,9 @@ use Rattle.shell_words.specs.declared.words.Command.{Command}
 use Rattle.shell_words.specs.declared.words.Command.TheVariants as code
 use Rattle.shell_words.specs.declared.words.WordsFault.{WordsFault}
 use Rattle.shell_words.specs.declared.words.WordsFault.TheVariants as faults
+use Rattle.block_assembler.specs.declared.TheConstants.{MOST_MODULE_SIZE}
+use Rattle.shell_words.specs.declared.parsing.TheConstants.{MOST_CYCLES, MOST_BIG}
+use Rattle.shell_words.specs.declared.values.TheConstants.{MOST_PID}
 
 pub data Named : Type 0 where
   Assemble : (id version size download : ℕ) → Named
@@ -57,7 +60,7 @@ abbrev pub ◌>>=◌ : {A B : Type 0} → Option A → (A → Option B) → Opti
 None >>= f = None
 
 abbrev pub pid_in : Bytes → Option ℕ
-pid_in word = decimal_in 0 8190 word
+pid_in word = decimal_in 0 MOST_PID word
 
 abbrev pub any_u32_in : Bytes → Option ℕ
 any_u32_in word = decimal_in 0 4294967295 word
@@ -93,7 +96,7 @@ abbrev pub assemble_by : List Bytes → Option Named
 assemble_by (id ∷ version ∷ size ∷ download ∷ []) = do
   i ← decimal_in 0 65535 id
   v ← decimal_in 0 255 version
-  s ← decimal_in 0 16842752 size
+  s ← decimal_in 0 MOST_MODULE_SIZE size
   d ← any_u32_in download
   Some (Assemble i v s d)
 assemble_by _ = None
@@ -119,7 +122,7 @@ list_by words = option_map ListAll (pid_by words)
 abbrev pub publication_in : List Bytes → Option (Bytes × ℕ × ℕ)
 publication_in (folder ∷ carousel ∷ cycles ∷ []) = do
   c ← any_u32_in carousel
-  n ← decimal_in 1 1000 cycles
+  n ← decimal_in 1 MOST_CYCLES cycles
   f ← folder_in folder
   Some (f, c, n)
 publication_in _ = None
@@ -150,7 +153,7 @@ session_by [] = Some Session
 session_by (word ∷ words) = None
 
 abbrev pub big_by : List Bytes → Option Named
-big_by (n ∷ []) = option_map Big (decimal_in 1 16 n)
+big_by (n ∷ []) = option_map Big (decimal_in 1 MOST_BIG n)
 big_by _ = None
 
 abbrev pub commands : List (Bytes × (List Bytes → Option Named))
@@ -177,19 +180,19 @@ command_of (word ∷ words) = if list_any begins_with_dash (word ∷ words) then
 
 -- a folder has at least one byte, and there are 1 to 1,000 cycles
 abbrev pub IsPublication : Bytes → ℕ → Type 0
-IsPublication folder cycles = (0 < length folder) × (1 ≤ cycles) × (cycles ≤ 1000)
+IsPublication folder cycles = (0 < length folder) × (1 ≤ cycles) × (cycles ≤ MOST_CYCLES)
 
 -- the values lie in their ranges
 abbrev pub IsSized : Command → Type 0
-IsSized (code.Assemble id version size download) = size ≤ 16842752
+IsSized (code.Assemble id version size download) = size ≤ MOST_MODULE_SIZE
 IsSized (code.OpenSections paths) = Unit {0}
-IsSized (code.Open pid paths) = pid ≤ 8190
-IsSized (code.Record pid) = pid ≤ 8190
-IsSized (code.List pid) = pid ≤ 8190
+IsSized (code.Open pid paths) = pid ≤ MOST_PID
+IsSized (code.Record pid) = pid ≤ MOST_PID
+IsSized (code.List pid) = pid ≤ MOST_PID
 IsSized (code.Publish folder carousel cycles) = IsPublication (string_bytes folder) cycles
 IsSized code.Rehearse = Unit {0}
 IsSized code.Session = Unit {0}
-IsSized (code.Big n) = (1 ≤ n) × (n ≤ 16)
+IsSized (code.Big n) = (1 ≤ n) × (n ≤ MOST_BIG)
 IsSized (code.Find carousel) = Unit {0}
 IsSized (code.OpenId carousel paths) = Unit {0}
 IsSized (code.PublishPsi folder carousel cycles) = IsPublication (string_bytes folder) cycles

@@ -1,4 +1,17 @@
 //! The words of commands, and the texts of answers and of refusals.
+//!
+//! ```
+//! use path_resolver::Answer;
+//! use shell_words::{Command, answered_text, command};
+//!
+//! let mut words = Vec::new(alloc);
+//! for word in ["open", "256", "/news"] {
+//!     words.push(String::from_str(alloc, word)?)?;
+//! }
+//! let Command::Open(pid, paths) = command(alloc, &words)? else { panic!("another command") };
+//! assert_eq!(rt; (pid, paths.len()), (256, 1));
+//! assert_eq!(rt; answered_text(alloc, &paths[0], &Answer::NotYet(5))?.as_str(), "/news not-yet 5\n");
+//! ```
 #![tactic(auto)]
 
 mod counting;

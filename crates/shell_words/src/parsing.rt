@@ -11,16 +11,14 @@ use crate::counting::count;
 use crate::keyword::Keyword;
 use crate::values;
 use crate::words::{Command, WordsFault};
+use block_assembler::MOST_MODULE_SIZE;
 use std::alloc::Global;
 
-/// The greatest size of a module, in bytes.
-const MOST_SIZE: u32 = 16_842_752;
-
 /// The most cycles of one publication.
-const MOST_CYCLES: u32 = 1_000;
+pub const MOST_CYCLES: u32 = 1_000;
 
 /// The greatest size of a made-up session.
-const MOST_BIG: u32 = 16;
+pub const MOST_BIG: u32 = 16;
 
 /// The command that the words of a command line name, without the program's name, with the values of its words. These are
 /// this project's own rules.
@@ -100,7 +98,7 @@ fn assemble(words: &[String]) -> Option<Command>
     };
     let id = values::decimal(id, 0, 65_535)?;
     let version = values::decimal(version, 0, 255)?;
-    let size = values::decimal(size, 0, MOST_SIZE)?;
+    let size = values::decimal(size, 0, MOST_MODULE_SIZE)?;
     let download = values::decimal(download, 0, u32::MAX)?;
     Some(Command::Assemble {
         id: id as u16,

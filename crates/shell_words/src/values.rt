@@ -12,12 +12,12 @@ use path_tree::{Path, PathFault};
 use std::alloc::Global;
 
 /// The greatest PID of a stream; the one above it is that of stuffing (ISO/IEC 13818-1, 2.4.3.3).
-const MOST_PID: u32 = 8_190;
+pub const MOST_PID: u32 = 8_190;
 
 /// The PID that a word spells.
 pub fn pid(word: &String) -> Option<u16>
     ensures value { result ≡ commands.pid_in (string_bytes word.now) }
-    ensures bound { IfSome result (λ pid. pid ≤ 8190) }
+    ensures bound { IfSome result (λ pid. pid ≤ MOST_PID) }
 {
     let pid = decimal(word, 0, MOST_PID)?;
     Some(pid as u16)

@@ -5,7 +5,7 @@ use thiserror::Error;
 #[derive(Drop)]
 pub enum Command {
     /// `assemble ID VERSION SIZE DOWNLOAD`: one module out of sections. A module's id, 0 to 65,535, its version, 0 to
-    /// 255, its size in bytes, 0 to 16,842,752, and the id of its download, any 32-bit number.
+    /// 255, its size in bytes, 0 to [`block_assembler::MOST_MODULE_SIZE`], and the id of its download, any 32-bit number.
     Assemble {
         id: u16,
         version: u8,

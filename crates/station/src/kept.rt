@@ -5,6 +5,7 @@ ghost use Rattle.std.specs.List.{All, Contains};
 ghost use Rattle.generation.specs.Layouts.{items_of as items_in};
 ghost use Rattle.generation_catalogue.specs.History.{IsHistory};
 ghost use Rattle.generation_catalogue.specs.Calls.{IsCommitted, IsDrawn};
+ghost use Rattle.cycle_planner.specs.declared.TheConstants.{MOST_DRAWN};
 
 use cycle_planner::{GREATEST_ID, Weigh};
 use generation_catalogue::{Batch, CommitFault, DrawFault, Entry, Journal};
@@ -52,7 +53,7 @@ impl Kept {
 
     /// The catalogue's draw, with what its entries are until then. The weights have to be the catalogue's.
     pub fn draw(&mut self, weigh: &Weigh, n: u32) -> Result<Batch, DrawFault>
-        requires count { (1 ≤ n) × (n ≤ 1048576) }
+        requires count { (1 ≤ n) × (n ≤ MOST_DRAWN) }
         requires weights { weigh.now.weights ≡ self.old.journal.weights }
         ensures history { IsHistory self.old.journal }
         ensures call { IsDrawn self.old.journal n result self.new.journal }

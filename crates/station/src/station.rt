@@ -9,6 +9,8 @@ ghost use Rattle.history_lock.specs.History.{Begins, Each, once_within};
 ghost use Rattle.history_lock.specs.Passes.{number_of, opening_of};
 ghost use Rattle.station.specs.Items.{is_opening, weights_in};
 ghost use Rattle.station.specs.Kept.{list_of};
+ghost use Rattle.cycle_planner.specs.declared.TheConstants.{MOST_DRAWN};
+ghost use Rattle.generation_catalogue.specs.declared.journal.TheConstants.{MOST_DRAWS};
 
 use crate::kept::Kept;
 use cycle_planner::Weigh;
@@ -85,16 +87,16 @@ impl Station {
     }
 
     /// `Catalogue::draw` in one hold, on a catalogue whose entries begin with those that the pass had seen; `n` is 1 to
-    /// 1,048,576. The draw stands at the end of what the pass has seen then, as its own. That the draws are full makes no
+    /// [`cycle_planner::MOST_DRAWN`]. The draw stands at the end of what the pass has seen then, as its own. That the draws are full makes no
     /// entry, and is true of the entries that the pass has seen then.
     pub fn draw<R: Wait>(&self, rt: &R, pass: &mut Pass, n: u32) -> Result<Batch, DrawFault>
         requires pass { IsStationPass self.now pass.old }
-        requires count { (1 ≤ n) × (n ≤ 1048576) }
+        requires count { (1 ≤ n) × (n ≤ MOST_DRAWN) }
         ensures pass { IsStationPass self.now pass.new }
         ensures number { number_of pass.new ≡ number_of pass.old }
         ensures call { InOneHold (carousel_of self.now) (weights_of self.now) pass.old pass.new (λ c d. IsDrawn c n result d) }
         ensures entered { IfOk result (λ b. EndsWith (entries_seen pass.new) (entries.Draw n (arc_value b.generation).number b.first (length b.items.items))) }
-        ensures full { IfFull result (λ draws. (draws ≡ 16777216) × (16777216 ≤ draws_of (seen_by self.now pass.new))) }
+        ensures full { IfFull result (λ draws. (draws ≡ MOST_DRAWS) × (MOST_DRAWS ≤ draws_of (seen_by self.now pass.new))) }
         ensures some { IfOk result (λ b. (1 ≤ length b.items.items) × (length b.items.items ≤ n)) }
         ensures items { IfOk result (λ b. All (λ item. Contains (items_in (arc_value b.generation)) item) b.items.items) }
     {

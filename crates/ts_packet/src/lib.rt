@@ -1,5 +1,16 @@
 //! Transport packets (ISO/IEC 13818-1, 2.4.3.2): 188 bytes with a header of four, an adaptation
 //! field that may be absent, and a payload that may be empty.
+//!
+//! ```
+//! use ts_packet::{PacketFault, build, parse};
+//!
+//! let mut bytes = build(256, true, 7, &[0xFF; 184]);
+//! let packet = parse(&bytes)?;
+//! assert_eq!(rt; (packet.pid, packet.start, packet.counter), (256, true, 7));
+//! assert_eq!(rt; packet.payload.len(), 184);
+//! bytes[0] = 0;
+//! assert_eq!(rt; parse(&bytes).err(), Some(PacketFault::NoSync));
+//! ```
 #![tactic(auto)]
 
 ghost use Rattle.std.specs.Prelude.{◌≡◌, ◌<◌, ◌≤◌, Err, IfOk, MatchResult, Ok, length, slice_index};

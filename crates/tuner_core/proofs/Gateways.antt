@@ -3,6 +3,7 @@ use Rattle.std.proofs.Common.{ℕ, ◌≡◌, Bool, true, false, List, [], ◌�
 use Rattle.std.specs.Option.{option_map}
 use Rattle.std.proofs.lemmas.Bool.{cond-true, cond-false, eqb-true, eq-eqb, and_parts, and_from, both_ways}
 use Rattle.path_tree.specs.Paths.{Bytes, same_name}
+use Rattle.path_tree.proofs.CallerLemmas.{same_name-is, same_name-refl}
 use Rattle.ior_tap.specs.Iors.{TapFields, biop_of_profiles, delivery_of_taps}
 use Rattle.ior_tap.specs.declared.Location.{Location}
 use Rattle.path_resolver.specs.Resolving.{Root}
@@ -15,23 +16,13 @@ use Rattle.tuner_core.specs.Said.{root_in, root_of}
 use Rattle.tuner_core.specs.Stands.{TunerState, is_held, same_location, same_number, after_gateway, after_dsi, after_heard}
 use Rattle.tuner_core.proofs.Lists.{last_of}
 
-same_name_is : (a b : Bytes) → same_name a b ≡ true → a ≡ b
-same_name_is [] [] e = refl
-same_name_is (x ∷ xs) (y ∷ ys) e = let p = and_parts _ _ e in ap (λ z. z ∷ xs) (eqb-true _ _ p.0) ∙ ap (λ zs. y ∷ zs) (same_name_is xs ys p.1)
-same_name_is [] (y ∷ ys) e = cc
-same_name_is (x ∷ xs) [] e = cc
-
-name_is_same : (a : Bytes) → same_name a a ≡ true
-name_is_same [] = refl
-name_is_same (x ∷ xs) = and_from _ _ (eq-eqb x x refl) (name_is_same xs)
-
 location_parts : (a b c d : ℕ) (k m : Bytes) → a ≡ c → b ≡ d → k ≡ m
     → ◌≡◌ {A = Location} (record { carousel = a; «module» = b; key = k }) (record { carousel = c; «module» = d; key = m })
 location_parts a b c d k m e f g = cc
 
 same_location_is : (a b : Location) → same_location a b ≡ true → a ≡ b
 same_location_is a b e = let p = and_parts _ _ e in let q = and_parts _ _ p.0 in
-    location_parts _ _ _ _ _ _ (eqb-true _ _ q.0) (eqb-true _ _ q.1) (same_name_is a.key b.key p.1)
+    location_parts _ _ _ _ _ _ (eqb-true _ _ q.0) (eqb-true _ _ q.1) (same_name-is a.key b.key p.1)
 
 same_number_is : (a b : Option ℕ) → same_number a b ≡ true → a ≡ b
 same_number_is (Some a) (Some b) e = ap Some (eqb-true a b e)
@@ -51,7 +42,7 @@ held_gateway (Some g) l d e = let p = and_parts _ _ e in ap Some (root_parts g.l
 held_gateway None l d e = cc
 
 pub gateway_is_held : (l : Location) (d : Option ℕ) → is_held (Some (record { location = l; delivery = d })) l d ≡ true
-gateway_is_held l d = and_from _ _ (and_from _ _ (and_from _ _ (eq-eqb l.carousel l.carousel refl) (eq-eqb l.module l.module refl)) (name_is_same l.key)) (number_is_same d)
+gateway_is_held l d = and_from _ _ (and_from _ _ (and_from _ _ (eq-eqb l.carousel l.carousel refl) (eq-eqb l.module l.module refl)) (same_name-refl l.key)) (number_is_same d)
 
 gateway_cases : (g : Option Gateway) (l : Location) (d : Option ℕ) (b : Bool) → is_held g l d ≡ b
     → option_map view_gateway (after_gateway g l d).0 ≡ Some (record { location = l; delivery = d })

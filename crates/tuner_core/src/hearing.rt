@@ -11,7 +11,7 @@ ghost use Rattle.module_cache.specs.Held.{TunedState};
 use ddb_block::{Parts, parts_of};
 use dsi_dii::{Control, ControlFault, Dii, Dsi};
 use dsmcc_section::{Skip, Table, payload_of};
-use oc_bytes::NoMemory;
+use oc_bytes::{Cut, NoMemory};
 use std::alloc::{AllocError, Global};
 
 /// What a candidate says. The bytes of a block are lent.
@@ -46,7 +46,7 @@ fn block_of(payload: &[u8]) -> Told<'_>
 {
     match parts_of(payload) {
         Ok(parts) => Told::Block(parts),
-        Err(place) => Told::NoBlock(place),
+        Err(Cut(place)) => Told::NoBlock(place),
     }
 }
 

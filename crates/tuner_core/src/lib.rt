@@ -2,6 +2,21 @@
 //!
 //! The receiver follows one generation after another. A DII (ISO/IEC 13818-6, DownloadInfoIndication) of another version than
 //! the held one takes its place, and what is there of a module stays where both describe the module in the same way.
+//!
+//! ```
+//! use path_resolver::{Answer, resolve};
+//! use path_tree::Path;
+//! use sample_sections::{DSI, FILE_BLOCK, FILE_DII};
+//! use tuner_core::{Fed, Tuner};
+//!
+//! let mut tuner = Tuner::new(alloc);
+//! assert_eq!(rt; tuner.feed(&DSI)?, Fed::Changed);
+//! assert_eq!(rt; tuner.feed(&FILE_DII)?, Fed::Changed);
+//! assert_eq!(rt; tuner.feed(&FILE_BLOCK)?, Fed::Changed);
+//! let shot = tuner.shot(0, 0)?;
+//! let answer = resolve(&shot, &Path::parse(alloc, b"/a")?)?;
+//! assert!(rt; matches!(&answer, Answer::File(file) if file.bytes() == b"hello".as_slice()));
+//! ```
 #![tactic(auto)]
 
 mod gateway;

@@ -4,8 +4,8 @@ use Rattle.std.proofs.lemmas.List.{map_push}
 use Rattle.biop_object.specs.Objects.{view_binding}
 use Rattle.biop_object.specs.Index.{cause}
 use Rattle.biop_object.specs.ObjectReading.{binding_at}
-use Rattle.ior_tap.specs.IorReading.{each_at}
-use Rattle.ior_tap.proofs.Loop.{begins, goes_on, ends, is_done}
+use Rattle.oc_bytes.specs.Cursor.{each_at}
+use Rattle.oc_bytes.proofs.CallerLemmas.{begins, goes_on, ends, is_done}
 use Rattle.biop_object.proofs.reading.bindings_of.Goals as goal
 
 pub loop-init : goal.loop-init

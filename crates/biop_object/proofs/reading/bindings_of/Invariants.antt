@@ -1,8 +1,8 @@
 use Rattle.std.proofs.Common.{◌≡◌, ◌-◌, map}
 use Rattle.biop_object.specs.Objects.{view_binding}
 use Rattle.biop_object.specs.ObjectReading.{binding_at}
-use Rattle.ior_tap.specs.IorReading.{each_at}
-use Rattle.ior_tap.proofs.Loop.{with_front}
+use Rattle.oc_bytes.specs.Cursor.{each_at}
+use Rattle.oc_bytes.proofs.CallerLemmas.{with_front}
 use Rattle.biop_object.proofs.reading.bindings_of.Given as goal
 
 abbrev pub invariant-loop : goal.invariant-loop

@@ -1,5 +1,5 @@
 use Rattle.std.proofs.Common.{arith}
-use Rattle.ior_tap.proofs.Agree.{bytes_fit}
+use Rattle.oc_bytes.proofs.CallerLemmas.{bytes_fit}
 use Rattle.biop_object.proofs.Part.{found_here, fault_here}
 use Rattle.biop_object.proofs.reading.ior_in.Goals as goal
 

@@ -1,6 +1,6 @@
 use Rattle.std.proofs.Common.{◌≡◌, ◌-◌}
-use Rattle.ior_tap.specs.IorReading.{each_at}
-use Rattle.biop_object.specs.ObjectReading.{context_at, contexts_at, skip_reading}
+use Rattle.oc_bytes.specs.Cursor.{each_at, skip_reading}
+use Rattle.biop_object.specs.ObjectReading.{context_at, contexts_at}
 use Rattle.biop_object.proofs.reading.pass_contexts.Given as goal
 
 abbrev pub invariant-loop : goal.invariant-loop

@@ -2,8 +2,7 @@ use Rattle.std.proofs.Common.{◌++◌, [], ap, arith, map, Ok, Err, refl, sym, 
 use Rattle.std.proofs.lemmas.Result.{err_from_is_err_and}
 use Rattle.section_stream.specs.Kept.{view_bytes}
 use Rattle.shell_streams.specs.declared.input.InputFault.TheVariants as inputs
-use Rattle.shell_streams.proofs.CallerLemmas.{puts_nothing, puts_then, puts_as, rose_last}
-use Rattle.shell_streams.proofs.Packeting.{reader_stopped, reader_taken, taken_stopped}
+use Rattle.shell_streams.proofs.CallerLemmas.{puts_nothing, puts_then, puts_as, rose_last, reader_stopped, reader_taken, taken_stopped}
 use Rattle.carousel_shell.proofs.Recording.{accepted-append, first_none, first_halted, first_ended, records_none, records_read, records_put, records_all}
 use Rattle.carousel_shell.proofs.Writing.{writes_prefix}
 use Rattle.carousel_shell.proofs.record.record_all.Goals as goal

@@ -1,13 +1,11 @@
 use Rattle.std.proofs.Common.{◌≤◌, length, arith}
-use Rattle.dsi_dii.proofs.Places.{ior_fault_inside}
 use Rattle.ior_tap.specs.Iors as iors
 use Rattle.dsi_dii.proofs.Laws.{gateway_found, gateway_at_front, gateway_same, gateway_apart}
 use Rattle.dsi_dii.proofs.reading.gateway.Goals as goal
 
 pub overflow_add-result : goal.overflow_add-result
 overflow_add-result c =
-    let e = rw c.in-Err-BadIor.field-0-is at c.in-Err-BadIor.ensures.exact in
-    let le : c.in-Err-BadIor.at ≤ length c.args.private.now = ior_fault_inside c.args.private.now c.in-Err-BadIor.at e in
+    let le : c.in-Err-BadIor.at ≤ length c.args.private.now = rw c.in-Err-BadIor.field-0-is at c.in-Err-BadIor.ensures.inside in
     omega (arith, le, c.requires)
 
 pub returns-in-Ok-clause-found : goal.returns-in-Ok-clause-found

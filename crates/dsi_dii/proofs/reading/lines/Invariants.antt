@@ -1,7 +1,7 @@
 use Rattle.std.proofs.Common.{◌≡◌, ◌-◌}
-use Rattle.ior_tap.specs.IorReading.{each_at}
+use Rattle.oc_bytes.specs.Cursor.{each_at}
 use Rattle.dsi_dii.specs.ControlReading.{line_at}
-use Rattle.dsi_dii.proofs.Loops.{with_front}
+use Rattle.oc_bytes.proofs.CallerLemmas.{with_front}
 use Rattle.dsi_dii.proofs.reading.lines.Given as goal
 
 abbrev pub invariant-loop : goal.invariant-loop

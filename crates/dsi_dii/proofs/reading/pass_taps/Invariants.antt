@@ -1,7 +1,7 @@
 use Rattle.std.proofs.Common.{◌≡◌, ◌-◌}
-use Rattle.ior_tap.specs.IorReading.{each_at, tap_at}
-use Rattle.dsi_dii.specs.ControlReading.{cursor_of}
+use Rattle.ior_tap.specs.IorReading.{tap_at}
+use Rattle.oc_bytes.specs.Cursor.{each_at, skip_reading}
 use Rattle.dsi_dii.proofs.reading.pass_taps.Given as goal
 
 abbrev pub invariant-loop : goal.invariant-loop
-invariant-loop l = cursor_of (each_at tap_at (l.count - l.counter) l.fields) ≡ cursor_of (each_at tap_at l.count l.fn.fields)
+invariant-loop l = skip_reading (each_at tap_at (l.count - l.counter) l.fields) ≡ skip_reading (each_at tap_at l.count l.fn.fields)

@@ -1,13 +1,13 @@
 use Rattle.std.proofs.Common.{◌≡◌, sym, ◌∙◌, ap, map}
 use Rattle.std.specs.Arc.{arc_value}
+use Rattle.path_tree.proofs.CallerLemmas.{same_name-is}
 use Rattle.generation.specs.View.{view_listed}
-use Rattle.generation.proofs.Law.{same_name_is}
 use Rattle.generation.proofs.Sharing.{marked_here}
 use Rattle.generation.proofs.made.module_after.Goals as goal
 
 pub returns-then-is_equal-clause-listed : goal.returns-then-is_equal-clause-listed
 returns-then-is_equal-clause-listed c =
-    let same = same_name_is c.bytes.result.now c.deref-in-Some.result.now (sym c.is_equal.ensures ∙ c.if-is_equal.true) in
+    let same = same_name-is c.bytes.result.now c.deref-in-Some.result.now (sym c.is_equal.ensures ∙ c.if-is_equal.true) in
     let is : arc_value c.in_ok-try_clone.field-0 ≡ c.args.bytes.items = cc (c.in_ok-try_clone.ensures, c.bytes.ensures, c.deref.ensures, c.deref-in-Some.ensures.value, same) in
     ap (λ b. (c.args.id, b)) is
 

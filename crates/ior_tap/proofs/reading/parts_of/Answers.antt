@@ -1,6 +1,6 @@
 use Rattle.std.specs.Option.{option_copied}
 use Rattle.std.proofs.lemmas.Result.{err_from_is_err_and}
-use Rattle.ior_tap.specs.Iors.{cause}
+use Rattle.oc_bytes.specs.Cause.{place_of}
 use Rattle.ior_tap.specs.IorReading.{parts_at}
 use Rattle.ior_tap.proofs.Loop.{parts_begin, parts_go_on, parts_end, parts_done}
 use Rattle.ior_tap.proofs.reading.parts_of.Goals as goal
@@ -11,7 +11,7 @@ loop-init c = parts_begin c.args.count c.args.fields.now
 pub returns-in_err-component : goal.returns-in_err-component
 returns-in_err-component c =
     let p = err_from_is_err_and c.from_residual.result c.from_residual.ensures.1 in
-    rw (p.1, p.2) (parts_end (cause c.in_err-component.field-0.0) (option_copied c.loop.parts.location, option_copied c.loop.parts.binder) c.args.count c.loop.counter c.loop.fields (parts_at c.args.count c.args.fields.now) c.loop-test.true c.in_err-component.ensures c.loop.invariant)
+    rw (p.1, p.2) (parts_end (place_of c.in_err-component.field-0.0) (option_copied c.loop.parts.location, option_copied c.loop.parts.binder) c.args.count c.loop.counter c.loop.fields (parts_at c.args.count c.args.fields.now) c.loop-test.true c.in_err-component.ensures c.loop.invariant)
 
 pub loop-preserved : goal.loop-preserved
 loop-preserved c =

@@ -2,8 +2,9 @@ use Rattle.std.proofs.Common.{◌≡◌, ◌++◌, ◌∷◌, [], map}
 use Rattle.std.proofs.lemmas.Result.{err_from_is_err_and}
 use Rattle.std.proofs.lemmas.List.{map_push}
 use Rattle.ior_tap.specs.Iors.{view_tap, cause}
-use Rattle.ior_tap.specs.IorReading.{tap_at, each_at}
-use Rattle.ior_tap.proofs.Loop.{begins, goes_on, ends, is_done}
+use Rattle.ior_tap.specs.IorReading.{tap_at}
+use Rattle.oc_bytes.specs.Cursor.{each_at}
+use Rattle.oc_bytes.proofs.CallerLemmas.{begins, goes_on, ends, is_done}
 use Rattle.ior_tap.proofs.reading.taps_of.Goals as goal
 
 pub loop-init : goal.loop-init

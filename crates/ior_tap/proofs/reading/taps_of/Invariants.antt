@@ -1,7 +1,8 @@
 use Rattle.std.proofs.Common.{◌≡◌, ◌-◌, map}
 use Rattle.ior_tap.specs.Iors.{view_tap}
-use Rattle.ior_tap.specs.IorReading.{tap_at, each_at}
-use Rattle.ior_tap.proofs.Loop.{with_front}
+use Rattle.ior_tap.specs.IorReading.{tap_at}
+use Rattle.oc_bytes.specs.Cursor.{each_at}
+use Rattle.oc_bytes.proofs.CallerLemmas.{with_front}
 use Rattle.ior_tap.proofs.reading.taps_of.Given as goal
 
 abbrev pub invariant-loop : goal.invariant-loop

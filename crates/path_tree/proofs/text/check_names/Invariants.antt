@@ -1,11 +1,11 @@
 use Rattle.std.proofs.Common.{◌≡◌, ◌<◌, ◌-◌, length, drop}
 use Rattle.std.specs.List.{slice_split}
 use Rattle.path_tree.specs.Texts.{is_slash, names_of, names_after}
-use Rattle.path_tree.specs.Steps.{checked}
+use Rattle.path_tree.specs.Steps.{verdict_of}
 use Rattle.path_tree.proofs.text.check_names.Given as goal
 
 abbrev pub invariant-loop : goal.invariant-loop
 invariant-loop l = record {
   within : length l.rest < length l.text;
-  so_far : checked (names_after (drop 1 l.text)) ≡ checked (names_of (length l.text - length l.rest) l.counter (slice_split is_slash l.rest));
+  so_far : verdict_of (names_after (drop 1 l.text)) ≡ verdict_of (names_of (length l.text - length l.rest) l.counter (slice_split is_slash l.rest));
 }

@@ -14,9 +14,9 @@ returns-in_ok-insert-clause-done c = grind (arith, common_steps, insert-cut c.ar
 pub returns-then-first_is-clause-tree : goal.returns-then-first_is-clause-tree
 returns-then-first_is-clause-tree c =
     let none : fault_of c.args.files.now.items (Put c.args.path.now c.args.content.now) ≡ None = grind (arith, common_steps) in
-    tree_same _ _ (returns-then-first_is-clause-done c) (tree_put c.args.files.now.items c.args.path.now c.args.content.now c.requires c.put_fault.ensures.path none)
+    tree_same _ _ (returns-then-first_is-clause-done c) (tree_put c.args.files.now.items c.args.path.now c.args.content.now c.requires c.put_fault.ensures.path c.put_fault.ensures.content none)
 
 pub returns-in_ok-insert-clause-tree : goal.returns-in_ok-insert-clause-tree
 returns-in_ok-insert-clause-tree c =
     let none : fault_of c.args.files.now.items (Put c.args.path.now c.args.content.now) ≡ None = grind (arith, common_steps) in
-    tree_same _ _ (returns-in_ok-insert-clause-done c) (tree_put c.args.files.now.items c.args.path.now c.args.content.now c.requires c.put_fault.ensures.path none)
+    tree_same _ _ (returns-in_ok-insert-clause-done c) (tree_put c.args.files.now.items c.args.path.now c.args.content.now c.requires c.put_fault.ensures.path c.put_fault.ensures.content none)

@@ -5,16 +5,16 @@ use Rattle.psi_tables.proofs.Streams.{pmt_found, pmt_again, pmt_is}
 use Rattle.psi_tables.proofs.Sections.{AreBytes, body_bytes}
 use Rattle.psi_tables.proofs.pmt.decode_pmt.Goals as goal
 
-pub returns-in-Err-clause-only : goal.returns-in-Err-clause-only
-returns-in-Err-clause-only c = λ p h. absurd (cc ((pmt_again c.args.bytes.now p h).faultless, c.in-Err.ensures))
+pub returns-in_err-frame-clause-only : goal.returns-in_err-frame-clause-only
+returns-in_err-frame-clause-only c = λ p h. absurd (cc ((pmt_again c.args.bytes.now p h).faultless, c.in_err-frame.ensures))
 
 pub returns-clause-found : goal.returns-clause-found
 returns-clause-found c =
     let bytes = c.args.bytes.now in
     let small : AreBytes bytes = λ i. omega (arith, c.type_inv.bytes i) in
-    subst (λ p. ReadsPmt bytes p) (pmt_is c.in-Ok.checked.0 c.in_ok-lines.lines c.in-Ok.checked.1.now (fields_of bytes) c.in-Ok.ensures.1 c.in-Ok.ensures.2 c.in_ok-lines.ensures)
-    (pmt_found bytes small (body_bytes bytes small) c.in-Ok.ensures.0)
+    subst (λ p. ReadsPmt bytes p) (pmt_is c.in_ok-frame.frame c.in_ok-lines.lines c.in_ok-frame.streams.now (fields_of bytes) c.in_ok-frame.ensures.1 c.in_ok-frame.ensures.2 c.in_ok-lines.ensures)
+    (pmt_found bytes small (body_bytes bytes small) c.in_ok-frame.ensures.0)
 
 pub returns-clause-only : goal.returns-clause-only
 returns-clause-only c = λ p h.
-    ap Ok (sym (pmt_again c.args.bytes.now p h).value ∙ pmt_is c.in-Ok.checked.0 c.in_ok-lines.lines c.in-Ok.checked.1.now (fields_of c.args.bytes.now) c.in-Ok.ensures.1 c.in-Ok.ensures.2 c.in_ok-lines.ensures)
+    ap Ok (sym (pmt_again c.args.bytes.now p h).value ∙ pmt_is c.in_ok-frame.frame c.in_ok-lines.lines c.in_ok-frame.streams.now (fields_of c.args.bytes.now) c.in_ok-frame.ensures.1 c.in_ok-frame.ensures.2 c.in_ok-lines.ensures)

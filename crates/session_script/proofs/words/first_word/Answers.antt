@@ -1,6 +1,6 @@
 use Rattle.std.proofs.Common.{rules}
 use Rattle.session_script.specs.Grammar.{is_space}
-use Rattle.path_tree.proofs.Pieces.{cut_none, cut_at}
+use Rattle.path_tree.proofs.CallerLemmas.{cut_none, cut_at}
 use Rattle.session_script.proofs.words.first_word.Goals as goal
 
 pub returns-in-Some : goal.returns-in-Some

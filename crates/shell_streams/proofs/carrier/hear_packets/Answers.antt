@@ -2,7 +2,7 @@ use Rattle.std.proofs.Common.{◌++◌, ap, arith, map, Ok}
 use Rattle.std.proofs.lemmas.Result.{err_from_is_err_and}
 use Rattle.section_stream.specs.Kept.{view_bytes}
 use Rattle.shell_streams.specs.declared.input.InputFault.TheVariants as inputs
-use Rattle.shell_streams.proofs.CallerLemmas.{rose_last}
+use Rattle.shell_streams.proofs.Putting.{rose_last}
 use Rattle.shell_streams.proofs.Halting.{halted, halted_here}
 use Rattle.shell_streams.proofs.Hearing.{hears_end, hears_fault}
 use Rattle.shell_streams.proofs.carrier.hear_packets.Goals as goal

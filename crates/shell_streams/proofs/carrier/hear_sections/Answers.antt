@@ -3,7 +3,7 @@ use Rattle.std.proofs.lemmas.Result.{err_from_is_err_and}
 use Rattle.std.proofs.lemmas.Bool.{true≢false}
 use Rattle.shell_streams.specs.declared.input.InputFault.TheVariants as inputs
 use Rattle.shell_streams.proofs.Cutting.{told_next, told_end, told_rear, stopped_other, stopped_long, ended_few, ended_full}
-use Rattle.shell_streams.proofs.CallerLemmas.{rose_last}
+use Rattle.shell_streams.proofs.Putting.{rose_last}
 use Rattle.shell_streams.proofs.Hearing.{hears_end, hears_fault}
 use Rattle.shell_streams.proofs.carrier.hear_sections.Goals as goal
 

@@ -1,7 +1,7 @@
 use Rattle.std.proofs.Common.{◌≡◌, ◌≤◌, ◌++◌, ◌∷◌, [], take, Ok, ap, ◌∙◌, arith}
 use Rattle.std.proofs.lemmas.Result.{err_from_is_err_and}
 use Rattle.shell_streams.specs.declared.input.InputFault.TheVariants as inputs
-use Rattle.shell_streams.proofs.CallerLemmas.{rose_last}
+use Rattle.shell_streams.proofs.Putting.{rose_last}
 use Rattle.shell_streams.proofs.Packeting.{taken_begin, taken_more, taken_stopped, stops_stopped}
 use Rattle.shell_streams.proofs.Hearing.{hears_end, hears_fault}
 use Rattle.shell_streams.proofs.every_packet.hear_all_packets.Goals as goal

@@ -1,6 +1,6 @@
 use Rattle.std.proofs.Common.{arith, ◌≡◌, ◌≤◌, ◌-◌, ℕ, length, take, drop, length-take}
 use Rattle.shell_streams.proofs.Holding.{reads_behind, if_both}
-use Rattle.shell_streams.proofs.CallerLemmas.{told_weaker}
+use Rattle.shell_streams.proofs.Putting.{told_weaker}
 use Rattle.shell_streams.proofs.unread.read_behind.Goals as goal
 
 pub returns-clause-read : goal.returns-clause-read

@@ -3,7 +3,7 @@ use Rattle.std.proofs.lemmas.Result.{err_from_is_err_and}
 use Rattle.oc_bytes.specs.Outcome.{Known}
 use Rattle.shell_streams.specs.Cuts.{Bytes}
 use Rattle.shell_streams.specs.declared.input.InputFault.TheVariants as inputs
-use Rattle.shell_streams.proofs.CallerLemmas.{told_same, rose_last}
+use Rattle.shell_streams.proofs.Putting.{told_same, rose_last}
 use Rattle.shell_streams.proofs.Gathering.{TakenFirst, taken_more, taken_all, taken_stop, taken_over, gathered, gathered_length}
 use Rattle.shell_streams.proofs.whole.read_all.Goals as goal
 

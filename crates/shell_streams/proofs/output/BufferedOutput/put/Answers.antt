@@ -1,6 +1,6 @@
 use Rattle.std.proofs.Common.{◌++◌, refl, ap, Err}
 use Rattle.std.proofs.lemmas.Result.{err_from_is_err_and}
-use Rattle.shell_streams.proofs.CallerLemmas.{puts_then, puts_stop}
+use Rattle.shell_streams.proofs.Putting.{puts_then, puts_stop}
 use Rattle.shell_streams.proofs.Sending.{all_written, part_written, was_failed, not_failed, none_kept, all_kept}
 use Rattle.shell_streams.proofs.output.BufferedOutput.put.Goals as goal
 
@@ -19,8 +19,8 @@ returns-in_err-extend_from_slice-2-clause-puts g c =
     let p = err_from_is_err_and c.from_residual-in_err-extend_from_slice-2.result c.from_residual-in_err-extend_from_slice-2.ensures.1 in
     rw (p.1, p.2) (puts_then c.in_ok-flush.ensures.puts (none_kept refl refl refl refl refl))
 
-pub returns-then-more-le-ROOM-clause-puts : goal.returns-then-more-le-ROOM-clause-puts
-returns-then-more-le-ROOM-clause-puts g c = puts_then c.in_ok-flush.ensures.puts (all_kept refl refl refl refl refl c.in_ok-extend_from_slice-2.ensures.items)
+pub returns-then-more-le-MOST_PENDING-clause-puts : goal.returns-then-more-le-MOST_PENDING-clause-puts
+returns-then-more-le-MOST_PENDING-clause-puts g c = puts_then c.in_ok-flush.ensures.puts (all_kept refl refl refl refl refl c.in_ok-extend_from_slice-2.ensures.items)
 
 pub returns-in_err-write_all-clause-puts : goal.returns-in_err-write_all-clause-puts
 returns-in_err-write_all-clause-puts g c =

@@ -1,5 +1,5 @@
 -- When a reading function and a relation of bytes and values say the same.
-use Rattle.std.specs.Prelude.{◌≡◌, ℕ, ◌+◌, ◌≤◌, List, ◌++◌, length, Ok, Err}
+use Rattle.std.specs.Prelude.{◌≡◌, ℕ, ◌+◌, ◌≤◌, List, [], ◌∷◌, ◌++◌, length, Ok, Err}
 use Rattle.oc_bytes.specs.Numbers.{IsBytes}
 use Rattle.oc_bytes.specs.Cursor.{Cursor, Reading}
 
@@ -33,3 +33,8 @@ pub record Agrees {A : Type 0} (read : Cursor → Reading A) (R : List ℕ → A
 pub record InBytes {A : Type 0} (R : List ℕ → A → Type 0) (bytes : List ℕ) (a : A) : Type 0 where
   pub fit : IsBytes bytes
   pub reads : R bytes a
+
+-- the bytes are these values one after another, each read by R
+abbrev pub ReadsEach : {A : Type 0} → (List ℕ → A → Type 0) → List ℕ → List A → Type 0
+ReadsEach R bytes [] = bytes ≡ []
+ReadsEach R bytes (x ∷ xs) = (front : List ℕ) × (rest : List ℕ) × (bytes ≡ front ++ rest) × R front x × ReadsEach R rest xs

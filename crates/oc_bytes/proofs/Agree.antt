@@ -6,10 +6,8 @@ use Rattle.std.proofs.lemmas.List.{take_at, drop_at, take-append-drop, length-ap
 use Rattle.std.proofs.lemmas.List.Elements.{All-take, All-drop, All-from_get_or}
 use Rattle.std.proofs.lemmas.Nat.{be_bytes_2, be_bytes_4, from_be_bytes-to_be_bytes_2, from_be_bytes-to_be_bytes_4}
 use Rattle.oc_bytes.specs.Numbers.{IsBytes, byte, two_bytes, four_bytes, number_of}
-use Rattle.oc_bytes.specs.Cursor.{Cursor, Reading, ◌>>=◌, past, number_at, bytes_at, this_at, from_start, value_read}
-use Rattle.ior_tap.specs.Iors.{ReadsEach}
-use Rattle.ior_tap.specs.IorReading.{each_at}
-use Rattle.ior_tap.specs.Agreement.{at, move_by, shift_by, Taken, Agrees}
+use Rattle.oc_bytes.specs.Cursor.{Cursor, Reading, ◌>>=◌, past, number_at, bytes_at, this_at, sized_at, each_at, from_start, value_read}
+use Rattle.oc_bytes.specs.Agreement.{at, move_by, shift_by, Taken, Agrees, ReadsEach}
 
 -- ---- bytes
 
@@ -374,3 +372,22 @@ put_last s second = record { value = s; front = s; back = []; whole = sym (appen
 
 pub put_this : {B : Type 0} (be : ℕ → List ℕ) {S : ℕ → List ℕ → B → Type 0} {b : B} (v : ℕ) (back : List ℕ) → S v back b → Then (IsThis be v) S (be v ++ back) b
 put_this be v back second = record { value = v; front = be v; back = back; whole = refl; first = (refl, refl); second = second }
+
+-- bytes with their number before them
+abbrev pub IsSized : (limit : ℕ) (be : ℕ → List ℕ) → List ℕ → List ℕ → Type 0
+IsSized limit be bytes s = (length s < limit) × (bytes ≡ be (length s) ++ s)
+
+pub sized_agrees : {n limit : ℕ} {be : ℕ → List ℕ} → IsWide n limit be → Agrees (sized_at n) (IsSized limit be)
+unfolding sized_at
+sized_agrees {n} {limit} {be} wide = agrees_by (then_agrees (number_agrees wide) bytes_agrees) (λ bytes s fits h. there bytes s h) (λ bytes s h. back bytes s h) where
+  there : (bytes s : List ℕ) → Then (IsNumber limit be) AreBytes bytes s → IsSized limit be bytes s
+  there bytes s h = (omega (arith, h.first.0, h.second.0), joined h.whole h.first.1 h.second.1 ∙ ap (λ (k : ℕ). be k ++ s) (sym h.second.0))
+
+  back : (bytes s : List ℕ) → IsSized limit be bytes s → Then (IsNumber limit be) AreBytes bytes s
+  back bytes s h = then_same h.1 (put_number (length s) s h.0 (refl, refl))
+
+pub put_sized : {B : Type 0} {limit : ℕ} (be : ℕ → List ℕ) {S : List ℕ → List ℕ → B → Type 0} {b : B} (s back : List ℕ) → length s < limit → S s back b → Then (IsSized limit be) S ((be (length s) ++ s) ++ back) b
+put_sized be s back lt second = record { value = s; front = be (length s) ++ s; back = back; whole = refl; first = (lt, refl); second = second }
+
+pub put_sized_last : {B : Type 0} {limit : ℕ} (be : ℕ → List ℕ) {S : List ℕ → List ℕ → B → Type 0} {b : B} (s : List ℕ) → length s < limit → S s [] b → Then (IsSized limit be) S (be (length s) ++ s) b
+put_sized_last be s lt second = record { value = s; front = be (length s) ++ s; back = []; whole = sym (append-nil (be (length s) ++ s)); first = (lt, refl); second = second }

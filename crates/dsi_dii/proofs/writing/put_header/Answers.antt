@@ -1,6 +1,0 @@
-use Rattle.dsi_dii.proofs.Spelled.{header_put}
-use Rattle.dsi_dii.proofs.writing.put_header.Goals as goal
-
-pub returns-clause-bytes : goal.returns-clause-bytes
-returns-clause-bytes c = header_put c.args.id c.args.transaction c.args.size c.args.writer.now c.put_bytes.new.self c.put_u16.new.self c.put_u32.new.self c.put_bytes-2.new.self c.put_u16-2.new.self
-    c.in_ok-put_bytes.ensures.ok c.in_ok-put_u16.ensures.ok c.in_ok-put_u32.ensures.ok c.in_ok-put_bytes-2.ensures.ok c.in_ok-put_u16-2.ensures.ok
