@@ -1,11 +1,8 @@
+pub mod Places
 pub mod Part
 pub mod Comparing
-pub mod Placed
 pub mod Indexing
 pub mod Finding
-pub mod Messages
-pub mod ObjectLaws
-pub mod Whole
 pub mod ModuleLaws
 pub mod Spellings
 pub mod PutTogether

@@ -1,5 +1,5 @@
 -- BIOP messages: files, folders and gateways, as they stand in a module.
-use Rattle.std.specs.Prelude.{◌≡◌, ◌≢◌, ℕ, ◌+◌, ◌<◌, ◌≤◌, ◌⊎◌, List, [], ◌∷◌, ◌++◌, length, Option, Some, None}
+use Rattle.std.specs.Prelude.{◌≡◌, ◌≢◌, ℕ, ◌+◌, ◌<◌, ◌≤◌, List, [], ◌∷◌, ◌++◌, length, Option, Some, None, Bool, true, false, ◌||◌, ◌-◌, take, drop, if◌then◌else◌}
 use Rattle.std.specs.List.{flat_map, sum_by}
 use Rattle.oc_bytes.specs.Numbers.{two_bytes, four_bytes, eight_bytes}
 use Rattle.ior_tap.specs.Iors as iors
@@ -10,7 +10,8 @@ use Rattle.biop_object.specs.declared.written.Bound.{Bound}
 use Rattle.biop_object.specs.declared.written.Bound.TheVariants as bounds
 use Rattle.biop_object.specs.declared.written.FolderKind.{FolderKind}
 use Rattle.biop_object.specs.declared.written.FolderKind.TheVariants.{Directory, Gateway}
-use Rattle.oc_bytes.specs.Agreement.{ReadsEach}
+use Rattle.oc_bytes.specs.Grammar.{Grammar, one, two, four, eight, number, sized, each, enclosed, counted, field, unkept, gives, this, passed, Reads as ReadsBy}
+use Rattle.path_tree.specs.Paths.{same_name}
 use Rattle.biop_object.specs.declared.written.TheConstants.{FOLDER_FRONT, FILE_BINDING, FOLDER_BINDING}
 
 pub record BindingFields : Type 0 where
@@ -41,77 +42,108 @@ directory_kind = 100 ∷ 105 ∷ 114 ∷ 0 ∷ []
 abbrev pub gateway_kind : List ℕ
 gateway_kind = 115 ∷ 114 ∷ 103 ∷ 0 ∷ []
 
--- a service context
-pub record ReadsContext (bytes : List ℕ) (c : ℕ × List ℕ) : Type 0 where
-  pub ranges : (c.0 < 4294967296) × (length c.1 < 65536)
-  pub whole : bytes ≡ four_bytes c.0 ++ two_bytes (length c.1) ++ c.1
+-- ---- the grammar
+
+-- a service context: its id and its data
+abbrev pub context : Grammar (ℕ × List ℕ)
+context =
+    field (number four) (λ c. c.0) λ id.
+    field (sized two) (λ c. c.1) λ context_data.
+    gives (id, context_data)
+
+abbrev pub contexts : Grammar (List (ℕ × List ℕ))
+contexts =
+    field (number one) (λ cs. length cs) λ count.
+    each context count
+
+-- an id without one zero at its end, which is no part of the name
+abbrev pub drop_zero : List ℕ → List ℕ
+drop_zero id = if same_name (drop (length id - 1) id) (0 ∷ []) then take (length id - 1) id else id
+
+-- a binding with one name component, of any type and objectInfo
+abbrev pub binding : Grammar BindingFields
+binding =
+    field (this one 1) (λ b. 1) λ components_count.
+    unkept (sized one) λ id.
+    field (sized one) (λ b. b.kind) λ kind.
+    unkept (number one) λ binding_type.
+    field iors.ior (λ b. b.target) λ target.
+    unkept (sized two) λ info.
+    gives (record { name = drop_zero id; kind = kind; target = target })
+
+-- a file's body at a place of its module
+abbrev pub file : ℕ → Grammar Shape
+file place =
+    unkept (sized four) λ content.
+    gives (IsFile (place + 4) (length content))
+
+-- a folder's body
+abbrev pub folder : Grammar Shape
+folder =
+    unkept (number two) λ bindings_count.
+    unkept (each binding bindings_count) λ bindings.
+    gives (IsFolder bindings)
+
+-- by whether the kind is that of a file, and that of a folder
+abbrev pub shape_by : (file_like folder_like : Bool) → ℕ → Grammar Shape
+shape_by true folder_like place = file place
+shape_by false true place = folder
+shape_by false false place = gives IsOther
+
+-- the body of a message of this kind, at a place of its module; of another kind it isn't read
+abbrev pub shape : List ℕ → ℕ → Grammar Shape
+shape kind place = shape_by (same_name kind file_kind) (same_name kind directory_kind || same_name kind gateway_kind) place
+
+-- what stands in a message before its body; the objectInfo isn't looked at
+pub record Heading : Type 0 where
+  pub key : List ℕ
+  pub kind : List ℕ
+
+abbrev pub heading : Grammar Heading
+heading =
+    field (sized one) (λ h. h.key) λ key.
+    field (sized four) (λ h. h.kind) λ kind.
+    unkept (sized two) λ info.
+    unkept (passed contexts []) λ skipped.
+    gives (record { key = key; kind = kind })
+
+-- what stands in a message after its size, at a place of its module
+abbrev pub message : ℕ → Grammar Object
+message place =
+    unkept (counted heading) λ front.
+    field (enclosed four (shape front.0.kind (place + front.1 + 4))) (λ o. o.shape) λ said.
+    gives (record { key = front.0.key; shape = said })
 
 -- `BIOP`, version 1.0, byte order 0, message type 0
+abbrev pub biop_head : ℕ
+biop_head = 0x42494F5001000000
+
+-- a message at a place of its module
+abbrev pub object : ℕ → Grammar Object
+object place =
+    field (this eight biop_head) (λ o. biop_head) λ head.
+    enclosed four (message (place + 12))
+
+-- a size in four bytes and as many bytes, whatever they say, and with a message's front before them
+abbrev pub cut_off : Grammar (Unit {0})
+cut_off = enclosed four (gives tt)
+
+abbrev pub framed : Grammar (Unit {0})
+framed =
+    field (this eight biop_head) (λ u. biop_head) λ head.
+    cut_off
+
+-- the bytes, all of them, are one message at this place of its module
+abbrev pub ReadsObject : (at : ℕ) → List ℕ → Object → Type 0
+ReadsObject at = ReadsBy (object at)
+
+-- the same front as bytes
 abbrev pub message_front : List ℕ
 message_front = 66 ∷ 73 ∷ 79 ∷ 80 ∷ 1 ∷ 0 ∷ 0 ∷ 0 ∷ []
 
 -- a message's front, its size and as many bytes, whatever they say, and any bytes after them
 abbrev pub BeginsFramed : List ℕ → Type 0
 BeginsFramed bytes = (message : List ℕ) × (rest : List ℕ) × (length message < 4294967296) × (bytes ≡ message_front ++ four_bytes (length message) ++ message ++ rest)
-
--- the parts of one message: `before` is how many bytes of it stand before its body
-pub record IsBiop (bytes key kind info body : List ℕ) (before : ℕ) : Type 0 where
-  pub contexts : List (ℕ × List ℕ)
-  pub context_bytes : List ℕ
-  pub trailing : List ℕ
-  pub rest : List ℕ
-  pub head : List ℕ
-  pub ranges : (length key < 256) × (length kind < 4294967296) × (length info < 65536) × (length contexts < 256) × (length body < 4294967296) × (length rest < 4294967296)
-  pub inner : rest ≡ head ++ body ++ trailing
-  pub fields : head ≡ (length key ∷ key) ++ four_bytes (length kind) ++ kind ++ two_bytes (length info) ++ info ++ (length contexts ∷ context_bytes) ++ four_bytes (length body)
-  pub each : ReadsEach ReadsContext context_bytes contexts
-  pub whole : bytes ≡ message_front ++ four_bytes (length rest) ++ rest
-  pub place : before ≡ 12 + length head
-
--- one trailing zero of an id is no part of the name
-abbrev pub IsIdOf : List ℕ → List ℕ → Type 0
-IsIdOf id name = (id ≡ name ++ 0 ∷ []) ⊎ ((id ≡ name) × ((front : List ℕ) → id ≡ front ++ 0 ∷ [] → ⊥))
-
--- a binding, of any type and objectInfo
-pub record ReadsBinding (bytes : List ℕ) (b : BindingFields) : Type 0 where
-  pub id : List ℕ
-  pub binding_type : ℕ
-  pub reference : List ℕ
-  pub info : List ℕ
-  pub ranges : (length id < 256) × (length b.kind < 256) × (binding_type < 256) × (length info < 65536)
-  pub whole : bytes ≡ (1 ∷ length id ∷ id) ++ (length b.kind ∷ b.kind) ++ (binding_type ∷ reference) ++ two_bytes (length info) ++ info
-  pub name : IsIdOf id b.name
-  pub target : iors.Reads reference b.target
-
--- a file's body, `before` bytes after the front of its module; the objectInfo isn't looked at, and bytes after the content are passed over
-pub record IsFileBody (body : List ℕ) (before first n : ℕ) : Type 0 where
-  pub content : List ℕ
-  pub trailing : List ℕ
-  pub small : length content < 4294967296
-  pub whole : body ≡ four_bytes (length content) ++ content ++ trailing
-  pub place : (first ≡ before + 4) × (n ≡ length content)
-
--- a folder's body; bytes after the bindings are passed over
-pub record IsFolderBody (body : List ℕ) (bindings : List BindingFields) : Type 0 where
-  pub lines : List ℕ
-  pub trailing : List ℕ
-  pub few : length bindings < 65536
-  pub whole : body ≡ two_bytes (length bindings) ++ lines ++ trailing
-  pub each : ReadsEach ReadsBinding lines bindings
-
-abbrev pub IsShape : (kind body : List ℕ) (before : ℕ) → Shape → Type 0
-IsShape kind body before (IsFile first n) = (kind ≡ file_kind) × IsFileBody body before first n
-IsShape kind body before (IsFolder bindings) = ((kind ≡ directory_kind) ⊎ (kind ≡ gateway_kind)) × IsFolderBody body bindings
-IsShape kind body before IsOther = (kind ≢ file_kind) × (kind ≢ directory_kind) × (kind ≢ gateway_kind)
-
--- the bytes, all of them, are one message at this place of its module
-pub record ReadsObject (at : ℕ) (bytes : List ℕ) (o : Object) : Type 0 where
-  pub kind : List ℕ
-  pub info : List ℕ
-  pub body : List ℕ
-  pub before : ℕ
-  pub parts : IsBiop bytes o.key kind info body before
-  pub means : IsShape kind body (at + before) o.shape
 
 -- messages back to back from a place on, up to the end or to a message that doesn't read
 abbrev pub ReadsModule : (at : ℕ) (bytes : List ℕ) → List Object → Option ℕ → Type 0

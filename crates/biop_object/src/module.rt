@@ -161,6 +161,13 @@ impl Module {
         &self.bytes
     }
 
+    /// The module's bytes, given away: the index is dropped, and nothing is copied.
+    pub fn into_bytes(self) -> Vec<u8>
+        ensures { result.items ≡ self }
+    {
+        self.bytes
+    }
+
     /// What the first object of this key is. It takes no memory, and doesn't read the messages again.
     ///
     /// Where no object has the key, `Bad` gives the offset at which reading stopped, and `Missing` says that the module

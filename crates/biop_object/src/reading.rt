@@ -4,17 +4,17 @@ ghost use Rattle.std.specs.Prelude.{◌≡◌, ◌≤◌, ◌<◌, ◌+◌, ℕ,
 ghost use Rattle.oc_bytes.specs.Numbers.{IsBytes};
 ghost use Rattle.oc_bytes.specs.Outcome.{Gives};
 ghost use Rattle.oc_bytes.specs.Cause.{place_of};
-ghost use Rattle.oc_bytes.specs.Cursor.{past, from_start, sized_at, part_at, each_at, skip_reading};
-ghost use Rattle.oc_bytes.specs.Agreement.{at};
+ghost use Rattle.oc_bytes.specs.Cursor.{past, from_start, each_at, skip_reading};
+ghost use Rattle.oc_bytes.specs.Grammar.{read, enclosed, four};
 ghost use Rattle.ior_tap.specs.Iors as iors;
 ghost use Rattle.ior_tap.specs.IorReading.{ior_at};
-ghost use Rattle.biop_object.specs.Objects.{IsFile, view_binding};
-ghost use Rattle.biop_object.specs.Index.{view_kind, view_indexed, view_index, cause};
-ghost use Rattle.biop_object.specs.ObjectReading.{drop_zero, binding_at, context_at, contexts_at, nested_at, file_at, folder_at, shape_at, inside_at, object_at, framed_at, index_of};
+ghost use Rattle.biop_object.specs.Objects.{drop_zero, IsFile, view_binding, context, binding, file, folder, shape, heading, message, cut_off, framed};
+ghost use Rattle.biop_object.specs.Index.{view_kind, view_heading, view_indexed, view_index, cause};
+ghost use Rattle.biop_object.specs.ObjectReading.{object_at, index_of};
 ghost use Rattle.biop_object.specs.declared.reading.ReadFault.TheVariants.{Bad, NoMemory as OutOfMemory};
 
 use crate::module::{Binding, Indexed, Kind, Span};
-use ior_tap::{Ior, IorFault, decode, one_reading};
+use ior_tap::{Ior, IorFault, decode};
 use oc_bytes::{Cut, Fields, NoMemory};
 use path_tree::Name;
 use std::alloc::{AllocError, AllocFailed, Global};
@@ -51,21 +51,10 @@ impl<T: Drop> From<AllocFailed<T>> for ReadFault {
     }
 }
 
-/// The IOR at the front of these bytes, wherever they stand, and how many bytes it has.
-fn ior_in(alloc: Global, bytes: &[u8]) -> Result<(Ior, usize), IorFault>
-    ensures found { IfOk result (λ x. (place : ℕ) → ior_at (at place bytes.now) ≡ Ok (iors.view x.0, past x.1 (at place bytes.now))) }
-    ensures inside { IfOk result (λ x. x.1 ≤ length bytes.now) }
-    ensures fault { IfErr result (λ e. IfSome (iors.cause e) (λ p. (place : ℕ) → ior_at (at place bytes.now) ≡ Err (place + p))) }
-    ensures fault_inside { IfErr result (λ e. IfSome (iors.cause e) (λ p. p ≤ length bytes.now)) }
-{
-    one_reading();
-    decode(alloc, bytes)
-}
-
 fn ior_of(alloc: Global, fields: &mut Fields<'_>) -> Result<Ior, ReadFault>
     ensures { Gives (λ i. (iors.view i, fields.new)) cause result (ior_at fields.old) }
 {
-    match ior_in(alloc, fields.rest()) {
+    match decode(alloc, fields.rest()) {
         Ok((ior, count)) => {
             fields.take(count)?;
             Ok(ior)
@@ -86,9 +75,9 @@ fn without_zero(id: &[u8]) -> &[u8]
     id.strip_suffix(&[0]).unwrap_or(id)
 }
 
-#[tactic(auto, unfolding(crate::specs::ObjectReading::binding_at))]
+#[tactic(auto, unfolding(oc_bytes::specs::Grammar::read))]
 fn binding_of(alloc: Global, fields: &mut Fields<'_>) -> Result<Binding, ReadFault>
-    ensures { Gives (λ b. (view_binding b, fields.new)) cause result (binding_at fields.old) }
+    ensures { Gives (λ b. (view_binding b, fields.new)) cause result (read binding fields.old) }
 {
     fields.this_u8(1)?;
     let id = fields.sized8()?;
@@ -106,7 +95,7 @@ fn bindings_of(
     fields: &mut Fields<'_>,
     count: u16,
 ) -> Result<Vec<Binding>, ReadFault>
-    ensures { Gives (λ v. (map view_binding v.items, fields.new)) cause result (each_at binding_at count fields.old) }
+    ensures { Gives (λ v. (map view_binding v.items, fields.new)) cause result (each_at (read binding) count fields.old) }
 {
     let mut bindings = Vec::new(alloc);
     for _ in 0..count {
@@ -116,18 +105,18 @@ fn bindings_of(
     Ok(bindings)
 }
 
-#[tactic(auto, unfolding(crate::specs::ObjectReading::folder_at))]
+#[tactic(auto, unfolding(oc_bytes::specs::Grammar::read))]
 fn folder_of(alloc: Global, fields: &mut Fields<'_>) -> Result<Kind, ReadFault>
-    ensures { Gives (λ k. (view_kind k, fields.new)) cause result (folder_at fields.old) }
+    ensures { Gives (λ k. (view_kind k, fields.new)) cause result (read folder fields.old) }
 {
     let count = fields.u16()?;
     let bindings = bindings_of(alloc, fields, count)?;
     Ok(Kind::Folder(bindings))
 }
 
-#[tactic(auto, unfolding(crate::specs::ObjectReading::file_at, oc_bytes::specs::Cursor::sized_at))]
+#[tactic(auto, unfolding(oc_bytes::specs::Grammar::read, oc_bytes::specs::Cursor::sized_at))]
 fn file_of(fields: &mut Fields<'_>) -> Result<Span, Cut>
-    ensures { Gives (λ span. (IsFile span.first span.length, fields.new)) place_of result (file_at fields.old) }
+    ensures { Gives (λ span. (IsFile span.first span.length, fields.new)) place_of result (read (file fields.old.place) fields.old) }
 {
     let length = fields.u32()? as usize;
     let first = fields.place();
@@ -136,9 +125,9 @@ fn file_of(fields: &mut Fields<'_>) -> Result<Span, Cut>
 }
 
 /// A service context, passed over.
-#[tactic(auto, unfolding(crate::specs::ObjectReading::context_at))]
+#[tactic(auto, unfolding(oc_bytes::specs::Grammar::read))]
 fn pass_context(fields: &mut Fields<'_>) -> Result<(), Cut>
-    ensures { Gives (λ _. (tt, fields.new)) place_of result (skip_reading (context_at fields.old)) }
+    ensures { Gives (λ _. (tt, fields.new)) place_of result (skip_reading (read context fields.old)) }
 {
     fields.u32()?;
     fields.sized16()?;
@@ -146,7 +135,7 @@ fn pass_context(fields: &mut Fields<'_>) -> Result<(), Cut>
 }
 
 fn pass_contexts(fields: &mut Fields<'_>, count: u8) -> Result<(), Cut>
-    ensures { Gives (λ _. (tt, fields.new)) place_of result (contexts_at count fields.old) }
+    ensures { Gives (λ _. (tt, fields.new)) place_of result (skip_reading (each_at (read context) count fields.old)) }
 {
     for _ in 0..count {
         pass_context(fields)?;
@@ -162,7 +151,7 @@ pub(crate) const GATEWAY: [u8; 4] = *b"srg\0";
 
 /// What a message's body says, by the message's kind.
 fn kind_of(alloc: Global, kind: &[u8], fields: &mut Fields<'_>) -> Result<Kind, ReadFault>
-    ensures { Gives (λ k. (view_kind k, fields.new)) cause result (shape_at kind.now fields.old) }
+    ensures { Gives (λ k. (view_kind k, fields.new)) cause result (read (shape kind.now fields.old.place) fields.old) }
 {
     if kind == FILE.as_slice() {
         return Ok(Kind::File(file_of(fields)?));
@@ -173,63 +162,68 @@ fn kind_of(alloc: Global, kind: &[u8], fields: &mut Fields<'_>) -> Result<Kind, 
     Ok(Kind::Other)
 }
 
-/// A body of so many bytes, which is taken whole.
-fn body_of(
-    alloc: Global,
-    kind: &[u8],
-    fields: &mut Fields<'_>,
-    length: usize,
-) -> Result<Kind, ReadFault>
-    ensures { Gives (λ k. (view_kind k, fields.new)) cause result (nested_at length (shape_at kind.now) fields.old) }
+/// A body with its length before it, which is taken whole.
+#[tactic(auto, unfolding(oc_bytes::specs::Grammar::read))]
+fn body_of(alloc: Global, kind: &[u8], fields: &mut Fields<'_>) -> Result<Kind, ReadFault>
+    ensures { Gives (λ k. (view_kind k, fields.new)) cause result (read (enclosed four (shape kind.now (fields.old.place + 4))) fields.old) }
 {
-    let mut body = fields.part(length)?;
+    let length = fields.u32()?;
+    let mut body = fields.part(length as usize)?;
     kind_of(alloc, kind, &mut body)
 }
 
-/// Bytes with their number before them in four bytes.
-#[tactic(auto, unfolding(oc_bytes::specs::Cursor::sized_at))]
-fn sized32<'a>(fields: &mut Fields<'a>) -> Result<&'a [u8], Cut>
-    ensures { Gives (λ x. (x.now, fields.new)) place_of result (sized_at 4 fields.old) }
-{
-    let size = fields.u32()?;
-    fields.take(size as usize)
+/// What stands in a message before its body.
+#[derive(Drop)]
+struct Heading<'a> {
+    key: &'a [u8],
+    kind: &'a [u8],
 }
 
-#[tactic(auto, unfolding(crate::specs::ObjectReading::inside_at))]
-fn inside_of(alloc: Global, fields: &mut Fields<'_>) -> Result<Indexed, ReadFault>
-    ensures { Gives (λ i. (view_indexed i, fields.new)) cause result (inside_at fields.old) }
+#[tactic(auto, unfolding(oc_bytes::specs::Grammar::read))]
+fn heading_of<'a>(fields: &mut Fields<'a>) -> Result<Heading<'a>, Cut>
+    ensures { Gives (λ h. (view_heading h, fields.new)) place_of result (read heading fields.old) }
 {
     let key = fields.sized8()?;
-    let kind = sized32(fields)?;
+    let kind = fields.sized32()?;
     fields.sized16()?;
     let contexts_count = fields.u8()?;
     pass_contexts(fields, contexts_count)?;
-    let body_length = fields.u32()?;
-    let kind = body_of(alloc, kind, fields, body_length as usize)?;
-    let key = Vec::from_slice(alloc, key)?;
+    Ok(Heading { key, kind })
+}
+
+#[tactic(auto, using(crate::proofs::Places::message_stops))]
+fn message_of(alloc: Global, fields: &mut Fields<'_>) -> Result<Indexed, ReadFault>
+    ensures { Gives (λ i. (view_indexed i, fields.new)) cause result (read (message fields.old.place) fields.old) }
+{
+    let heading = heading_of(fields)?;
+    let kind = body_of(alloc, heading.kind, fields)?;
+    let key = Vec::from_slice(alloc, heading.key)?;
     Ok(Indexed { key, kind })
 }
 
-/// A message of so many bytes after its size, which is taken whole.
-fn message_of(alloc: Global, fields: &mut Fields<'_>, size: usize) -> Result<Indexed, ReadFault>
-    ensures reads { Gives (λ i. (view_indexed i, fields.new)) cause result (nested_at size inside_at fields.old) }
-    ensures memory { IsErrOf result ReadFault.NoMemory → IsOk (part_at size fields.old) }
+/// A message with its size before it, which is taken whole.
+#[tactic(auto, unfolding(oc_bytes::specs::Grammar::read))]
+fn sized_message_of(alloc: Global, fields: &mut Fields<'_>) -> Result<Indexed, ReadFault>
+    ensures reads { Gives (λ i. (view_indexed i, fields.new)) cause result (read (enclosed four (message (fields.old.place + 4))) fields.old) }
+    ensures memory { IsErrOf result ReadFault.NoMemory → IsOk (read cut_off fields.old) }
+    ensures framed { IsOk result → IsOk (read cut_off fields.old) }
 {
-    let mut message = fields.part(size)?;
-    inside_of(alloc, &mut message)
+    let size = fields.u32()?;
+    let mut message = fields.part(size as usize)?;
+    message_of(alloc, &mut message)
 }
 
 /// `BIOP`, version 1.0, byte order 0, message type 0.
 pub(crate) const HEAD: u64 = 0x42494F5001000000;
 
-#[tactic(auto, unfolding(crate::specs::ObjectReading::object_at))]
+#[tactic(auto, unfolding(oc_bytes::specs::Grammar::read, crate::specs::ObjectReading::object_at))]
 fn object_of(alloc: Global, fields: &mut Fields<'_>) -> Result<Indexed, ReadFault>
     ensures reads { Gives (λ i. (view_indexed i, fields.new)) cause result (object_at fields.old) }
-    ensures memory { IsErrOf result ReadFault.NoMemory → IsOk (framed_at fields.old) }
+    ensures memory { IsErrOf result ReadFault.NoMemory → IsOk (read framed fields.old) }
+    ensures framed { IsOk result → IsOk (read framed fields.old) }
 {
     fields.this_u64(HEAD)?;
-    let size = fields.u32()?;
-    message_of(alloc, fields, size as usize)
+    sized_message_of(alloc, fields)
 }
 
 /// The objects of a module in order, and the place of the first message that doesn't read, if there is one.
@@ -243,7 +237,7 @@ pub(crate) struct Index {
 pub(crate) fn read_index(alloc: Global, bytes: &[u8]) -> Result<Index, NoMemory>
     ensures index { IfOk result (λ i. (view_index i.objects.items, i.stop) ≡ index_of bytes.now) }
     ensures fit { IsBytes bytes.now }
-    ensures memory { IsErr result → IsOk (framed_at (from_start bytes.now)) }
+    ensures memory { IsErr result → IsOk (read framed (from_start bytes.now)) }
 {
     let mut objects = Vec::new(alloc);
     let mut fields = Fields::new(bytes);

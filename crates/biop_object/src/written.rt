@@ -98,10 +98,10 @@ pub fn encode_file(alloc: Global, key: &Key, content: &[u8]) -> Result<Vec<u8>, 
     ensures reads { IfOk result (λ bytes. (at : ℕ) → ReadsObject at bytes.items
         (record { key = key.now; shape = IsFile (at + FILE_FRONT) (length content.now) })) }
 {
-    file_bytes(alloc, key.bytes(), content)
+    file_bytes(alloc, key, content)
 }
 
-fn file_bytes(alloc: Global, key: &[u8], content: &[u8]) -> Result<Vec<u8>, NoMemory>
+fn file_bytes(alloc: Global, key: &Key, content: &[u8]) -> Result<Vec<u8>, NoMemory>
     requires key { length key.now ≡ 4 }
     requires size { length content.now ≤ MOST_CONTENT }
     ensures { IfOk result (λ bytes. bytes.items ≡ file_spelling key.now content.now) }
@@ -109,7 +109,7 @@ fn file_bytes(alloc: Global, key: &[u8], content: &[u8]) -> Result<Vec<u8>, NoMe
     let length = content.len() as u32;
     let info = u64::from(length).to_be_bytes();
     let mut out = Writer::new(alloc);
-    put_front(&mut out, key, &FILE, &info, 4 + length)?;
+    put_front(&mut out, key.bytes(), &FILE, &info, 4 + length)?;
     out.put_u32(length)?;
     out.put_bytes(content)?;
     Ok(out.done())
@@ -141,14 +141,14 @@ pub fn encode_folder(
     let Some(size) = size_of(entries) else {
         return Err(ObjectFault::TooLarge);
     };
-    let bytes = folder_bytes(alloc, kind, key.bytes(), entries, size)?;
+    let bytes = folder_bytes(alloc, kind, key, entries, size)?;
     Ok(bytes)
 }
 
 fn folder_bytes(
     alloc: Global,
     kind: FolderKind,
-    key: &[u8],
+    key: &Key,
     entries: &[Written],
     size: u32,
 ) -> Result<Vec<u8>, NoMemory>
@@ -160,7 +160,7 @@ fn folder_bytes(
     ensures room { OnOk result (All (λ w. IsLocation w.location) entries.now) }
 {
     let mut out = Writer::new(alloc);
-    put_front(&mut out, key, kind.name(), &[], size - 32)?;
+    put_front(&mut out, key.bytes(), kind.name(), &[], size - 32)?;
     out.put_u16(entries.len() as u16)?;
     put_bindings(&mut out, entries)?;
     Ok(out.done())

@@ -11,10 +11,10 @@ use Rattle.cycle_planner.specs.declared.Item.{Item}
 use Rattle.cycle_planner.specs.declared.Item.TheVariants.{Dsi, Dii, Block}
 use Rattle.ddb_block.specs.Message.{message_at}
 use Rattle.ddb_block.specs.Blocks.{block_at}
-use Rattle.ior_tap.specs.IorReading.{tap_at, component_at, location_at, taps_at, components_at, profile_at, ior_at}
 use Rattle.oc_bytes.specs.Cursor.{each_at, sized_at}
-use Rattle.dsi_dii.specs.ControlReading.{info_at, line_at, dii_at, dsi_at, head_at, frame_at, private_at}
-use Rattle.biop_object.specs.ObjectReading.{binding_at, context_at, file_at, folder_at, object_at, inside_at}
+use Rattle.oc_bytes.specs.Grammar.{read}
+use Rattle.dsi_dii.specs.ControlReading.{dii_at, dsi_at, frame_at, private_at}
+use Rattle.biop_object.specs.ObjectReading.{object_at}
 use Rattle.generation.specs.Kept.{LayoutsAreLawful}
 use Rattle.generation.specs.Lawful.{ArePublishable, IsPublishable, layout_at, section_in}
 use Rattle.path_resolver.specs.declared.answer.Answer.TheVariants as answers
@@ -132,15 +132,15 @@ premised lawful = record {
 -- ---- what is answered
 
 before : Tells received 3 (Some 1) answers.NoCarousel
-unfolding message_at block_at each_at tap_at component_at location_at taps_at components_at profile_at ior_at info_at line_at dii_at dsi_at binding_at context_at file_at folder_at object_at head_at sized_at frame_at private_at inside_at
+unfolding read message_at block_at each_at dii_at dsi_at object_at sized_at frame_at private_at
 before = record { label_is = refl; answer_is = refl }
 
 between : Tells received 6 (Some 2) (answers.NotYet 1)
-unfolding message_at block_at each_at tap_at component_at location_at taps_at components_at profile_at ior_at info_at line_at dii_at dsi_at binding_at context_at file_at folder_at object_at head_at sized_at frame_at private_at inside_at
+unfolding read message_at block_at each_at dii_at dsi_at object_at sized_at frame_at private_at
 between = record { label_is = refl; answer_is = refl }
 
 after : Tells received 9 (Some 2) (answers.File second_content)
-unfolding message_at block_at each_at tap_at component_at location_at taps_at components_at profile_at ior_at info_at line_at dii_at dsi_at binding_at context_at file_at folder_at object_at head_at sized_at frame_at private_at inside_at
+unfolding read message_at block_at each_at dii_at dsi_at object_at sized_at frame_at private_at
 after = record { label_is = refl; answer_is = refl }
 
 pub damage : LayoutsAreLawful → DamageIsPremised

@@ -13,10 +13,10 @@ use Rattle.cycle_planner.specs.declared.Item.{Item}
 use Rattle.cycle_planner.specs.declared.Item.TheVariants.{Dsi, Dii, Block}
 use Rattle.ddb_block.specs.Message.{message_at}
 use Rattle.ddb_block.specs.Blocks.{block_at}
-use Rattle.ior_tap.specs.IorReading.{tap_at, component_at, location_at, taps_at, components_at, profile_at, ior_at}
 use Rattle.oc_bytes.specs.Cursor.{each_at, sized_at}
-use Rattle.dsi_dii.specs.ControlReading.{info_at, line_at, dii_at, dsi_at, head_at, frame_at, private_at}
-use Rattle.biop_object.specs.ObjectReading.{binding_at, context_at, file_at, folder_at, object_at, inside_at}
+use Rattle.oc_bytes.specs.Grammar.{read}
+use Rattle.dsi_dii.specs.ControlReading.{dii_at, dsi_at, frame_at, private_at}
+use Rattle.biop_object.specs.ObjectReading.{object_at}
 use Rattle.generation.specs.Kept.{LayoutsAreLawful}
 use Rattle.generation.specs.Layouts.{GenerationState}
 use Rattle.generation_catalogue.specs.History.{trees_of}
@@ -269,15 +269,15 @@ unfolding kept_modules least_with
 last_items = refl
 
 first_opened : reply_to drawn_once (Open 1 the_path) ≡ replies.Opened (Some 1) answers.NoCarousel
-unfolding message_at block_at each_at tap_at component_at location_at taps_at components_at profile_at ior_at info_at line_at dii_at dsi_at binding_at context_at file_at folder_at object_at head_at sized_at frame_at private_at inside_at
+unfolding read message_at block_at each_at dii_at dsi_at object_at sized_at frame_at private_at
 first_opened = refl
 
 second_opened : reply_to drawn_twice (Open 1 the_path) ≡ replies.Opened (Some 2) (answers.NotYet 1)
-unfolding message_at block_at each_at tap_at component_at location_at taps_at components_at profile_at ior_at info_at line_at dii_at dsi_at binding_at context_at file_at folder_at object_at head_at sized_at frame_at private_at inside_at
+unfolding read message_at block_at each_at dii_at dsi_at object_at sized_at frame_at private_at
 second_opened = refl
 
 last_opened : reply_to after_run (Open 2 the_path) ≡ replies.Opened (Some 2) (answers.File second_content)
-unfolding message_at block_at each_at tap_at component_at location_at taps_at components_at profile_at ior_at info_at line_at dii_at dsi_at binding_at context_at file_at folder_at object_at head_at sized_at frame_at private_at inside_at
+unfolding read message_at block_at each_at dii_at dsi_at object_at sized_at frame_at private_at
 last_opened = refl
 
 run : Leads (initial_world 1 ones) lossy_run after_run

@@ -4,7 +4,8 @@ use Rattle.std.specs.Int.{div_ceil}
 use Rattle.std.specs.List.{sum, range_with_len}
 use Rattle.oc_bytes.specs.Numbers.{two_bytes}
 use Rattle.ddb_block.specs.Message.{IsMessage, message, message_at}
-use Rattle.oc_bytes.specs.Cursor.{Reading, ◌>>=◌, number_at, from_start, value_only}
+use Rattle.oc_bytes.specs.Cursor.{Reading, ◌>>=◌, from_start, value_only}
+use Rattle.oc_bytes.specs.Grammar.{Grammar, one, two, number, field, gives, read as read_by, Reads as ReadsBy}
 use Rattle.ddb_block.specs.declared.Ddb.{Ddb}
 use Rattle.ddb_block.specs.declared.Parts.{Parts}
 use Rattle.ddb_block.specs.declared.DdbFault.{DdbFault}
@@ -31,10 +32,25 @@ pub record Fits (b : Block) : Type 0 where
   pub version : b.version < 256
   pub number : b.number < 65536
 
+-- the fields before a block's bytes: moduleId, moduleVersion and blockNumber
+abbrev pub BlockFields : Type 0
+BlockFields = ℕ × ℕ × ℕ
+
+abbrev pub block_fields : Grammar BlockFields
+block_fields =
+    field (number two) (λ f. f.0) λ module_id.
+    field (number one) (λ f. f.1) λ version.
+    field (number one) (λ f. 0xFF) λ reserved.
+    field (number two) (λ f. f.2) λ block.
+    gives (module_id, version, block)
+
+abbrev pub fields_of : Block → BlockFields
+fields_of b = (b.module_id, b.version, b.number)
+
 pub record Reads (payload : List ℕ) (b : Block) : Type 0 where
-  pub reserved : ℕ
-  pub ranges : (b.module_id < 65536) × (b.version < 256) × (reserved < 256) × (b.number < 65536)
-  pub message : IsMessage payload 0x1003 b.download (two_bytes b.module_id ++ (b.version ∷ reserved ∷ []) ++ two_bytes b.number ++ b.bytes)
+  pub front : List ℕ
+  pub fields : ReadsBy block_fields front (fields_of b)
+  pub message : IsMessage payload 0x1003 b.download (front ++ b.bytes)
 
 abbrev pub spelling : Block → List ℕ
 spelling b = message 0x1003 b.download (two_bytes b.module_id ++ (b.version ∷ 0xFF ∷ []) ++ two_bytes b.number ++ b.bytes)
@@ -44,7 +60,7 @@ block_count_of size block_size = div_ceil size block_size
 
 -- how many bytes a block has: all but the last have the block size
 abbrev pub block_span_of : ℕ → ℕ → ℕ → ℕ
-block_span_of size block_size number = min block_size (size - number * block_size)
+block_span_of size block_size n = min block_size (size - n * block_size)
 
 -- the spans of a size add up to it
 pub record SpansFill (size block_size : ℕ) : Type 0 where
@@ -61,11 +77,8 @@ cause faults.NoMemory = None
 unfoldable pub block_at : List ℕ → Reading Block
 block_at payload = do
   download ← message_at 0x1003 (from_start payload)
-  module_id ← number_at 2 download.1
-  version ← number_at 1 module_id.1
-  reserved ← number_at 1 version.1
-  number ← number_at 2 reserved.1
-  Ok (record { download = download.0; module_id = module_id.0; version = version.0; number = number.0; bytes = number.1.rest }, number.1)
+  fields ← read_by block_fields download.1
+  Ok (record { download = download.0; module_id = fields.0.0; version = fields.0.1; number = fields.0.2; bytes = fields.1.rest }, fields.1)
 
 -- what reading gives: the block, or the place of the first field that breaks a rule or is cut
 abbrev pub read : List ℕ → Result Block ℕ

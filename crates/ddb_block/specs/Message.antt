@@ -1,6 +1,7 @@
 -- The header that every download message has.
 use Rattle.std.specs.Prelude.{◌≡◌, ℕ, ◌+◌, ◌<◌, List, [], ◌∷◌, ◌++◌, length, nat_le, ◌&&◌, ◌-◌, Ok}
-use Rattle.oc_bytes.specs.Cursor.{Cursor, Reading, ◌>>=◌, number_at, this_at, bytes_at, if_holds, within}
+use Rattle.oc_bytes.specs.Cursor.{Cursor, Reading, ◌>>=◌, number_at, bytes_at, if_holds, within}
+use Rattle.oc_bytes.specs.Grammar.{Grammar, one, two, four, number, field, gives, this, read}
 use Rattle.oc_bytes.specs.Numbers.{two_bytes, four_bytes}
 
 -- the bytes are a message of this id and transaction with this body; the adaptation and what follows the message are passed over
@@ -20,16 +21,27 @@ prefix_of id transaction size = (0x11 ∷ 0x03 ∷ []) ++ two_bytes id ++ four_b
 abbrev pub message : ℕ → ℕ → List ℕ → List ℕ
 message id transaction body = prefix_of id transaction (length body) ++ body
 
+-- the fields of a header before its messageLength
+pub record Opening : Type 0 where
+  pub transaction : ℕ
+  pub reserved : ℕ
+  pub adaptation_length : ℕ
+
+abbrev pub opening : ℕ → Grammar Opening
+opening id =
+    field (this one 0x11) (λ o. 0x11) λ protocol.
+    field (this one 0x03) (λ o. 0x03) λ kind.
+    field (this two id) (λ o. id) λ message_id.
+    field (number four) (λ o. o.transaction) λ transaction.
+    field (number one) (λ o. o.reserved) λ reserved.
+    field (number one) (λ o. o.adaptation_length) λ adaptation_length.
+    gives (record { transaction = transaction; reserved = reserved; adaptation_length = adaptation_length })
+
 -- the transaction, and the cursor over the body
 unfoldable pub message_at : ℕ → Cursor → Reading ℕ
 message_at id c = do
-  protocol ← this_at 1 0x11 c
-  kind ← this_at 1 0x03 protocol.1
-  message_id ← this_at 2 id kind.1
-  transaction ← number_at 4 message_id.1
-  reserved ← number_at 1 transaction.1
-  adaptation_length ← number_at 1 reserved.1
-  message_length ← number_at 2 adaptation_length.1
-  fitting ← if_holds adaptation_length.1 (nat_le adaptation_length.0 message_length.0 && nat_le message_length.0 (length message_length.1.rest)) message_length
-  adaptation ← bytes_at adaptation_length.0 fitting.1
-  Ok (transaction.0, within (message_length.0 - adaptation_length.0) adaptation.1)
+  opened ← read (opening id) c
+  size ← number_at 2 opened.1
+  fitting ← if_holds opened.1 (nat_le opened.0.adaptation_length size.0 && nat_le size.0 (length size.1.rest)) size
+  adaptation ← bytes_at opened.0.adaptation_length fitting.1
+  Ok (opened.0.transaction, within (size.0 - opened.0.adaptation_length) adaptation.1)

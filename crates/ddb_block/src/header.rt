@@ -27,7 +27,7 @@ pub fn header_bytes(id: u16, transaction: u32, size: u16) -> [u8; 12]
 /// Places are counted from the payload's first byte. [`Cut`] has the place of the first field that is cut, or that breaks its
 /// rule: protocolDiscriminator is 0x11, dsmccType 0x03 and messageId `id`; messageLength is at least adaptationLength and
 /// at most the number of bytes after it.
-#[tactic(auto, unfolding(crate::specs::Message::message_at))]
+#[tactic(auto, unfolding(crate::specs::Message::message_at, oc_bytes::specs::Grammar::read))]
 pub fn message(payload: &[u8], id: u16) -> Result<(u32, Fields<'_>), Cut>
     ensures { Gives (λ x. x) place_of result (message_at id (from_start payload.now)) }
 {

@@ -176,7 +176,7 @@ pub fn spellings_read()
 {}
 
 /// Reads a block message as `decode` does, copying nothing. [`Cut`] has the place that `decode` gives.
-#[tactic(auto, unfolding(crate::specs::Blocks::block_at))]
+#[tactic(auto, unfolding(crate::specs::Blocks::block_at, oc_bytes::specs::Grammar::read))]
 pub fn parts_of(payload: &[u8]) -> Result<Parts<'_>, Cut>
     ensures { Gives parts_view place_of result (read payload.now) }
 {

@@ -1,5 +1,4 @@
 pub mod Tags
-pub mod Lines
 pub mod Messages
 pub mod Laws
 pub mod Spelled

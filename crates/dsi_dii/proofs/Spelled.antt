@@ -1,5 +1,5 @@
 -- Bytes that are put one field after another.
-use Rattle.std.proofs.Common.{◌≡◌, ℕ, ◌+◌, ◌*◌, ◌<◌, ◌≤◌, false, List, [], ◌∷◌, ◌++◌, length, take, get_or, refl, sym, ap, subst, ◌∙◌, append_assoc, arith, length-append, inl, zero-add}
+use Rattle.std.proofs.Common.{◌≡◌, ℕ, ◌+◌, ◌*◌, ◌<◌, ◌≤◌, Bool, false, List, [], ◌∷◌, ◌++◌, length, take, get_or, refl, sym, ap, subst, ◌∙◌, append_assoc, arith, length-append}
 use Rattle.std.proofs.lemmas.List.{take_more, append-nil}
 use Rattle.std.proofs.lemmas.List.Elements.{All-push, recursion_from_All}
 use Rattle.std.proofs.lemmas.List.Concat.{flat_map-cons}
@@ -8,11 +8,12 @@ use Rattle.std.specs.List.{flat_map, All, AllByRecursion}
 use Rattle.std.specs.Prelude.{replicate}
 use Rattle.ddb_block.specs.Message.{IsMessage, message, prefix_of}
 use Rattle.ior_tap.specs.Iors as iors
-use Rattle.ior_tap.specs.Iors.{TapFields}
-use Rattle.oc_bytes.specs.Agreement.{ReadsEach}
+use Rattle.oc_bytes.specs.Grammar.{Fits, FitsEach, spell, front_of}
+use Rattle.oc_bytes.proofs.CallerLemmas.{fits_reads, front_spelled}
+use Rattle.ddb_block.proofs.CallerLemmas.{spelling_is_message}
 use Rattle.oc_bytes.specs.Numbers.{two_bytes, four_bytes}
 use Rattle.dsi_dii.specs.declared.ModuleLine.{ModuleLine}
-use Rattle.dsi_dii.specs.Controls.{DiiFields, DsiFields, ReadsInfo, ReadsLine, ReadsDii, ReadsDsi, IsDsiFrame, IsWrittenDii, dsi_body, line_bytes, written_info, LineFits, dii_head, dii_spelling}
+use Rattle.dsi_dii.specs.Controls.{DiiFields, DsiFields, info, line, head, head_of, dii_body, private_data, compressed_of, ReadsDii, ReadsDsi, IsDsiFrame, IsWrittenDii, dsi_body, line_bytes, written_info, LineFits, dii_head, dii_spelling}
 
 -- one field more
 pub put_more : (w u v a b : List ℕ) → u ≡ w ++ a → v ≡ u ++ b → v ≡ w ++ (a ++ b)
@@ -47,10 +48,10 @@ pub lines_length : (ls : List ModuleLine) → length (flat_map line_bytes ls) �
 lines_length [] = refl
 lines_length (l ∷ ls) = ap length (flat_map-cons line_bytes l ls) ∙ omega (arith, length-append (line_bytes l) (flat_map line_bytes ls), lines_length ls)
 
-abbrev pub dii_body : (download : ℕ) → List ModuleLine → List ℕ
-dii_body download ls = dii_head download (length ls) ++ flat_map line_bytes ls ++ two_bytes 0
+abbrev pub dii_bytes : (download : ℕ) → List ModuleLine → List ℕ
+dii_bytes download ls = dii_head download (length ls) ++ flat_map line_bytes ls ++ two_bytes 0
 
-pub dii_body_length : (download : ℕ) (ls : List ModuleLine) → length (dii_body download ls) ≡ 22 + 29 * length ls
+pub dii_body_length : (download : ℕ) (ls : List ModuleLine) → length (dii_bytes download ls) ≡ 22 + 29 * length ls
 dii_body_length download ls = omega (arith, length-append (dii_head download (length ls) ++ flat_map line_bytes ls) (two_bytes 0), length-append (dii_head download (length ls)) (flat_map line_bytes ls), lines_length ls)
 
 pub dii_put : (d : DiiFields) (size count : ℕ) (w0 w1 w2 w3 w4 : List ℕ) → count ≡ length d.modules → w0 ≡ [] → w1 ≡ w0 ++ prefix_of 0x1002 d.transaction size → w2 ≡ w1 ++ dii_head d.download count
@@ -62,62 +63,46 @@ dii_put d size count w0 w1 w2 w3 w4 counted e0 e1 e2 e3 e4 sized =
     let f1 : w2 ≡ w1 ++ head = e2 ∙ ap (λ (k : ℕ). w1 ++ dii_head d.download k) counted in
     let f2 = put_more w1 w2 w3 head lines f1 e3 in
     let f3 = put_more w1 w3 w4 (head ++ lines) (two_bytes 0) f2 e4 in
-    let f4 = put_more w0 w1 w4 header (dii_body d.download d.modules) e1 f3 in
-    let number : size ≡ length (dii_body d.download d.modules) = omega (arith, sized, counted, dii_body_length d.download d.modules) in
-    f4 ∙ ap (λ (w : List ℕ). w ++ (header ++ dii_body d.download d.modules)) e0 ∙ ap (λ (k : ℕ). prefix_of 0x1002 d.transaction k ++ dii_body d.download d.modules) number
+    let f4 = put_more w0 w1 w4 header (dii_bytes d.download d.modules) e1 f3 in
+    let number : size ≡ length (dii_bytes d.download d.modules) = omega (arith, sized, counted, dii_body_length d.download d.modules) in
+    f4 ∙ ap (λ (w : List ℕ). w ++ (header ++ dii_bytes d.download d.modules)) e0 ∙ ap (λ (k : ℕ). prefix_of 0x1002 d.transaction k ++ dii_bytes d.download d.modules) number
 
 -- ---- what is written is read
 
-message_spelled : (id transaction : ℕ) (body : List ℕ) → id < 65536 → transaction < 4294967296 → length body < 65536 → IsMessage (message id transaction body) id transaction body
-message_spelled id transaction body id_fits transaction_fits body_fits = record {
-  adaptation = [];
-  trailing = [];
-  reserved = 0xFF;
-  ranges = (id_fits, transaction_fits, omega arith, omega arith, omega arith);
-  whole = ap (λ (k : ℕ). prefix_of id transaction k ++ body) (sym (zero-add (length body))) ∙ sym (append-nil (prefix_of id transaction (0 + length body) ++ body));
-}
+info_fits : Fits info []
+unfolding Fits
+info_fits = (refl, (omega arith, (((refl, ((omega arith, (omega arith, (omega arith, (omega arith, refl)))), tt)), refl), omega arith)))
 
-no_stamps : List ℕ
-no_stamps = four_bytes 0xFFFFFFFF ++ four_bytes 0xFFFFFFFF ++ four_bytes 0
+without : ModuleLine → Bool → ModuleLine
+without l b = record { id = l.id; size = l.size; version = l.version; compressed = b }
 
-block_tap : TapFields
-block_tap = record { id = 0; use_code = 0x0017; assoc = 0x0001; selector = [] }
+-- a written line is read as one without compression
+plain_line : (l : ModuleLine) → l.compressed ≡ false → l ≡ without l (compressed_of (front_of info written_info))
+unfolding without spell
+plain_line l plain = ap (without l) (plain ∙ sym (ap compressed_of (front_spelled info [] info_fits)))
 
-info_read : ReadsInfo written_info []
-unfolding no_stamps block_tap
-info_read = record {
-  times = no_stamps;
-  taps = block_tap ∷ [];
-  tap_lines = two_bytes 0 ++ two_bytes 0x0017 ++ two_bytes 0x0001 ++ 0 ∷ [];
-  trailing = [];
-  ranges = (refl, omega arith, omega arith);
-  whole = refl;
-  each = (two_bytes 0 ++ two_bytes 0x0017 ++ two_bytes 0x0001 ++ 0 ∷ [], [], refl, record { ranges = (omega arith, omega arith, omega arith, omega arith); whole = refl }, refl);
-}
+line_fits : (l : ModuleLine) → l.compressed ≡ false → LineFits l → Fits line l
+unfolding Fits without
+line_fits l plain fits = (fits.id, (fits.size, (fits.version, (omega arith, plain_line l plain))))
 
-line_read : (l : ModuleLine) → l.compressed ≡ false → LineFits l → ReadsLine (line_bytes l) l
-line_read l plain fits = record { info = written_info; ranges = (fits.id, fits.size, fits.version, omega arith); whole = refl; means = inl ([], info_read, plain) }
-
-lines_read : (ls : List ModuleLine) → AllByRecursion (λ l. l.compressed ≡ false) ls → AllByRecursion LineFits ls → ReadsEach ReadsLine (flat_map line_bytes ls) ls
-lines_read [] plain fit = refl
-lines_read (l ∷ ls) plain fit = (line_bytes l, flat_map line_bytes ls, flat_map-cons line_bytes l ls, line_read l plain.0 fit.0, lines_read ls plain.1 fit.1)
+each_fits : (ls : List ModuleLine) → AllByRecursion (λ l. l.compressed ≡ false) ls → AllByRecursion LineFits ls → FitsEach (Fits line) ls
+each_fits [] plain fit = tt
+each_fits (l ∷ ls) plain fit = (line_fits l plain.0 fit.0, each_fits ls plain.1 fit.1)
 
 pub dii_spelled : (d : DiiFields) → IsWrittenDii d → All LineFits d.modules → length d.modules ≤ 139 → d.download < 4294967296 → d.transaction < 4294967296 → ReadsDii (dii_spelling d) d
+unfolding Fits spell
 dii_spelled d written fit few download transaction =
-    let body = dii_body d.download d.modules in
-    let short : length body < 65536 = omega (arith, dii_body_length d.download d.modules, few) in
-    let flat = four_bytes d.download ++ two_bytes d.block_size ++ replicate 10 0 ++ two_bytes 0 ++ [] ++ two_bytes (length d.modules) ++ flat_map line_bytes d.modules ++ two_bytes 0 ++ [] ++ [] in
-    let regrouped : body ≡ flat = sym (ap (λ (k : ℕ). four_bytes d.download ++ two_bytes k ++ replicate 10 0 ++ two_bytes 0 ++ [] ++ two_bytes (length d.modules) ++ flat_map line_bytes d.modules ++ two_bytes 0 ++ [] ++ []) written.blocks
-    ∙ append-nil (body ++ []) ∙ append-nil body) in
+    let body = dii_bytes d.download d.modules in
+    let front = spell (dii_body d.transaction) d in
+    let lines = each_fits d.modules (recursion_from_All (λ l. l.compressed ≡ false) d.modules written.plain) (recursion_from_All LineFits d.modules fit) in
+    let room : d.block_size < 65536 = omega (arith, written.blocks) in
+    let head_fits : Fits head (head_of d) = (download, (room, (omega arith, (omega arith, (omega arith, (omega arith, (omega arith, (omega (arith, few), refl)))))))) in
+    let whole : body ≡ front = ap (λ (k : ℕ). four_bytes d.download ++ two_bytes k ++ replicate 10 0 ++ two_bytes 0 ++ two_bytes (length d.modules) ++ flat_map line_bytes d.modules ++ two_bytes 0) (sym written.blocks) in
     record {
-      windows = replicate 10 0;
-      compatibility = [];
-      lines = flat_map line_bytes d.modules;
-      private = [];
+      front = front;
       trailing = [];
-      ranges = (download, omega (arith, written.blocks), refl, omega arith, omega (arith, few), omega arith);
-      message = subst (λ (b : List ℕ). IsMessage (dii_spelling d) 0x1002 d.transaction b) regrouped (message_spelled 0x1002 d.transaction body (omega arith) transaction short);
-      each = lines_read d.modules (recursion_from_All (λ l. l.compressed ≡ false) d.modules written.plain) (recursion_from_All LineFits d.modules fit);
+      body = fits_reads (dii_body d.transaction) d (head_fits, ((refl, lines), (omega arith, refl)));
+      message = subst (λ (b : List ℕ). IsMessage (dii_spelling d) 0x1002 d.transaction b) (whole ∙ sym (append-nil front)) (spelling_is_message 0x1002 d.transaction body (omega arith) transaction (omega (arith, dii_body_length d.download d.modules, few)));
     }
 
 -- ---- a DSI
@@ -148,20 +133,19 @@ abbrev pub written_private : List ℕ → List ℕ
 written_private reference = reference ++ (0 ∷ 0 ∷ two_bytes 0)
 
 pub dsi_frame : (transaction : ℕ) (reference bytes : List ℕ) → bytes ≡ message 0x1006 transaction (dsi_body reference) → length reference ≡ 63 → transaction < 4294967296 → IsDsiFrame bytes transaction (written_private reference)
+unfolding Fits spell
 dsi_frame transaction reference bytes e size transaction_fits =
     let private = written_private reference in
     let body = dsi_body reference in
-    let short : length body < 65536 = omega (arith, dsi_body_length reference, size) in
+    let front = spell private_data private in
     let sized : length private ≡ length reference + 4 = length-append reference (0 ∷ 0 ∷ two_bytes 0) in
-    let flat = replicate 20 0xFF ++ two_bytes 0 ++ [] ++ two_bytes (length private) ++ private ++ [] in
-    let regrouped : body ≡ flat = append_assoc (replicate 20 0xFF ++ two_bytes 0 ++ two_bytes (length reference + 4)) reference (0 ∷ 0 ∷ two_bytes 0)
-    ∙ ap (λ (k : ℕ). replicate 20 0xFF ++ two_bytes 0 ++ two_bytes k ++ private) (sym sized) ∙ sym (append-nil (replicate 20 0xFF ++ two_bytes 0 ++ two_bytes (length private) ++ private)) in
+    let whole : body ≡ front = append_assoc (replicate 20 0xFF ++ two_bytes 0 ++ two_bytes (length reference + 4)) reference (0 ∷ 0 ∷ two_bytes 0) ∙ ap (λ (k : ℕ). replicate 20 0xFF ++ two_bytes 0 ++ two_bytes k ++ private) (sym sized) in
+    let message = spelling_is_message 0x1006 transaction body (omega arith) transaction_fits (omega (arith, dsi_body_length reference, size)) in
     record {
-      server = replicate 20 0xFF;
-      compatibility = [];
+      front = front;
       trailing = [];
-      ranges = (refl, omega arith, omega (arith, sized, size));
-      message = subst (λ (b : List ℕ). IsMessage bytes 0x1006 transaction b) regrouped (subst (λ (p : List ℕ). IsMessage p 0x1006 transaction body) (sym e) (message_spelled 0x1006 transaction body (omega arith) transaction_fits short));
+      body = fits_reads private_data private (refl, (omega arith, omega (arith, sized, size)));
+      message = subst (λ (b : List ℕ). IsMessage bytes 0x1006 transaction b) (whole ∙ sym (append-nil front)) (subst (λ (p : List ℕ). IsMessage p 0x1006 transaction body) (sym e) message);
     }
 
 pub dsi_spelled : (d : DsiFields) (reference bytes : List ℕ) → bytes ≡ message 0x1006 d.transaction (dsi_body reference) → length reference ≡ 63 → d.transaction < 4294967296 → iors.Reads reference d.gateway → ReadsDsi bytes d

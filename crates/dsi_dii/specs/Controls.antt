@@ -1,5 +1,5 @@
 -- Control messages: the DSI with the gateway, and the DII with the modules.
-use Rattle.std.specs.Prelude.{◌≡◌, ℕ, zero, suc, nat_le, ◌⊎◌, ◌+◌, ◌-◌, ◌*◌, ◌/◌, ◌%◌, ◌<◌, Bool, false, List, [], ◌∷◌, ◌++◌, length, replicate, drop, Option, Some, None, ◌==◌, if◌then◌else◌}
+use Rattle.std.specs.Prelude.{◌≡◌, ℕ, zero, suc, nat_le, ◌+◌, ◌-◌, ◌*◌, ◌/◌, ◌%◌, ◌<◌, Bool, false, List, [], ◌∷◌, ◌++◌, length, replicate, drop, Option, Some, None, ◌==◌, if◌then◌else◌}
 use Rattle.std.specs.List.{flat_map, list_any, All}
 use Rattle.oc_bytes.specs.Numbers.{two_bytes, four_bytes}
 use Rattle.ddb_block.specs.Message.{IsMessage, message}
@@ -13,7 +13,8 @@ use Rattle.dsi_dii.specs.declared.Control.{Control}
 use Rattle.dsi_dii.specs.declared.Control.TheVariants as code
 use Rattle.dsi_dii.specs.declared.ControlFault.{ControlFault}
 use Rattle.dsi_dii.specs.declared.ControlFault.TheVariants as faults
-use Rattle.oc_bytes.specs.Agreement.{ReadsEach}
+use Rattle.oc_bytes.specs.Grammar.{Grammar, one, two, four, number, bytes, sized, each, field, gives, front_of, Reads as ReadsBy}
+use Rattle.dsi_dii.specs.declared.reading.Head.{Head}
 
 pub record DsiFields : Type 0 where
   pub transaction : ℕ
@@ -55,7 +56,7 @@ distance_of old new = (new + 16384 - old) % 16384
 
 -- the tag of a descriptor that stands whole at the front, and what follows it: a tag, a length and that many bytes
 abbrev pub next_descriptor : List ℕ → Option (ℕ × List ℕ)
-next_descriptor (tag ∷ n ∷ bytes) = if nat_le n (length bytes) then Some (tag, drop n bytes) else None
+next_descriptor (tag ∷ n ∷ others) = if nat_le n (length others) then Some (tag, drop n others) else None
 next_descriptor _ = None
 
 abbrev pub onto_tags : (List ℕ → List ℕ) → Option (ℕ × List ℕ) → List ℕ
@@ -64,43 +65,87 @@ onto_tags others None = []
 
 -- the tags of a run of descriptors, as far as they stand whole; each has two bytes at least, so that the bytes bound the steps
 abbrev pub tags : ℕ → List ℕ → List ℕ
-tags zero bytes = []
-tags (suc steps) bytes = onto_tags (tags steps) (next_descriptor bytes)
+tags zero left = []
+tags (suc steps) left = onto_tags (tags steps) (next_descriptor left)
 
 abbrev pub is_compressed : List ℕ → Bool
 is_compressed user_info = list_any (λ tag. tag == 0x09) (tags (length user_info) user_info)
 
--- a moduleInfo that reads, and its user info; bytes after that are passed over
-pub record ReadsInfo (bytes user_info : List ℕ) : Type 0 where
-  pub times : List ℕ
-  pub taps : List iors.TapFields
-  pub tap_lines : List ℕ
-  pub trailing : List ℕ
-  pub ranges : (length times ≡ 12) × (length taps < 256) × (length user_info < 256)
-  pub whole : bytes ≡ times ++ length taps ∷ tap_lines ++ length user_info ∷ user_info ++ trailing
-  pub each : ReadsEach iors.ReadsTap tap_lines taps
+-- ---- the grammar
 
--- one that doesn't read is taken as one without user info
-abbrev pub IsInfo : List ℕ → Bool → Type 0
-IsInfo bytes compressed = ((user_info : List ℕ) × ReadsInfo bytes user_info × (compressed ≡ is_compressed user_info))
-    ⊎ (((user_info : List ℕ) → ReadsInfo bytes user_info → ⊥) × (compressed ≡ false))
+abbrev pub no_time_outs : List ℕ
+no_time_outs = four_bytes 0xFFFFFFFF ++ four_bytes 0xFFFFFFFF ++ four_bytes 0
 
-pub record ReadsLine (bytes : List ℕ) (l : ModuleLine) : Type 0 where
-  pub info : List ℕ
-  pub ranges : (l.id < 65536) × (l.size < 4294967296) × (l.version < 256) × (length info < 256)
-  pub whole : bytes ≡ two_bytes l.id ++ four_bytes l.size ++ l.version ∷ length info ∷ info
-  pub means : IsInfo info l.compressed
+-- the tap of a module's blocks, as it is written
+abbrev pub block_tap : iors.TapFields
+block_tap = record { id = 0; use_code = 0x0017; assoc = 0x0001; selector = [] }
 
+-- a field whose value isn't kept, and what is spelled for it
+abbrev pub passed : {A : Type 0} → Grammar A → A → Grammar (Unit {0})
+passed g a = field g (λ u. a) (λ x. gives tt)
+
+-- the user info of a moduleInfo, after three time-outs and the taps
+abbrev pub info : Grammar (List ℕ)
+info =
+    field (bytes 12) (λ u. no_time_outs) λ times.
+    field (number one) (λ u. 1) λ taps_count.
+    field (passed (each iors.tap taps_count) (block_tap ∷ [])) (λ u. tt) λ taps.
+    sized one
+
+-- a moduleInfo that doesn't read is taken as one without user info (this project's own rule); bytes after it are passed over
+abbrev pub compressed_of : Option (List ℕ) → Bool
+compressed_of (Some user_info) = is_compressed user_info
+compressed_of None = false
+
+abbrev pub written_info : List ℕ
+written_info = four_bytes 0xFFFFFFFF ++ four_bytes 0xFFFFFFFF ++ four_bytes 0 ++ 1 ∷ two_bytes 0 ++ two_bytes 0x0017 ++ two_bytes 0x0001 ++ 0 ∷ 0 ∷ []
+
+-- a module
+abbrev pub line : Grammar ModuleLine
+line =
+    field (number two) (λ l. l.id) λ id.
+    field (number four) (λ l. l.size) λ size.
+    field (number one) (λ l. l.version) λ version.
+    field (sized one) (λ l. written_info) λ module_info.
+    gives (record { id = id; size = size; version = version; compressed = compressed_of (front_of info module_info) })
+
+-- the fields of a DII before its modules
+abbrev pub head : Grammar Head
+head =
+    field (number four) (λ h. h.download) λ download.
+    field (number two) (λ h. h.block_size) λ block_size.
+    field (number one) (λ h. 0) λ window_size.
+    field (number one) (λ h. 0) λ ack_period.
+    field (number four) (λ h. 0) λ download_window.
+    field (number four) (λ h. 0) λ download_scenario.
+    field (sized two) (λ h. []) λ compatibility.
+    field (number two) (λ h. h.modules) λ modules.
+    gives (record { download = download; block_size = block_size; modules = modules })
+
+abbrev pub head_of : DiiFields → Head
+head_of d = record { download = d.download; block_size = d.block_size; modules = length d.modules }
+
+-- a DII in a message of this transactionId
+abbrev pub dii_body : ℕ → Grammar DiiFields
+dii_body transaction =
+    field head head_of λ h.
+    field (each line h.modules) (λ d. d.modules) λ modules.
+    field (sized two) (λ d. []) λ private.
+    gives (record { download = h.download; block_size = h.block_size; transaction = transaction; modules = modules })
+
+-- the private data of a DSI, after its serverId and its compatibility descriptor
+abbrev pub private_data : Grammar (List ℕ)
+private_data =
+    field (bytes 20) (λ p. replicate 20 0xFF) λ server.
+    field (sized two) (λ p. []) λ compatibility.
+    sized two
+
+-- a DII's message; what follows the private data in it is passed over
 pub record ReadsDii (payload : List ℕ) (d : DiiFields) : Type 0 where
-  pub windows : List ℕ
-  pub compatibility : List ℕ
-  pub lines : List ℕ
-  pub private : List ℕ
+  pub front : List ℕ
   pub trailing : List ℕ
-  pub ranges : (d.download < 4294967296) × (d.block_size < 65536) × (length windows ≡ 10) × (length compatibility < 65536) × (length d.modules < 65536) × (length private < 65536)
-  pub message : IsMessage payload 0x1002 d.transaction (four_bytes d.download ++ two_bytes d.block_size ++ windows ++ two_bytes (length compatibility) ++ compatibility
-      ++ two_bytes (length d.modules) ++ lines ++ two_bytes (length private) ++ private ++ trailing)
-  pub each : ReadsEach ReadsLine lines d.modules
+  pub body : ReadsBy (dii_body d.transaction) front d
+  pub message : IsMessage payload 0x1002 d.transaction (front ++ trailing)
 
 -- the gateway's IOR stands at the front of the private data; what follows it there is passed over
 pub record IsGateway (private : List ℕ) (gateway : iors.Fields) : Type 0 where
@@ -111,12 +156,10 @@ pub record IsGateway (private : List ℕ) (gateway : iors.Fields) : Type 0 where
 
 -- the fields of a DSI round its private data; what follows that in the message is passed over
 pub record IsDsiFrame (payload : List ℕ) (transaction : ℕ) (private : List ℕ) : Type 0 where
-  pub server : List ℕ
-  pub compatibility : List ℕ
+  pub front : List ℕ
   pub trailing : List ℕ
-  pub ranges : (length server ≡ 20) × (length compatibility < 65536) × (length private < 65536)
-  pub message : IsMessage payload 0x1006 transaction (server ++ two_bytes (length compatibility) ++ compatibility
-      ++ two_bytes (length private) ++ private ++ trailing)
+  pub body : ReadsBy private_data front private
+  pub message : IsMessage payload 0x1006 transaction (front ++ trailing)
 
 pub record ReadsDsi (payload : List ℕ) (d : DsiFields) : Type 0 where
   pub private : List ℕ
@@ -134,9 +177,6 @@ pub record LineFits (l : ModuleLine) : Type 0 where
   pub id : l.id < 65536
   pub size : l.size < 4294967296
   pub version : l.version < 256
-
-abbrev pub written_info : List ℕ
-written_info = four_bytes 0xFFFFFFFF ++ four_bytes 0xFFFFFFFF ++ four_bytes 0 ++ 1 ∷ two_bytes 0 ++ two_bytes 0x0017 ++ two_bytes 0x0001 ++ 0 ∷ 0 ∷ []
 
 abbrev pub line_bytes : ModuleLine → List ℕ
 line_bytes l = two_bytes l.id ++ four_bytes l.size ++ l.version ∷ length written_info ∷ written_info

@@ -6,9 +6,9 @@ ghost use Rattle.oc_bytes.specs.Cursor.{Cursor, from_start, each_at, skip_readin
 ghost use Rattle.ior_tap.specs.IorReading.{tap_at, profile_count_at};
 ghost use Rattle.ior_tap.specs.Iors as iors;
 ghost use Rattle.dsi_dii.specs.Controls as controls;
-ghost use Rattle.dsi_dii.specs.Controls.{cause, view, IsDsi, DsiFields, IsDsiFrame, IsGateway, Message, Reads, ReadsDsi};
+ghost use Rattle.dsi_dii.specs.Controls.{cause, compressed_of, view, IsDsi, DsiFields, IsDsiFrame, IsGateway, Message, Reads, ReadsDsi};
 ghost use Rattle.dsi_dii.specs.declared.reading.Head.{Head};
-ghost use Rattle.dsi_dii.specs.ControlReading.{info_at, compressed_of, line_at, head_at, gateway_at, private_at, frame_at, dsi_at, opening_at, dii_at, message_id_of, read};
+ghost use Rattle.dsi_dii.specs.ControlReading.{info_at, line_at, head_at, gateway_at, private_at, frame_at, dsi_at, opening_at, dii_at, message_id_of, read};
 
 use crate::{Control, ControlFault, Dii, Dsi, ModuleLine, TransactionId};
 use ddb_block::message;
@@ -24,7 +24,7 @@ pub struct Head {
     pub modules: u16,
 }
 
-#[tactic(auto, unfolding(crate::specs::ControlReading::head_at))]
+#[tactic(auto, unfolding(oc_bytes::specs::Grammar::read))]
 fn head_fields(fields: &mut Fields) -> Result<Head, Cut>
     ensures { Gives {Y = Head × Cursor} (λ h. (h, fields.new)) place_of result (head_at fields.old) }
 {
@@ -44,7 +44,7 @@ fn head_fields(fields: &mut Fields) -> Result<Head, Cut>
 }
 
 /// Passes over a tap: three numbers and a selector.
-#[tactic(auto, unfolding(ior_tap::specs::IorReading::tap_at))]
+#[tactic(auto, unfolding(oc_bytes::specs::Grammar::read))]
 fn pass_tap(fields: &mut Fields) -> Result<(), Cut>
     ensures { Gives (λ _. (tt, fields.new)) place_of result (skip_reading (tap_at fields.old)) }
 {
@@ -65,7 +65,7 @@ fn pass_taps(fields: &mut Fields, count: u8) -> Result<(), Cut>
 }
 
 /// The user info of a moduleInfo.
-#[tactic(auto, unfolding(crate::specs::ControlReading::info_at))]
+#[tactic(auto, unfolding(oc_bytes::specs::Grammar::read))]
 fn user_info(info: &[u8]) -> Result<&[u8], Cut>
     ensures { MatchResult result (λ u. value_read (info_at (from_start info.now)) ≡ Some u.now) (λ _. value_read (info_at (from_start info.now)) ≡ None) }
 {
@@ -103,7 +103,7 @@ fn has_compression(user_info: &[u8]) -> bool
 }
 
 /// A module as a DII lists it.
-#[tactic(auto, unfolding(crate::specs::ControlReading::line_at))]
+#[tactic(auto, unfolding(oc_bytes::specs::Grammar::read))]
 fn line(fields: &mut Fields) -> Result<ModuleLine, Cut>
     ensures { Gives {Y = ModuleLine × Cursor} (λ l. (l, fields.new)) place_of result (line_at fields.old) }
 {
@@ -140,7 +140,7 @@ fn lines(alloc: Global, fields: &mut Fields, count: u16) -> Result<Vec<ModuleLin
     Ok(modules)
 }
 
-#[tactic(auto, unfolding(crate::specs::ControlReading::dii_at, crate::specs::ControlReading::opening_at))]
+#[tactic(auto, unfolding(oc_bytes::specs::Grammar::read, crate::specs::ControlReading::dii_at, crate::specs::ControlReading::opening_at))]
 fn dii_of(alloc: Global, payload: &[u8]) -> Result<Control, ControlFault>
     ensures exact { Gives view cause result (value_only (dii_at (from_start payload.now))) }
     ensures memory { IsErrOf result ControlFault.NoMemory → IsOkAnd (opening_at (from_start payload.now)) (λ h. 0 < h.0.modules) }
@@ -158,7 +158,7 @@ fn dii_of(alloc: Global, payload: &[u8]) -> Result<Control, ControlFault>
 }
 
 /// The private data of a DSI and its place.
-#[tactic(auto, unfolding(crate::specs::ControlReading::private_at))]
+#[tactic(auto, unfolding(oc_bytes::specs::Grammar::read, oc_bytes::specs::Cursor::sized_at, crate::specs::ControlReading::private_at))]
 fn private_data<'a>(fields: &mut Fields<'a>) -> Result<(usize, &'a [u8]), Cut>
     ensures exact { Gives {Y = (ℕ × List ℕ) × Cursor} (λ x. ((x.0, x.1.now), fields.new)) place_of result (private_at fields.old) }
     ensures inside { IfOk result (λ x. x.0 + length x.1.now ≤ usize.MAX) }

@@ -3,7 +3,7 @@ use Rattle.std.proofs.Common.{◌≡◌, List, [], ◌∷◌, ℕ, length, Optio
 use Rattle.oc_bytes.specs.Numbers.{four_bytes}
 use Rattle.ior_tap.specs.declared.Location.{Location}
 use Rattle.ior_tap.specs.Iors.{TapFields, Fields, Reads, IsWritten, IsLocation, biop_tag, written_form, written_tap, biop_of_profiles, spelling}
-use Rattle.ior_tap.proofs.Spelled.{content_of, content_length, spelling_reads, spelling_length}
+use Rattle.ior_tap.proofs.Grammar.{spelled_content, spelled_length, written_reads, spelling_length}
 
 abbrev pub some : Location × List TapFields → Option (Location × List TapFields)
 some x = Some x
@@ -28,7 +28,7 @@ spells_all ior m taps bytes e h l form = h.whole ∙ ap (spelling ior.kind) (loc
 pub spelled_reads : (ior : Fields) (l m : Location) (taps : List TapFields) (bytes : List ℕ) → IsWritten ior l → some (m, taps) ≡ biop_of_profiles ior.profiles → IsSpelled ior m bytes → Reads bytes ior
 spelled_reads ior l m taps bytes form e h =
     let same : m ≡ l = location_is ior l m taps form e in
-    let is : Reads (spelling ior.kind l) (written_form ior.kind l) = spelling_reads ior.kind l form.four form.key (subst IsLocation same h.room) in
+    let is : Reads (spelling ior.kind l) (written_form ior.kind l) = written_reads ior.kind l (subst (λ (i : Fields). IsWritten i l) form.form form) (subst IsLocation same h.room) in
     subst (λ (x : List ℕ). Reads x ior) (sym (spells_all ior m taps bytes e h l form)) (subst (λ (i : Fields). Reads (spelling ior.kind l) i) (sym form.form) is)
 
 pub spelled_size : (ior : Fields) (l m : Location) (taps : List TapFields) (bytes : List ℕ) → IsWritten ior l → some (m, taps) ≡ biop_of_profiles ior.profiles → IsSpelled ior m bytes → length bytes ≡ 63
@@ -42,7 +42,7 @@ regrouped : (o a k b t n p : List ℕ) → o ++ a ++ k ++ b ++ t ++ n ++ p ≡ o
 regrouped o a k b t n p = simp append_assoc
 
 -- a reference put after other bytes
-pub put_is : (out kind : List ℕ) (l : Location) → length l.key ≡ 4 → out ++ four_bytes 4 ++ kind ++ four_bytes 1 ++ four_bytes biop_tag ++ four_bytes 43 ++ content_of l ≡ out ++ spelling kind l
+pub put_is : (out kind : List ℕ) (l : Location) → length l.key ≡ 4 → out ++ four_bytes 4 ++ kind ++ four_bytes 1 ++ four_bytes biop_tag ++ four_bytes 43 ++ spelled_content l ≡ out ++ spelling kind l
 put_is out kind l key =
-    regrouped out (four_bytes 4) kind (four_bytes 1) (four_bytes biop_tag) (four_bytes 43) (content_of l)
-    ∙ ap (λ (n : ℕ). out ++ (four_bytes 4 ++ kind ++ four_bytes 1 ++ four_bytes biop_tag ++ four_bytes n ++ content_of l)) (sym (content_length l key))
+    regrouped out (four_bytes 4) kind (four_bytes 1) (four_bytes biop_tag) (four_bytes 43) (spelled_content l)
+    ∙ ap (λ (n : ℕ). out ++ (four_bytes 4 ++ kind ++ four_bytes 1 ++ four_bytes biop_tag ++ four_bytes n ++ spelled_content l)) (sym (spelled_length l key))

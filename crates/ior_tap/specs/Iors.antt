@@ -2,7 +2,7 @@
 use Rattle.std.specs.Prelude.{◌≡◌, ℕ, ◌<◌, List, [], ◌∷◌, ◌++◌, length, map, take, drop, Option, Some, None, nat_le, ◌==◌, ◌&&◌, if◌then◌else◌}
 use Rattle.std.specs.List.{flat_map}
 use Rattle.oc_bytes.specs.Numbers.{two_bytes, four_bytes, number_of}
-use Rattle.oc_bytes.specs.Agreement.{ReadsEach}
+use Rattle.oc_bytes.specs.Grammar.{Grammar, one, two, four, number, bytes, sized, each, field, gives, this, front_of, spell, Reads as ReadsBy}
 use Rattle.ior_tap.specs.declared.Location.{Location}
 use Rattle.ior_tap.specs.declared.Tap.{Tap}
 use Rattle.ior_tap.specs.declared.Profile.{Profile}
@@ -30,21 +30,13 @@ view_tap t = record { id = t.id; use_code = t.use_code; assoc = t.assoc; selecto
 
 abbrev pub view_profile : Profile → ProfileFields
 view_profile (code.Biop location binder) = Biop location (map view_tap binder.taps.items)
-view_profile (code.Other tag bytes) = Other tag bytes.items
+view_profile (code.Other tag content) = Other tag content.items
 
 abbrev pub view : Ior → Fields
 view ior = record { kind = ior.kind; profiles = map view_profile ior.profiles.items }
 
-pub record ReadsTap (bytes : List ℕ) (t : TapFields) : Type 0 where
-  pub ranges : (t.id < 65536) × (t.use_code < 65536) × (t.assoc < 65536) × (length t.selector < 256)
-  pub whole : bytes ≡ two_bytes t.id ++ two_bytes t.use_code ++ two_bytes t.assoc ++ length t.selector ∷ t.selector
-
 abbrev pub Component : Type 0
 Component = ℕ × List ℕ
-
-pub record ReadsComponent (bytes : List ℕ) (c : Component) : Type 0 where
-  pub ranges : (c.0 < 4294967296) × (length c.1 < 256)
-  pub whole : bytes ≡ four_bytes c.0 ++ length c.1 ∷ c.1
 
 abbrev pub biop_tag : ℕ
 biop_tag = 0x49534F06
@@ -55,59 +47,104 @@ location_tag = 0x49534F50
 abbrev pub binder_tag : ℕ
 binder_tag = 0x49534F40
 
--- an ObjectLocation; bytes after the key are passed over
-pub record ReadsLocation (bytes : List ℕ) (l : Location) : Type 0 where
-  pub trailing : List ℕ
-  pub ranges : (l.carousel < 4294967296) × (l.module < 65536) × (length l.key < 256)
-  pub whole : bytes ≡ four_bytes l.carousel ++ two_bytes l.module ++ 1 ∷ 0 ∷ length l.key ∷ l.key ++ trailing
+-- ---- the grammar
 
--- a ConnBinder; bytes after the taps are passed over
-pub record ReadsBinder (bytes : List ℕ) (taps : List TapFields) : Type 0 where
-  pub tap_lines : List ℕ
-  pub trailing : List ℕ
-  pub few : length taps < 256
-  pub whole : bytes ≡ length taps ∷ tap_lines ++ trailing
-  pub each : ReadsEach ReadsTap tap_lines taps
+abbrev pub tap : Grammar TapFields
+tap =
+    field (number two) (λ t. t.id) λ id.
+    field (number two) (λ t. t.use_code) λ use_code.
+    field (number two) (λ t. t.assoc) λ assoc.
+    field (sized one) (λ t. t.selector) λ selector.
+    gives (record { id = id; use_code = use_code; assoc = assoc; selector = selector })
+
+-- an ObjectLocation; its version is 1.0
+abbrev pub location : Grammar Location
+location =
+    field (number four) (λ l. l.carousel) λ carousel.
+    field (number two) (λ l. l.module) λ module_id.
+    field (this two 0x0100) (λ l. 0x0100) λ version.
+    field (sized one) (λ l. l.key) λ key.
+    gives (record { carousel = carousel; «module» = module_id; key = key })
+
+-- a ConnBinder
+abbrev pub taps : Grammar (List TapFields)
+taps =
+    field (number one) (λ ts. length ts) λ count.
+    each tap count
+
+-- a component of a profile: its tag and its bytes
+abbrev pub component : Grammar Component
+component =
+    field (number four) (λ c. c.0) λ tag.
+    field (sized one) (λ c. c.1) λ content.
+    gives (tag, content)
+
+-- what a BIOP profile holds; its byte order is 0
+abbrev pub components : Grammar (List Component)
+components =
+    field (this one 0) (λ cs. 0) λ byte_order.
+    field (number one) (λ cs. length cs) λ count.
+    each component count
 
 -- the first component of a tag
 abbrev pub component_of : ℕ → List Component → Option (List ℕ)
 component_of tag [] = None
 component_of tag (c ∷ cs) = if c.0 == tag then Some c.1 else component_of tag cs
 
--- the content of a BIOP profile; other components, and bytes after the last one, are passed over
-pub record ReadsBiop (bytes : List ℕ) (l : Location) (taps : List TapFields) : Type 0 where
-  pub components : List Component
-  pub component_lines : List ℕ
-  pub trailing : List ℕ
-  pub location_bytes : List ℕ
-  pub binder_bytes : List ℕ
-  pub few : length components < 256
-  pub whole : bytes ≡ 0 ∷ length components ∷ component_lines ++ trailing
-  pub each : ReadsEach ReadsComponent component_lines components
-  pub has_location : component_of location_tag components ≡ Some location_bytes
-  pub has_binder : component_of binder_tag components ≡ Some binder_bytes
-  pub location : ReadsLocation location_bytes l
-  pub binder : ReadsBinder binder_bytes taps
+-- what a component's bytes stand for; bytes after it are passed over
+abbrev pub part_of : {A : Type 0} → Grammar A → Option (List ℕ) → Option A
+part_of g (Some content) = front_of g content
+part_of g None = None
 
--- A profile of another tag, or of the BIOP tag whose bytes aren't both components in the right form, is any other profile.
-abbrev pub IsContent : ℕ → List ℕ → ProfileFields → Type 0
-IsContent tag content (Biop l taps) = (tag ≡ biop_tag) × ReadsBiop content l taps
-IsContent tag content (Other t bytes) = (t ≡ tag) × (bytes ≡ content) × (tag ≡ biop_tag → (l : Location) (taps : List TapFields) → ReadsBiop content l taps → ⊥)
+abbrev pub both : Option Location → Option (List TapFields) → Option ProfileFields
+both (Some l) (Some ts) = Some (Biop l ts)
+both _ _ = None
 
-pub record ReadsProfile (bytes : List ℕ) (r : ProfileFields) : Type 0 where
-  pub tag : ℕ
-  pub content : List ℕ
-  pub ranges : (tag < 4294967296) × (length content < 4294967296)
-  pub whole : bytes ≡ four_bytes tag ++ four_bytes (length content) ++ content
-  pub means : IsContent tag content r
+abbrev pub biop_in : Option (List Component) → Option ProfileFields
+biop_in (Some cs) = both (part_of location (component_of location_tag cs)) (part_of taps (component_of binder_tag cs))
+biop_in None = None
 
--- the bytes, all of them, are read as the IOR
-pub record Reads (bytes : List ℕ) (ior : Fields) : Type 0 where
-  pub rest : List ℕ
-  pub four : length ior.kind ≡ 4
-  pub few : length ior.profiles < 4294967296
-  pub whole : bytes ≡ four_bytes 4 ++ ior.kind ++ four_bytes (length ior.profiles) ++ rest
-  pub each : ReadsEach ReadsProfile rest ior.profiles
+abbrev pub or_other : ℕ → List ℕ → Option ProfileFields → ProfileFields
+or_other tag content (Some reference) = reference
+or_other tag content None = Other tag content
+
+-- What a profile's bytes stand for: with the BIOP tag and both components in the right form a location and taps, and else
+-- any other profile. Other components, and bytes after the last one, are passed over.
+abbrev pub profile_of : ℕ → List ℕ → ProfileFields
+profile_of tag content = or_other tag content (if tag == biop_tag then biop_in (front_of components content) else None)
+
+-- the tag and the bytes with which a profile is spelled: the location first, then the taps
+abbrev pub tag_of : ProfileFields → ℕ
+tag_of (Biop l ts) = biop_tag
+tag_of (Other tag content) = tag
+
+abbrev pub content_of : ProfileFields → List ℕ
+content_of (Biop l ts) = spell components ((location_tag, spell location l) ∷ (binder_tag, spell taps ts) ∷ [])
+content_of (Other tag content) = content
+
+abbrev pub profile : Grammar ProfileFields
+profile =
+    field (number four) tag_of λ tag.
+    field (sized four) content_of λ content.
+    gives (profile_of tag content)
+
+-- an IOR: the type id has four bytes
+abbrev pub ior : Grammar Fields
+ior =
+    field (this four 4) (λ i. 4) λ type_id_length.
+    field (bytes 4) (λ i. i.kind) λ kind.
+    field (number four) (λ i. length i.profiles) λ count.
+    field (each profile count) (λ i. i.profiles) λ profiles.
+    gives (record { kind = kind; profiles = profiles })
+
+-- the bytes, all of them, are read as the tap, or as the IOR
+abbrev pub ReadsTap : List ℕ → TapFields → Type 0
+ReadsTap = ReadsBy tap
+
+abbrev pub Reads : List ℕ → Fields → Type 0
+Reads = ReadsBy ior
+
+-- ---- what is written
 
 -- the tap that is written: delivery by the control messages
 abbrev pub written_tap : TapFields
@@ -131,25 +168,25 @@ abbrev pub tap_bytes : TapFields → List ℕ
 tap_bytes t = two_bytes t.id ++ two_bytes t.use_code ++ two_bytes t.assoc ++ length t.selector ∷ t.selector
 
 abbrev pub component_bytes : ℕ → List ℕ → List ℕ
-component_bytes tag bytes = four_bytes tag ++ length bytes ∷ bytes
+component_bytes tag content = four_bytes tag ++ length content ∷ content
 
 abbrev pub location_bytes : Location → List ℕ
 location_bytes l = four_bytes l.carousel ++ two_bytes l.module ++ 1 ∷ 0 ∷ length l.key ∷ l.key
 
 abbrev pub biop_bytes : Location → List TapFields → List ℕ
-biop_bytes l taps = 0 ∷ 2 ∷ component_bytes location_tag (location_bytes l)
-    ++ component_bytes binder_tag (length taps ∷ flat_map tap_bytes taps)
+biop_bytes l ts = 0 ∷ 2 ∷ component_bytes location_tag (location_bytes l)
+    ++ component_bytes binder_tag (length ts ∷ flat_map tap_bytes ts)
 
--- the one spelling of a location of objects of this kind
+-- the one spelling of a location of objects of this kind, byte by byte: what the grammar spells for the written form
 abbrev pub spelling : List ℕ → Location → List ℕ
-spelling kind l = let profile = biop_bytes l (written_tap ∷ []) in
-    four_bytes 4 ++ kind ++ four_bytes 1 ++ four_bytes biop_tag ++ four_bytes (length profile) ++ profile
+spelling kind l = let content = biop_bytes l (written_tap ∷ []) in
+    four_bytes 4 ++ kind ++ four_bytes 1 ++ four_bytes biop_tag ++ four_bytes (length content) ++ content
 
 -- the first profile that has a location
 abbrev pub biop_of_profiles : List ProfileFields → Option (Location × List TapFields)
 biop_of_profiles [] = None
-biop_of_profiles (Biop l taps ∷ rs) = Some (l, taps)
-biop_of_profiles (Other tag bytes ∷ rs) = biop_of_profiles rs
+biop_of_profiles (Biop l ts ∷ rs) = Some (l, ts)
+biop_of_profiles (Other tag content ∷ rs) = biop_of_profiles rs
 
 -- the transactionId of the first delivery tap
 abbrev pub delivery_of_taps : List TapFields → Option ℕ

@@ -3,8 +3,8 @@ ghost use Rattle.std.specs.Option.{option_map, option_copied, option_or};
 ghost use Rattle.oc_bytes.specs.Outcome.{Gives};
 ghost use Rattle.oc_bytes.specs.Cause.{place_of};
 ghost use Rattle.oc_bytes.specs.Cursor.{from_start, bytes_at, read_from_start, value_read, each_at};
-ghost use Rattle.ior_tap.specs.Iors.{Fields as IorFields, view, view_tap, view_profile, Reads, IsWritten, IsLocation, written_form, spelling, cause};
-ghost use Rattle.ior_tap.specs.IorReading.{ior_at, profile_count_at, tap_at, taps_at, location_at, component_at, components_at, chosen_at, parts_at, biop_in, profile_at, profile_of};
+ghost use Rattle.ior_tap.specs.Iors.{Fields as IorFields, view, view_tap, view_profile, Reads, IsWritten, IsLocation, written_form, spelling, biop_in, profile_of, cause};
+ghost use Rattle.ior_tap.specs.IorReading.{ior_at, profile_count_at, tap_at, taps_at, location_at, component_at, components_at, chosen_at, parts_at, profile_at};
 ghost use Rattle.oc_bytes.specs.Agreement.{Agrees, InBytes, at};
 ghost use Rattle.ior_tap.specs.declared.Location.{Location};
 
@@ -14,7 +14,7 @@ use crate::{
 use oc_bytes::{Cut, Fields, NoMemory};
 use std::alloc::{AllocError, Global};
 
-#[tactic(auto, unfolding(crate::specs::IorReading::tap_at))]
+#[tactic(auto, unfolding(oc_bytes::specs::Grammar::read))]
 fn tap_of(alloc: Global, fields: &mut Fields<'_>) -> Result<Tap, IorFault>
     ensures { Gives (λ t. (view_tap t, fields.new)) cause result (tap_at fields.old) }
 {
@@ -41,7 +41,7 @@ fn taps_of(alloc: Global, fields: &mut Fields<'_>, count: u8) -> Result<Vec<Tap>
     Ok(taps)
 }
 
-#[tactic(auto, unfolding(crate::specs::IorReading::taps_at))]
+#[tactic(auto, unfolding(oc_bytes::specs::Grammar::read))]
 fn binder_of(alloc: Global, fields: &mut Fields<'_>) -> Result<Binder, IorFault>
     ensures { Gives (λ b. (map view_tap b.taps.items, fields.new)) cause result (taps_at fields.old) }
 {
@@ -50,7 +50,7 @@ fn binder_of(alloc: Global, fields: &mut Fields<'_>) -> Result<Binder, IorFault>
     Ok(Binder { taps })
 }
 
-#[tactic(auto, unfolding(crate::specs::IorReading::location_at))]
+#[tactic(auto, unfolding(oc_bytes::specs::Grammar::read))]
 fn location_of(alloc: Global, fields: &mut Fields<'_>) -> Result<Location, IorFault>
     ensures { Gives (λ l. (l, fields.new)) cause result (location_at fields.old) }
 {
@@ -96,7 +96,7 @@ struct Component<'a> {
     content: &'a [u8],
 }
 
-#[tactic(auto, unfolding(crate::specs::IorReading::component_at))]
+#[tactic(auto, unfolding(oc_bytes::specs::Grammar::read))]
 fn component_of<'a>(fields: &mut Fields<'a>) -> Result<Component<'a>, Cut>
     ensures { Gives (λ c. ((c.tag, c.content.now), fields.new)) place_of result (component_at fields.old) }
 {
@@ -149,7 +149,7 @@ fn parts_of<'a>(fields: &mut Fields<'a>, count: u8) -> Result<Parts<'a>, Cut>
     Ok(parts)
 }
 
-#[tactic(auto, unfolding(crate::specs::IorReading::components_at))]
+#[tactic(auto, unfolding(oc_bytes::specs::Grammar::read))]
 fn parts_in<'a>(fields: &mut Fields<'a>) -> Result<Parts<'a>, Cut>
     ensures { Gives (λ p. ((option_copied p.location, option_copied p.binder), fields.new)) place_of result (chosen_at fields.old) }
 {
@@ -191,7 +191,7 @@ fn profile_in(alloc: Global, tag: u32, content: &[u8]) -> Result<Profile, NoMemo
     Ok(Profile::Other(tag, bytes))
 }
 
-#[tactic(auto, unfolding(crate::specs::IorReading::profile_at))]
+#[tactic(auto, unfolding(oc_bytes::specs::Grammar::read, oc_bytes::specs::Cursor::sized_at))]
 fn profile_of(alloc: Global, fields: &mut Fields<'_>) -> Result<Profile, IorFault>
     ensures { Gives (λ p. (view_profile p, fields.new)) cause result (profile_at fields.old) }
 {
@@ -221,7 +221,7 @@ fn kind_of(fields: &mut Fields<'_>) -> Result<[u8; 4], Cut>
     Ok([kind[0], kind[1], kind[2], kind[3]])
 }
 
-#[tactic(auto, unfolding(crate::specs::IorReading::ior_at, crate::specs::IorReading::profile_count_at))]
+#[tactic(auto, unfolding(oc_bytes::specs::Grammar::read, crate::specs::IorReading::profile_count_at))]
 fn ior_of(alloc: Global, fields: &mut Fields<'_>) -> Result<Ior, IorFault>
     ensures exact { Gives (λ i. (view i, fields.new)) cause result (ior_at fields.old) }
     ensures memory { IsErrOf result IorFault.NoMemory → IsOkAnd (profile_count_at fields.old) (λ x. 0 < x.0) }

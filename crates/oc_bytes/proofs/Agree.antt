@@ -1,13 +1,13 @@
 -- A reading function and a relation that say the same.
-use Rattle.std.proofs.Common.{◌≡◌, ℕ, zero, suc, ◌+◌, ◌<◌, ◌≤◌, Bool, true, false, cond, ◌==◌, nat_lt, List, [], ◌∷◌, ◌++◌, length, get_or, take, Some, Ok, Err, refl, sym, ap, subst, ◌∙◌, append_assoc, zero-add, arith, inl, inr, ◌⊎◌}
-use Rattle.std.specs.Int.{w16, w32, from_be_bytes}
-use Rattle.std.proofs.lemmas.Bool.{cases_lt, ltb-false, le-ltb, eqb-true, eq-eqb}
+use Rattle.std.proofs.Common.{◌≡◌, ℕ, zero, suc, ◌+◌, ◌<◌, ◌≤◌, Bool, true, false, cond, nat_lt, List, [], ◌∷◌, ◌++◌, length, get_or, take, Some, Ok, Err, refl, sym, ap, subst, ◌∙◌, append_assoc, zero-add, arith, inl, inr, ◌⊎◌}
+use Rattle.std.specs.Int.{w16, w32, w64, from_be_bytes}
+use Rattle.std.proofs.lemmas.Bool.{cases_lt, ltb-false, le-ltb}
 use Rattle.std.proofs.lemmas.List.{take_at, drop_at, take-append-drop, length-append, length-take, get_or_past, append-nil}
 use Rattle.std.proofs.lemmas.List.Elements.{All-take, All-drop, All-from_get_or}
-use Rattle.std.proofs.lemmas.Nat.{be_bytes_2, be_bytes_4, from_be_bytes-to_be_bytes_2, from_be_bytes-to_be_bytes_4}
-use Rattle.oc_bytes.specs.Numbers.{IsBytes, byte, two_bytes, four_bytes, number_of}
-use Rattle.oc_bytes.specs.Cursor.{Cursor, Reading, ◌>>=◌, past, number_at, bytes_at, this_at, sized_at, each_at, from_start, value_read}
-use Rattle.oc_bytes.specs.Agreement.{at, move_by, shift_by, Taken, Agrees, ReadsEach}
+use Rattle.std.proofs.lemmas.Nat.{be_bytes_2, be_bytes_4, be_bytes_8, from_be_bytes-to_be_bytes_2, from_be_bytes-to_be_bytes_4, from_be_bytes-to_be_bytes_8}
+use Rattle.oc_bytes.specs.Numbers.{IsBytes, byte, two_bytes, four_bytes, eight_bytes, number_of}
+use Rattle.oc_bytes.specs.Cursor.{Cursor, Reading, ◌>>=◌, past, number_at, bytes_at, sized_at, each_at, if_holds, from_start, value_read}
+use Rattle.oc_bytes.specs.Agreement.{at, move_by, shift_by, Taken, Agrees, ReadsEach, IsList, Then}
 
 -- ---- bytes
 
@@ -42,12 +42,12 @@ bind_ok (Err d) f y e = absurd cc
 abbrev stop : {A : Type 0} → ℕ → Reading A
 stop place = Err place
 
-bind_err : {A B : Type 0} (r : Reading A) (f : A × Cursor → Reading B) (p : ℕ) → (r >>= f) ≡ Err p → (r ≡ Err p) ⊎ ((x : A × Cursor) × (r ≡ Ok x) × (f x ≡ Err p))
+pub bind_err : {A B : Type 0} (r : Reading A) (f : A × Cursor → Reading B) (p : ℕ) → (r >>= f) ≡ Err p → (r ≡ Err p) ⊎ ((x : A × Cursor) × (r ≡ Ok x) × (f x ≡ Err p))
 bind_err (Ok x) f p e = inr (x, refl, e)
 bind_err {A} (Err d) f p e = inl (let same : d ≡ p = cc in ap (stop {A = A}) same)
 
 -- a failed test stands at its field
-guard_err : {A : Type 0} (b : Bool) (d p : ℕ) (x : A × Cursor) → cond {A = Reading A} b (Err d) (Ok x) ≡ Err p → p ≡ d
+pub guard_err : {A : Type 0} (b : Bool) (d p : ℕ) (x : A × Cursor) → cond {A = Reading A} b (Err d) (Ok x) ≡ Err p → p ≡ d
 guard_err true d p x e = cc
 guard_err false d p x e = absurd cc
 
@@ -55,22 +55,13 @@ held_err : {A : Type 0} (b : Bool) (d p : ℕ) (x : A × Cursor) → cond {A = R
 held_err true d p x e = absurd cc
 held_err false d p x e = cc
 
-guard_ok : {A : Type 0} (b : Bool) (d : ℕ) (x y : A × Cursor) → cond {A = Reading A} b (Err d) (Ok x) ≡ Ok y → (b ≡ false) × (x ≡ y)
+pub guard_ok : {A : Type 0} (b : Bool) (d : ℕ) (x y : A × Cursor) → cond {A = Reading A} b (Err d) (Ok x) ≡ Ok y → (b ≡ false) × (x ≡ y)
 guard_ok true d x y e = absurd cc
 guard_ok false d x y e = (refl, cc)
 
-held_ok : {A : Type 0} (b : Bool) (d : ℕ) (x y : A × Cursor) → cond {A = Reading A} b (Ok x) (Err d) ≡ Ok y → (b ≡ true) × (x ≡ y)
+pub held_ok : {A : Type 0} (b : Bool) (d : ℕ) (x y : A × Cursor) → cond {A = Reading A} b (Ok x) (Err d) ≡ Ok y → (b ≡ true) × (x ≡ y)
 held_ok true d x y e = (refl, cc)
 held_ok false d x y e = absurd cc
-
--- one reading and then another
-pub record Then {A B : Type 0} (R : List ℕ → A → Type 0) (S : A → List ℕ → B → Type 0) (bytes : List ℕ) (b : B) : Type 0 where
-  pub value : A
-  pub front : List ℕ
-  pub back : List ℕ
-  pub whole : bytes ≡ front ++ back
-  pub first : R front value
-  pub second : S value back b
 
 pub then_agrees : {A B : Type 0} {r : Cursor → Reading A} {R : List ℕ → A → Type 0} {s : A → Cursor → Reading B} {S : A → List ℕ → B → Type 0}
     → Agrees r R → ((a : A) → Agrees (s a) (S a)) → Agrees (λ c. r c >>= λ x. s x.0 x.1) (Then R S)
@@ -178,6 +169,18 @@ number_4 (a ∷ b ∷ c ∷ []) len = absurd (omega arith)
 number_4 (a ∷ b ∷ c ∷ d ∷ []) len = omega arith
 number_4 (a ∷ b ∷ c ∷ d ∷ e ∷ rest) len = absurd (omega arith)
 
+number_8 : (bytes : List ℕ) → length bytes ≡ 8 → number_of bytes ≡ from_be_bytes w64 bytes
+number_8 [] len = absurd (omega arith)
+number_8 (a ∷ []) len = absurd (omega arith)
+number_8 (a ∷ b ∷ []) len = absurd (omega arith)
+number_8 (a ∷ b ∷ c ∷ []) len = absurd (omega arith)
+number_8 (a ∷ b ∷ c ∷ d ∷ []) len = absurd (omega arith)
+number_8 (a ∷ b ∷ c ∷ d ∷ e ∷ []) len = absurd (omega arith)
+number_8 (a ∷ b ∷ c ∷ d ∷ e ∷ f ∷ []) len = absurd (omega arith)
+number_8 (a ∷ b ∷ c ∷ d ∷ e ∷ f ∷ g ∷ []) len = absurd (omega arith)
+number_8 (a ∷ b ∷ c ∷ d ∷ e ∷ f ∷ g ∷ h ∷ []) len = omega arith
+number_8 (a ∷ b ∷ c ∷ d ∷ e ∷ f ∷ g ∷ h ∷ i ∷ rest) len = absurd (omega arith)
+
 pub wide_1 : IsWide 1 256 byte
 wide_1 = record {
   len = λ v. refl;
@@ -200,6 +203,14 @@ wide_4 = record {
   back = λ bytes len fits. be_bytes_4 bytes (number_of bytes) len (each_fits bytes fits) (number_4 bytes len);
   again = λ v lt. number_4 (four_bytes v) refl ∙ from_be_bytes-to_be_bytes_4 v lt;
   below = λ bytes len fits. rw (number_4 bytes len) (omega (arith, each_fits bytes fits 0, each_fits bytes fits 1, each_fits bytes fits 2, each_fits bytes fits 3));
+}
+
+pub wide_8 : IsWide 8 18446744073709551616 eight_bytes
+wide_8 = record {
+  len = λ v. refl;
+  back = λ bytes len fits. be_bytes_8 bytes (number_of bytes) len (each_fits bytes fits) (number_8 bytes len);
+  again = λ v lt. number_8 (eight_bytes v) refl ∙ from_be_bytes-to_be_bytes_8 v lt;
+  below = λ bytes len fits. rw (number_8 bytes len) (omega (arith, each_fits bytes fits 0, each_fits bytes fits 1, each_fits bytes fits 2, each_fits bytes fits 3, each_fits bytes fits 4, each_fits bytes fits 5, each_fits bytes fits 6, each_fits bytes fits 7));
 }
 
 -- a number in its bytes
@@ -260,43 +271,35 @@ bytes_agrees n = record {
   moved_bytes p c true = refl
   moved_bytes p c false = let e : c.place + p + n ≡ c.place + n + p = omega arith in rw e refl
 
--- a number that has to be this one
-abbrev pub IsThis : (be : ℕ → List ℕ) → ℕ → List ℕ → ℕ → Type 0
-IsThis be value bytes v = (v ≡ value) × (bytes ≡ be value)
+-- a value for which a test holds
+abbrev pub Held : {A : Type 0} → (List ℕ → A → Type 0) → (A → Bool) → List ℕ → A → Type 0
+Held R test bytes a = R bytes a × (test a ≡ true)
 
-pub this_agrees : {n limit : ℕ} {be : ℕ → List ℕ} → IsWide n limit be → (value : ℕ) → value < limit → Agrees (this_at n value) (IsThis be value)
-this_agrees {n} {limit} {be} wide value small = record {
+pub held_agrees : {A : Type 0} {r : Cursor → Reading A} {R : List ℕ → A → Type 0} → Agrees r R → (test : A → Bool) → Agrees (λ c. r c >>= λ x. if_holds c (test x.0) x) (Held R test)
+held_agrees {A} {r} {R} agrees test = record {
   takes = λ c x fits e.
-      let k = bind_ok (number_at n c) (λ y. cond (y.0 == value) (Ok y) (Err c.place)) x e in
-      let h = held_ok (k.0.0 == value) c.place k.0 x k.2 in
-      let is : k.0.0 ≡ value = eqb-true _ _ h.0 in
-      let t = (number_agrees wide).takes c k.0 fits k.1 in
-      let u : Taken (IsThis be value) c k.0 = record { front = t.front; reads = (is, t.reads.1 ∙ ap be is); parts = t.parts; place = t.place } in
-      subst (λ (y : ℕ × Cursor). Taken (IsThis be value) c y) h.1 u;
-  again = λ front rest place v h.
-      let one = (number_agrees wide).again front rest place value (small, h.1) in
-      let same : (value == value) ≡ true = eq-eqb value value refl in
-      rw (one, same, h.0) refl;
-  moves = λ p c. rw ((number_agrees wide).moves p c) (moved_this p c (number_at n c));
+      let k = bind_ok (r c) (λ y. if_holds c (test y.0) y) x e in
+      let h = held_ok (test k.0.0) c.place k.0 x k.2 in
+      let t = agrees.takes c k.0 fits k.1 in
+      let u : Taken (Held R test) c k.0 = record { front = t.front; reads = (t.reads, h.0); parts = t.parts; place = t.place } in
+      subst (λ (y : A × Cursor). Taken (Held R test) c y) h.1 u;
+  again = λ front rest place a h. rw (agrees.again front rest place a h.0, h.1) refl;
+  moves = λ p c. rw (agrees.moves p c) (moved_held p c (r c));
   stops = λ c p fits e.
-      elim (bind_err (number_at n c) (λ y. cond (y.0 == value) (Ok y) (Err c.place)) p e) [
-        | inl here ↦ (number_agrees wide).stops c p fits here
-        | inr there ↦ omega (arith, held_err (there.0.0 == value) c.place p there.0 there.2)
+      elim (bind_err (r c) (λ y. if_holds c (test y.0) y) p e) [
+        | inl here ↦ agrees.stops c p fits here
+        | inr there ↦ omega (arith, held_err (test there.0.0) c.place p there.0 there.2)
       ];
 } where
-  by_test : (p : ℕ) (c : Cursor) (x : ℕ × Cursor) (b : Bool) → cond {A = Reading ℕ} b (Ok (x.0, move_by p x.1)) (Err (c.place + p)) ≡ shift_by p (cond {A = Reading ℕ} b (Ok x) (Err c.place))
+  by_test : (p : ℕ) (c : Cursor) (x : A × Cursor) (b : Bool) → cond {A = Reading A} b (Ok (x.0, move_by p x.1)) (Err (c.place + p)) ≡ shift_by p (cond {A = Reading A} b (Ok x) (Err c.place))
   by_test p c x true = refl
   by_test p c x false = refl
 
-  moved_this : (p : ℕ) (c : Cursor) (m : Reading ℕ) → (shift_by p m >>= λ y. cond (y.0 == value) (Ok y) (Err (c.place + p))) ≡ shift_by p (m >>= λ y. cond (y.0 == value) (Ok y) (Err c.place))
-  moved_this p c (Ok x) = by_test p c x (x.0 == value)
-  moved_this p c (Err place) = refl
+  moved_held : (p : ℕ) (c : Cursor) (m : Reading A) → (shift_by p m >>= λ y. if_holds (move_by p c) (test y.0) y) ≡ shift_by p (m >>= λ y. if_holds c (test y.0) y)
+  moved_held p c (Ok x) = by_test p c x (test x.0)
+  moved_held p c (Err place) = refl
 
 -- ---- lists
-
-pub record IsList {A : Type 0} (R : List ℕ → A → Type 0) (n : ℕ) (bytes : List ℕ) (xs : List A) : Type 0 where
-  pub count : length xs ≡ n
-  pub each : ReadsEach R bytes xs
 
 abbrev Split : {A : Type 0} → (List ℕ → A → Type 0) → ℕ → List ℕ → List A → Type 0
 Split R n = Then R (λ first. Then (IsList R n) (λ others. Ends (first ∷ others)))
@@ -357,22 +360,6 @@ joined {bytes} {front} {back} {f} {b} whole x y = whole ∙ ap (λ (l : List ℕ
 pub last : {bytes front back f : List ℕ} → bytes ≡ front ++ back → front ≡ f → back ≡ [] → bytes ≡ f
 last {bytes} {front} {back} {f} whole x y = joined whole x y ∙ append-nil f
 
-pub then_same : {A B : Type 0} {R : List ℕ → A → Type 0} {S : A → List ℕ → B → Type 0} {bytes other : List ℕ} {b : B} → bytes ≡ other → Then R S other b → Then R S bytes b
-then_same e h = record { value = h.value; front = h.front; back = h.back; whole = e ∙ h.whole; first = h.first; second = h.second }
-
--- a number, bytes, a fixed number, in front of what follows
-pub put_number : {B : Type 0} {limit : ℕ} {be : ℕ → List ℕ} {S : ℕ → List ℕ → B → Type 0} {b : B} (v : ℕ) (back : List ℕ) → v < limit → S v back b → Then (IsNumber limit be) S (be v ++ back) b
-put_number {B} {limit} {be} v back lt second = record { value = v; front = be v; back = back; whole = refl; first = (lt, refl); second = second }
-
-pub put_bytes : {B : Type 0} {S : List ℕ → List ℕ → B → Type 0} {b : B} (s back : List ℕ) → S s back b → Then (AreBytes (length s)) S (s ++ back) b
-put_bytes s back second = record { value = s; front = s; back = back; whole = refl; first = (refl, refl); second = second }
-
-pub put_last : {B : Type 0} {S : List ℕ → List ℕ → B → Type 0} {b : B} (s : List ℕ) → S s [] b → Then (AreBytes (length s)) S s b
-put_last s second = record { value = s; front = s; back = []; whole = sym (append-nil s); first = (refl, refl); second = second }
-
-pub put_this : {B : Type 0} (be : ℕ → List ℕ) {S : ℕ → List ℕ → B → Type 0} {b : B} (v : ℕ) (back : List ℕ) → S v back b → Then (IsThis be v) S (be v ++ back) b
-put_this be v back second = record { value = v; front = be v; back = back; whole = refl; first = (refl, refl); second = second }
-
 -- bytes with their number before them
 abbrev pub IsSized : (limit : ℕ) (be : ℕ → List ℕ) → List ℕ → List ℕ → Type 0
 IsSized limit be bytes s = (length s < limit) × (bytes ≡ be (length s) ++ s)
@@ -384,10 +371,4 @@ sized_agrees {n} {limit} {be} wide = agrees_by (then_agrees (number_agrees wide)
   there bytes s h = (omega (arith, h.first.0, h.second.0), joined h.whole h.first.1 h.second.1 ∙ ap (λ (k : ℕ). be k ++ s) (sym h.second.0))
 
   back : (bytes s : List ℕ) → IsSized limit be bytes s → Then (IsNumber limit be) AreBytes bytes s
-  back bytes s h = then_same h.1 (put_number (length s) s h.0 (refl, refl))
-
-pub put_sized : {B : Type 0} {limit : ℕ} (be : ℕ → List ℕ) {S : List ℕ → List ℕ → B → Type 0} {b : B} (s back : List ℕ) → length s < limit → S s back b → Then (IsSized limit be) S ((be (length s) ++ s) ++ back) b
-put_sized be s back lt second = record { value = s; front = be (length s) ++ s; back = back; whole = refl; first = (lt, refl); second = second }
-
-pub put_sized_last : {B : Type 0} {limit : ℕ} (be : ℕ → List ℕ) {S : List ℕ → List ℕ → B → Type 0} {b : B} (s : List ℕ) → length s < limit → S s [] b → Then (IsSized limit be) S (be (length s) ++ s) b
-put_sized_last be s lt second = record { value = s; front = be (length s) ++ s; back = []; whole = sym (append-nil (be (length s) ++ s)); first = (lt, refl); second = second }
+  back bytes s h = record { value = length s; front = be (length s); back = s; whole = h.1; first = (h.0, refl); second = (refl, refl) }

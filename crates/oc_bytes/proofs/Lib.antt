@@ -4,3 +4,5 @@ pub mod Loops
 pub mod Outcomes
 pub mod Reading
 pub mod Within
+pub mod Parts
+pub mod Grammars

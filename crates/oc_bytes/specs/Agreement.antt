@@ -38,3 +38,29 @@ pub record InBytes {A : Type 0} (R : List ℕ → A → Type 0) (bytes : List �
 abbrev pub ReadsEach : {A : Type 0} → (List ℕ → A → Type 0) → List ℕ → List A → Type 0
 ReadsEach R bytes [] = bytes ≡ []
 ReadsEach R bytes (x ∷ xs) = (front : List ℕ) × (rest : List ℕ) × (bytes ≡ front ++ rest) × R front x × ReadsEach R rest xs
+
+-- so many values one after another
+pub record IsList {A : Type 0} (R : List ℕ → A → Type 0) (n : ℕ) (bytes : List ℕ) (xs : List A) : Type 0 where
+  pub count : length xs ≡ n
+  pub each : ReadsEach R bytes xs
+
+-- one form and then another
+pub record Then {A B : Type 0} (R : List ℕ → A → Type 0) (S : A → List ℕ → B → Type 0) (bytes : List ℕ) (b : B) : Type 0 where
+  pub value : A
+  pub front : List ℕ
+  pub back : List ℕ
+  pub whole : bytes ≡ front ++ back
+  pub first : R front value
+  pub second : S value back b
+
+-- so many bytes, of which a front is in this form
+pub record Nested {A : Type 0} (R : List ℕ → A → Type 0) (n : ℕ) (bytes : List ℕ) (a : A) : Type 0 where
+  pub size : length bytes ≡ n
+  pub front : List ℕ
+  pub trailing : List ℕ
+  pub whole : bytes ≡ front ++ trailing
+  pub reads : R front a
+
+-- a value in this form, and how many bytes it has
+abbrev pub Counted : {A : Type 0} → (List ℕ → A → Type 0) → List ℕ → A × ℕ → Type 0
+Counted R bytes x = R bytes x.0 × (x.1 ≡ length bytes)

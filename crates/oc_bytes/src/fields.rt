@@ -214,4 +214,17 @@ impl<'a> Fields<'a> {
         *self = ahead;
         Ok(bytes)
     }
+
+    /// Bytes with their number before them in four bytes, lent and not copied.
+    #[tactic(auto, unfolding(crate::specs::Cursor::sized_at))]
+    pub fn sized32(&mut self) -> Result<&'a [u8], Cut>
+        ensures bytes { Steps (λ x. x.now) place_of result self.old self.new (sized_at 4 self.old) }
+        ensures count { IfOk result (λ x. length x.now ≤ 4294967295) }
+    {
+        let mut ahead = self.ahead();
+        let size = ahead.u32()?;
+        let bytes = ahead.take(size as usize)?;
+        *self = ahead;
+        Ok(bytes)
+    }
 }

@@ -55,6 +55,14 @@ fn reads_values_and_parts(rt: HostRuntime) -> Result<(), Fail> {
 }
 
 #[test]
+fn reads_bytes_with_a_long_count(rt: HostRuntime) {
+    let mut fields = Fields::new(b"\0\0\0\x02hi\0\0\0\x02h");
+    assert_eq!(rt; fields.sized32(), Ok(b"hi".as_slice()));
+    assert_eq!(rt; fields.sized32(), Err(Cut(10)));
+    assert_eq!(rt; fields.place(), 6);
+}
+
+#[test]
 fn shares_bytes(rt: HostRuntime) -> Result<(), Fail> {
     let bytes = b"hello".to_vec(rt.alloc())?;
     let blob = Blob::new(rt.alloc(), bytes)?;

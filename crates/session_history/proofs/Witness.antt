@@ -5,10 +5,10 @@ use Rattle.ts_packet.specs.declared.Fate.{Fate}
 use Rattle.ts_packet.specs.declared.Fate.TheVariants.{Keep, Lose, Flip}
 use Rattle.ddb_block.specs.Message.{message_at}
 use Rattle.ddb_block.specs.Blocks.{block_at}
-use Rattle.ior_tap.specs.IorReading.{tap_at, component_at, location_at, taps_at, components_at, profile_at, ior_at}
 use Rattle.oc_bytes.specs.Cursor.{each_at, sized_at}
-use Rattle.dsi_dii.specs.ControlReading.{info_at, line_at, dii_at, dsi_at, head_at, frame_at, private_at}
-use Rattle.biop_object.specs.ObjectReading.{binding_at, context_at, file_at, folder_at, object_at, inside_at}
+use Rattle.oc_bytes.specs.Grammar.{read}
+use Rattle.dsi_dii.specs.ControlReading.{dii_at, dsi_at, frame_at, private_at}
+use Rattle.biop_object.specs.ObjectReading.{object_at}
 use Rattle.path_resolver.specs.declared.answer.Answer.TheVariants as answers
 use Rattle.module_packer.specs.Kept as placement
 use Rattle.cycle_planner.specs.declared.Item.TheVariants.{Dsi, Dii, Block}
@@ -136,7 +136,7 @@ unfolding placement.kept_modules placement.least_with
 drawn_is = refl
 
 answered : AreAnswered drawn readers
-unfolding message_at block_at each_at tap_at component_at location_at taps_at components_at profile_at ior_at info_at line_at dii_at dsi_at binding_at context_at file_at folder_at object_at head_at sized_at frame_at private_at inside_at
+unfolding read message_at block_at each_at dii_at dsi_at object_at sized_at frame_at private_at
 answered = (((refl, refl), ((refl, refl), tt)), (((refl, refl), tt), tt))
 
 pub ready : RunIsPremised → AMergeIsReady

@@ -1,26 +1,26 @@
 use Rattle.std.proofs.Common.{◌≡◌, ◌++◌, ◌∷◌, [], map}
 use Rattle.std.proofs.lemmas.Result.{err_from_is_err_and}
 use Rattle.std.proofs.lemmas.List.{map_push}
-use Rattle.biop_object.specs.Objects.{view_binding}
+use Rattle.biop_object.specs.Objects.{view_binding, binding}
 use Rattle.biop_object.specs.Index.{cause}
-use Rattle.biop_object.specs.ObjectReading.{binding_at}
+use Rattle.oc_bytes.specs.Grammar.{read}
 use Rattle.oc_bytes.specs.Cursor.{each_at}
 use Rattle.oc_bytes.proofs.CallerLemmas.{begins, goes_on, ends, is_done}
 use Rattle.biop_object.proofs.reading.bindings_of.Goals as goal
 
 pub loop-init : goal.loop-init
-loop-init c = rw c.new-bindings.ensures.items (begins binding_at c.args.count c.args.fields.now)
+loop-init c = rw c.new-bindings.ensures.items (begins (read binding) c.args.count c.args.fields.now)
 
 pub returns-in_err-binding : goal.returns-in_err-binding
 returns-in_err-binding c =
     let p = err_from_is_err_and c.from_residual.result c.from_residual.ensures.1 in
-    rw (p.1, p.2) (ends binding_at (cause c.in_err-binding.field-0.0) (map view_binding c.loop.bindings.items) c.args.count c.loop.counter c.loop.fields (each_at binding_at c.args.count c.args.fields.now) c.loop-test.true c.in_err-binding.ensures c.loop.invariant)
+    rw (p.1, p.2) (ends (read binding) (cause c.in_err-binding.field-0.0) (map view_binding c.loop.bindings.items) c.args.count c.loop.counter c.loop.fields (each_at (read binding) c.args.count c.args.fields.now) c.loop-test.true c.in_err-binding.ensures c.loop.invariant)
 
 pub loop-preserved : goal.loop-preserved
 loop-preserved c =
     let t = c.in_ok-binding.binding in
     let e : map view_binding c.push.new.self.items ≡ map view_binding c.loop.bindings.items ++ view_binding t ∷ [] = rw c.in_ok-push.ensures.items (map_push view_binding c.loop.bindings.items t) in
-    rw e (goes_on binding_at (map view_binding c.loop.bindings.items) c.args.count c.loop.counter c.loop.fields c.binding_of.new.fields (view_binding t) (each_at binding_at c.args.count c.args.fields.now) c.loop-test.true c.in_ok-binding.ensures c.loop.invariant)
+    rw e (goes_on (read binding) (map view_binding c.loop.bindings.items) c.args.count c.loop.counter c.loop.fields c.binding_of.new.fields (view_binding t) (each_at (read binding) c.args.count c.args.fields.now) c.loop-test.true c.in_ok-binding.ensures c.loop.invariant)
 
 pub returns : goal.returns
-returns c = is_done binding_at (map view_binding c.loop.bindings.items) c.args.count c.loop.counter c.loop.fields (each_at binding_at c.args.count c.args.fields.now) c.loop-test.false c.loop.invariant
+returns c = is_done (read binding) (map view_binding c.loop.bindings.items) c.args.count c.loop.counter c.loop.fields (each_at (read binding) c.args.count c.args.fields.now) c.loop-test.false c.loop.invariant

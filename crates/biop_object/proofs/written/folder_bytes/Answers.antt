@@ -7,5 +7,5 @@ overflow_cast-entries c = omega (arith, few_entries c.args.entries.now, c.requir
 
 pub returns-clause-spells : goal.returns-clause-spells
 returns-clause-spells c =
-    rw (c.done.ensures, c.in_ok-put_bindings.ensures.put, c.in_ok-put_u16.ensures.ok, c.in_ok-put_front.ensures, c.new-out.ensures, c.name.ensures)
+    rw (c.done.ensures, c.in_ok-put_bindings.ensures.put, c.in_ok-put_u16.ensures.ok, c.in_ok-put_front.ensures, c.new-out.ensures, c.name.ensures, c.bytes.ensures.value)
     (folder_is c.args.kind c.args.key.now c.args.entries.now c.args.size c.requires.key c.requires.entries c.requires.size)

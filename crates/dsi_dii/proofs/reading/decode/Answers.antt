@@ -10,8 +10,7 @@ pub returns-else-is_dsi-clause-found : goal.returns-else-is_dsi-clause-found
 returns-else-is_dsi-clause-found c = dii_answer c.args.payload.now c.dii_of.result (λ i. omega (arith, c.type_inv.payload i)) c.dii_of.ensures.exact
 
 pub returns-else-is_dsi-clause-only : goal.returns-else-is_dsi-clause-only
-returns-else-is_dsi-clause-only c = λ m h. dii_only c.args.payload.now c.dii_of.result m (λ i. omega (arith, c.type_inv.payload i))
-    (λ e. let t : IsTrue false = c.if-is_dsi.ensures.1 e in absurd cc) c.dii_of.ensures.exact h
+returns-else-is_dsi-clause-only c = λ m h. dii_only c.args.payload.now c.dii_of.result m (λ e. let t : IsTrue false = c.if-is_dsi.ensures.1 e in absurd cc) c.dii_of.ensures.exact h
 
 pub returns-then-is_dsi-clause-memory_dii : goal.returns-then-is_dsi-clause-memory_dii
 returns-then-is_dsi-clause-memory_dii c = λ e other. absurd (other (c.if-is_dsi.ensures.0 refl))

@@ -1,5 +1,4 @@
-use Rattle.ior_tap.proofs.Grammar.{ior_agrees}
-use Rattle.ior_tap.proofs.Spelled.{written_reads, written_again}
+use Rattle.ior_tap.proofs.Grammar.{ior_agrees, written_reads, written_again}
 use Rattle.ior_tap.proofs.reading.one_reading.Goals as goal
 
 pub returns-clause-agree : goal.returns-clause-agree

@@ -2,7 +2,8 @@ use Rattle.std.proofs.Common.{ℕ, List, refl, subst}
 use Rattle.std.specs.Prelude.{IsOk}
 use Rattle.oc_bytes.specs.Numbers.{IsBytes}
 use Rattle.oc_bytes.specs.Cursor.{from_start}
-use Rattle.biop_object.specs.ObjectReading.{framed_at}
+use Rattle.oc_bytes.specs.Grammar.{read}
+use Rattle.biop_object.specs.Objects.{framed}
 use Rattle.biop_object.proofs.ModuleLaws.{begins_framed, index_reads, index_only}
 use Rattle.biop_object.proofs.module.Module.read.Goals as goal
 
@@ -14,4 +15,4 @@ returns-in-Ok-clause-only c = λ objects stop h. index_only c.args.bytes.items o
 
 pub returns-in-Err-clause-memory : goal.returns-in-Err-clause-memory
 returns-in-Err-clause-memory c = λ h. begins_framed c.args.bytes.items (subst IsBytes c.deref.ensures.value c.read_index.ensures.fit)
-    (subst (λ (l : List ℕ). IsOk (framed_at (from_start l))) c.deref.ensures.value (c.in-Err.ensures.memory refl))
+    (subst (λ (l : List ℕ). IsOk (read framed (from_start l))) c.deref.ensures.value (c.in-Err.ensures.memory refl))
