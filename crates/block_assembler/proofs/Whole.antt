@@ -1,13 +1,13 @@
 -- When the blocks make the module, and which one is missing first.
-use Rattle.std.proofs.Common.{◌≡◌, ◌≢◌, ℕ, zero, suc, ◌+◌, ◌*◌, ◌<◌, ◌≤◌, Bool, true, false, not, cond, List, [], ◌∷◌, length, take, drop, replicate, Option, Some, None, refl, ap, sym, ◌∙◌, subst, arith, get_or, take-add, zero-mul, suc-mul, add-mul, one-mul}
-use Rattle.std.specs.List.{count_by, position, position_or_len}
+use Rattle.std.proofs.Common.{◌≡◌, ◌≢◌, ℕ, zero, suc, ◌+◌, ◌*◌, ◌<◌, ◌≤◌, Bool, true, false, not, cond, List, [], ◌∷◌, length, take, drop, replicate, map, Option, Some, None, refl, ap, sym, ◌∙◌, subst, arith, get_or, take-add, zero-mul, suc-mul, add-mul, one-mul}
+use Rattle.std.specs.List.{count_by, position, position_or_len, range_with_len}
 use Rattle.std.specs.Option.{is_none}
 use Rattle.std.proofs.lemmas.List.{drop-drop, take_all}
 use Rattle.std.proofs.lemmas.List.Sums.{sum_by-cons, position_or_len_is}
 use Rattle.std.proofs.lemmas.Grind.{div_ceil_times}
 use Rattle.std.proofs.lemmas.Bool.{lt-ltb, le-ltb}
 use Rattle.ddb_block.specs.Blocks.{block_count_of, block_of}
-use Rattle.block_assembler.specs.Blocks.{Bytes, AssemblerState, join_all, empty_of}
+use Rattle.block_assembler.specs.Blocks.{Bytes, AssemblerState, join_all, empty_of, refilled}
 use Rattle.block_assembler.specs.Kept.{blocks_from}
 use Rattle.block_assembler.proofs.Places.{viewed, length_blocks, block_there}
 
@@ -42,6 +42,18 @@ is_whole size k bytes ts positive n l e =
 
 pub is_not_whole : (size k : ℕ) (bytes : Bytes) (ts : List Bool) → count_by not ts ≢ 0 → join_all (viewed size k bytes ts).blocks ≡ None
 is_not_whole size k bytes ts e = joined_if_not bytes k 0 ts e
+
+-- each block is marked: the blocks are the bytes, cut
+all_cut : (bytes : Bytes) (k b : ℕ) (ts : List Bool) → count_by not ts ≡ 0 → blocks_from bytes k b ts ≡ map (λ n. Some (block_of bytes k n)) (range_with_len b (length ts))
+all_cut bytes k b [] e = refl
+all_cut bytes k b (false ∷ ts) e = absurd (omega (arith, count_cons false ts))
+all_cut bytes k b (true ∷ ts) e = ap (λ (xs : List (Option Bytes)). Some (block_of bytes k b) ∷ xs) (all_cut bytes k (b + 1) ts (omega (arith, count_cons true ts)))
+
+pub is_refilled : (size k : ℕ) (bytes : Bytes) (ts : List Bool) → length ts ≡ block_count_of size k → count_by not ts ≡ 0
+    → viewed size k bytes ts ≡ refilled (record { size = size; block_size = k }) bytes
+is_refilled size k bytes ts l e =
+    ap (λ (xs : List (Option Bytes)). with_blocks size k xs)
+    (all_cut bytes k 0 ts e ∙ ap (λ (n : ℕ). map (λ b. Some (block_of bytes k b)) (range_with_len 0 n)) l)
 
 -- ---- the first that is missing
 

@@ -1,7 +1,7 @@
 -- Blocks that make a module.
-use Rattle.std.specs.Prelude.{◌≡◌, ℕ, ◌<◌, ◌≤◌, Bool, true, false, not, ◌&&◌, List, [], ◌∷◌, ◌++◌, length, replicate, Option, Some, None, is_some, nat_lt, ◌==◌, slice_set, slice_index_or, if◌then◌else◌}
-use Rattle.std.specs.List.{after_last, filter_map}
-use Rattle.ddb_block.specs.Blocks.{block_count_of, block_span_of}
+use Rattle.std.specs.Prelude.{◌≡◌, ℕ, ◌<◌, ◌≤◌, Bool, true, false, not, ◌&&◌, List, [], ◌∷◌, ◌++◌, length, replicate, Option, Some, None, is_some, nat_lt, ◌==◌, map, slice_set, slice_index_or, if◌then◌else◌}
+use Rattle.std.specs.List.{after_last, filter_map, range_with_len}
+use Rattle.ddb_block.specs.Blocks.{block_count_of, block_span_of, block_of}
 use Rattle.ddb_block.specs.declared.TheConstants.{MOST_BLOCK_SIZE, MOST_BLOCKS}
 use Rattle.block_assembler.specs.declared.TheConstants.{MOST_MODULE_SIZE}
 use Rattle.block_assembler.specs.declared.Offer.{Offer}
@@ -59,6 +59,19 @@ onto_all _ _ = None
 abbrev pub join_all : List (Option Bytes) → Option Bytes
 join_all [] = Some []
 join_all (x ∷ xs) = onto_all x (join_all xs)
+
+-- an assembler whose bytes were given away: what is left of it
+pub record EmptiedState : Type 0 where
+  pub size : ℕ
+  pub block_size : ℕ
+
+-- with these bytes: each block is there, and has its part of them
+abbrev pub refilled : EmptiedState → Bytes → AssemblerState
+refilled e bytes = record {
+  size = e.size;
+  block_size = e.block_size;
+  blocks = map (λ b. Some (block_of bytes e.block_size b)) (range_with_len 0 (block_count_of e.size e.block_size));
+}
 
 -- ---- over a list of calls: what a caller did with the assembler since it was made
 

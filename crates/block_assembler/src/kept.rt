@@ -1,8 +1,8 @@
-ghost use Rattle.std.specs.Prelude.{◌≡◌, ◌<◌, ◌≤◌, ◌⊎◌, ◌++◌, ◌∷◌, [], List, ℕ, Some, None, Ok, IfOk, MatchResult, IsErrOf};
+ghost use Rattle.std.specs.Prelude.{◌≡◌, ◌<◌, ◌≤◌, ◌⊎◌, ◌++◌, ◌∷◌, [], List, ℕ, Some, None, Ok, IfOk, IfErr, MatchResult, IsErrOf, length};
 ghost use Rattle.std.specs.Option.{option_map, is_none};
 ghost use Rattle.std.specs.List.{position};
 ghost use Rattle.ddb_block.specs.Blocks.{block_count_of};
-ghost use Rattle.block_assembler.specs.Blocks.{StandsFor, Call, Offered, Forgotten, empty_of, offer_of, after_offer, after_forget, join_all, IsAssembled};
+ghost use Rattle.block_assembler.specs.Blocks.{StandsFor, Call, Offered, Forgotten, empty_of, offer_of, after_offer, after_forget, join_all, refilled, IsAssembled};
 ghost use Rattle.block_assembler.specs.declared.NewFault.TheVariants.{NoMemory as OutOfMemory};
 
 use crate::put::put;
@@ -41,6 +41,28 @@ impl Model for Assembler {
     ghost view = { view_assembler };
 
     ghost invariant = { IsKept };
+}
+
+/// What is left of an assembler whose bytes [`Assembler::finish`] gave away.
+///
+/// Contracts see the module's size and block size.
+#[derive(Drop)]
+pub struct Emptied {
+    size: u32,
+    block_size: u16,
+    there: Vec<bool>,
+}
+
+impl Model for Emptied {
+    ghost use Rattle.block_assembler.specs.Blocks.{EmptiedState};
+
+    ghost Value = { EmptiedState };
+
+    ghost use Rattle.block_assembler.specs.Kept.{view_emptied, IsEmptied};
+
+    ghost view = { view_emptied };
+
+    ghost invariant = { IsEmptied };
 }
 
 impl Assembler {
@@ -122,15 +144,23 @@ impl Assembler {
         }
     }
 
-    /// The module's bytes, exactly where no block is missing, and else the assembler as it was. The bytes aren't copied.
-    pub fn finish(self) -> Result<Vec<u8>, Assembler>
-        ensures { MatchResult result (λ bytes. join_all self.blocks ≡ Some bytes.items) (λ a. (join_all self.blocks ≡ None) × (a ≡ self)) }
+    /// The module's bytes, exactly where no block is missing, and else the assembler as it was. With the bytes comes what is left
+    /// of the assembler, from which [`Emptied::refill`] makes it again. The bytes aren't copied, and no memory is taken.
+    pub fn finish(self) -> Result<(Vec<u8>, Emptied), Assembler>
+        ensures bytes { MatchResult result (λ r. join_all self.blocks ≡ Some r.0.items) (λ _. join_all self.blocks ≡ None) }
+        ensures emptied { IfOk result (λ r. self ≡ refilled r.1 r.0.items) }
+        ensures size { IfOk result (λ r. length r.0.items ≡ r.1.size) }
+        ensures same { IfErr result (λ a. a ≡ self) }
     {
-        if self.missing == 0 {
-            Ok(self.bytes)
-        } else {
-            Err(self)
+        if self.missing > 0 {
+            return Err(self);
         }
+        let left = Emptied {
+            size: self.size,
+            block_size: self.block_size,
+            there: self.there,
+        };
+        Ok((self.bytes, left))
     }
 
     /// The least number of a block that is missing, if any is.
@@ -143,5 +173,23 @@ impl Assembler {
             }
         }
         None
+    }
+}
+
+impl Emptied {
+    /// The assembler with these bytes, which have to be as many as the module has; no block is missing. With the bytes that
+    /// [`Assembler::finish`] gave it is the assembler that was. The bytes aren't copied, and no memory is taken.
+    pub fn refill(self, bytes: Vec<u8>) -> Assembler
+        requires { length bytes.items ≡ self.size }
+        ensures whole { join_all result.blocks ≡ Some bytes.items }
+        ensures blocks { result ≡ refilled self bytes.items }
+    {
+        Assembler {
+            size: self.size,
+            block_size: self.block_size,
+            bytes,
+            there: self.there,
+            missing: 0,
+        }
     }
 }

@@ -22,7 +22,7 @@ use thiserror::Error;
 mod kept;
 mod put;
 
-pub use kept::Assembler;
+pub use kept::{Assembler, Emptied};
 
 /// The most bytes of a module that is assembled: 16 MiB of a file's content and 64 KiB for what stands around it. This
 /// project's own limit.

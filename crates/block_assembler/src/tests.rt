@@ -37,10 +37,28 @@ fn blocks_come_in_any_order(rt: HostRuntime) -> Result<(), Fail> {
         assert_eq!(rt; module.first_missing(), missing, "after block {block}");
     }
     assert_eq!(rt; module.whole(), Some(b"abcdefghi".as_slice()));
+    let bytes = module.finish().ok().map(|finished| finished.0);
     assert_eq!(rt;
-        module.finish().ok(),
+        bytes,
         Some(vec![in rt.alloc(); b'a', b'b', b'c', b'd', b'e', b'f', b'g', b'h', b'i']?)
     );
+    Ok(())
+}
+
+#[test]
+fn bytes_are_given_away_and_taken_back(rt: HostRuntime) -> Result<(), Fail> {
+    let mut module = Assembler::new(rt.alloc(), 5, 4)?;
+    assert_eq!(rt; module.offer(1, b"e"), Offer::New);
+    assert_eq!(rt; module.offer(0, b"abcd"), Offer::New);
+    match module.finish() {
+        Ok((bytes, left)) => {
+            assert_eq!(rt; bytes.as_slice(), b"abcde".as_slice());
+            let again = left.refill(bytes);
+            assert_eq!(rt; again.first_missing(), None);
+            assert!(rt; again.finish().is_ok());
+        }
+        Err(_module) => return Err(Fail::from("a block is missing")),
+    }
     Ok(())
 }
 

@@ -1,10 +1,9 @@
 -- Text in parts, one for each item of a list.
-use Rattle.std.proofs.Common.{◌≡◌, ℕ, ◌+◌, ◌<◌, Bool, true, false, ◌&&◌, List, [], ◌∷◌, ◌++◌, get_or, length, take, drop, Some, refl, ◌∙◌, sym, ap, append-nil}
+use Rattle.std.proofs.Common.{◌≡◌, ℕ, ◌+◌, ◌<◌, Bool, true, false, ◌&&◌, List, [], ◌∷◌, ◌++◌, get_or, length, take, drop, Some, refl, ◌∙◌, sym, ap}
 use Rattle.std.proofs.lemmas.Option.{slice_get_within, get_or_from_slice_get, slice_get-get_or}
 use Rattle.std.proofs.lemmas.List.{take-append-drop, take_more, flat_map_more}
-use Rattle.std.proofs.lemmas.List.Folds.{concat-append}
 use Rattle.std.proofs.lemmas.Grind.{flat_map-append}
-use Rattle.std.specs.List.{flat_map, list_all, concat}
+use Rattle.std.specs.List.{flat_map, list_all}
 use Rattle.std.specs.Prelude.{slice_get}
 use Rattle.shell_streams.specs.Cuts.{Bytes}
 
@@ -35,11 +34,3 @@ all_push p (y ∷ ys) x = ap (λ b. p y && b) (all_push p ys x) ∙ and_assoc (p
 
 pub all_next : {X : Type 0} (p : X → Bool) (xs : List X) (i : ℕ) (x : X) → i < length xs → x ≡ get_or xs i x → (list_all p (take i xs) && p x) ≡ list_all p (take (i + 1) xs)
 all_next p xs i x h e = sym (all_push p (take i xs) x) ∙ ap (list_all p) (ap (λ y. take i xs ++ y ∷ []) e ∙ sym (take_more xs i x h))
-
--- one packet more
-pub concat_next : (packets : List Bytes) (i : ℕ) (d : Bytes) → i < length packets → concat (take i packets) ++ get_or packets i d ≡ concat (take (i + 1) packets)
-concat_next packets i d h =
-    sym (ap concat (take_more packets i d h) ∙ concat-append (take i packets) (get_or packets i d ∷ []) ∙ ap (λ bs. concat (take i packets) ++ bs) (append-nil (get_or packets i d)))
-
-pub concat_all : (packets : List Bytes) (i : ℕ) → concat (take i packets) ++ concat (drop i packets) ≡ concat packets
-concat_all packets i = sym (ap concat (sym (take-append-drop i packets)) ∙ concat-append (take i packets) (drop i packets))

@@ -190,8 +190,5 @@ impl Sender {
 pub fn put_packets<O: Output>(packets: &[[u8; 188]], out: &mut O) -> Result<(), OutputFault>
     ensures { Puts result (O.state out.old) (O.state out.new) (concat packets.now) }
 {
-    for packet in packets {
-        out.put(packet)?;
-    }
-    Ok(())
+    out.put(packets.as_flattened())
 }

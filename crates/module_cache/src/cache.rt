@@ -130,7 +130,7 @@ impl Cache {
 
     /// Offers a block. The answer is the first rule of `Taken` that holds, in the order in which they are listed, and only `New`
     /// changes anything. The bytes are copied once, to their place in the module; the block that completes a module makes it whole
-    /// in the same call.
+    /// in the same call, out of the bytes where they are.
     ///
     /// Memory is asked for only where the answer would be `New`: for the module's bytes at its first block, and for its index at
     /// its last. Out of memory leaves the cache as it was.

@@ -1,6 +1,6 @@
 //! What is there of one module of the held DII.
 
-ghost use Rattle.std.specs.Prelude.{◌≡◌, ◌≢◌, ◌≤◌, ◌<◌, List, ℕ, IfOk, OnOk, OnErr, length, replicate, None};
+ghost use Rattle.std.specs.Prelude.{◌≡◌, ◌≢◌, ◌≤◌, ◌<◌, List, ℕ, IfOk, IfErr, OnOk, OnErr, length, replicate, None};
 ghost use Rattle.std.specs.Arc.{arc_value};
 ghost use Rattle.std.specs.Option.{option_map};
 ghost use Rattle.ddb_block.specs.Blocks.{block_count_of};
@@ -18,6 +18,7 @@ use dsi_dii::ModuleLine;
 use oc_bytes::NoMemory;
 use std::alloc::{AllocError, Global};
 use std::marker::Model;
+use std::mem;
 use std::sync::Arc;
 
 #[derive(Drop)]
@@ -58,24 +59,31 @@ pub struct Line {
     pub stored: Stored,
 }
 
-/// The module of these bytes.
-fn module_of(alloc: Global, bytes: &[u8]) -> Result<Arc<Module>, NoMemory>
-    ensures { IfOk result (λ m. arc_value m ≡ bytes.now) }
+/// The module of these bytes, which are handed back where there is no memory for the index.
+fn module_of(alloc: Global, bytes: Vec<u8>) -> Result<Arc<Module>, (NoMemory, Vec<u8>)>
+    ensures ok { IfOk result (λ m. arc_value m ≡ bytes.items) }
+    ensures err { IfErr result (λ e. e.1.items ≡ bytes.items) }
 {
-    let bytes = bytes.to_vec(alloc)?;
-    match Module::read(alloc, bytes) {
-        Ok(module) => Ok(Arc::new(alloc, module)?),
-        Err((error, _bytes)) => Err(error),
+    let module = Module::read(alloc, bytes)?;
+    match Arc::new(alloc, module) {
+        Ok(module) => Ok(module),
+        Err(failed) => Err((AllocError, failed.value.into_bytes())),
     }
 }
 
-/// The module of an assembler in which no block is missing.
-fn completed(alloc: Global, assembler: &Assembler) -> Result<Option<Arc<Module>>, NoMemory>
-    ensures { IfOk result (λ m. option_map (λ a. arc_value a) m ≡ join_all assembler.now.blocks) }
+/// The state that an assembler makes: the whole module where no block is missing. The assembler is handed back where there is no
+/// memory for that.
+fn settled(alloc: Global, assembler: Assembler) -> Result<State, (NoMemory, Assembler)>
+    ensures view { IfOk result (λ s. view_state assembler.size assembler.block_size s ≡ contents.content_of assembler.blocks) }
+    ensures shape { IfOk result (λ s. (size block_size : ℕ) → IsShaped size block_size assembler → IsState size block_size s) }
+    ensures err { IfErr result (λ e. e.1 ≡ assembler) }
 {
-    match assembler.whole() {
-        Some(bytes) => Ok(Some(module_of(alloc, bytes)?)),
-        None => Ok(None),
+    match assembler.finish() {
+        Err(assembler) => Ok(State::Part(assembler)),
+        Ok((bytes, left)) => match module_of(alloc, bytes) {
+            Ok(module) => Ok(State::Whole(module)),
+            Err((error, bytes)) => Err((error, left.refill(bytes))),
+        },
     }
 }
 
@@ -93,46 +101,32 @@ fn again(size: u32, block_size: u16, block: u16, bytes: &[u8]) -> Taken
     }
 }
 
-/// Offers a block to an assembler, and gives the module where it was the last one that was missing. Where the module finds no
-/// memory, the block is missing again.
+/// What an assembler answers to a block, and the state after it. Where the module finds no memory, the block is missing again.
 fn offer_to(
     alloc: Global,
-    assembler: &mut Assembler,
+    mut assembler: Assembler,
     block: u16,
     bytes: &[u8],
-) -> Result<(Taken, Option<Arc<Module>>), NoMemory>
-    ensures answer { IfOk result (λ r. r.0 ≡ by_offer (offer_of assembler.old block bytes.now)) }
-    ensures after { OnOk result (assembler.new ≡ after_offer assembler.old block bytes.now) }
-    ensures shape { (size block_size : ℕ) → IsShaped size block_size assembler.old → IsShaped size block_size assembler.new }
-    ensures whole { IfOk result (λ r. r.0 ≡ Taken.New → option_map (λ a. arc_value a) r.1 ≡ join_all assembler.new.blocks) }
-    ensures part { IfOk result (λ r. r.0 ≢ Taken.New → r.1 ≡ None) }
-    ensures changed { IfOk result (λ r. r.0 ≡ Taken.New → (size block_size : ℕ) → IsShaped size block_size assembler.old → contents.content_of assembler.new.blocks ≢ Blocks assembler.old.blocks) }
-    ensures err { OnErr result (assembler.new ≡ assembler.old) }
-    ensures memory { OnErr result (by_offer (offer_of assembler.old block bytes.now) ≡ Taken.New) }
+) -> (Result<Taken, NoMemory>, State)
+    ensures answer { IfOk result.0 (λ t. t ≡ taken_at assembler.size assembler.block_size (Blocks assembler.blocks) block bytes.now) }
+    ensures after { OnOk result.0 (view_state assembler.size assembler.block_size result.1 ≡ content_after assembler.size assembler.block_size (Blocks assembler.blocks) block bytes.now) }
+    ensures shape { (size block_size : ℕ) → IsShaped size block_size assembler → IsState size block_size result.1 }
+    ensures changed { IfOk result.0 (λ t. t ≡ Taken.New → (size block_size : ℕ) → IsShaped size block_size assembler → view_state size block_size result.1 ≢ Blocks assembler.blocks) }
+    ensures err { OnErr result.0 (result.1 ≡ State.Part assembler) }
+    ensures memory { OnErr result.0 (taken_at assembler.size assembler.block_size (Blocks assembler.blocks) block bytes.now ≡ Taken.New) }
 {
     match assembler.offer(block, bytes) {
-        Offer::WrongPlace => return Ok((Taken::WrongPlace, None)),
-        Offer::WrongLength => return Ok((Taken::WrongLength, None)),
-        Offer::Again => return Ok((Taken::Again, None)),
+        Offer::WrongPlace => return (Ok(Taken::WrongPlace), State::Part(assembler)),
+        Offer::WrongLength => return (Ok(Taken::WrongLength), State::Part(assembler)),
+        Offer::Again => return (Ok(Taken::Again), State::Part(assembler)),
         Offer::New => {}
     }
-    match completed(alloc, assembler) {
-        Ok(module) => Ok((Taken::New, module)),
-        Err(error) => {
+    match settled(alloc, assembler) {
+        Ok(state) => (Ok(Taken::New), state),
+        Err((error, mut assembler)) => {
             assembler.forget(block);
-            Err(error)
+            (Err(error), State::Part(assembler))
         }
-    }
-}
-
-/// The state in which an assembler is after an offer, which gave the module where it was whole.
-fn state_after(assembler: Assembler, whole: Option<Arc<Module>>) -> State
-    ensures view { (size block_size : ℕ) → view_state size block_size result ≡ whole_or assembler.blocks (option_map (λ a. arc_value a) whole) }
-    ensures shape { (size block_size : ℕ) → IsShaped size block_size assembler → IsState size block_size result }
-{
-    match whole {
-        Some(module) => State::Whole(module),
-        None => State::Part(assembler),
     }
 }
 
@@ -155,14 +149,14 @@ fn begun(
     if taken != Taken::Again {
         return Ok((taken, State::Empty));
     }
-    let mut assembler = match Assembler::new(alloc, size, block_size) {
+    let assembler = match Assembler::new(alloc, size, block_size) {
         Ok(assembler) => assembler,
         Err(NewFault::NoMemory) => return Err(AllocError),
         Err(NewFault::NoBlockSize) => unreachable!(),
         Err(NewFault::TooLarge) => unreachable!(),
     };
-    let (taken, module) = offer_to(alloc, &mut assembler, block, bytes)?;
-    Ok((taken, state_after(assembler, module)))
+    let (taken, state) = offer_to(alloc, assembler, block, bytes);
+    Ok((taken?, state))
 }
 
 /// The state of a module of which nothing has come yet.
@@ -181,7 +175,10 @@ fn fresh_state(
         return Ok(State::Packed);
     }
     if block_count(size, block_size) == 0 {
-        return Ok(State::Whole(module_of(alloc, &[])?));
+        return match module_of(alloc, Vec::new(alloc)) {
+            Ok(module) => Ok(State::Whole(module)),
+            Err((error, _bytes)) => Err(error),
+        };
     }
     Ok(State::Empty)
 }
@@ -231,22 +228,19 @@ impl Stored {
         ensures err { OnErr result (self.new ≡ self.old) }
         ensures memory { OnErr result (taken_in self.old block bytes.now ≡ Taken.New) }
     {
-        let taken = match &mut self.state {
-            State::Packed => Taken::Compressed,
-            State::Whole(_) => again(self.size, self.block_size, block, bytes),
+        let (taken, state) = match mem::replace(&mut self.state, State::Empty) {
+            State::Packed => (Ok(Taken::Compressed), State::Packed),
+            State::Whole(module) => {
+                let taken = again(self.size, self.block_size, block, bytes);
+                (Ok(taken), State::Whole(module))
+            }
             State::Empty => {
                 let (taken, state) = begun(alloc, self.size, self.block_size, block, bytes)?;
-                self.state = state;
-                taken
+                (Ok(taken), state)
             }
-            State::Part(assembler) => {
-                let (taken, module) = offer_to(alloc, assembler, block, bytes)?;
-                if let Some(module) = module {
-                    self.state = State::Whole(module);
-                }
-                taken
-            }
+            State::Part(assembler) => offer_to(alloc, assembler, block, bytes),
         };
-        Ok(taken)
+        self.state = state;
+        taken
     }
 }

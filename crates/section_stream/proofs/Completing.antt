@@ -17,10 +17,14 @@ pub on_err : {T E P : Type 0} (r : Result T E) → P → OnErr r P
 on_err (Ok x) p = tt
 on_err (Err e) p = p
 
-more_left : (xs ys : List Bytes) → 0 < length xs → 0 < length (xs ++ ys)
+pub on_err_both : {T E P Q : Type 0} (r : Result T E) → P → Q → OnErr r (P × Q)
+on_err_both (Ok x) p q = tt
+on_err_both (Err e) p q = (p, q)
+
+pub more_left : (xs ys : List Bytes) → 0 < length xs → 0 < length (xs ++ ys)
 more_left xs ys h = omega (arith, length-append xs ys, h)
 
-more_right : (xs ys : List Bytes) → 0 < length ys → 0 < length (xs ++ ys)
+pub more_right : (xs ys : List Bytes) → 0 < length ys → 0 < length (xs ++ ys)
 more_right xs ys h = omega (arith, length-append xs ys, h)
 
 longer : (xs ys all : List Bytes) → all ≡ xs ++ ys → 0 < length ys → length xs < length all

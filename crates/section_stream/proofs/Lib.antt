@@ -7,10 +7,12 @@ pub mod Bytes
 pub mod Opening
 pub mod Taking
 pub mod Completing
+pub mod Handing
 pub mod Packed
 pub mod Filling
 pub mod InPlace
 pub mod Places
+pub mod Keeping
 pub mod Grouped
 pub mod GroupPlaces
 pub mod Rising

@@ -7,7 +7,7 @@ use Rattle.section_stream.specs.Rules.{After, Grown, Growing, Oversize, Whole, a
 use Rattle.section_stream.specs.Steps.{HasDone, no_section_in, open_all}
 use Rattle.section_stream.specs.declared.counts.Counts.{Counts}
 
-whole_bounds : (here : Bytes) (n : ℕ) → as_grown here ≡ Whole n → (3 ≤ n) × (n ≤ length here)
+pub whole_bounds : (here : Bytes) (n : ℕ) → as_grown here ≡ Whole n → (3 ≤ n) × (n ≤ length here)
 whole_bounds here n e = (grind (arith, common_steps), grind (arith, common_steps))
 
 no_bytes_end : (here : Bytes) → length here ≤ 0 → no_section_in here ≡ true
@@ -33,7 +33,7 @@ enough (suc a) (suc b) here c h k = go (λ rest x y. enough a b rest c x y) (no_
   go next true e = rw e refl
   go next false e = by next e (as_grown here) refl
 
-nothing_done : (before : List Bytes) (opened : Option Bytes) (c : Counts) (a : After) → a ≡ record { opened = opened; out = []; counts = c } → HasDone a opened before before c
+pub nothing_done : (before : List Bytes) (opened : Option Bytes) (c : Counts) (a : After) → a ≡ record { opened = opened; out = []; counts = c } → HasDone a opened before before c
 nothing_done before opened c a e = record { opened = ap (λ x. x.opened) e; out = sym (append-nil before) ∙ ap (λ out. before ++ out) (sym (ap (λ x. x.out) e)); counted = ap (λ x. x.counts) e }
 
 pub open-ends : (here : Bytes) (c : Counts) (before : List Bytes) → no_section_in here ≡ true → HasDone (open_all here c) None before before c
@@ -72,6 +72,10 @@ rest_is here n = take_all (length here - n) (drop n here) (omega (arith, length-
 -- what is left of a section stays below the longest
 pub growing_bound : (here : Bytes) → as_grown here ≡ Growing → length here ≤ 4096
 growing_bound here e = grind (arith, common_steps)
+
+-- and so does a whole one
+pub whole_most : (here : Bytes) (n : ℕ) → as_grown here ≡ Whole n → n ≤ 4096
+whole_most here n e = grind (arith, common_steps)
 
 pub starts_is : (o : Option Bytes) (payload : Bytes) (c : Counts) (p : ℕ) → p ≡ slice_index payload 0 → p < length payload
     → starts o payload c ≡ with_out (closes o (take p (drop 1 payload)) c).out (open_all (drop (1 + p) payload) (closes o (take p (drop 1 payload)) c).counts)

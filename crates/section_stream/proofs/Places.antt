@@ -191,7 +191,7 @@ packets-rise pid packets i j d lt inside =
 
 -- ---- packets of 188 bytes
 
-payload_short : (bytes : Bytes) → length bytes ≡ 188 → (p : Fields) → parse_packet bytes ≡ Ok p → (p.payload ≡ drop (188 - length p.payload) bytes) × (length p.payload ≤ 188)
+pub payload_short : (bytes : Bytes) → length bytes ≡ 188 → (p : Fields) → parse_packet bytes ≡ Ok p → (p.payload ≡ drop (188 - length p.payload) bytes) × (length p.payload ≤ 188)
 payload_short bytes size p e = grind (arith, common_steps, e, size)
 
 -- a received packet is one of these, and its payload is the packet's last bytes

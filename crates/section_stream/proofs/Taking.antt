@@ -1,5 +1,5 @@
 -- A packet that is taken: what is kept and given is what the rules say.
-use Rattle.std.proofs.Common.{◌≡◌, ℕ, Bool, true, false, List, Option, Some, None, if◌then◌else◌, refl, sym, ◌∙◌, ap, subst, append-nil}
+use Rattle.std.proofs.Common.{◌≡◌, ℕ, Bool, true, false, List, Option, Some, None, if◌then◌else◌, refl, sym, ◌∙◌, ap, ap₂, subst, append-nil}
 use Rattle.ts_packet.specs.Packets.{Fields}
 use Rattle.section_stream.specs.Cuts.{Bytes}
 use Rattle.section_stream.specs.Rules.{Receiving, After, with_counts, goes_on, jumps_from, keeps, one_more, starts, step, takes, up}
@@ -49,3 +49,12 @@ takes_done s t p jumped last kept c before left now candidates counts is j l k w
 pub counted_gives : (s : Receiving) (x : Bytes) (c : Counts) (t : Receiving) (before : List Bytes) → step s x ≡ with_counts (one_more s) c → record s { counts = c } ≡ t → Gives (step s x) t before before
 counted_gives s x c t before e f =
     subst (λ r. Gives r t before before) (sym e) (record { state = f; out = sym (append-nil before) })
+
+-- with the two counts of a packet as they were, all are
+pub uncounted : (jumped : Bool) (c d e : Counts) → d ≡ with_packet jumped c → e ≡ d → record e { packets = c.packets; jumps = c.jumps } ≡ c
+uncounted true c d e w same = ap (λ (x : Counts). record x { packets = c.packets; jumps = c.jumps }) (same ∙ w)
+uncounted false c d e w same = ap (λ (x : Counts). record x { packets = c.packets; jumps = c.jumps }) (same ∙ w)
+
+pub as_before : (s t : Receiving) (opened : Option Bytes) (counts : Counts) → s ≡ t → opened ≡ s.opened → counts ≡ s.counts → record { pid = s.pid; last = s.last; opened = opened; counts = counts } ≡ t
+as_before s t opened counts is o c =
+    ap₂ (λ (x : Option Bytes) (y : Counts). record { pid = s.pid; last = s.last; opened = x; counts = y }) o c ∙ is

@@ -1,7 +1,7 @@
 -- How sections are packed back to back, one after another (ISO/IEC 13818-1, 2.4.4): each packet is given as soon as no further section can
 -- change it, and what isn't given yet is held back. That a section follows another one in the same packet within a group alone, and that a
 -- packet with one free byte is filled rather than begun with a pointer field, are this project's own rules.
-use Rattle.std.specs.Prelude.{◌≡◌, ℕ, zero, suc, ◌+◌, ◌-◌, ◌*◌, ◌%◌, ◌≤◌, ◌≢◌, Bool, true, false, List, [], ◌∷◌, ◌++◌, length, take, drop, replicate, slice_index, nat_le, nat_lt, ◌==◌, if◌then◌else◌}
+use Rattle.std.specs.Prelude.{◌≡◌, ℕ, zero, suc, ◌+◌, ◌-◌, ◌%◌, ◌≤◌, ◌≢◌, Bool, true, false, List, [], ◌∷◌, ◌++◌, length, take, drop, replicate, slice_index, nat_le, nat_lt, ◌==◌, if◌then◌else◌}
 use Rattle.ts_packet.specs.Packets.{packet_bytes}
 use Rattle.section_stream.specs.Cuts.{Bytes}
 use Rattle.oc_bytes.specs.declared.lengths.TheConstants.{MOST_SECTION}

@@ -1,7 +1,7 @@
 -- The receiver's rules on one packet after another: what is kept, and what is counted. What a duplicate
 -- packet is and how the counter goes on are of ISO/IEC 13818-1, 2.4.3.3, and the pointer field is of 2.4.4;
 -- what is counted, and that a section whose packets are missing is dropped, are this project's own rules.
-use Rattle.std.specs.Prelude.{◌≡◌, ℕ, zero, suc, ◌+◌, ◌%◌, ◌*◌, Bool, true, false, not, ◌&&◌, ◌||◌, List, [], ◌∷◌, ◌++◌, length, take, drop, slice_index, Option, Some, None, Result, Ok, Err, nat_lt, nat_le, ◌==◌, if◌then◌else◌}
+use Rattle.std.specs.Prelude.{◌≡◌, ℕ, zero, suc, ◌+◌, ◌%◌, Bool, true, false, not, ◌&&◌, ◌||◌, List, [], ◌∷◌, ◌++◌, length, take, drop, slice_index, Option, Some, None, Result, Ok, Err, nat_lt, nat_le, ◌==◌, if◌then◌else◌}
 use Rattle.std.specs.Str.{bytes_eq}
 use Rattle.oc_bytes.specs.Outcome.{cap_at_u64}
 use Rattle.ts_packet.specs.Packets.{Fields, parse_packet}

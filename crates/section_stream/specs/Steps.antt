@@ -1,14 +1,13 @@
 -- The parts of one packet's step, as the code goes through them.
-use Rattle.std.specs.Prelude.{◌≡◌, ◌<◌, Bool, ◌||◌, if◌then◌else◌, ◌==◌, List, ◌++◌, length, slice_index, Option, Some, None}
+use Rattle.std.specs.Prelude.{◌≡◌, ℕ, ◌<◌, ◌≤◌, Bool, ◌||◌, if◌then◌else◌, ◌==◌, List, [], ◌∷◌, ◌++◌, length, take, slice_index, Option, Some, None, IsSome}
+use Rattle.oc_bytes.specs.declared.lengths.TheConstants.{MOST_SECTION}
 use Rattle.section_stream.specs.Cuts.{Bytes}
-use Rattle.section_stream.specs.Rules.{After, Receiving, Grown, Growing, Oversize, Whole, count_fault, goes_on, open_on, starts, up}
+use Rattle.section_stream.specs.Rules.{After, Receiving, Grown, Growing, Oversize, Whole, count_fault, goes_on, open_on, starts, up, with_out}
 use Rattle.section_stream.specs.declared.counts.Counts.{Counts}
 use Rattle.section_stream.specs.declared.counts.Aside.{Aside}
 use Rattle.section_stream.specs.declared.counts.Aside.TheVariants.{Fault, OtherPid, NoPayload, Duplicate}
 use Rattle.section_stream.specs.declared.payload.Growth.{Growth}
 use Rattle.section_stream.specs.declared.payload.Growth.TheVariants as growths
-use Rattle.section_stream.specs.declared.open_section.Turn.{Turn}
-use Rattle.section_stream.specs.declared.open_section.Turn.TheVariants.{Closed, Grows, Opens}
 
 -- the count that a packet raises which changes nothing else
 abbrev pub count_aside : Aside → Counts → Counts
@@ -22,12 +21,21 @@ growth_of growths.Growing = Growing
 growth_of growths.Oversize = Oversize
 growth_of (growths.Whole n) = Whole n
 
--- what is open after a packet
-abbrev pub open_after : Option Bytes → Turn → Option Bytes
-open_after opened Closed = None
-open_after None (Grows more) = None
-open_after (Some bytes) (Grows more) = Some (bytes ++ more.now)
-open_after opened (Opens here) = Some here.now
+-- the bytes of the section that is open
+abbrev pub bytes_of : Option Bytes → Bytes
+bytes_of None = []
+bytes_of (Some bytes) = bytes
+
+-- the section of so many of these bytes, if there is one
+abbrev pub section_of : Bytes → Option ℕ → List Bytes
+section_of bytes None = []
+section_of bytes (Some n) = take n bytes ∷ []
+
+-- a section is open, and with these bytes it has so many
+pub record IsWhole (opened : Option Bytes) (more : Bytes) (n : ℕ) : Type 0 where
+  pub is_open : IsSome opened
+  pub within : n ≤ length (bytes_of opened ++ more)
+  pub most : n ≤ MOST_SECTION
 
 -- the part of the step is done: this is open, these candidates came, and so much is counted
 pub record HasDone (after : After) (left : Option Bytes) (before candidates : List Bytes) (counts : Counts) : Type 0 where
@@ -55,6 +63,10 @@ no_section_in here = (length here == 0) || (slice_index here 0 == 0xFF)
 -- the sections that are opened one after another in the bytes of one packet
 unfoldable pub open_all : Bytes → Counts → After
 open_all here c = open_on 188 here c
+
+-- the section of the open one, if it is whole, and what is opened after it
+abbrev pub begun_by : Option Bytes → Bytes → Option ℕ → Bytes → Counts → After
+begun_by opened part whole here c = with_out (section_of (bytes_of opened ++ part) whole) (open_all here c)
 
 -- what the payload of a packet does, as the packet begins a section or not
 abbrev pub done_by : Bool → Option Bytes → Bytes → Counts → After

@@ -80,17 +80,15 @@ pub fn up(count: u64) -> u64
     count.saturating_add(1)
 }
 
-/// The counts with a packet more that is taken, where packets before it are missing or not.
+/// Counts a packet more that is taken, where packets before it are missing or not.
 #[inline]
-pub fn with_packet(counts: Counts, jumped: bool) -> Counts
-    ensures { result ≡ steps.with_packet jumped counts }
+pub fn count_packet(counts: &mut Counts, jumped: bool)
+    ensures { counts.new ≡ steps.with_packet jumped counts.old }
 {
-    let mut counts = counts;
     counts.packets = up(counts.packets);
     if jumped {
         counts.jumps = up(counts.jumps);
     }
-    counts
 }
 
 /// Counts a packet that changes nothing else.

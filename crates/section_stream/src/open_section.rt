@@ -1,24 +1,22 @@
-ghost use Rattle.std.specs.Prelude.{◌≡◌, ◌≤◌, ◌+◌, ◌++◌, None, IfOk, length, vec_len, vec_capacity};
+ghost use Rattle.std.specs.Prelude.{◌≡◌, ◌≤◌, ◌+◌, ◌++◌, [], Some, None, IsSome, IfOk, OnOk, OnErr, length, map, take, vec_len, vec_capacity};
+ghost use Rattle.std.specs.List.{insert};
 ghost use Rattle.std.specs.Option.{option_copied, ForSome};
-ghost use Rattle.section_stream.specs.Steps.{kept_unless, open_after};
+ghost use Rattle.section_stream.specs.Kept.{view_bytes};
+ghost use Rattle.section_stream.specs.Steps.{bytes_of, kept_unless, IsWhole};
+ghost use Rattle.section_stream.specs.declared.open_section.TheConstants.{LONG};
+ghost use Rattle.oc_bytes.specs.declared.lengths.TheConstants.{MOST_SECTION};
 
 use oc_bytes::{MOST_SECTION, NoMemory};
 use std::alloc::Global;
 use std::marker::Model;
+use std::mem::replace;
 
-/// What a packet makes of the open section.
-#[derive(Clone, Copy)]
-pub enum Turn<'a> {
-    /// No section is open.
-    Closed,
-    /// The open section goes on with these bytes.
-    Grows(&'a [u8]),
-    /// Another section is open, with these bytes.
-    Opens(&'a [u8]),
-}
+/// A section of so many bytes is given in the buffer that it came together in; a shorter one is copied, so that no candidate
+/// keeps room for more than twice its bytes.
+const LONG: usize = 2_048;
 
-/// The section that is open, if one is, in a buffer that holds the longest section: no call but `new`
-/// takes memory.
+/// The section that is open, if one is, in a buffer that holds the longest section: no calls but `new`
+/// and `hand_over` take memory.
 #[derive(Drop)]
 pub struct OpenSection {
     is_open: bool,
@@ -67,35 +65,102 @@ impl OpenSection {
         }
     }
 
-    /// Drops the section, where packets of it are missing.
+    /// Drops the section.
     #[inline]
-    pub fn close_if(&mut self, jumped: bool)
-        ensures { self.new ≡ kept_unless jumped self.old }
+    pub fn close(&mut self)
+        ensures { self.new ≡ None }
     {
-        if jumped {
-            self.is_open = false;
-        }
+        self.is_open = false;
     }
 
-    /// What is open after a packet; it is no longer than the longest section.
+    /// Goes on with more bytes; all are no longer than the longest section.
     #[inline]
-    pub fn turn(&mut self, turn: Turn<'_>)
-        requires { ForSome (open_after self.old turn) (λ bytes. length bytes ≤ MOST_SECTION) }
-        ensures { self.new ≡ open_after self.old turn.entry }
+    pub fn grow(&mut self, more: &[u8])
+        requires open { IsSome self.old }
+        requires room { length (bytes_of self.old ++ more.now) ≤ MOST_SECTION }
+        ensures { self.new ≡ Some (bytes_of self.old ++ more.now) }
     {
-        match turn {
-            Turn::Closed => self.is_open = false,
-            Turn::Grows(more) => {
-                if self.is_open {
-                    append(&mut self.bytes, more);
-                }
-            }
-            Turn::Opens(here) => {
+        append(&mut self.bytes, more);
+    }
+
+    /// Another section is open, with these bytes, or none is; they are no longer than the longest section.
+    #[inline]
+    pub fn begin(&mut self, here: Option<&[u8]>)
+        requires { ForSome here (λ bytes. length bytes.now ≤ MOST_SECTION) }
+        ensures { self.new ≡ option_copied here.entry }
+    {
+        match here {
+            Some(here) => {
                 self.is_open = true;
                 self.bytes.clear();
                 append(&mut self.bytes, here);
             }
+            None => self.is_open = false,
         }
+    }
+
+    /// Puts the section that is whole with these bytes, of `n` of them, at a place among the candidates. Nothing changes before
+    /// all memory is there.
+    pub fn hand_over(
+        &mut self,
+        alloc: Global,
+        more: &[u8],
+        n: usize,
+        place: usize,
+        out: &mut Vec<Vec<u8>>,
+    ) -> Result<(), NoMemory>
+        requires whole { IsWhole self.old more.now n }
+        requires place { place ≤ length out.old.items }
+        ensures closed { OnOk result (self.new ≡ None) }
+        ensures out { OnOk result (map view_bytes out.new.items ≡ insert (map view_bytes out.old.items) place (take n (bytes_of self.old ++ more.now))) }
+        ensures err { OnErr result (self.new ≡ self.old) }
+    {
+        let spare = spare_for(alloc, n)?;
+        out.reserve(1)?;
+        let had = self.bytes.len();
+        let missing = n.saturating_sub(had);
+        let last = &more[..missing];
+        append(&mut self.bytes, last);
+        self.bytes.truncate(n);
+        self.is_open = false;
+        let section = exchange(&mut self.bytes, spare, n);
+        // There is room for it, and so it isn't refused.
+        let _ = out.insert(place, section);
+        Ok(())
+    }
+}
+
+/// Room for a section of `n` bytes that is copied, or for the longest one that comes next.
+fn spare_for(alloc: Global, n: usize) -> Result<Vec<u8>, NoMemory>
+    requires { n ≤ MOST_SECTION }
+    ensures empty { IfOk result (λ spare. spare.items ≡ []) }
+    ensures room { IfOk result (λ spare. n ≤ vec_capacity spare) }
+    ensures longest { IfOk result (λ spare. LONG ≤ n → MOST_SECTION ≤ vec_capacity spare) }
+{
+    if n < LONG {
+        Vec::with_capacity(alloc, n)
+    } else {
+        Vec::with_capacity(alloc, MOST_SECTION)
+    }
+}
+
+/// The `n` bytes of a section: the buffer itself, in whose place the spare one comes, or a copy of a short one in the spare one.
+fn exchange(bytes: &mut Vec<u8>, spare: Vec<u8>, n: usize) -> Vec<u8>
+    requires len { vec_len bytes.old ≤ n }
+    requires full { MOST_SECTION ≤ vec_capacity bytes.old }
+    requires empty { spare.items ≡ [] }
+    requires room { n ≤ vec_capacity spare }
+    requires longest { LONG ≤ n → MOST_SECTION ≤ vec_capacity spare }
+    ensures section { result.items ≡ bytes.old.items }
+    ensures len { vec_len bytes.new ≤ n }
+    ensures full { MOST_SECTION ≤ vec_capacity bytes.new }
+{
+    if n < LONG {
+        let mut copy = spare;
+        append(&mut copy, bytes);
+        copy
+    } else {
+        replace(bytes, spare)
     }
 }
 

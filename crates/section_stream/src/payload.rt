@@ -1,14 +1,14 @@
 //! What a packet's payload does to the open section.
 
-ghost use Rattle.std.specs.Prelude.{◌≡◌, ◌<◌, ◌≤◌, ◌++◌, [], ◌∷◌, length, map, take, slice_index, IfOk, OnOk, OnErr, nat_le};
+ghost use Rattle.std.specs.Prelude.{◌≡◌, ◌<◌, ◌≤◌, ◌++◌, [], ◌∷◌, None, length, map, take, slice_index, IfOk, OnOk, OnErr, nat_le};
 ghost use Rattle.std.specs.Option.{option_copied, ForSome};
 ghost use Rattle.section_stream.specs.Kept.{view_bytes};
 ghost use Rattle.section_stream.specs.Rules as rules;
-ghost use Rattle.section_stream.specs.Steps.{done_by, growth_of, no_section_in, open_all, open_after, HasDone, HasOut};
+ghost use Rattle.section_stream.specs.Steps.{begun_by, bytes_of, done_by, growth_of, kept_unless, no_section_in, open_all, section_of, HasDone, HasOut, IsWhole};
 ghost use Rattle.oc_bytes.specs.declared.lengths.TheConstants.{MOST_SECTION};
 
 use crate::counts::{Counts, up};
-use crate::open_section::Turn;
+use crate::open_section::OpenSection;
 use oc_bytes::{MOST_LENGTH, NoMemory, length_field};
 use std::alloc::Global;
 
@@ -66,79 +66,73 @@ fn growth_with(front: &[u8], back: &[u8]) -> Growth
     }
 }
 
-/// Puts the section of the first `n` bytes of two pieces after the candidates so far.
-fn complete(
-    alloc: Global,
-    front: &[u8],
-    back: &[u8],
-    n: usize,
-    out: &mut Vec<Vec<u8>>,
-) -> Result<(), NoMemory>
-    requires { n ≤ length (front.now ++ back.now) }
-    ensures { OnOk result (map view_bytes out.new.items ≡ map view_bytes out.old.items ++ take n (front.now ++ back.now) ∷ []) }
+/// Puts the section of the first `n` bytes after the candidates so far.
+fn complete(alloc: Global, here: &[u8], n: usize, out: &mut Vec<Vec<u8>>) -> Result<(), NoMemory>
+    requires { n ≤ length here.now }
+    ensures { OnOk result (map view_bytes out.new.items ≡ map view_bytes out.old.items ++ take n here.now ∷ []) }
 {
-    let before = n.min(front.len());
     let mut section = Vec::with_capacity(alloc, n)?;
-    section.extend_from_slice(&front[..before])?;
-    section.extend_from_slice(&back[..n - before])?;
+    section.extend_from_slice(&here[..n])?;
     out.push(section)?;
     Ok(())
 }
 
 /// A packet that begins no section: its payload goes on with the open section.
 #[inline]
-fn goes_on<'a>(
+fn goes_on(
     alloc: Global,
-    opened: Option<&[u8]>,
-    payload: &'a [u8],
+    jumped: bool,
+    opened: &mut OpenSection,
+    payload: &[u8],
     out: &mut Vec<Vec<u8>>,
     counts: &mut Counts,
-) -> Result<Turn<'a>, NoMemory>
-    ensures done { IfOk result (λ turn. HasDone (rules.goes_on (option_copied opened.entry) payload.now counts.old) (open_after (option_copied opened.entry) turn) (map view_bytes out.old.items) (map view_bytes out.new.items) counts.new) }
-    ensures room { IfOk result (λ turn. ForSome (open_after (option_copied opened.entry) turn) (λ bytes. length bytes ≤ MOST_SECTION)) }
-    ensures memory { OnErr result (HasOut (rules.goes_on (option_copied opened.entry) payload.now counts.old)) }
+) -> Result<(), NoMemory>
+    ensures done { OnOk result (HasDone (rules.goes_on (kept_unless jumped opened.old) payload.now counts.old) opened.new (map view_bytes out.old.items) (map view_bytes out.new.items) counts.new) }
+    ensures memory { OnErr result (HasOut (rules.goes_on (kept_unless jumped opened.old) payload.now counts.old)) }
+    ensures err { OnErr result ((opened.new ≡ opened.old) × (counts.new ≡ counts.old)) }
 {
-    let Some(opened) = opened else {
+    let Some(bytes) = opened.bytes_unless(jumped) else {
         counts.orphans = up(counts.orphans);
-        return Ok(Turn::Closed);
+        opened.close();
+        return Ok(());
     };
-    match growth_with(opened, payload) {
-        Growth::Growing => Ok(Turn::Grows(payload)),
+    match growth_with(bytes, payload) {
+        Growth::Growing => {
+            opened.grow(payload);
+            Ok(())
+        }
         Growth::Oversize => {
             counts.oversize = up(counts.oversize);
-            Ok(Turn::Closed)
+            opened.close();
+            Ok(())
         }
         Growth::Whole(n) => {
-            complete(alloc, opened, payload, n, out)?;
-            Ok(Turn::Closed)
+            let place = out.len();
+            opened.hand_over(alloc, payload, n, place, out)?;
+            Ok(())
         }
     }
 }
 
-/// The bytes before the first section that begins in a packet: they are the last of the open section.
-fn closes(
-    alloc: Global,
-    opened: Option<&[u8]>,
-    part: &[u8],
-    out: &mut Vec<Vec<u8>>,
-    counts: &mut Counts,
-) -> Result<(), NoMemory>
-    ensures done { OnOk result (HasDone (rules.closes (option_copied opened.entry) part.now counts.old) None (map view_bytes out.old.items) (map view_bytes out.new.items) counts.new) }
-    ensures memory { OnErr result (0 < length (rules.closes (option_copied opened.entry) part.now counts.old).out) }
+/// The bytes before the first section that begins in a packet: they are the last of the open section. The answer is its
+/// length, where it is whole; else it is counted.
+fn closes(opened: Option<&[u8]>, part: &[u8], counts: &mut Counts) -> Option<usize>
+    ensures closed { rules.closes (option_copied opened.entry) part.now counts.old ≡ record { opened = None; out = section_of (bytes_of (option_copied opened.entry) ++ part.now) result; counts = counts.new } }
+    ensures whole { ForSome result (λ n. IsWhole (option_copied opened.entry) part.now n) }
 {
     let Some(opened) = opened else {
-        return Ok(());
+        return None;
     };
     match growth_with(opened, part) {
         Growth::Growing => {
             counts.cut = up(counts.cut);
-            Ok(())
+            None
         }
         Growth::Oversize => {
             counts.oversize = up(counts.oversize);
-            Ok(())
+            None
         }
-        Growth::Whole(n) => complete(alloc, opened, part, n, out),
+        Growth::Whole(n) => Some(n),
     }
 }
 
@@ -161,6 +155,7 @@ fn open_sections<'a>(
     ensures done { IfOk result (λ opened. HasDone (open_all here.now counts.old) (option_copied opened) (map view_bytes out.old.items) (map view_bytes out.new.items) counts.new) }
     ensures room { IfOk result (λ opened. ForSome opened (λ bytes. length bytes.now ≤ MOST_SECTION)) }
     ensures memory { OnErr result (0 < length (open_all here.now counts.old).out) }
+    ensures err { OnErr result (counts.new ≡ counts.old) }
 {
     while !has_no_section(here) {
         match growth_with(&[], here) {
@@ -170,7 +165,7 @@ fn open_sections<'a>(
                 return Ok(None);
             }
             Growth::Whole(n) => {
-                complete(alloc, &[], here, n, out)?;
+                complete(alloc, here, n, out)?;
                 here = &here[n..];
             }
         }
@@ -178,50 +173,92 @@ fn open_sections<'a>(
     Ok(None)
 }
 
-/// A packet in which a section begins, after a pointer field.
+/// The candidate of `whole` bytes of the open section and `part`, if it is one, and the sections that begin after it.
 #[inline]
-fn starts<'a>(
+fn begins(
     alloc: Global,
-    opened: Option<&[u8]>,
-    payload: &'a [u8],
+    opened: &mut OpenSection,
+    part: &[u8],
+    whole: Option<usize>,
+    here: &[u8],
     out: &mut Vec<Vec<u8>>,
     counts: &mut Counts,
-) -> Result<Turn<'a>, NoMemory>
+) -> Result<(), NoMemory>
+    requires few { length here.now ≤ 188 }
+    requires whole { ForSome whole (λ n. IsWhole opened.old part.now n) }
+    ensures done { OnOk result (HasDone (begun_by opened.old part.now whole here.now counts.old) opened.new (map view_bytes out.old.items) (map view_bytes out.new.items) counts.new) }
+    ensures memory { OnErr result (HasOut (begun_by opened.old part.now whole here.now counts.old)) }
+    ensures err { OnErr result (opened.new ≡ opened.old) }
+{
+    let place = out.len();
+    let left = open_sections(alloc, here, out, counts)?;
+    match whole {
+        None => {
+            opened.begin(left);
+            Ok(())
+        }
+        Some(n) => {
+            opened.hand_over(alloc, part, n, place, out)?;
+            opened.begin(left);
+            Ok(())
+        }
+    }
+}
+
+/// A packet in which a section begins, after a pointer field.
+#[inline]
+fn starts(
+    alloc: Global,
+    jumped: bool,
+    opened: &mut OpenSection,
+    payload: &[u8],
+    out: &mut Vec<Vec<u8>>,
+    counts: &mut Counts,
+) -> Result<(), NoMemory>
     requires { (0 < length payload.now) × (length payload.now ≤ 184) }
-    ensures done { IfOk result (λ turn. HasDone (rules.starts (option_copied opened.entry) payload.now counts.old) (open_after (option_copied opened.entry) turn) (map view_bytes out.old.items) (map view_bytes out.new.items) counts.new) }
-    ensures room { IfOk result (λ turn. ForSome (open_after (option_copied opened.entry) turn) (λ bytes. length bytes ≤ MOST_SECTION)) }
-    ensures memory { OnErr result (HasOut (rules.starts (option_copied opened.entry) payload.now counts.old)) }
+    ensures done { OnOk result (HasDone (rules.starts (kept_unless jumped opened.old) payload.now counts.old) opened.new (map view_bytes out.old.items) (map view_bytes out.new.items) counts.new) }
+    ensures memory { OnErr result (HasOut (rules.starts (kept_unless jumped opened.old) payload.now counts.old)) }
+    ensures err { OnErr result ((opened.new ≡ opened.old) × (counts.new ≡ counts.old)) }
 {
     let pointer = usize::from(payload[0]);
     if pointer >= payload.len() {
         counts.bad_pointer = up(counts.bad_pointer);
-        return Ok(Turn::Closed);
+        opened.close();
+        return Ok(());
     }
-    closes(alloc, opened, &payload[1..1 + pointer], out, counts)?;
-    match open_sections(alloc, &payload[1 + pointer..], out, counts)? {
-        Some(here) => Ok(Turn::Opens(here)),
-        None => Ok(Turn::Closed),
+    let part = &payload[1..1 + pointer];
+    let here = &payload[1 + pointer..];
+    let before = *counts;
+    let whole = closes(opened.bytes_unless(jumped), part, counts);
+    match begins(alloc, opened, part, whole, here, out, counts) {
+        Ok(()) => Ok(()),
+        Err(fault) => {
+            *counts = before;
+            Err(fault)
+        }
     }
 }
 
-/// What the payload of a packet does, as the packet begins a section or not.
+/// What the payload of a packet does, as the packet begins a section or not. Nothing but the candidates changes where memory
+/// is wanting.
 #[inline]
-pub fn payload_done<'a>(
+pub fn payload_done(
     alloc: Global,
     start: bool,
-    opened: Option<&[u8]>,
-    payload: &'a [u8],
+    jumped: bool,
+    opened: &mut OpenSection,
+    payload: &[u8],
     out: &mut Vec<Vec<u8>>,
     counts: &mut Counts,
-) -> Result<Turn<'a>, NoMemory>
+) -> Result<(), NoMemory>
     requires { (0 < length payload.now) × (length payload.now ≤ 184) }
-    ensures done { IfOk result (λ turn. HasDone (done_by start (option_copied opened.entry) payload.now counts.old) (open_after (option_copied opened.entry) turn) (map view_bytes out.old.items) (map view_bytes out.new.items) counts.new) }
-    ensures room { IfOk result (λ turn. ForSome (open_after (option_copied opened.entry) turn) (λ bytes. length bytes ≤ MOST_SECTION)) }
-    ensures memory { OnErr result (HasOut (done_by start (option_copied opened.entry) payload.now counts.old)) }
+    ensures done { OnOk result (HasDone (done_by start (kept_unless jumped opened.old) payload.now counts.old) opened.new (map view_bytes out.old.items) (map view_bytes out.new.items) counts.new) }
+    ensures memory { OnErr result (HasOut (done_by start (kept_unless jumped opened.old) payload.now counts.old)) }
+    ensures err { OnErr result ((opened.new ≡ opened.old) × (counts.new ≡ counts.old)) }
 {
     if start {
-        starts(alloc, opened, payload, out, counts)
+        starts(alloc, jumped, opened, payload, out, counts)
     } else {
-        goes_on(alloc, opened, payload, out, counts)
+        goes_on(alloc, jumped, opened, payload, out, counts)
     }
 }

@@ -1,4 +1,4 @@
-ghost use Rattle.std.specs.Prelude.{◌≡◌, ◌++◌, ◌∷◌, ◌<◌, ◌≤◌, ◌+◌, ◌%◌, [], length, map, Ok, OnOk, OnErr, IfOk};
+ghost use Rattle.std.specs.Prelude.{◌≡◌, ◌++◌, ◌∷◌, ◌<◌, ◌≤◌, ◌+◌, ◌%◌, [], length, map, drop, Some, None, Ok, MatchOption, OnOk, OnErr, IfOk};
 ghost use Rattle.ts_packet.specs.Packets.{parse_packet, view};
 ghost use Rattle.section_stream.specs.Pieces.{packets_of, rest_of};
 ghost use Rattle.section_stream.specs.Rules.{HasRun, one_more, outputs, at_start, up};
@@ -6,7 +6,7 @@ ghost use Rattle.section_stream.specs.Rules as rules;
 ghost use Rattle.section_stream.specs.Steps.{Completes, Gives};
 ghost use Rattle.section_stream.specs.Kept.{view_bytes};
 
-use crate::counts::{Aside, Counts, count_aside, nothing_counted, up, with_packet};
+use crate::counts::{Aside, Counts, count_aside, count_packet, nothing_counted, up};
 use crate::open_section::OpenSection;
 use crate::payload::payload_done;
 use crate::piece::PACKET;
@@ -23,6 +23,9 @@ pub struct Receiver {
     /// The last packet that had the PID and a payload and was no duplicate. Before the first it is all
     /// zeros, which is no packet.
     last: [u8; 188],
+    /// The counter of that packet, and where its payload begins in it, or 188 before the first.
+    counter: u8,
+    payload_at: usize,
     opened: OpenSection,
     counts: Counts,
 }
@@ -32,9 +35,13 @@ impl Model for Receiver {
 
     ghost Value = { Receiving };
 
-    ghost use Rattle.section_stream.specs.Kept.{view_receiver};
+    ghost use Rattle.std.specs.Prelude.{◌≡◌};
+    ghost use Rattle.ts_packet.specs.Packets.{parse_packet};
+    ghost use Rattle.section_stream.specs.Kept.{last_from, last_of, view_receiver};
 
     ghost view = { view_receiver };
+
+    ghost invariant = { λ r. last_of (parse_packet r.last) ≡ last_from r.payload_at r.counter r.last };
 }
 
 /// What a packet is to the receiver of one PID.
@@ -54,6 +61,15 @@ fn counter_after(counter: u8) -> u8
     ((u16::from(counter) + 1) % 16) as u8
 }
 
+/// What stands in a packet from a place on.
+#[inline]
+fn from_place(packet: &[u8; 188], place: usize) -> &[u8]
+    requires { place ≤ 188 }
+    ensures { result.now ≡ drop place packet.now }
+{
+    &packet[place..]
+}
+
 impl Receiver {
     ghost use Rattle.section_stream.specs.Classes.{IsClass};
 
@@ -65,6 +81,8 @@ impl Receiver {
             alloc,
             pid,
             last: [0; 188],
+            counter: 0,
+            payload_at: PACKET,
             opened: OpenSection::new(alloc)?,
             counts: nothing_counted(),
         })
@@ -76,6 +94,8 @@ impl Receiver {
     {
         self.pid = from.pid;
         self.last = from.last;
+        self.counter = from.counter;
+        self.payload_at = from.payload_at;
         self.opened.copy(&from.opened);
         self.counts = from.counts;
     }
@@ -117,6 +137,18 @@ impl Receiver {
         }
     }
 
+    /// The counter and the payload of the packet that was kept, if there was one.
+    #[inline]
+    fn last_kept(&self) -> Option<(u8, &[u8])>
+        ensures { MatchOption result (self.now.last ≡ None) (λ l. self.now.last ≡ Some (l.0, l.1.now)) }
+    {
+        if self.payload_at < PACKET {
+            Some((self.counter, from_place(&self.last, self.payload_at)))
+        } else {
+            None
+        }
+    }
+
     /// What a packet is, by the packet that was kept before it.
     #[inline]
     fn classify<'a>(&self, packet: &'a [u8; 188]) -> Class<'a>
@@ -132,16 +164,17 @@ impl Receiver {
         if fields.payload.is_empty() {
             return Class::Aside(Aside::NoPayload);
         }
-        let Ok(last) = parse(&self.last) else {
+        let Some((counter, payload)) = self.last_kept() else {
             return Class::Taken(fields, false);
         };
-        if last.counter == fields.counter && last.payload == fields.payload {
+        if counter == fields.counter && payload == fields.payload {
             return Class::Aside(Aside::Duplicate);
         }
-        Class::Taken(fields, fields.counter != counter_after(last.counter))
+        Class::Taken(fields, fields.counter != counter_after(counter))
     }
 
-    /// Takes a packet that isn't passed over. Nothing changes before all memory is there.
+    /// Takes a packet that isn't passed over. Nothing but counts changes before all memory is there, and they are
+    /// as they were where it isn't.
     #[inline]
     fn take(
         &mut self,
@@ -157,21 +190,29 @@ impl Receiver {
         ensures memory { OnErr result (Completes (rules.takes (one_more self.old) (view fields.entry))) }
         ensures err { OnErr result (self.new ≡ self.old) }
     {
-        let mut counts = with_packet(self.counts, jumped);
-        let opened = self.opened.bytes_unless(jumped);
-        let turn = payload_done(
+        let before = (self.counts.packets, self.counts.jumps);
+        count_packet(&mut self.counts, jumped);
+        match payload_done(
             self.alloc,
             fields.start,
-            opened,
+            jumped,
+            &mut self.opened,
             fields.payload,
             out,
-            &mut counts,
-        )?;
-        self.opened.close_if(jumped);
-        self.opened.turn(turn);
-        self.counts = counts;
-        self.last = *packet;
-        Ok(())
+            &mut self.counts,
+        ) {
+            Ok(()) => {
+                self.last = *packet;
+                self.counter = fields.counter;
+                self.payload_at = PACKET - fields.payload.len();
+                Ok(())
+            }
+            Err(fault) => {
+                self.counts.packets = before.0;
+                self.counts.jumps = before.1;
+                Err(fault)
+            }
+        }
     }
 
     /// What was counted so far.

@@ -18,6 +18,7 @@ loop-here-preserved c =
       within = rw rest_is (omega (arith, length-drop c.in-Whole.n c.loop-here.here.now, c.loop-here.invariant.within));
       whole = λ left candidates counts done. c.loop-here.invariant.whole left candidates counts
           (open-whole c.loop-here.here.now c.loop-here.counts c.in-Whole.n _ left _ _ candidates counts c.loop-here.invariant.within begins (sym c.in-Whole.ensures) (rest_is c.loop-here.here.now c.in-Whole.n) c.in_ok-complete-in-Whole.ensures done);
+      kept = c.loop-here.invariant.kept;
       asked = λ _. c.loop-here.invariant.asked (open-gives c.loop-here.here.now c.loop-here.counts c.in-Whole.n c.loop-here.invariant.within begins (sym c.in-Whole.ensures));
     }
 
@@ -27,3 +28,6 @@ returns-clause-done c = c.loop-here.invariant.whole _ _ _ (open-ends _ _ _ (sym 
 pub returns-in_err-complete-in-Whole-clause-memory : goal.returns-in_err-complete-in-Whole-clause-memory
 returns-in_err-complete-in-Whole-clause-memory c = on_err _ (c.loop-here.invariant.asked
     (open-gives c.loop-here.here.now c.loop-here.counts c.in-Whole.n c.loop-here.invariant.within (sym c.has_no_section.ensures ∙ c.loop-here-test.true) (sym c.in-Whole.ensures)))
+
+pub returns-in_err-complete-in-Whole-clause-err : goal.returns-in_err-complete-in-Whole-clause-err
+returns-in_err-complete-in-Whole-clause-err c = on_err _ c.loop-here.invariant.kept

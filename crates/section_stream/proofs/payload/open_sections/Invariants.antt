@@ -1,4 +1,4 @@
-use Rattle.std.proofs.Common.{◌<◌, ◌≤◌, List, length, map, Option}
+use Rattle.std.proofs.Common.{◌≡◌, ◌<◌, ◌≤◌, List, length, map, Option}
 use Rattle.section_stream.specs.Cuts.{Bytes}
 use Rattle.section_stream.specs.Kept.{view_bytes}
 use Rattle.section_stream.specs.Steps.{HasDone, open_all}
@@ -11,6 +11,7 @@ invariant-loop-here l = record {
   within : length l.here ≤ 188;
   whole : (left : Option Bytes) (candidates : List Bytes) (counts : Counts) → HasDone (open_all l.here l.counts) left (map view_bytes l.out.items) candidates counts
       → HasDone (open_all l.fn.here l.fn.counts) left (map view_bytes l.fn.out.items) candidates counts;
+  kept : l.counts ≡ l.fn.counts;
   asked : 0 < length (open_all l.here l.counts).out → 0 < length (open_all l.fn.here l.fn.counts).out;
 }
 

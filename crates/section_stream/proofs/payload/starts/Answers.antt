@@ -1,27 +1,26 @@
-use Rattle.std.proofs.Common.{◌+◌, arith}
-use Rattle.std.specs.Option.{option_copied}
-use Rattle.section_stream.proofs.Opening.{starts-done, rest_is, part_is}
-use Rattle.section_stream.proofs.Completing.{on_err, starts-first, starts-rest}
+use Rattle.std.proofs.Common.{◌+◌, refl, arith}
+use Rattle.section_stream.proofs.Handing.{all_still_whole, done_as, out_as, starts_begun}
+use Rattle.section_stream.proofs.Opening.{rest_is, part_is}
 use Rattle.section_stream.proofs.payload.starts.Goals as goal
 
-pub returns-in-Some-clause-done : goal.returns-in-Some-clause-done
-returns-in-Some-clause-done c =
-    let p = c.from-pointer.result in
-    starts-done (option_copied c.args.opened) c.args.payload.now c.args.counts.now p _ _ _ _ _ _ _ _ c.from-pointer.ensures (omega (arith, c.if-pointer-payload.false)) (part_is c.args.payload.now p) (rest_is c.args.payload.now (1 + p)) c.in_ok-closes.ensures.done
-    (rw c.in-Some.is at c.in_ok-here.ensures.done)
+pub begins-requires-clause-whole : goal.begins-requires-clause-whole
+begins-requires-clause-whole c = all_still_whole c.args.jumped c.args.opened.now _ c.closes-whole.result (rw c.bytes_unless.ensures at c.closes-whole.ensures.whole)
 
-pub returns-in-None-clause-done : goal.returns-in-None-clause-done
-returns-in-None-clause-done c =
+pub returns-in-Ok-clause-done : goal.returns-in-Ok-clause-done
+returns-in-Ok-clause-done c =
     let p = c.from-pointer.result in
-    starts-done (option_copied c.args.opened) c.args.payload.now c.args.counts.now p _ _ _ _ _ _ _ _ c.from-pointer.ensures (omega (arith, c.if-pointer-payload.false)) (part_is c.args.payload.now p) (rest_is c.args.payload.now (1 + p)) c.in_ok-closes.ensures.done
-    (rw c.in-None.is at c.in_ok-here.ensures.done)
+    done_as _ _ _ _ _ _
+    (starts_begun c.args.jumped c.args.opened.now c.args.payload.now c.args.counts.now _ p _ _ c.closes-whole.result c.from-pointer.ensures (omega (arith, c.if-pointer-payload.false)) (part_is c.args.payload.now p) (rest_is c.args.payload.now (1 + p))
+    (rw c.bytes_unless.ensures at c.closes-whole.ensures.closed) (rw c.bytes_unless.ensures at c.closes-whole.ensures.whole))
+    c.in-Ok.ensures.done
 
-pub returns-in_err-closes-clause-memory : goal.returns-in_err-closes-clause-memory
-returns-in_err-closes-clause-memory c =
+pub returns-in-Err-clause-memory : goal.returns-in-Err-clause-memory
+returns-in-Err-clause-memory c =
     let p = c.from-pointer.result in
-    on_err _ (starts-first (option_copied c.args.opened) c.args.payload.now c.args.counts.now p _ c.from-pointer.ensures (omega (arith, c.if-pointer-payload.false)) (part_is c.args.payload.now p) c.in_err-closes.ensures.memory)
+    out_as _ _
+    (starts_begun c.args.jumped c.args.opened.now c.args.payload.now c.args.counts.now _ p _ _ c.closes-whole.result c.from-pointer.ensures (omega (arith, c.if-pointer-payload.false)) (part_is c.args.payload.now p) (rest_is c.args.payload.now (1 + p))
+    (rw c.bytes_unless.ensures at c.closes-whole.ensures.closed) (rw c.bytes_unless.ensures at c.closes-whole.ensures.whole))
+    c.in-Err.ensures.memory
 
-pub returns-in_err-here-clause-memory : goal.returns-in_err-here-clause-memory
-returns-in_err-here-clause-memory c =
-    let p = c.from-pointer.result in
-    on_err _ (starts-rest (option_copied c.args.opened) c.args.payload.now c.args.counts.now p _ _ _ c.from-pointer.ensures (omega (arith, c.if-pointer-payload.false)) (part_is c.args.payload.now p) (rest_is c.args.payload.now (1 + p)) c.in_ok-closes.ensures.done.counted c.in_err-here.ensures.memory)
+pub returns-in-Err-clause-err : goal.returns-in-Err-clause-err
+returns-in-Err-clause-err c = (c.in-Err.ensures.err, refl)
