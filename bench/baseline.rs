@@ -1,6 +1,7 @@
-//! The plain receiver as a program, for comparisons of time: `record PID`, `open PID PATH..`, `open sections PATH..` and
-//! `list PID`, as ./carousel has them.
+//! The plain receiver and the plain broadcaster as a program, for comparisons of time: `record PID`, `open PID PATH..`,
+//! `open sections PATH..`, `list PID` and `publish FOLDER CAROUSEL CYCLES`, as ./carousel has them.
 
+mod publisher;
 mod receiver;
 
 use std::io::{self, BufWriter, Read, Write};
@@ -79,6 +80,11 @@ fn heard(place: &str) -> io::Result<Option<Tuner>> {
 
 fn run(words: &[String]) -> io::Result<i32> {
     let mut out = BufWriter::with_capacity(65_536, io::stdout().lock());
+    if let [command, folder, carousel, cycles] = words && command == "publish" {
+        let (Ok(carousel), Ok(cycles)) = (carousel.parse(), cycles.parse()) else { return Ok(2) };
+        publisher::publish(folder, carousel, cycles, out)?;
+        return Ok(0);
+    }
     let [command, place, paths @ ..] = words else { return Ok(2) };
     let Some(paths) = paths.iter().map(|word| path_of(word)).collect::<Option<Vec<_>>>() else { return Ok(2) };
     let all = match (command.as_str(), place.parse()) {

@@ -4,6 +4,7 @@ It shares no code with the crates, so that what they read of its streams says so
 
     streams.py FOLDER CYCLES > STREAM        the folder's files, as CYCLES cycles on PID 256
     streams.py --made MEGABYTES > STREAM     about so many megabytes of made files, one cycle
+    streams.py --folder MEGABYTES FOLDER     the same files in a new folder
     streams.py --sections FOLDER > SECTIONS  one cycle as sections back to back
 """
 
@@ -380,8 +381,28 @@ def large_stream(folder, megabytes):
     return path
 
 
+def large_folder(folder, megabytes):
+    """The folder in `folder` with about so many megabytes of made files. Where it isn't there, another process makes it."""
+    path = os.path.join(folder, f"site-{megabytes}")
+    if not os.path.exists(path):
+        subprocess.run([sys.executable, "-B", __file__, "--folder", str(megabytes), f"{path}.part"], check=True)
+        os.rename(f"{path}.part", path)
+    return path
+
+
+def write_files(files, folder):
+    for path, content in files.items():
+        file = os.path.join(os.fsencode(folder), *path)
+        os.makedirs(os.path.dirname(file), exist_ok=True)
+        with open(file, "wb") as out:
+            out.write(content)
+
+
 def main(words):
     out = sys.stdout.buffer
+    if words[:1] == ["--folder"]:
+        write_files(made(int(words[1])), words[2])
+        return
     if words[:1] == ["--made"]:
         parts = published(made(int(words[1])), 1)
     elif words[:1] == ["--sections"]:
