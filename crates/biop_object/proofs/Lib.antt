@@ -1,5 +1,4 @@
 pub mod Places
-pub mod Part
 pub mod Comparing
 pub mod Indexing
 pub mod Finding

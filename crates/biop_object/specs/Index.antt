@@ -10,7 +10,7 @@ use Rattle.biop_object.specs.Objects.{Object, Heading, Shape, IsFile, IsFolder, 
 
 abbrev pub view_kind : Kind → Shape
 view_kind (kinds.File span) = IsFile span.first span.length
-view_kind (kinds.Folder bindings) = IsFolder (map view_binding bindings.items)
+view_kind (kinds.Folder bindings) = IsFolder (map view_binding bindings)
 view_kind kinds.Other = IsOther
 
 abbrev pub view_heading : code.Heading → Heading

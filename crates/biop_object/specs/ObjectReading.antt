@@ -1,8 +1,9 @@
 -- Reading a module from its front.
-use Rattle.std.specs.Prelude.{ℕ, zero, suc, Bool, List, [], ◌∷◌, length, Option, Some, None, Ok, Err, is_none, ◌==◌, if◌then◌else◌}
+use Rattle.std.specs.Prelude.{ℕ, zero, suc, Bool, List, [], ◌∷◌, length, map, Option, Some, None, Ok, Err, is_none, ◌==◌, if◌then◌else◌}
+use Rattle.std.specs.List.{find}
 use Rattle.oc_bytes.specs.Cursor.{Cursor, Reading, from_start}
 use Rattle.oc_bytes.specs.Grammar.{read}
-use Rattle.path_tree.specs.Paths.{same_name}
+use Rattle.path_tree.specs.Paths.{Bytes, same_name}
 use Rattle.biop_object.specs.Objects.{Object, Shape, IsFile, IsFolder, IsOther, BindingFields, object}
 use Rattle.biop_object.specs.declared.module.Found.{Found}
 use Rattle.biop_object.specs.declared.module.Found.TheVariants as found
@@ -71,3 +72,13 @@ bindings_in (o ∷ os) (suc k) = bindings_in os k
 
 abbrev pub bindings_of : List ℕ → ℕ → Option (List BindingFields)
 bindings_of bytes k = bindings_in (objects_of bytes) k
+
+-- their names
+abbrev pub names_of : Option (List BindingFields) → List Bytes
+names_of (Some bindings) = map (λ b. b.name) bindings
+names_of None = []
+
+-- the first of a name
+abbrev pub binding_in : Bytes → Option (List BindingFields) → Option BindingFields
+binding_in name (Some bindings) = find (λ b. same_name name b.name) bindings
+binding_in name None = None

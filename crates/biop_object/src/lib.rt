@@ -14,6 +14,7 @@
 //! ```
 #![tactic(auto)]
 
+mod labelled;
 mod laws;
 mod module;
 mod reading;

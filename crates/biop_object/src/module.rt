@@ -1,10 +1,15 @@
 //! A module with the index of its objects.
 
 ghost use Rattle.std.specs.Prelude.{◌≡◌, ◌<◌, ◌≤◌, ◌+◌, List, ℕ, Option, length, map, Some, IfOk, IfErr, IsErr, IsSome};
+ghost use Rattle.std.specs.List.{find};
+ghost use Rattle.std.specs.Option.{option_map};
+ghost use Rattle.path_tree.specs.Paths.{same_name};
 ghost use Rattle.biop_object.specs.Objects.{view_binding};
 ghost use Rattle.biop_object.specs.Index.{view_kind, view_index};
-ghost use Rattle.biop_object.specs.ObjectReading.{found_shape, found_from, bindings_in};
+ghost use Rattle.biop_object.specs.Labels.{is_first_in};
+ghost use Rattle.biop_object.specs.ObjectReading.{found_shape, found_from, bindings_in, names_of, binding_in};
 
+use crate::labelled::{HasLabel, Labelled};
 use crate::reading::read_index;
 use ior_tap::Ior;
 use oc_bytes::NoMemory;
@@ -32,6 +37,14 @@ pub struct Binding {
     pub target: Ior,
 }
 
+impl HasLabel for Binding {
+    ghost label = { λ b. b.name };
+
+    fn label(&self) -> &[u8] {
+        self.name.bytes()
+    }
+}
+
 /// What a module has under a key.
 #[derive(Clone, Copy, Debug, PartialEq, Eq)]
 pub enum Found {
@@ -52,7 +65,7 @@ pub enum Found {
 #[derive(Drop)]
 pub(crate) enum Kind {
     File(Span),
-    Folder(Vec<Binding>),
+    Folder(Labelled<Binding>),
     Other,
 }
 
@@ -75,6 +88,14 @@ pub(crate) struct Indexed {
     pub(crate) kind: Kind,
 }
 
+impl HasLabel for Indexed {
+    ghost label = { λ object. object.key.items };
+
+    fn label(&self) -> &[u8] {
+        &self.key
+    }
+}
+
 /// The bytes of a module, with the index of its objects: BIOP messages back to back from the front, up to the end or to
 /// the first that doesn't read (ISO/IEC 13818-6, clause 11.3.2; ETSI TR 101 202, clause 4.7.4).
 ///
@@ -82,7 +103,7 @@ pub(crate) struct Indexed {
 #[derive(Drop)]
 pub struct Module {
     bytes: Vec<u8>,
-    index: Vec<Indexed>,
+    index: Labelled<Indexed>,
     stop: Option<usize>,
 }
 
@@ -97,24 +118,21 @@ impl Model for Module {
     ghost view = { λ m. m.bytes.items };
 
     // the index is the reading of the bytes
-    ghost invariant = { λ m. IsIndexed m.bytes.items (view_index m.index.items) m.stop };
+    ghost invariant = { λ m. IsIndexed m.bytes.items (view_index m.index) m.stop };
 }
 
-fn find_in(index: &[Indexed], stop: Option<usize>, key: &[u8]) -> Found
-    ensures { result ≡ found_from 0 key.now (view_index index.now) stop }
+fn find_in(index: &Labelled<Indexed>, stop: Option<usize>, key: &[u8]) -> Found
+    ensures found { result ≡ found_from 0 key.now (view_index index.now) stop }
+    ensures folder { (k : ℕ) → result ≡ Found.Folder k → IsSome (bindings_in (view_index index.now) k) }
 {
-    for (number, object) in index.iter().enumerate() {
-        if key == object.key.as_slice() {
-            return object.kind.found(number);
-        }
-    }
-    match stop {
-        Some(place) => Found::Bad(place),
-        None => Found::Missing,
+    match (index.first(key), stop) {
+        (Some(number), _) => index.items()[number].kind.found(number),
+        (None, Some(place)) => Found::Bad(place),
+        (None, None) => Found::Missing,
     }
 }
 
-fn bindings_at(index: &[Indexed], folder: usize) -> &[Binding]
+fn bindings_at(index: &[Indexed], folder: usize) -> &Labelled<Binding>
     requires below { folder < length index.now }
     requires folder { IsSome (bindings_in (view_index index.now) folder) }
     ensures { bindings_in (view_index index.now) folder ≡ Some (map view_binding result.now) }
@@ -123,6 +141,20 @@ fn bindings_at(index: &[Indexed], folder: usize) -> &[Binding]
         Kind::Folder(bindings) => bindings,
         _ => unreachable!(),
     }
+}
+
+fn first_named<'a>(bindings: &'a Labelled<Binding>, name: &[u8]) -> Option<&'a Binding>
+    ensures { option_map (λ b. view_binding b.now) result ≡ find (λ b. same_name name.now b.name) (map view_binding bindings.now) }
+{
+    let place = bindings.first(name)?;
+    Some(&bindings.items()[place])
+}
+
+fn stands_first(bindings: &Labelled<Binding>, i: usize) -> bool
+    requires { i < length bindings.now }
+    ensures { result ≡ is_first_in (names_of (Some (map view_binding bindings.now))) i }
+{
+    bindings.first(bindings.items()[i].label()) == Some(i)
 }
 
 impl Module {
@@ -187,6 +219,33 @@ impl Module {
         requires { IsSome (bindings_of self.now folder) }
         ensures { bindings_of self.now folder ≡ Some (map view_binding result.now) }
     {
-        bindings_at(&self.index, folder)
+        self.folder(folder).items()
+    }
+
+    /// The first binding of a folder with this name, which may be of any length; `folder` is as for [`Module::bindings`].
+    /// None where no binding has the name. It takes no memory, and finds the name by halves.
+    pub fn binding(&self, folder: usize, name: &[u8]) -> Option<&Binding>
+        requires { IsSome (bindings_of self.now folder) }
+        ensures { option_map (λ b. view_binding b.now) result ≡ binding_in name.now (bindings_of self.now folder) }
+    {
+        first_named(self.folder(folder), name)
+    }
+
+    /// Whether no binding before binding `i` of a folder has its name; `folder` is as for [`Module::bindings`], and `i`
+    /// is from 0 and below the number of the folder's bindings. It takes no memory, and finds the name by halves. That
+    /// a name may stand twice, and the first then counts, is this project's own rule.
+    pub fn is_first(&self, folder: usize, i: usize) -> bool
+        requires folder { IsSome (bindings_of self.now folder) }
+        requires below { i < length (names_of (bindings_of self.now folder)) }
+        ensures { result ≡ is_first_in (names_of (bindings_of self.now folder)) i }
+    {
+        stands_first(self.folder(folder), i)
+    }
+
+    fn folder(&self, folder: usize) -> &Labelled<Binding>
+        requires { IsSome (bindings_of self.now folder) }
+        ensures { bindings_of self.now folder ≡ Some (map view_binding result.now) }
+    {
+        bindings_at(self.index.items(), folder)
     }
 }

@@ -13,6 +13,7 @@ ghost use Rattle.biop_object.specs.Index.{view_kind, view_heading, view_indexed,
 ghost use Rattle.biop_object.specs.ObjectReading.{object_at, index_of};
 ghost use Rattle.biop_object.specs.declared.reading.ReadFault.TheVariants.{Bad, NoMemory as OutOfMemory};
 
+use crate::labelled::Labelled;
 use crate::module::{Binding, Indexed, Kind, Span};
 use ior_tap::{Ior, IorFault, decode};
 use oc_bytes::{Cut, Fields, NoMemory};
@@ -94,13 +95,13 @@ fn bindings_of(
     alloc: Global,
     fields: &mut Fields<'_>,
     count: u16,
-) -> Result<Vec<Binding>, ReadFault>
-    ensures { Gives (λ v. (map view_binding v.items, fields.new)) cause result (each_at (read binding) count fields.old) }
+) -> Result<Labelled<Binding>, ReadFault>
+    ensures { Gives (λ bindings. (map view_binding bindings, fields.new)) cause result (each_at (read binding) count fields.old) }
 {
-    let mut bindings = Vec::new(alloc);
+    let mut bindings = Labelled::new(alloc);
     for _ in 0..count {
         let binding = binding_of(alloc, fields)?;
-        bindings.push(binding)?;
+        bindings = bindings.with(alloc, binding)?;
     }
     Ok(bindings)
 }
@@ -150,6 +151,7 @@ pub(crate) const DIRECTORY: [u8; 4] = *b"dir\0";
 pub(crate) const GATEWAY: [u8; 4] = *b"srg\0";
 
 /// What a message's body says, by the message's kind.
+#[tactic(auto, unfolding(oc_bytes::specs::Grammar::read))]
 fn kind_of(alloc: Global, kind: &[u8], fields: &mut Fields<'_>) -> Result<Kind, ReadFault>
     ensures { Gives (λ k. (view_kind k, fields.new)) cause result (read (shape kind.now fields.old.place) fields.old) }
 {
@@ -163,7 +165,7 @@ fn kind_of(alloc: Global, kind: &[u8], fields: &mut Fields<'_>) -> Result<Kind, 
 }
 
 /// A body with its length before it, which is taken whole.
-#[tactic(auto, unfolding(oc_bytes::specs::Grammar::read))]
+#[tactic(auto, using(crate::proofs::Places::body_is))]
 fn body_of(alloc: Global, kind: &[u8], fields: &mut Fields<'_>) -> Result<Kind, ReadFault>
     ensures { Gives (λ k. (view_kind k, fields.new)) cause result (read (enclosed four (shape kind.now (fields.old.place + 4))) fields.old) }
 {
@@ -191,7 +193,7 @@ fn heading_of<'a>(fields: &mut Fields<'a>) -> Result<Heading<'a>, Cut>
     Ok(Heading { key, kind })
 }
 
-#[tactic(auto, using(crate::proofs::Places::message_stops))]
+#[tactic(auto, using(crate::proofs::Places::message_is))]
 fn message_of(alloc: Global, fields: &mut Fields<'_>) -> Result<Indexed, ReadFault>
     ensures { Gives (λ i. (view_indexed i, fields.new)) cause result (read (message fields.old.place) fields.old) }
 {
@@ -202,7 +204,7 @@ fn message_of(alloc: Global, fields: &mut Fields<'_>) -> Result<Indexed, ReadFau
 }
 
 /// A message with its size before it, which is taken whole.
-#[tactic(auto, unfolding(oc_bytes::specs::Grammar::read))]
+#[tactic(auto, using(crate::proofs::Places::sized_is), unfolding(oc_bytes::specs::Grammar::read))]
 fn sized_message_of(alloc: Global, fields: &mut Fields<'_>) -> Result<Indexed, ReadFault>
     ensures reads { Gives (λ i. (view_indexed i, fields.new)) cause result (read (enclosed four (message (fields.old.place + 4))) fields.old) }
     ensures memory { IsErrOf result ReadFault.NoMemory → IsOk (read cut_off fields.old) }
@@ -216,7 +218,7 @@ fn sized_message_of(alloc: Global, fields: &mut Fields<'_>) -> Result<Indexed, R
 /// `BIOP`, version 1.0, byte order 0, message type 0.
 pub(crate) const HEAD: u64 = 0x42494F5001000000;
 
-#[tactic(auto, unfolding(oc_bytes::specs::Grammar::read, crate::specs::ObjectReading::object_at))]
+#[tactic(auto, using(crate::proofs::Places::object_is), unfolding(oc_bytes::specs::Grammar::read))]
 fn object_of(alloc: Global, fields: &mut Fields<'_>) -> Result<Indexed, ReadFault>
     ensures reads { Gives (λ i. (view_indexed i, fields.new)) cause result (object_at fields.old) }
     ensures memory { IsErrOf result ReadFault.NoMemory → IsOk (read framed fields.old) }
@@ -229,22 +231,23 @@ fn object_of(alloc: Global, fields: &mut Fields<'_>) -> Result<Indexed, ReadFaul
 /// The objects of a module in order, and the place of the first message that doesn't read, if there is one.
 #[derive(Drop)]
 pub(crate) struct Index {
-    pub(crate) objects: Vec<Indexed>,
+    pub(crate) objects: Labelled<Indexed>,
     pub(crate) stop: Option<usize>,
 }
 
 /// Reads the messages of a module back to back, up to its end or to the first that doesn't read.
+#[tactic(auto, using(oc_bytes::proofs::CallerLemmas::bytes_fit, crate::proofs::Indexing::has_begun))]
 pub(crate) fn read_index(alloc: Global, bytes: &[u8]) -> Result<Index, NoMemory>
-    ensures index { IfOk result (λ i. (view_index i.objects.items, i.stop) ≡ index_of bytes.now) }
+    ensures index { IfOk result (λ i. (view_index i.objects, i.stop) ≡ index_of bytes.now) }
     ensures fit { IsBytes bytes.now }
     ensures memory { IsErr result → IsOk (read framed (from_start bytes.now)) }
 {
-    let mut objects = Vec::new(alloc);
+    let mut objects = Labelled::new(alloc);
     let mut fields = Fields::new(bytes);
     while !fields.rest().is_empty() {
         let at = fields.place();
         match object_of(alloc, &mut fields) {
-            Ok(object) => objects.push(object)?,
+            Ok(object) => objects = objects.with(alloc, object)?,
             Err(ReadFault::Bad(_)) => {
                 return Ok(Index {
                     objects,

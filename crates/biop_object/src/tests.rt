@@ -102,6 +102,7 @@ fn finds_objects(rt: HostRuntime) -> Result<(), Fail> {
     let Found::Folder(folder) = found else {
         return Ok(());
     };
+    assert!(rt; module.binding(folder, b"b").is_none());
     let binding = module.bindings(folder).first().ok_or("it has a binding")?;
     assert_eq!(rt; binding.name.bytes(), b"a".as_slice());
     assert_eq!(rt; binding.kind.as_slice(), b"fil\0".as_slice());

@@ -2,8 +2,8 @@
 
 ghost use Rattle.std.specs.Prelude.{◌≡◌, ◌≤◌, ◌<◌, ◌+◌, ◌∷◌, [], ◌++◌, ℕ, length, map, take, IfOk, OnOk, MatchOption, IsErrOf};
 ghost use Rattle.std.specs.List.{All, flat_map};
-ghost use Rattle.ior_tap.specs.Iors.{IsLocation};
-ghost use Rattle.biop_object.specs.Objects.{ReadsObject, IsFile, IsFolder, IsEntry, binding_of, file_spelling, folder_spelling, biop_prefix, kind_of, bound_kind, bound_tail, binding_spelling, binding_size, folder_size};
+ghost use Rattle.ior_tap.specs.Iors.{IsLocation, spelling};
+ghost use Rattle.biop_object.specs.Objects.{ReadsObject, IsFile, IsFolder, IsEntry, binding_of, file_spelling, folder_spelling, biop_prefix, kind_of, binding_spelling, binding_size, folder_size};
 ghost use Rattle.biop_object.specs.declared.written.ObjectFault.TheVariants.{NoMemory as OutOfMemory};
 ghost use Rattle.path_tree.specs.declared.tree.TheConstants.{MOST_CONTENT};
 
@@ -90,6 +90,7 @@ impl From<AllocError> for ObjectFault {
 ///
 /// The key has 4 bytes, and the content at most [`path_tree::MOST_CONTENT`]. The objectInfo is the content's size in 8 bytes, no service
 /// context is written, and the sizes are exact (ISO/IEC 13818-6, clause 11.3.2.2; ETSI TR 101 202, clause 4.7.4.2).
+#[tactic(auto, using(crate::proofs::Spellings::file_reads))]
 pub fn encode_file(alloc: Global, key: &Key, content: &[u8]) -> Result<Vec<u8>, NoMemory>
     requires key { length key.now ≡ 4 }
     requires size { length content.now ≤ MOST_CONTENT }
@@ -98,7 +99,8 @@ pub fn encode_file(alloc: Global, key: &Key, content: &[u8]) -> Result<Vec<u8>, 
     ensures reads { IfOk result (λ bytes. (at : ℕ) → ReadsObject at bytes.items
         (record { key = key.now; shape = IsFile (at + FILE_FRONT) (length content.now) })) }
 {
-    file_bytes(alloc, key, content)
+    let bytes = file_bytes(alloc, key, content)?;
+    Ok(bytes)
 }
 
 fn file_bytes(alloc: Global, key: &Key, content: &[u8]) -> Result<Vec<u8>, NoMemory>
@@ -122,6 +124,7 @@ fn file_bytes(alloc: Global, key: &Key, content: &[u8]) -> Result<Vec<u8>, NoMem
 /// entries; the objectInfo is empty, no service context is written, and the sizes are exact. `TooLarge` comes exactly
 /// where the message would have more than [`MOST_FOLDER_SIZE`] bytes, and memory is asked for only where it hasn't.
 /// (ISO/IEC 13818-6, clause 11.3.2.2; ETSI TR 101 202, clauses 4.7.4.1 and 4.7.4.3.)
+#[tactic(auto, using(crate::proofs::Spellings::folder_length, crate::proofs::Spellings::folder_reads))]
 pub fn encode_folder(
     alloc: Global,
     kind: FolderKind,
@@ -145,6 +148,7 @@ pub fn encode_folder(
     Ok(bytes)
 }
 
+#[tactic(auto, using(crate::proofs::Spellings::few_entries, crate::proofs::Spellings::folder_is))]
 fn folder_bytes(
     alloc: Global,
     kind: FolderKind,
@@ -231,6 +235,7 @@ fn put_bindings(out: &mut Writer, entries: &[Written]) -> Result<(), NoMemory>
     Ok(())
 }
 
+#[tactic(auto, using(crate::proofs::Spellings::file_parts, crate::proofs::Spellings::folder_parts))]
 fn put_binding(out: &mut Writer, entry: &Written) -> Result<(), NoMemory>
     requires { IsEntry entry.now }
     ensures put { OnOk result (out.new ≡ out.old ++ binding_spelling entry.now) }
@@ -238,8 +243,15 @@ fn put_binding(out: &mut Writer, entry: &Written) -> Result<(), NoMemory>
 {
     put_id(out, entry.name.bytes())?;
     match entry.bound {
-        Bound::File(size) => put_file(out, &entry.location, size)?,
-        Bound::Folder => put_folder(out, &entry.location)?,
+        Bound::File(size) => {
+            put_target(out, 1, &FILE, &entry.location)?;
+            out.put_u16(8)?;
+            out.put_u64(size)?;
+        }
+        Bound::Folder => {
+            put_target(out, 2, &DIRECTORY, &entry.location)?;
+            out.put_u16(0)?;
+        }
     }
     Ok(())
 }
@@ -257,27 +269,20 @@ fn put_id(out: &mut Writer, name: &[u8]) -> Result<(), NoMemory>
     Ok(())
 }
 
-fn put_file(out: &mut Writer, location: &Location, size: u64) -> Result<(), NoMemory>
-    requires { length location.now.key ≡ 4 }
-    ensures put { OnOk result (out.new ≡ out.old ++ bound_kind (Bound.File size) ++ bound_tail (Bound.File size) location.now) }
+/// The kind of what is bound, the binding's type, and the reference.
+fn put_target(
+    out: &mut Writer,
+    binding_type: u8,
+    kind: &[u8],
+    location: &Location,
+) -> Result<(), NoMemory>
+    requires kind { length kind.now ≡ 4 }
+    requires key { length location.now.key ≡ 4 }
+    ensures put { OnOk result (out.new ≡ out.old ++ kind.now ++ binding_type ∷ spelling kind.now location.now) }
     ensures room { OnOk result (IsLocation location.now) }
 {
-    out.put_bytes(&FILE)?;
-    out.put_u8(1)?;
-    put_reference(out, &FILE, location)?;
-    out.put_u16(8)?;
-    out.put_u64(size)?;
-    Ok(())
-}
-
-fn put_folder(out: &mut Writer, location: &Location) -> Result<(), NoMemory>
-    requires { length location.now.key ≡ 4 }
-    ensures put { OnOk result (out.new ≡ out.old ++ bound_kind Bound.Folder ++ bound_tail Bound.Folder location.now) }
-    ensures room { OnOk result (IsLocation location.now) }
-{
-    out.put_bytes(&DIRECTORY)?;
-    out.put_u8(2)?;
-    put_reference(out, &DIRECTORY, location)?;
-    out.put_u16(0)?;
+    out.put_bytes(kind)?;
+    out.put_u8(binding_type)?;
+    put_reference(out, kind, location)?;
     Ok(())
 }

@@ -1,13 +1,14 @@
 -- The blocks of a buffer, and what a write or a mark changes.
-use Rattle.std.proofs.Common.{◌≡◌, ◌≢◌, ℕ, zero, suc, ◌+◌, ◌-◌, ◌*◌, ◌<◌, ◌≤◌, min, Bool, true, false, cond, List, [], ◌∷◌, ◌++◌, length, take, drop, Option, Some, None, is_some, if◌then◌else◌, refl, ap, sym, ◌∙◌, subst, arith, get_or, set, get_or-set_other, get_or-set_same, length-append, length-drop, mul-le-mul_left, suc-mul, mul_comm, ◌⊎◌, inl, inr}
-use Rattle.std.proofs.lemmas.List.{drop-append-le, drop-drop, drop_all, drop_at, take_at, take_all, take-append-le, take-append-drop, append_assoc, length-set, length-take-le, ext_get_or, set-get_or, get_or_read, append-nil}
+use Rattle.std.proofs.Common.{◌≡◌, ◌≢◌, ℕ, zero, suc, ◌+◌, ◌-◌, ◌*◌, ◌<◌, ◌≤◌, min, Bool, true, false, cond, List, [], ◌∷◌, ◌++◌, length, take, drop, replicate, Option, Some, None, is_some, if◌then◌else◌, refl, ap, sym, ◌∙◌, subst, arith, get_or, set, get_or-set_other, get_or-set_same, length-append, length-drop, mul-le-mul_left, suc-mul, mul_comm, ◌⊎◌, inl, inr}
+use Rattle.std.proofs.lemmas.List.{drop-append-le, drop-drop, drop_all, drop_at, take_at, take_all, take-append-le, take-append-drop, append_assoc, length-set, length-take, length-replicate, ext_get_or, set-get_or, get_or_read, append-nil}
 use Rattle.std.proofs.lemmas.Bool.{eq-eqb, ne_eqb, lt-ltb, le-ltb, cases_eq, cases_order}
 use Rattle.std.proofs.lemmas.Grind.{div_ceil_times}
 use Rattle.ddb_block.specs.Blocks.{block_count_of, block_span_of, block_of}
 use Rattle.block_assembler.specs.Blocks.{Bytes, AssemblerState, block_in, offer_of, is_new, after_forget, after_offer}
 use Rattle.block_assembler.specs.declared.Offer.{Offer}
 use Rattle.block_assembler.specs.declared.Offer.TheVariants.{WrongPlace, WrongLength, Again, New}
-use Rattle.block_assembler.specs.Kept.{blocks_from}
+use Rattle.block_assembler.specs.Kept.{blocks_from, written, view_assembler, IsKept}
+use Rattle.block_assembler.specs.declared.kept.Assembler.TheInside.{Inside}
 
 -- ---- block by block
 
@@ -29,10 +30,14 @@ block_there bytes k ts i =
     let e : 0 + i ≡ i = omega arith in
     block_at_place bytes k 0 ts i ∙ ap (λ (n : ℕ). cond (get_or ts i false) (Some (block_of bytes k n)) None) e
 
--- one place's mark and block are new, and the other blocks are the same
+if_marked : (t : Bool) (x y : Bytes) → (t ≡ true → x ≡ y) → cond t (Some x) None ≡ cond t (Some y) None
+if_marked false x y e = refl
+if_marked true x y e = ap (λ (z : Bytes). Some z) (e refl)
+
+-- one place's mark and block are new, and the other blocks that are marked are the same
 mark_set : (old new : Bytes) (k : ℕ) (ts : List Bool) (i : ℕ) (t : Bool) (o : Option Bytes) → i < length ts
     → cond t (Some (block_of new k i)) None ≡ o
-    → ((j : ℕ) → j ≢ i → block_of new k j ≡ block_of old k j)
+    → ((j : ℕ) → j ≢ i → get_or ts j false ≡ true → block_of new k j ≡ block_of old k j)
     → blocks_from new k 0 (set ts i t) ≡ set (blocks_from old k 0 ts) i o
 mark_set old new k ts i t o h e others =
     ext_get_or None (blocks_from new k 0 (set ts i t)) (set (blocks_from old k 0 ts) i o)
@@ -49,12 +54,12 @@ mark_set old new k ts i t o h e others =
     by_place j (inr other) =
         block_there new k (set ts i t) j
         ∙ ap (λ (x : Bool). cond x (Some (block_of new k j)) None) (get_or-set_other ts i j t false other)
-        ∙ ap (λ (x : Bytes). cond (get_or ts j false) (Some x) None) (others j other)
+        ∙ if_marked (get_or ts j false) (block_of new k j) (block_of old k j) (others j other)
         ∙ sym (block_there old k ts j)
         ∙ sym (get_or-set_other (blocks_from old k 0 ts) i j o None other)
 
 mark_unset : (bytes : Bytes) (k : ℕ) (ts : List Bool) (i : ℕ) → i < length ts → blocks_from bytes k 0 (set ts i false) ≡ set (blocks_from bytes k 0 ts) i None
-mark_unset bytes k ts i h = mark_set bytes bytes k ts i false None h refl (λ j _. refl)
+mark_unset bytes k ts i h = mark_set bytes bytes k ts i false None h refl (λ j _ _. refl)
 
 -- a place that isn't marked has no block
 already_unset : (bytes : Bytes) (k : ℕ) (ts : List Bool) (i : ℕ) → i < length ts → get_or ts i false ≡ false → blocks_from bytes k 0 ts ≡ set (blocks_from bytes k 0 ts) i None
@@ -88,25 +93,27 @@ below_marks size k bytes ts v b e n h =
 
 -- ---- a write of one block
 
-written : ℕ → Bytes → Bytes → Bytes
-written start new old = take start old ++ new ++ drop (start + length new) old
+length_front : (n : ℕ) (bytes : Bytes) → length (take n bytes ++ replicate (n - length bytes) 0) ≡ n
+length_front n bytes = omega (arith, length-append (take n bytes) (replicate (n - length bytes) 0), length-take n bytes, length-replicate {A = ℕ} (n - length bytes) 0)
 
 short_front : (k b size n : ℕ) → b * k < size → n ≡ min k (size - b * k) → n ≢ k → b * k + n ≡ size
 short_front k b size n h e ne = omega arith
 
-block_written : (old new : Bytes) (k b : ℕ) → b * k < length old → length new ≡ block_span_of (length old) k b → block_of (written (b * k) new old) k b ≡ new
-unfolding written
-block_written old new k b h e =
-    ap (take k) (ap (drop (b * k)) (append_assoc (take (b * k) old) new rest) ∙ drop_at (take (b * k) old) (new ++ rest) (b * k) (length-take-le (b * k) old (omega arith)))
+block_written : (size k b : ℕ) (old new : Bytes) → length old ≤ size → b * k < size → length new ≡ block_span_of size k b → block_of (written (b * k) new old) k b ≡ new
+block_written size k b old new short h e =
+    ap (take k) (ap (drop (b * k)) (append_assoc front new rest) ∙ drop_at front (new ++ rest) (b * k) (length_front (b * k) old))
     ∙ by_length (cases_eq (length new) k)
   where
+    front : Bytes
+    front = take (b * k) old ++ replicate (b * k - length old) 0
+
     rest : Bytes
     rest = drop (b * k + length new) old
 
     by_length : (length new ≡ k) ⊎ (length new ≡ k → ⊥) → take k (new ++ rest) ≡ new
     by_length (inl same) = take_at new rest k same
     by_length (inr other) =
-        let none : rest ≡ [] = drop_all (b * k + length new) old (omega (arith, short_front k b (length old) (length new) h e other)) in
+        let none : rest ≡ [] = drop_all (b * k + length new) old (omega (arith, short_front k b size (length new) h e other)) in
         rw none (rw append-nil (take_all k new (omega (arith, e))))
 
 fronts_alike : (p q r : Bytes) (k n : ℕ) → n + k ≤ length p → take k (drop n (p ++ q)) ≡ take k (drop n (p ++ r))
@@ -120,11 +127,15 @@ drop_past p q n m e = rw (← e) (sym (drop-drop m (length p) (p ++ q)) ∙ ap (
 up_to : (j b k : ℕ) → j < b → j * k + k ≤ b * k
 up_to j b k h = omega (arith, mul-le-mul_left k h, suc-mul j k, mul_comm j k, mul_comm b k, mul_comm (suc j) k)
 
-block_kept : (old new : Bytes) (k b j : ℕ) → b * k < length old → length new ≡ block_span_of (length old) k b → j ≢ b → block_of (written (b * k) new old) k j ≡ block_of old k j
-unfolding written
-block_kept old new k b j h e ne = by_order (cases_order j b) where
-  start : ℕ
-  start = b * k
+-- another block, to whose end the bytes reached
+block_kept : (size k b j : ℕ) (old new : Bytes) → min size (j * k + k) ≤ length old → b * k < size → length new ≡ block_span_of size k b → j ≢ b
+    → block_of (written (b * k) new old) k j ≡ block_of old k j
+block_kept size k b j old new reach h e ne = by_order (cases_order j b) where
+  front : Bytes
+  front = take (b * k) old
+
+  zeros : Bytes
+  zeros = replicate (b * k - length old) 0
 
   end : ℕ
   end = b * k + length new
@@ -132,13 +143,12 @@ block_kept old new k b j h e ne = by_order (cases_order j b) where
   by_order : (j ≡ b) ⊎ ((j < b) ⊎ (b < j)) → block_of (written (b * k) new old) k j ≡ block_of old k j
   by_order (inl same) = absurd (ne same)
   by_order (inr (inl less)) =
-      ap (λ (x : Bytes). take k (drop (j * k) x)) (append_assoc (take (b * k) old) new (drop end old))
-      ∙ fronts_alike (take (b * k) old) (new ++ drop end old) (drop (b * k) old) k (j * k) (omega (arith, up_to j b k less, length-take-le (b * k) old (omega arith)))
+      ap (λ (x : Bytes). take k (drop (j * k) x)) (append_assoc (front ++ zeros) new (drop end old) ∙ append_assoc front zeros (new ++ drop end old))
+      ∙ fronts_alike front (zeros ++ (new ++ drop end old)) (drop (b * k) old) k (j * k) (omega (arith, up_to j b k less, length-take (b * k) old))
       ∙ ap (λ (x : Bytes). take k (drop (j * k) x)) (take-append-drop (b * k) old)
   by_order (inr (inr more)) =
-      let front : length (take (b * k) old ++ new) ≡ end = omega (arith, length-append (take (b * k) old) new, length-take-le (b * k) old (omega arith)) in
       ap (take k) (
-      drop_past (take (b * k) old ++ new) (drop end old) (j * k) (j * k - end) (omega (arith, up_to b j k more, e))
+      drop_past (front ++ zeros ++ new) (drop end old) (j * k) (j * k - end) (omega (arith, up_to b j k more, e, length_front (b * k) old, length-append (front ++ zeros) new))
       ∙ drop-drop (j * k - end) end old
       ∙ ap (λ (n : ℕ). drop n old) (omega (arith, up_to b j k more, e)))
 
@@ -183,27 +193,15 @@ not_taken a b new o e n = rw (← e, n) refl
 inside_size : (size k b : ℕ) → 0 < k → b < block_count_of size k → b * k < size
 inside_size size k b positive h = omega (arith, div_ceil_times size k positive, mul-le-mul_left k h, suc-mul b k, mul_comm (suc b) k, mul_comm k (suc b), mul_comm k (block_count_of size k))
 
-pub taken : (size k : ℕ) (bytes : Bytes) (ts : List Bool) (place b start : ℕ) (new : Bytes) → 0 < k → place ≡ b → start ≡ place * k → b < length ts → length bytes ≡ size
-    → length ts ≡ block_count_of size k → length new ≡ block_span_of size k b → New ≡ offer_of (viewed size k bytes ts) b new
-    → viewed size k (take start bytes ++ new ++ drop (start + length new) bytes) (set ts place true) ≡ after_offer (viewed size k bytes ts) b new
-unfolding with_blocks written
-taken size k bytes ts place b start new positive e s h n l w o =
-    let here : start ≡ b * k = s ∙ ap (λ (i : ℕ). i * k) e in
-    let inside : b * k < length bytes = omega (arith, inside_size size k b positive (omega (arith, l)), n) in
-    let span : length new ≡ block_span_of (length bytes) k b = rw n w in
-    rw (← o, here, e)
-    (ap (with_blocks size k)
-    (mark_set bytes (written (b * k) new bytes) k ts b true (Some new) h
-    (ap (λ (x : Bytes). Some x) (block_written bytes new k b inside span))
-    (λ j ne. block_kept bytes new k b j inside span ne)))
-
--- `taken`, as the code writes it: through a slice of the buffer, whose bytes are ws afterwards
-pub taken_through : (size k : ℕ) (bytes : Bytes) (ts : List Bool) (place b k2 : ℕ) (new seen ws : Bytes) (after : Bytes) → 0 < k → place ≡ b → k2 ≡ k → b < length ts → length bytes ≡ size
-    → length ts ≡ block_count_of size k → length new ≡ block_span_of size k b → New ≡ offer_of (viewed size k bytes ts) b new
-    → seen ≡ bytes → ws ≡ take (place * k2) seen ++ new ++ drop (place * k2 + length new) seen → after ≡ ws
-    → viewed size k after (set ts place true) ≡ after_offer (viewed size k bytes ts) b new
-taken_through size k bytes ts place b k2 new seen ws after positive e f h n l w o s p q =
-    let whole : after ≡ take (place * k2) bytes ++ new ++ drop (place * k2 + length new) bytes =
-    q ∙ p ∙ ap (λ (x : Bytes). take (place * k2) x ++ new ++ drop (place * k2 + length new) x) s in
-    ap (λ (x : Bytes). viewed size k x (set ts place true)) whole
-    ∙ taken size k bytes ts place b (place * k2) new positive e (ap (λ (x : ℕ). place * x) f) h n l w o
+pub taken : (a : Inside) → IsKept a → (b place start : ℕ) (new after : Bytes) → b < length a.there.items → place ≡ b → start ≡ place * a.block_size
+    → length new ≡ block_span_of a.size a.block_size b → New ≡ offer_of (view_assembler a) b new → after ≡ written start new a.bytes.items
+    → viewed a.size a.block_size after (set a.there.items place true) ≡ after_offer (view_assembler a) b new
+unfolding with_blocks
+taken a kept b place start new after h e s l o p =
+    let here : start ≡ b * a.block_size = s ∙ ap (λ (i : ℕ). i * a.block_size) e in
+    let inside : b * a.block_size < a.size = inside_size a.size a.block_size b kept.sizes.some_block_size (omega (arith, kept.marks)) in
+    rw (← o, p, here, e)
+    (ap (with_blocks a.size a.block_size)
+    (mark_set a.bytes.items (written (b * a.block_size) new a.bytes.items) a.block_size a.there.items b true (Some new) h
+    (ap (λ (x : Bytes). Some x) (block_written a.size a.block_size b a.bytes.items new kept.bytes inside l))
+    (λ j ne m. block_kept a.size a.block_size b j a.bytes.items new (kept.reach j m) inside l ne)))

@@ -8,7 +8,8 @@ use Rattle.std.proofs.lemmas.Grind.{div_ceil_times}
 use Rattle.std.proofs.lemmas.Bool.{lt-ltb, le-ltb}
 use Rattle.ddb_block.specs.Blocks.{block_count_of, block_of}
 use Rattle.block_assembler.specs.Blocks.{Bytes, AssemblerState, join_all, empty_of, refilled}
-use Rattle.block_assembler.specs.Kept.{blocks_from}
+use Rattle.block_assembler.specs.Kept.{blocks_from, IsKept}
+use Rattle.block_assembler.specs.declared.kept.Assembler.TheInside.{Inside}
 use Rattle.block_assembler.proofs.Places.{viewed, length_blocks, block_there}
 
 abbrev with_blocks : ℕ → ℕ → List (Option Bytes) → AssemblerState
@@ -33,6 +34,27 @@ joined_if_not bytes k b [] e = absurd (e refl)
 joined_if_not bytes k b (false ∷ ts) e = refl
 joined_if_not bytes k b (true ∷ ts) e =
     rw (joined_if_not bytes k (b + 1) ts (λ g. e (omega (arith, count_cons true ts, g)))) refl
+
+all_marked : (ts : List Bool) (i : ℕ) → count_by not ts ≡ 0 → i < length ts → get_or ts i false ≡ true
+all_marked [] i e h = absurd (omega arith)
+all_marked (false ∷ ts) i e h = absurd (omega (arith, count_cons false ts))
+all_marked (true ∷ ts) zero e h = refl
+all_marked (true ∷ ts) (suc i) e h = all_marked ts i (omega (arith, count_cons true ts)) (omega arith)
+
+-- where the last block is there, the bytes reach to the module's end
+pub all_came : (a : Inside) → IsKept a → count_by not a.there.items ≡ 0 → length a.bytes.items ≡ a.size
+all_came a kept e = by_number (block_count_of a.size a.block_size) kept.marks refl where
+  by_number : (n : ℕ) → length a.there.items ≡ n → block_count_of a.size a.block_size ≡ n → length a.bytes.items ≡ a.size
+  by_number zero h g = omega (arith, div_ceil_times a.size a.block_size kept.sizes.some_block_size, kept.bytes, zero-mul a.block_size, ap (λ (n : ℕ). n * a.block_size) g)
+  by_number (suc b) h g =
+      omega (
+        arith,
+        kept.bytes,
+        kept.reach b (all_marked a.there.items b e (omega arith)),
+        div_ceil_times a.size a.block_size kept.sizes.some_block_size,
+        ap (λ (n : ℕ). n * a.block_size) g,
+        suc-mul b a.block_size,
+      )
 
 pub is_whole : (size k : ℕ) (bytes : Bytes) (ts : List Bool) → 0 < k → length bytes ≡ size → length ts ≡ block_count_of size k → count_by not ts ≡ 0
     → join_all (viewed size k bytes ts).blocks ≡ Some bytes

@@ -26,6 +26,7 @@ impl From<AllocError> for NewFault {
 pub struct Assembler {
     size: u32,
     block_size: u16,
+    // They reach as far as the blocks that came; from the start there is room for the whole module.
     bytes: Vec<u8>,
     there: Vec<bool>,
     missing: u32,
@@ -70,7 +71,7 @@ impl Assembler {
     /// [`MOST_BLOCK_SIZE`]. Every block is missing; a module of size 0 has no block, and is whole at once.
     ///
     /// `NoBlockSize` comes for any other block size, `TooLarge` for any other size, or where there are more than
-    /// [`MOST_BLOCKS`] blocks. Memory is asked for only where neither is the case.
+    /// [`MOST_BLOCKS`] blocks. Memory is asked for only where neither is the case, and by no later call.
     pub fn new(alloc: Global, size: u32, block_size: u16) -> Result<Assembler, NewFault>
         ensures made { IfOk result (λ a. a ≡ empty_of size block_size) }
         ensures stands { IfOk result (λ a. StandsFor a size block_size []) }
@@ -86,7 +87,7 @@ impl Assembler {
         if size > MOST_MODULE_SIZE || blocks > MOST_BLOCKS {
             return Err(NewFault::TooLarge);
         }
-        let bytes = vec![in alloc; 0; size as usize]?;
+        let bytes = Vec::with_capacity(alloc, size as usize)?;
         let there = vec![in alloc; false; blocks as usize]?;
         Ok(Assembler {
             size,

@@ -48,8 +48,8 @@ fn blocks_come_in_any_order(rt: HostRuntime) -> Result<(), Fail> {
 #[test]
 fn bytes_are_given_away_and_taken_back(rt: HostRuntime) -> Result<(), Fail> {
     let mut module = Assembler::new(rt.alloc(), 5, 4)?;
-    assert_eq!(rt; module.offer(1, b"e"), Offer::New);
     assert_eq!(rt; module.offer(0, b"abcd"), Offer::New);
+    assert_eq!(rt; module.offer(1, b"e"), Offer::New);
     match module.finish() {
         Ok((bytes, left)) => {
             assert_eq!(rt; bytes.as_slice(), b"abcde".as_slice());

@@ -25,35 +25,35 @@ packs_then start mux first second e =
 pub counts_then : (start mux : MuxState) (first second : List Bytes) → mux ≡ fold past start first → fold past mux second ≡ fold past start (first ++ second)
 counts_then start mux first second e = ap (λ m. fold past m second) e ∙ sym (fold-append past start first second)
 
--- those of one section
-packs_one : (mux : MuxState) (s : Bytes) → concat (packets_of mux s) ≡ concat (packets_of_all mux (s ∷ []))
-packs_one mux s = ap concat (sym (append-nil (packets_of mux s)))
-
 -- ---- the items of a cycle
 
-take_next : {X : Type 0} (xs : List X) (i : ℕ) (x : X) → slice_get xs i ≡ Some x → take (i + 1) xs ≡ take i xs ++ x ∷ []
-take_next xs i x e = take_more xs i x (slice_get_within xs i x e) ∙ ap (λ y. take i xs ++ y ∷ []) (get_or_from_slice_get xs i x x e)
+-- these items are still to be sent, and what is put is the front of the packets of all
+pub record IsSending {X : Type 0} (f : X → Bytes) (start mux : MuxState) (all left : List X) (put : Bytes) : Type 0 where
+  pub packs : put ++ concat (packets_of_all mux (map f left)) ≡ concat (packets_of_all start (map f all))
+  pub counts : fold past mux (map f left) ≡ fold past start (map f all)
 
-map_next : {X : Type 0} (f : X → Bytes) (xs : List X) (i : ℕ) (x : X) → slice_get xs i ≡ Some x → map f (take i xs) ++ f x ∷ [] ≡ map f (take (i + 1) xs)
-map_next f xs i x e = sym (map-append f (take i xs) (x ∷ [])) ∙ ap (map f) (sym (take_next xs i x e))
+pub sending_begins : {X : Type 0} (f : X → Bytes) (start : MuxState) (all left : List X) → left ≡ all → IsSending f start start all left []
+sending_begins f start all left e = record { packs = ap (λ xs. concat (packets_of_all start (map f xs))) e; counts = ap (λ xs. fold past start (map f xs)) e }
 
--- one item more
-pub packs_next : {X : Type 0} (f : X → Bytes) (start mux : MuxState) (xs : List X) (i : ℕ) (x : X) → slice_get xs i ≡ Some x → mux ≡ fold past start (map f (take i xs))
-    → concat (packets_of_all start (map f (take i xs))) ++ concat (packets_of mux (f x)) ≡ concat (packets_of_all start (map f (take (i + 1) xs)))
-packs_next f start mux xs i x is e =
-    ap (λ bs. concat (packets_of_all start (map f (take i xs))) ++ bs) (packs_one mux (f x))
-    ∙ packs_then start mux (map f (take i xs)) (f x ∷ []) e ∙ ap (λ ss. concat (packets_of_all start ss)) (map_next f xs i x is)
+-- the packets of the next item
+packs_first : (mux : MuxState) (s : Bytes) (ss : List Bytes) (put : Bytes) → put ++ concat (packets_of_all mux (s ∷ ss)) ≡ (put ++ concat (packets_of mux s)) ++ concat (packets_of_all (past mux s) ss)
+packs_first mux s ss put =
+    ap (λ bs. put ++ bs) (concat-append (packets_of mux s) (packets_of_all (past mux s) ss))
+    ∙ sym (append_assoc put (concat (packets_of mux s)) (concat (packets_of_all (past mux s) ss)))
 
-pub counts_next : {X : Type 0} (f : X → Bytes) (start mux : MuxState) (xs : List X) (i : ℕ) (x : X) → slice_get xs i ≡ Some x → mux ≡ fold past start (map f (take i xs))
-    → past mux (f x) ≡ fold past start (map f (take (i + 1) xs))
-counts_next f start mux xs i x is e = counts_then start mux (map f (take i xs)) (f x ∷ []) e ∙ ap (fold past start) (map_next f xs i x is)
+pub sending_more : {X : Type 0} (f : X → Bytes) (start mux next : MuxState) (all old new : List X) (x : X) (put : Bytes) → old ≡ x ∷ new → next ≡ past mux (f x) → IsSending f start mux all old put
+    → IsSending f start next all new (put ++ concat (packets_of mux (f x)))
+sending_more f start mux next all old new x put o n s =
+    let from : IsSending f start mux all (x ∷ new) put = subst (λ xs. IsSending f start mux all xs put) o s in
+    subst (λ m. IsSending f start m all new (put ++ concat (packets_of mux (f x)))) (sym n)
+    (record { packs = sym (packs_first mux (f x) (map f new) put) ∙ from.packs; counts = from.counts })
 
--- the first items, and the others
-pub packs_all : {X : Type 0} (f : X → Bytes) (start : MuxState) (xs : List X) (i : ℕ)
-    → concat (packets_of_all start (map f (take i xs))) ++ concat (packets_of_all (fold past start (map f (take i xs))) (map f (drop i xs))) ≡ concat (packets_of_all start (map f xs))
-packs_all f start xs i =
-    packs_then start (fold past start (map f (take i xs))) (map f (take i xs)) (map f (drop i xs)) refl
-    ∙ ap (λ ss. concat (packets_of_all start ss)) (sym (map-append f (take i xs) (drop i xs)) ∙ ap (map f) (take-append-drop i xs))
+-- no item is left
+pub sending_ends : {X : Type 0} (f : X → Bytes) (start mux : MuxState) (all left : List X) (put : Bytes) → left ≡ [] → IsSending f start mux all left put
+    → (put ≡ concat (packets_of_all start (map f all))) × (mux ≡ fold past start (map f all))
+sending_ends f start mux all left put e s =
+    let from : IsSending f start mux all [] put = subst (λ xs. IsSending f start mux all xs put) e s in
+    (sym (append-nil put) ∙ from.packs, from.counts)
 
 -- ---- cycles
 

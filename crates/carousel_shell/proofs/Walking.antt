@@ -7,12 +7,13 @@ use Rattle.std.proofs.Math.Dec.{eqb}
 use Rattle.std.proofs.Math.Seq.{take-append-add}
 use Rattle.std.proofs.lemmas.List.{take-append-le, take_all, take-append-drop, take_more}
 use Rattle.std.proofs.lemmas.List.Elements.{filter-append}
-use Rattle.std.proofs.lemmas.List.Folds.{list_all-append, list_any-append}
+use Rattle.std.proofs.lemmas.List.Folds.{list_all-append}
 use Rattle.std.proofs.lemmas.Grind.{flat_map-append}
-use Rattle.std.proofs.lemmas.Bool.{le-leb, leb-true, lt-leb, leb-false}
+use Rattle.std.proofs.lemmas.Bool.{le-leb, leb-true, lt-leb, leb-false, not-true, not-false}
 use Rattle.std.proofs.lemmas.Option.{same_Some, slice_get_within, get_or_from_slice_get}
 use Rattle.path_tree.specs.Paths.{PathNames, same_name}
 use Rattle.path_tree.specs.Texts.{is_name, with_below, path_of}
+use Rattle.path_resolver.specs.Names.{is_first_in}
 use Rattle.path_resolver.specs.declared.answer.Answer.{Answer}
 use Rattle.path_resolver.specs.declared.answer.Answer.TheVariants as answers
 use Rattle.shell_streams.specs.Cuts.{Bytes}
@@ -277,21 +278,16 @@ below_some answer p n q few e = go (is_name n) refl (nat_lt (length p) 16) e whe
   go true i false e = cc
   go false i c e = cc
 
--- ---- names that stood before
+-- ---- whether a name stood before
 
-pub met_here : (xs : List Bytes) (i count : ℕ) (m n : Bytes) → slice_get xs i ≡ Some m → i < count → same_name m n ≡ true → list_any (λ k. same_name k n) (take count xs) ≡ true
-met_here [] i count m n e h s = absurd cc
-met_here (x ∷ xs) i zero m n e h s = absurd (omega arith)
-met_here (x ∷ xs) zero (suc c) m n e h s = ap (λ (y : Bytes). same_name y n || list_any (λ k. same_name k n) (take c xs)) (same_Some x m e) ∙ ap (λ b. b || list_any (λ k. same_name k n) (take c xs)) s
-met_here (x ∷ xs) (suc i) (suc c) m n e h s = go (same_name x n) (met_here xs i c m n e (omega (arith, h)) s) where
-  go : (b : Bool) → list_any (λ k. same_name k n) (take c xs) ≡ true → (b || list_any (λ k. same_name k n) (take c xs)) ≡ true
-  go true t = refl
-  go false t = t
+unmet_or_met : (xs : List Bytes) (i : ℕ) (n : Bytes) (b : Bool) → slice_get xs i ≡ Some n → is_first_in xs i ≡ b → not (list_any (λ m. same_name m n) (take i xs)) ≡ b
+unmet_or_met xs i n b at e = ap (λ (k : Bytes). not (list_any (λ m. same_name m k) (take i xs))) (sym (get_or_from_slice_get xs i n [] at)) ∙ e
 
-pub met_more : (xs : List Bytes) (i : ℕ) (m n : Bytes) → slice_get xs i ≡ Some m → list_any (λ k. same_name k n) (take i xs) ≡ false → same_name m n ≡ false → list_any (λ k. same_name k n) (take (i + 1) xs) ≡ false
-met_more xs i m n e f s =
-    ap (list_any (λ k. same_name k n)) (front_more xs i m e) ∙ list_any-append (λ k. same_name k n) (take i xs) (m ∷ [])
-    ∙ ap (λ b. b || (same_name m n || false)) f ∙ ap (λ b. b || false) s
+pub unmet : (xs : List Bytes) (i : ℕ) (n : Bytes) → slice_get xs i ≡ Some n → is_first_in xs i ≡ true → list_any (λ m. same_name m n) (take i xs) ≡ false
+unmet xs i n at e = not-true _ (unmet_or_met xs i n true at e)
+
+pub met : (xs : List Bytes) (i : ℕ) (n : Bytes) → slice_get xs i ≡ Some n → is_first_in xs i ≡ false → list_any (λ m. same_name m n) (take i xs) ≡ true
+met xs i n at e = not-false _ (unmet_or_met xs i n false at e)
 
 -- ---- one name more of a folder
 

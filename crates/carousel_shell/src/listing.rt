@@ -1,6 +1,4 @@
-ghost use Rattle.std.specs.Prelude.{◌≡◌, ◌≤◌, ◌<◌, ◌+◌, ◌-◌, ◌&&◌, ◌∷◌, [], take, length, option_map, IfOk, OnOk};
-ghost use Rattle.std.specs.List.{list_any};
-ghost use Rattle.path_tree.specs.Paths.{same_name};
+ghost use Rattle.std.specs.Prelude.{◌≡◌, ◌<◌, ◌+◌, ◌-◌, ◌&&◌, [], length, option_map, IfOk, OnOk};
 ghost use Rattle.path_resolver.specs.Resolving.{answer_of};
 ghost use Rattle.path_resolver.specs.Shots.{held_of};
 ghost use Rattle.shell_streams.specs.Sending.{Puts};
@@ -92,7 +90,7 @@ impl Progress {
     {
         for i in 0..folder.count() {
             let name = folder.name(i);
-            if !is_met(folder, i, name) {
+            if folder.is_first(i) {
                 let whole = self.list_below(alloc, shot, path, name, out)?;
                 if !whole {
                     return Ok(false);
@@ -160,23 +158,4 @@ fn folder_of(answer: &Answer) -> Option<&FolderRef>
         Answer::Folder(folder) => Some(folder),
         _ => None,
     }
-}
-
-/// Whether one of a folder's first names is this one.
-fn is_met(folder: &FolderRef, count: usize, name: &[u8]) -> bool
-    requires { count ≤ length folder.now }
-    ensures { result ≡ list_any (λ m. same_name m name.now) (take count folder.now) }
-{
-    for i in 0..count {
-        if is_same(folder.name(i), name) {
-            return true;
-        }
-    }
-    false
-}
-
-fn is_same(name: &[u8], other: &[u8]) -> bool
-    ensures { result ≡ same_name name.now other.now }
-{
-    name == other
 }

@@ -14,7 +14,7 @@ ghost use Rattle.carousel_shell.specs.Cycles.{IsOfFolder, Refused, group_bytes, 
 use crate::law::receptions;
 use crate::status::Status;
 use carousel_world::publications_can_be_packed;
-use cycle_planner::{Item, Weigh, cycle_len, item_at};
+use cycle_planner::{Item, Walk, Weigh};
 use folder_store::{Folders, edits_make_the_files, read_tree};
 use generation::{Generation, generations_are_of_the_lists};
 use generation_catalogue::Journal;
@@ -151,9 +151,9 @@ impl Sender {
         ensures mux { OnOk result (self.new.mux ≡ fold past self.old.mux (map (section_of generation.now) (cycle_of weigh.now.weights (lines_of generation.now)))) }
     {
         let lines = generation.lines();
-        let items = cycle_len(lines, weigh);
-        for at in 0..items {
-            self.send_item(generation, item_at(lines, weigh, at), out)?;
+        let mut walk = Walk::new(lines, weigh);
+        while let Some(item) = walk.next(lines, weigh) {
+            self.send_item(generation, item, out)?;
         }
         Ok(())
     }

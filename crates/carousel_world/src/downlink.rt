@@ -1,6 +1,6 @@
-ghost use Rattle.std.specs.Prelude.{◌≡◌, ◌<◌, ◌≤◌, ◌^◌, ◌*◌, ◌+◌, ◌++◌, ◌∷◌, [], List, ℕ, false, true, map, length, IfOk, IsErr, OnOk, OnErr};
+ghost use Rattle.std.specs.Prelude.{◌≡◌, ◌<◌, ◌≤◌, ◌^◌, ◌+◌, ◌++◌, ◌∷◌, [], List, ℕ, false, true, map, length, IfOk, IsErr, OnOk, OnErr};
 ghost use Rattle.std.specs.Arc.{arc_value};
-ghost use Rattle.std.specs.List.{All, fold};
+ghost use Rattle.std.specs.List.{All};
 ghost use Rattle.path_tree.specs.Paths.{Bytes};
 ghost use Rattle.path_resolver.specs.Shots as shots;
 ghost use Rattle.section_stream.specs.Kept.{view_bytes};

@@ -1,6 +1,5 @@
-ghost use Rattle.std.specs.Prelude.{◌≡◌, ◌<◌, ◌≤◌, ◌*◌, ◌++◌, ◌∷◌, [], List, ℕ, map, length, vec_len, true, IfOk, IsErr, OnOk, OnErr};
-ghost use Rattle.std.specs.Arc.{arc_value};
-ghost use Rattle.std.specs.List.{All, Contains, fold};
+ghost use Rattle.std.specs.Prelude.{◌≡◌, ◌<◌, ◌≤◌, ◌*◌, ◌++◌, ◌∷◌, [], List, ℕ, map, length, true, IfOk, IsErr, OnOk, OnErr};
+ghost use Rattle.std.specs.List.{All, Contains};
 ghost use Rattle.path_tree.specs.Paths.{Bytes};
 ghost use Rattle.cycle_planner.specs.Weights.{AreWeights};
 ghost use Rattle.generation.specs.Layouts.{items_of, section_of};

@@ -1,7 +1,7 @@
 -- The items of a cycle, by place and by number.
 use Rattle.std.proofs.Common.{◌≡◌, ◌≢◌, ℕ, zero, suc, ◌+◌, ◌-◌, ◌*◌, ◌^◌, ◌<◌, ◌≤◌, Bool, true, false, cond, nat_lt, max, filter, if◌then◌else◌, List, [], ◌∷◌, ◌++◌, length, map, Some, slice_get, refl, ap, sym, ◌∙◌, subst, arith, get_or, drop, take, zero-add, length-append, ◌⊎◌, inl, inr}
 use Rattle.std.specs.List.{All, Contains, AllPairs, flat_map, fold, range_with_len, sum_by, count_by}
-use Rattle.std.proofs.lemmas.List.{drop_more, drop_all, take_all, length-map, get_or_past}
+use Rattle.std.proofs.lemmas.List.{drop_more, take_all, length-map, get_or_past}
 use Rattle.std.proofs.lemmas.List.Concat.{length-flat_map}
 use Rattle.std.proofs.lemmas.List.FromFn.{get_or-range_with_len, get_or-map-range_with_len}
 use Rattle.std.proofs.lemmas.List.Sums.{sum_by-cons, sum_by-append, sum_by-le, sum_by-take-le, sum_by_more, fold_more}
@@ -108,11 +108,6 @@ ahead_next ws r lines at i left d h l a =
           ∙ a.same;
       within = omega (arith, length-append front rest, ap length whole, a.within);
     }
-
-pub never_past : (ws : List ℕ) (r : ℕ) (lines : List Line) (at i left : ℕ) → length lines ≤ i → IsAhead ws r lines at i left → ⊥
-never_past ws r lines at i left h a =
-    let none : length (flat_map (blocks_in_round ws r) (drop i lines)) ≡ 0 = ap (λ (ls : List Line). length (flat_map (blocks_in_round ws r) ls)) (drop_all i lines h) in
-    omega (arith, none, a.within)
 
 -- ---- the length of a round
 

@@ -7,13 +7,15 @@
 //! module is given as a line: its id, 1 to [`GREATEST_ID`], and the number of its blocks, at most [`ddb_block::MOST_BLOCKS`].
 //!
 //! ```
-//! use cycle_planner::{GREATEST_ID, Item, Weigh, cycle_len, item_at};
+//! use cycle_planner::{GREATEST_ID, Item, Walk, Weigh, cycle_len, item_at};
 //!
 //! let call = Box::new(alloc, |_id: u16| -> u8 ensures { result ≡ 1 } { 1u8 })?;
 //! let weigh = Weigh::new([1; GREATEST_ID], call);
 //! let lines = [(1, 1), (2, 2)];
 //! assert_eq!(rt; cycle_len(&lines, &weigh), 5);
 //! assert_eq!(rt; item_at(&lines, &weigh, 3), Item::Block(2, 0));
+//! let mut walk = Walk::new(&lines, &weigh);
+//! assert_eq!(rt; walk.next(&lines, &weigh), Some(Item::Dsi));
 //! ```
 #![tactic(auto)]
 
@@ -22,8 +24,10 @@ ghost use Rattle.std.specs.List.{flat_map};
 ghost use Rattle.cycle_planner.specs.Cycle.{cycle_of, round, AreLines, SendsEach};
 ghost use Rattle.cycle_planner.specs.Rounds.{blocks_in_round};
 
+mod walk;
 mod weigh;
 
+pub use walk::Walk;
 pub use weigh::{Call, GREATEST_ID, GREATEST_WEIGHT, Weigh};
 
 /// What one section of a cycle carries.

@@ -1,6 +1,6 @@
 ghost use Rattle.std.specs.Prelude.{◌≡◌, ◌==◌, if◌then◌else◌};
 
-use crate::{GREATEST_ID, Item, Weigh, cycle_len, item_at};
+use crate::{GREATEST_ID, Item, Walk, Weigh, cycle_len, item_at};
 use std::test::Fail;
 
 #[test]
@@ -26,9 +26,12 @@ fn a_module_of_weight_two_comes_twice(rt: HostRuntime) -> Result<(), Fail> {
     ];
     let length = cycle_len(&lines, &weigh);
     assert_eq!(rt; length, 7);
+    let mut walk = Walk::new(&lines, &weigh);
     for (at, item) in (0..7u64).zip(cycle) {
         assert!(rt; at < length);
         assert_eq!(rt; item_at(&lines, &weigh, at), item, "at {at}");
+        assert_eq!(rt; walk.next(&lines, &weigh), Some(item), "at {at}");
     }
+    assert_eq!(rt; walk.next(&lines, &weigh), None);
     Ok(())
 }

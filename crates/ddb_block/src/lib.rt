@@ -158,6 +158,7 @@ fn written(alloc: Global, ddb: &Ddb) -> Result<Vec<u8>, NoMemory>
 ///
 /// `ddb.bytes` has at most [`MOST_BLOCK_SIZE`] bytes, so that the message fits in one section. `NoMemory` comes where the bytes find no
 /// memory.
+#[tactic(auto, using(crate::proofs::Laws::spelled_reads))]
 pub fn encode(alloc: Global, ddb: &Ddb) -> Result<Vec<u8>, NoMemory>
     requires { length ddb.now.bytes.items ≤ MOST_BLOCK_SIZE }
     ensures spells { IfOk result (λ bytes. bytes.items ≡ spelling (view ddb.now)) }
@@ -216,6 +217,7 @@ fn owned(alloc: Global, parts: &Parts<'_>) -> Result<Ddb, AllocError>
 /// The rules are protocolDiscriminator 0x11, dsmccType 0x03, messageId 0x1003, and a messageLength, at place 10, that is at
 /// least adaptationLength and at most the number of bytes after it. `NoMemory` comes only of a block message whose block isn't
 /// empty, where its bytes find no memory.
+#[tactic(auto, using(crate::proofs::Laws::read_is_block))]
 pub fn decode(alloc: Global, payload: &[u8]) -> Result<Ddb, DdbFault>
     ensures found { IfOk result (λ d. Reads payload.now (view d)) }
     ensures only { (b : Block) → Reads payload.now b → Gives view cause result (Ok b) }

@@ -1,210 +1,150 @@
 -- Control messages: what is read is what the relation says, and the other way round.
-use Rattle.std.proofs.Common.{◌≡◌, ℕ, ◌+◌, ◌-◌, ◌<◌, ◌≤◌, List, [], ◌∷◌, ◌++◌, length, get_or, take, drop, Bor, Option, Result, Ok, Err, refl, sym, ap, subst, ◌∙◌, arith, length-append}
-use Rattle.std.proofs.lemmas.List.{take-append-drop, take_at}
-use Rattle.std.specs.Int.{w16, from_be_bytes}
-use Rattle.oc_bytes.specs.Cursor.{Cursor, Reading, ◌>>=◌, from_start, value_only}
-use Rattle.oc_bytes.specs.Grammar.{read as read_by, Reads as ReadsBy}
-use Rattle.oc_bytes.specs.Numbers.{IsBytes, number_of}
-use Rattle.oc_bytes.specs.Agreement.{at, Taken}
-use Rattle.oc_bytes.proofs.CallerLemmas.{bind_ok, grammar_agrees}
-use Rattle.ddb_block.specs.Message.{IsMessage, message_at}
+use Rattle.std.proofs.Common.{◌≡◌, ℕ, ◌+◌, ◌<◌, ◌==◌, Bool, true, false, cond, List, [], ◌∷◌, ◌++◌, length, get_or, take, drop, Result, Ok, Err, sym, ap, subst, ◌∙◌, refl, arith}
+use Rattle.std.proofs.lemmas.Bool.{ne_eqb}
+use Rattle.std.proofs.lemmas.List.{take-append-drop}
+use Rattle.std.specs.Prelude.{IfOk, Some}
+use Rattle.oc_bytes.specs.Cursor.{Cursor, Reading, ◌>>=◌, from_start, read_from_start, value_only}
+use Rattle.oc_bytes.specs.Grammar.{Grammar, read as read_by, Reads as ReadsBy}
+use Rattle.oc_bytes.specs.Numbers.{IsBytes, two_bytes}
+use Rattle.oc_bytes.specs.Agreement.{at}
 use Rattle.oc_bytes.specs.Outcome.{Gives}
-use Rattle.std.specs.Prelude.{IfOk, MatchOption, ⊤}
+use Rattle.oc_bytes.proofs.CallerLemmas.{bytes_fit, each_fits, fits_front, fits_back, wide_2, grammar_agrees, is_found}
+use Rattle.ddb_block.specs.Message.{IsMessage, message_at}
+use Rattle.ddb_block.proofs.CallerLemmas.{message_is_read, read_is_message}
 use Rattle.ior_tap.specs.Iors as iors
-use Rattle.dsi_dii.specs.declared.TransactionId.{TransactionId}
+use Rattle.ior_tap.specs.IorReading.{ior_at}
 use Rattle.dsi_dii.specs.declared.Control.{Control}
 use Rattle.dsi_dii.specs.declared.ControlFault.{ControlFault}
-use Rattle.dsi_dii.specs.declared.ControlFault.TheVariants as faults
 use Rattle.dsi_dii.specs.Controls.{Message, IsDsi, IsDii, DsiFields, DiiFields, dii_body, private_data, ReadsDii, ReadsDsi, IsDsiFrame, IsGateway, Reads, view, cause}
-use Rattle.dsi_dii.specs.ControlReading.{dii_at, private_at, frame_at, dsi_at, gateway_at, message_id_of}
-use Rattle.dsi_dii.proofs.Messages.{EachFits, message_found, message_again, message_id_is, body_fits}
-
-abbrev done : {A : Type 0} → A → Result A ℕ
-done x = Ok x
-
-ok_is : {A : Type 0} (x y : A) → done x ≡ done y → x ≡ y
-ok_is x y e = cc
+use Rattle.dsi_dii.specs.ControlReading.{dii_at, private_at, frame_at, dsi_at, gateway_at, message_id_of, read}
 
 -- ---- the messageId
 
-pub short_is_other : (payload : List ℕ) → EachFits payload → length payload < 4 → message_id_of payload ≡ 0x1006 → ⊥
-short_is_other [] fits lt e = omega (arith, e)
-short_is_other (a ∷ []) fits lt e = omega (arith, e)
-short_is_other (a ∷ b ∷ []) fits lt e = omega (arith, e)
-short_is_other (a ∷ b ∷ c ∷ []) fits lt e = omega (arith, e, fits 2)
-short_is_other (a ∷ b ∷ c ∷ d ∷ rest) fits lt e = omega (arith, lt)
+pub short_is_other : (payload : List ℕ) → get_or payload 2 0 < 256 → length payload < 4
+    → false ≡ (message_id_of payload == 0x1006)
+short_is_other [] fits lt = refl
+short_is_other (a ∷ []) fits lt = refl
+short_is_other (a ∷ b ∷ []) fits lt = refl
+short_is_other (a ∷ b ∷ c ∷ []) fits lt = sym (ne_eqb (0 + c) 0x1006 λ e. omega (arith, fits, e))
+short_is_other (a ∷ b ∷ c ∷ d ∷ rest) fits lt = absurd (omega (arith, lt))
 
-two_numbers : (a b : ℕ) → number_of (a ∷ b ∷ []) ≡ from_be_bytes w16 (a ∷ b ∷ [])
-two_numbers a b = omega arith
+message_id_is : (id : ℕ) (payload : List ℕ) (transaction : ℕ) (body : List ℕ) → IsMessage payload id transaction body
+    → message_id_of payload ≡ id
+message_id_is id payload transaction body h = ap message_id_of h.whole ∙ wide_2.again id h.ranges.0
 
-pub long_is : (payload : List ℕ) → 4 ≤ length payload → message_id_of payload ≡ from_be_bytes w16 (get_or payload 2 0 ∷ get_or payload 3 0 ∷ [])
-long_is [] le = absurd (omega (arith, le))
-long_is (a ∷ []) le = absurd (omega (arith, le))
-long_is (a ∷ b ∷ []) le = absurd (omega (arith, le))
-long_is (a ∷ b ∷ c ∷ []) le = absurd (omega (arith, le))
-long_is (a ∷ b ∷ c ∷ d ∷ rest) le = two_numbers c d
+-- ---- what is read
 
--- ---- a DII
+-- what holds after two readings
+after_both : {A B : Type 0} (m : Reading A) (f : A × Cursor → Reading B) (Q : B × Cursor → Type 0)
+    → ((x : A × Cursor) → m ≡ Ok x → IfOk (f x) Q) → IfOk (m >>= f) Q
+after_both (Ok x) f Q next = next x refl
+after_both (Err place) f Q next = tt
 
-its_transaction : (transaction : ℕ) (front : List ℕ) (d : DiiFields) → ReadsBy (dii_body transaction) front d → d.transaction ≡ transaction
+of_value : {A : Type 0} (r : Reading A) (Q : A → Type 0) → IfOk r (λ x. Q x.0) → IfOk (value_only r) Q
+of_value (Ok x) Q h = h
+of_value (Err place) Q h = tt
+
+-- a message whose body begins with a value
+begins : {A : Type 0} (g : Grammar A) (id : ℕ) (payload : List ℕ) (t : ℕ × Cursor) (x : A × Cursor)
+    → id < 65536 → IsBytes payload → message_at id (from_start payload) ≡ Ok t → read_by g t.1 ≡ Ok x
+    → (front : List ℕ) × ReadsBy g front x.0 × IsMessage payload id t.0 (front ++ x.1.rest)
+begins g id payload t x lt fits e f =
+    let m = read_is_message payload id t (each_fits payload fits) lt e in
+    let k = (grammar_agrees g).takes t.1 x (bytes_fit t.1.rest m.1) f in
+    (k.front, k.reads, rw (← k.parts) m.0)
+
+dii_found : (payload : List ℕ) → IsBytes payload → IfOk (dii_at (from_start payload)) (λ x. Reads payload x.0)
+unfolding dii_at ReadsBy
+dii_found payload fits =
+    after_both (message_at 0x1002 (from_start payload)) _ _ λ t e.
+    after_both (read_by (dii_body t.0) t.1) _ _ λ d f.
+    let k = begins (dii_body t.0) 0x1002 payload t d (omega arith) fits e f in
+    let same : t.0 ≡ d.0.transaction = sym (ap (λ (x : DiiFields). x.transaction) k.1.second.second.second.1) in
+    record {
+      front = k.0;
+      trailing = d.1.rest;
+      body = subst (λ (n : ℕ). ReadsBy (dii_body n) k.0 d.0) same k.1;
+      message = subst (λ (n : ℕ). IsMessage payload 0x1002 n (k.0 ++ d.1.rest)) same k.2;
+    }
+
+private_read : (c : Cursor) → IfOk (private_at c) (λ x. read_by private_data c ≡ Ok (x.0.1, x.1))
+unfolding private_at
+private_read c = after_both (read_by private_data c) _ _ λ p e. e
+
+frame_found : (payload : List ℕ) → IsBytes payload
+    → IfOk (frame_at (from_start payload)) (λ x. IsDsiFrame payload x.0.0 x.0.1.1)
+unfolding frame_at
+frame_found payload fits =
+    after_both (message_at 0x1006 (from_start payload)) _ _ λ t e.
+    after_both (private_at t.1) _ _ λ p f.
+    let k = begins private_data 0x1006 payload t (p.0.1, p.1) (omega arith) fits e (rw f at (private_read t.1)) in
+    record { front = k.0; trailing = p.1.rest; body = k.1; message = k.2 }
+
+-- the private data are bytes
+private_fits : (payload : List ℕ) (transaction : ℕ) (private : List ℕ) → IsBytes payload
+    → IsDsiFrame payload transaction private → IsBytes private
 unfolding ReadsBy
-its_transaction transaction front d h = ap (λ (x : DiiFields). x.transaction) h.second.second.second.1
+private_fits payload transaction private fits h =
+    let body = h.front ++ h.trailing in
+    let t = message_is_read payload 0x1006 transaction body h.message in
+    let m = read_is_message payload 0x1006 (transaction, at _ body) (each_fits payload fits) (omega arith) t in
+    let front = fits_front h.front h.trailing (bytes_fit body m.1) in
+    let back = fits_back h.body.front h.body.back (rw h.body.whole at front) in
+    let sized = fits_back h.body.second.front h.body.second.back (rw h.body.second.whole at back) in
+    fits_back (two_bytes (length private)) private (rw h.body.second.second.1 at sized)
 
-pub dii_found : (payload : List ℕ) (x : Message × Cursor) → EachFits payload → dii_at (from_start payload) ≡ Ok x → Reads payload x.0
-unfolding dii_at
-dii_found payload x fits e =
-    let a = bind_ok (message_at 0x1002 (from_start payload)) (λ t. read_by (dii_body t.0) t.1 >>= λ d. Ok (IsDii d.0, d.1)) x e in
-    let b = bind_ok (read_by (dii_body a.0.0) a.0.1) (λ d. Ok (IsDii d.0, d.1)) x a.2 in
-    let message = message_found 0x1002 payload a.0 (omega arith) fits a.1 in
-    let t = (grammar_agrees (dii_body a.0.0)).takes a.0.1 b.0 (body_fits 0x1002 payload a.0.0 a.0.1.rest fits message) b.1 in
-    let same : a.0.0 ≡ b.0.0.transaction = sym (its_transaction a.0.0 t.front b.0.0 t.reads) in
-    let reads : ReadsDii payload b.0.0 = record {
-      front = t.front;
-      trailing = b.0.1.rest;
-      body = subst (λ (n : ℕ). ReadsBy (dii_body n) t.front b.0.0) same t.reads;
-      message = subst (λ (n : ℕ). IsMessage payload 0x1002 n (t.front ++ b.0.1.rest)) same (subst (λ (l : List ℕ). IsMessage payload 0x1002 a.0.0 l) t.parts message);
-    } in
-    subst (λ (m : Message). Reads payload m) (ap (λ (y : Message × Cursor). y.0) (ok_is {A = Message × Cursor} (IsDii b.0.0, b.0.1) x b.2)) reads
+gateway_found : (place : ℕ) (private : List ℕ) (after : Cursor) → IsBytes private
+    → IfOk (gateway_at place private after) (λ x. IsGateway private x.0)
+gateway_found place private after fits = go (read_from_start (ior_at (from_start private))) refl where
+  go : (r : Result (iors.Fields × ℕ) ℕ) → read_from_start (ior_at (from_start private)) ≡ r
+      → IfOk (gateway_at place private after) (λ x. IsGateway private x.0)
+  go (Ok x) e =
+      let h = is_found (grammar_agrees iors.ior) (λ y. y) Some private (Ok x) fits e in
+      let whole = sym (take-append-drop x.1 private) in
+      rw e (record { reference = take x.1 private; rest = drop x.1 private; whole = whole; reads = h.1 })
+  go (Err at) e = rw e tt
 
-pub dii_again : (payload : List ℕ) (d : DiiFields) → ReadsDii payload d → (after : Cursor) × (dii_at (from_start payload) ≡ Ok (IsDii d, after))
+dsi_found : (payload : List ℕ) → IsBytes payload → IfOk (dsi_at (from_start payload)) (λ x. Reads payload x.0)
+unfolding dsi_at
+dsi_found payload fits =
+    after_both (frame_at (from_start payload)) _ _ λ x e.
+    after_both (gateway_at x.0.1.0 x.0.1.1 x.1) _ _ λ g f.
+    let frame : IsDsiFrame payload x.0.0 x.0.1.1 = rw e at (frame_found payload fits) in
+    let private = private_fits payload x.0.0 x.0.1.1 fits frame in
+    record { private = x.0.1.1; frame = frame; gateway = rw f at (gateway_found x.0.1.0 x.0.1.1 x.1 private) }
+
+read_found : (payload : List ℕ) → IsBytes payload → IfOk (read payload) (Reads payload)
+read_found payload fits = go (message_id_of payload == 0x1006) where
+  go : (b : Bool)
+      → IfOk (value_only (cond b (dsi_at (from_start payload)) (dii_at (from_start payload)))) (Reads payload)
+  go true = of_value (dsi_at (from_start payload)) _ (dsi_found payload fits)
+  go false = of_value (dii_at (from_start payload)) _ (dii_found payload fits)
+
+pub answer_found : (payload : List ℕ) (r : Result Control ControlFault) → IsBytes payload
+    → Gives view cause r (read payload) → IfOk r (λ m. Reads payload (view m))
+answer_found payload (Ok m) fits h = rw h at (read_found payload fits)
+answer_found payload (Err e) fits h = tt
+
+-- ---- what is read again
+
+dii_again : (payload : List ℕ) (d : DiiFields) → ReadsDii payload d
+    → value_only (dii_at (from_start payload)) ≡ Ok (IsDii d)
 unfolding dii_at
 dii_again payload d h =
-    let message = message_again 0x1002 payload d.transaction (h.front ++ h.trailing) h.message in
-    (at (message.0 + length h.front) h.trailing, rw (message.1, (grammar_agrees (dii_body d.transaction)).again h.front h.trailing message.0 d h.body) refl)
+    let t = message_is_read payload 0x1002 d.transaction (h.front ++ h.trailing) h.message in
+    let body = grammar_agrees (dii_body d.transaction) in
+    rw (t, body.again h.front h.trailing (12 + length h.message.adaptation) d h.body) refl
 
--- ---- the frame of a DSI
+dsi_again : (payload : List ℕ) (d : DsiFields) → ReadsDsi payload d
+    → value_only (dsi_at (from_start payload)) ≡ Ok (IsDsi d)
+unfolding dsi_at frame_at private_at
+dsi_again payload d h =
+    let f = h.frame in
+    let g = h.gateway in
+    let t = message_is_read payload 0x1006 d.transaction (f.front ++ f.trailing) f.message in
+    let p = (grammar_agrees private_data).again f.front f.trailing (12 + length f.message.adaptation) _ f.body in
+    rw (t, p, g.whole, (grammar_agrees iors.ior).again g.reference g.rest 0 d.gateway g.reads) refl
 
-private_takes : (c : Cursor) (x : (ℕ × List ℕ) × Cursor) → IsBytes c.rest → private_at c ≡ Ok x → Taken (ReadsBy private_data) c (x.0.1, x.1)
-unfolding private_at
-private_takes c x fits e =
-    let p = bind_ok (read_by private_data c) (λ p. Ok ((p.1.place - length p.0, p.0), p.1)) x e in
-    let is = ok_is {A = (ℕ × List ℕ) × Cursor} ((p.0.1.place - length p.0.0, p.0.0), p.0.1) x p.2 in
-    subst (λ (y : (ℕ × List ℕ) × Cursor). Taken (ReadsBy private_data) c (y.0.1, y.1)) is ((grammar_agrees private_data).takes c p.0 fits p.1)
-
-private_again : (place : ℕ) (front rest private : List ℕ) → ReadsBy private_data front private → (start : ℕ) × (after : ℕ) × (private_at (at place (front ++ rest)) ≡ Ok ((start, private), at after rest))
-unfolding private_at
-private_again place front rest private h = (place + length front - length private, place + length front, rw ((grammar_agrees private_data).again front rest place private h) refl)
-
--- the value that was read, and what follows it
-value_ok : {A : Type 0} (r : Reading A) (v : A) → value_only r ≡ Ok v → (x : A × Cursor) × (r ≡ Ok x) × (x.0 ≡ v)
-value_ok (Ok x) v e = (x, refl, ok_is x.0 v e)
-value_ok (Err place) v e = absurd cc
-
-pub frame_found : (payload : List ℕ) (transaction place : ℕ) (private : List ℕ) → EachFits payload → value_only (frame_at (from_start payload)) ≡ Ok (transaction, (place, private)) → IsDsiFrame payload transaction private
-unfolding frame_at
-frame_found payload transaction place private fits e =
-    let v = value_ok (message_at 0x1006 (from_start payload) >>= λ t. private_at t.1 >>= λ p. Ok ((t.0, p.0), p.1)) (transaction, (place, private)) e in
-    let a = bind_ok (message_at 0x1006 (from_start payload)) (λ t. private_at t.1 >>= λ p. Ok ((t.0, p.0), p.1)) v.0 v.1 in
-    let b = bind_ok (private_at a.0.1) (λ p. Ok ((a.0.0, p.0), p.1)) v.0 a.2 in
-    let same : (a.0.0, b.0.0) ≡ (transaction, (place, private)) = ap (λ (y : (ℕ × (ℕ × List ℕ)) × Cursor). y.0) (ok_is {A = (ℕ × (ℕ × List ℕ)) × Cursor} ((a.0.0, b.0.0), b.0.1) v.0 b.2) ∙ v.2 in
-    let message = message_found 0x1006 payload a.0 (omega arith) fits a.1 in
-    let t = private_takes a.0.1 b.0 (body_fits 0x1006 payload a.0.0 a.0.1.rest fits message) b.1 in
-    let frame : IsDsiFrame payload a.0.0 b.0.0.1 = record { front = t.front; trailing = b.0.1.rest; body = t.reads; message = subst (λ (r : List ℕ). IsMessage payload 0x1006 a.0.0 r) t.parts message } in
-    subst (λ (y : ℕ × (ℕ × List ℕ)). IsDsiFrame payload y.0 y.1.1) same frame
-
-pub frame_again : (payload : List ℕ) (transaction : ℕ) (private : List ℕ) → IsDsiFrame payload transaction private → (place : ℕ) × (value_only (frame_at (from_start payload)) ≡ Ok (transaction, (place, private)))
-unfolding frame_at
-frame_again payload transaction private h =
-    let message = message_again 0x1006 payload transaction (h.front ++ h.trailing) h.message in
-    let second = private_again message.0 h.front h.trailing private h.body in
-    (second.0, rw (message.1, second.2) refl)
-
--- ---- what a call answered
-
-pub dii_answer : (payload : List ℕ) (r : Result Control ControlFault) → EachFits payload → Gives view cause r (value_only (dii_at (from_start payload))) → IfOk r (λ m. Reads payload (view m))
-dii_answer payload (Ok m) fits h = let v = value_ok (dii_at (from_start payload)) (view m) h in subst (λ (x : Message). Reads payload x) v.2 (dii_found payload v.0 fits v.1)
-dii_answer payload (Err e) fits h = tt
-
-gives_same : {X Y E F : Type 0} (look : X → Y) (why : E → Option F) (r : Result X E) (a b : Result Y F) → a ≡ b → Gives look why r a → Gives look why r b
-gives_same look why r a b e h = subst (λ x. Gives look why r x) e h
-
-value_is : {A : Type 0} (r : Reading A) (v : A) (after : Cursor) → r ≡ Ok (v, after) → value_only r ≡ Ok v
-value_is r v after e = ap value_only e
-
-pub dii_only : (payload : List ℕ) (r : Result Control ControlFault) (m : Message) → (message_id_of payload ≡ 0x1006 → ⊥) → Gives view cause r (value_only (dii_at (from_start payload))) → Reads payload m → Gives view cause r (Ok m)
-dii_only payload r (IsDii d) other h reads =
-    let a = dii_again payload d reads in
-    gives_same view cause r (value_only (dii_at (from_start payload))) (Ok (IsDii d)) (value_is (dii_at (from_start payload)) (IsDii d) a.0 a.1) h
-dii_only payload r (IsDsi d) other h reads = absurd (other (message_id_is 0x1006 payload d.transaction _ reads.frame.message))
-
-pub frame_answer : (payload : List ℕ) (r : Result (TransactionId × ℕ × Bor (List ℕ)) ControlFault) → EachFits payload → Gives {Y = ℕ × (ℕ × List ℕ)} (λ x. (x.0.0, (x.1, x.2.now))) cause r (value_only (frame_at (from_start payload)))
-    → IfOk r (λ x. IsDsiFrame payload x.0.0 x.2.now)
-frame_answer payload (Ok x) fits h = frame_found payload x.0.0 x.1 x.2.now fits h
-frame_answer payload (Err e) fits h = tt
-
-pub frame_only : (payload : List ℕ) (r : Result (TransactionId × ℕ × Bor (List ℕ)) ControlFault) (transaction : ℕ) (private : List ℕ) → Gives {Y = ℕ × (ℕ × List ℕ)} (λ x. (x.0.0, (x.1, x.2.now))) cause r (value_only (frame_at (from_start payload)))
-    → IsDsiFrame payload transaction private → Gives {Y = ℕ × List ℕ} (λ x. (x.0.0, x.2.now)) cause r (Ok (transaction, private))
-frame_only payload (Ok x) transaction private h frame =
-    let a = frame_again payload transaction private frame in
-    let same : (transaction, (a.0, private)) ≡ (x.0.0, (x.1, x.2.now)) = ok_is {A = ℕ × (ℕ × List ℕ)} (transaction, (a.0, private)) (x.0.0, (x.1, x.2.now)) (sym a.1 ∙ h) in
-    ap (λ (y : ℕ × (ℕ × List ℕ)). done (y.0, y.1.1)) same
-frame_only payload (Err (faults.NotControl place)) transaction private h frame = absurd (apart (value_only (frame_at (from_start payload))) (transaction, ((frame_again payload transaction private frame).0, private)) place (frame_again payload transaction private frame).1 h) where
-  apart : (r : Result (ℕ × (ℕ × List ℕ)) ℕ) (y : ℕ × (ℕ × List ℕ)) (at : ℕ) → r ≡ Ok y → r ≡ Err at → ⊥
-  apart r y at e f = cc
-frame_only payload (Err faults.NoMemory) transaction private h frame = tt
-
--- ---- the gateway
-
-pub gateway_found : (private : List ℕ) (n : ℕ) (g : iors.Fields) → iors.Reads (take n private) g → IsGateway private g
-gateway_found private n g h = record { reference = take n private; rest = drop n private; whole = sym (take-append-drop n private); reads = h }
-
-pub gateway_at_front : (private : List ℕ) (g : iors.Fields) → IsGateway private g → (n : ℕ) × (n ≤ length private) × iors.Reads (take n private) g
-gateway_at_front private g h =
-    let front : take (length h.reference) private ≡ h.reference = ap (take (length h.reference)) h.whole ∙ take_at h.reference h.rest (length h.reference) refl in
-    (length h.reference, omega (arith, ap length h.whole, length-append h.reference h.rest), rw front h.reads)
-
-pub gateway_same : (a b : iors.Fields) (m n : ℕ) → done {A = iors.Fields × ℕ} (a, m) ≡ Ok (b, n) → done a ≡ done b
-gateway_same a b m n e = ap (λ (x : iors.Fields × ℕ). done x.0) (ok_is {A = iors.Fields × ℕ} (a, m) (b, n) e)
-
-pub gateway_apart : {B : Type 0} (x : iors.Fields × ℕ) (place : ℕ) → done x ≡ Err place → B
-gateway_apart x place e = absurd cc
-
--- ---- the answer to a DSI
-
-frame_value : (c : Cursor) → value_only (dsi_at c) ≡ value_only (frame_at c >>= λ frame. gateway_at frame.0.1.0 frame.0.1.1 frame.1 >>= λ gateway. Ok (IsDsi (record { transaction = frame.0.0; gateway = gateway.0 }), gateway.1))
-unfolding dsi_at
-frame_value c = refl
-
-pub dsi_value : (c : Cursor) (transaction place : ℕ) (private : List ℕ) (g : iors.Fields) → value_only (frame_at c) ≡ Ok (transaction, (place, private)) → ((after : Cursor) → gateway_at place private after ≡ Ok (g, after))
-    → value_only (dsi_at c) ≡ Ok (IsDsi (record { transaction = transaction; gateway = g }))
-dsi_value c transaction place private g e h =
-    let v = value_ok (frame_at c) (transaction, (place, private)) e in
-    let at : frame_at c ≡ Ok ((transaction, (place, private)), v.0.1) = v.1 ∙ ap (λ (y : ℕ × (ℕ × List ℕ)). done {A = (ℕ × (ℕ × List ℕ)) × Cursor} (y, v.0.1)) v.2 in
-    frame_value c ∙ rw (at, h v.0.1) refl
-
-pub dsi_fault : (c : Cursor) (transaction place : ℕ) (private : List ℕ) (e : ControlFault) → value_only (frame_at c) ≡ Ok (transaction, (place, private))
-    → ((after : Cursor) → MatchOption (cause e) ⊤ (λ f. gateway_at place private after ≡ Err f)) → MatchOption (cause e) ⊤ (λ f. value_only (dsi_at c) ≡ Err f)
-dsi_fault c transaction place private (faults.NotControl at) e h =
-    let v = value_ok (frame_at c) (transaction, (place, private)) e in
-    let is : frame_at c ≡ Ok ((transaction, (place, private)), v.0.1) = v.1 ∙ ap (λ (y : ℕ × (ℕ × List ℕ)). done {A = (ℕ × (ℕ × List ℕ)) × Cursor} (y, v.0.1)) v.2 in
-    frame_value c ∙ rw (is, h v.0.1) refl
-dsi_fault c transaction place private faults.NoMemory e h = tt
-
--- a refusal where something is to be read is out of memory
-pub no_fault : {A B : Type 0} (e : ControlFault) (x : A) (y : B) → MatchOption (cause e) ⊤ (λ f. done x ≡ Err f) → MatchOption (cause e) ⊤ (λ f. done y ≡ Err f)
-no_fault {A = A} (faults.NotControl place) x y h = absurd (apart x place h) where
-  apart : (x : A) (place : ℕ) → done x ≡ Err place → ⊥
-  apart x place h = cc
-no_fault faults.NoMemory x y h = tt
-
-pub dsi_same : (d : DsiFields) (transaction : ℕ) (private' private : List ℕ) (g : iors.Fields) → done {A = ℕ × List ℕ} (d.transaction, private') ≡ Ok (transaction, private) → IsGateway private' d.gateway
-    → ((h : iors.Fields) → IsGateway private h → done h ≡ Ok g) → done (IsDsi d) ≡ Ok (IsDsi (record { transaction = transaction; gateway = g }))
-dsi_same d transaction private' private g e h f =
-    let same : (d.transaction, private') ≡ (transaction, private) = ok_is {A = ℕ × List ℕ} (d.transaction, private') (transaction, private) e in
-    let number : d.transaction ≡ transaction = ap (λ (x : ℕ × List ℕ). x.0) same in
-    let bytes : private' ≡ private = ap (λ (x : ℕ × List ℕ). x.1) same in
-    let reference : d.gateway ≡ g = ok_is d.gateway g (f d.gateway (subst (λ (p : List ℕ). IsGateway p d.gateway) bytes h)) in
-    made number reference where
-      made : {transaction : ℕ} {g : iors.Fields} → d.transaction ≡ transaction → d.gateway ≡ g → done (IsDsi d) ≡ Ok (IsDsi (record { transaction = transaction; gateway = g }))
-      made p q = rw (← p, ← q) refl
-
-pub dsi_only : (payload : List ℕ) (r : Result Control ControlFault) (m : Message) → message_id_of payload ≡ 0x1006 → ((d : DsiFields) → ReadsDsi payload d → Gives view cause r (Ok (IsDsi d))) → Reads payload m → Gives view cause r (Ok m)
-dsi_only payload r (IsDsi d) is h reads = h d reads
-dsi_only payload r (IsDii d) is h reads = absurd (apart (sym (message_id_is 0x1002 payload d.transaction _ reads.message) ∙ is)) where
-  apart : ◌≡◌ {A = ℕ} 0x1002 0x1006 → ⊥
-  apart e = omega (arith, e)
-
-pub gateway_moves : (g : iors.Fields) (m n : ℕ) (private' private : List ℕ) → done {A = ℕ × List ℕ} (m, private') ≡ Ok (n, private) → IsGateway private' g → IsGateway private g
-gateway_moves g m n private' private e h =
-    let bytes : private' ≡ private = ap (λ (x : ℕ × List ℕ). x.1) (ok_is {A = ℕ × List ℕ} (m, private') (n, private) e) in
-    subst (λ (p : List ℕ). IsGateway p g) bytes h
+pub read_again : (payload : List ℕ) (m : Message) → Reads payload m → read payload ≡ Ok m
+read_again payload (IsDsi d) h = rw (message_id_is 0x1006 payload _ _ h.frame.message) (dsi_again payload d h)
+read_again payload (IsDii d) h = rw (message_id_is 0x1002 payload _ _ h.message) (dii_again payload d h)

@@ -13,7 +13,7 @@ use Rattle.dsi_dii.specs.declared.Control.{Control}
 use Rattle.dsi_dii.specs.declared.Control.TheVariants as code
 use Rattle.dsi_dii.specs.declared.ControlFault.{ControlFault}
 use Rattle.dsi_dii.specs.declared.ControlFault.TheVariants as faults
-use Rattle.oc_bytes.specs.Grammar.{Grammar, one, two, four, number, bytes, sized, each, field, gives, front_of, Reads as ReadsBy}
+use Rattle.oc_bytes.specs.Grammar.{Grammar, one, two, four, number, bytes, sized, each, field, gives, passed, front_of, Reads as ReadsBy}
 use Rattle.dsi_dii.specs.declared.reading.Head.{Head}
 
 pub record DsiFields : Type 0 where
@@ -79,10 +79,6 @@ no_time_outs = four_bytes 0xFFFFFFFF ++ four_bytes 0xFFFFFFFF ++ four_bytes 0
 -- the tap of a module's blocks, as it is written
 abbrev pub block_tap : iors.TapFields
 block_tap = record { id = 0; use_code = 0x0017; assoc = 0x0001; selector = [] }
-
--- a field whose value isn't kept, and what is spelled for it
-abbrev pub passed : {A : Type 0} → Grammar A → A → Grammar (Unit {0})
-passed g a = field g (λ u. a) (λ x. gives tt)
 
 -- the user info of a moduleInfo, after three time-outs and the taps
 abbrev pub info : Grammar (List ℕ)

@@ -1,4 +1,4 @@
-ghost use Rattle.std.specs.Prelude.{◌≡◌, ◌↔◌, ◌≤◌, ◌<◌, ◌+◌, ℕ, List, Some, None, Ok, length, IsTrue, IfOk, IsErrOf, IsOkAnd, MatchResult};
+ghost use Rattle.std.specs.Prelude.{◌≡◌, ◌↔◌, ◌≤◌, ◌<◌, ◌+◌, ℕ, ◌==◌, List, Some, None, Ok, length, IsTrue, IfOk, IfSome, IsErrOf, IsOkAnd, MatchResult};
 ghost use Rattle.std.specs.Option.{option_map};
 ghost use Rattle.oc_bytes.specs.Outcome.{Gives};
 ghost use Rattle.oc_bytes.specs.Cause.{place_of};
@@ -6,7 +6,7 @@ ghost use Rattle.oc_bytes.specs.Cursor.{Cursor, from_start, each_at, skip_readin
 ghost use Rattle.ior_tap.specs.IorReading.{tap_at, profile_count_at};
 ghost use Rattle.ior_tap.specs.Iors as iors;
 ghost use Rattle.dsi_dii.specs.Controls as controls;
-ghost use Rattle.dsi_dii.specs.Controls.{cause, compressed_of, view, IsDsi, DsiFields, IsDsiFrame, IsGateway, Message, Reads, ReadsDsi};
+ghost use Rattle.dsi_dii.specs.Controls.{cause, compressed_of, view, Message, Reads};
 ghost use Rattle.dsi_dii.specs.declared.reading.Head.{Head};
 ghost use Rattle.dsi_dii.specs.ControlReading.{info_at, line_at, head_at, gateway_at, private_at, frame_at, dsi_at, opening_at, dii_at, message_id_of, read};
 
@@ -78,7 +78,8 @@ fn user_info(info: &[u8]) -> Result<&[u8], Cut>
 
 /// The tag of a descriptor that stands whole at the front, and what follows it.
 fn next_descriptor(bytes: &[u8]) -> Option<(u8, &[u8])>
-    ensures { option_map (λ d. (d.0, d.1.now)) result ≡ controls.next_descriptor bytes.now }
+    ensures first { option_map (λ d. (d.0, d.1.now)) result ≡ controls.next_descriptor bytes.now }
+    ensures shorter { IfSome result (λ d. length d.1.now < length bytes.now) }
 {
     match bytes {
         [tag, size, following @ ..] if usize::from(*size) <= following.len() => {
@@ -170,35 +171,10 @@ fn private_data<'a>(fields: &mut Fields<'a>) -> Result<(usize, &'a [u8]), Cut>
     Ok((fields.place() - private.len(), private))
 }
 
-#[tactic(auto, unfolding(crate::specs::ControlReading::frame_at))]
-fn frame_read(payload: &[u8]) -> Result<(TransactionId, usize, &[u8]), ControlFault>
-    ensures exact { Gives {Y = ℕ × (ℕ × List ℕ)} (λ x. (x.0.0, (x.1, x.2.now))) cause result (value_only (frame_at (from_start payload.now))) }
-    ensures inside { IfOk result (λ x. x.1 + length x.2.now ≤ usize.MAX) }
-    ensures memory { IsErrOf result ControlFault.NoMemory → ⊥ }
-{
-    let (transaction, mut fields) = message(payload, 0x1006)?;
-    let (place, private) = private_data(&mut fields)?;
-    Ok((TransactionId(transaction), place, private))
-}
-
-/// The transactionId of a DSI, and its private data with their place in the message.
-fn frame(payload: &[u8]) -> Result<(TransactionId, usize, &[u8]), ControlFault>
-    ensures exact { Gives {Y = ℕ × (ℕ × List ℕ)} (λ x. (x.0.0, (x.1, x.2.now))) cause result (value_only (frame_at (from_start payload.now))) }
-    ensures inside { IfOk result (λ x. x.1 + length x.2.now ≤ usize.MAX) }
-    ensures found { IfOk result (λ x. IsDsiFrame payload.now x.0.0 x.2.now) }
-    ensures only { (transaction : ℕ) (private : List ℕ) → IsDsiFrame payload.now transaction private
-        → Gives {Y = ℕ × List ℕ} (λ x. (x.0.0, x.2.now)) cause result (Ok (transaction, private)) }
-    ensures memory { IsErrOf result ControlFault.NoMemory → ⊥ }
-{
-    frame_read(payload)
-}
-
 /// The gateway's IOR inside the private data, which stand at this place of the message.
 fn gateway(alloc: Global, private: &[u8], place: usize) -> Result<Ior, ControlFault>
     requires { place + length private.now ≤ usize.MAX }
     ensures exact { (after : Cursor) → Gives {Y = iors.Fields × Cursor} (λ ior. (iors.view ior, after)) cause result (gateway_at place private.now after) }
-    ensures found { IfOk result (λ ior. IsGateway private.now (iors.view ior)) }
-    ensures only { (g : iors.Fields) → IsGateway private.now g → Gives iors.view cause result (Ok g) }
     ensures memory { IsErrOf result ControlFault.NoMemory → IsOkAnd (profile_count_at (from_start private.now)) (λ n. 0 < n.0) }
 {
     match ior_tap::decode(alloc, private) {
@@ -208,29 +184,44 @@ fn gateway(alloc: Global, private: &[u8], place: usize) -> Result<Ior, ControlFa
     }
 }
 
-#[tactic(auto, unfolding(crate::specs::ControlReading::dsi_at))]
+#[tactic(auto, unfolding(crate::specs::ControlReading::dsi_at, crate::specs::ControlReading::frame_at))]
 fn dsi_of(alloc: Global, payload: &[u8]) -> Result<Control, ControlFault>
     ensures exact { Gives view cause result (value_only (dsi_at (from_start payload.now))) }
-    ensures found { IfOk result (λ m. Reads payload.now (view m)) }
-    ensures only { (d : DsiFields) → ReadsDsi payload.now d → Gives view cause result (Ok (IsDsi d)) }
     ensures memory { IsErrOf result ControlFault.NoMemory → IsOkAnd (value_only (frame_at (from_start payload.now))) (λ f. IsOkAnd (profile_count_at (from_start f.1.1)) (λ n. 0 < n.0)) }
 {
-    let (transaction, place, private) = frame(payload)?;
+    let (transaction, mut fields) = message(payload, 0x1006)?;
+    let (place, private) = private_data(&mut fields)?;
     let gateway = gateway(alloc, private, place)?;
     Ok(Control::Dsi(Dsi {
-        transaction,
+        transaction: TransactionId(transaction),
         gateway,
     }))
 }
 
 /// Whether the messageId is that of a DSI.
+#[tactic(auto, using(crate::proofs::Laws::short_is_other))]
 fn is_dsi(payload: &[u8]) -> bool
-    ensures { IsTrue result ↔ (message_id_of payload.now ≡ 0x1006) }
+    ensures { result ≡ (message_id_of payload.now == 0x1006) }
 {
-    if payload.len() < 4 {
-        return false;
+    match payload {
+        [_, _, high, low, ..] => u16::from_be_bytes([*high, *low]) == 0x1006,
+        _ => false,
     }
-    u16::from_be_bytes([payload[2], payload[3]]) == 0x1006
+}
+
+/// A control message as its grammar reads it: the messageId decides.
+fn control(alloc: Global, payload: &[u8]) -> Result<Control, ControlFault>
+    ensures exact { Gives view cause result (read payload.now) }
+    ensures memory_dsi { IsErrOf result ControlFault.NoMemory → message_id_of payload.now ≡ 0x1006
+        → IsOkAnd (value_only (frame_at (from_start payload.now))) (λ f. IsOkAnd (profile_count_at (from_start f.1.1)) (λ n. 0 < n.0)) }
+    ensures memory_dii { IsErrOf result ControlFault.NoMemory → (message_id_of payload.now ≡ 0x1006 → ⊥)
+        → IsOkAnd (opening_at (from_start payload.now)) (λ h. 0 < h.0.modules) }
+{
+    if is_dsi(payload) {
+        dsi_of(alloc, payload)
+    } else {
+        dii_of(alloc, payload)
+    }
 }
 
 /// Reads a control message from a section's payload. The messageId decides between a DSI and a DII.
@@ -255,9 +246,5 @@ pub fn decode(alloc: Global, payload: &[u8]) -> Result<Control, ControlFault>
     ensures memory_dii { IsErrOf result ControlFault.NoMemory → (message_id_of payload.now ≡ 0x1006 → ⊥)
         → IsOkAnd (opening_at (from_start payload.now)) (λ h. 0 < h.0.modules) }
 {
-    if is_dsi(payload) {
-        dsi_of(alloc, payload)
-    } else {
-        dii_of(alloc, payload)
-    }
+    control(alloc, payload)
 }

@@ -1,4 +1,4 @@
-ghost use Rattle.std.specs.Prelude.{◌≡◌, ◌≤◌, List, ℕ, Bool, Some, Option, map, true, false, None, is_some, IfOk, IsErrOf};
+ghost use Rattle.std.specs.Prelude.{◌≡◌, ◌≤◌, ℕ, Bool, Some, Option, map, true, false, None, is_some, IfOk, IsErrOf};
 ghost use Rattle.oc_bytes.specs.Outcome.{Rose};
 
 use oc_bytes::NoMemory;

@@ -1,9 +1,6 @@
-ghost use Rattle.std.specs.Prelude.{◌≡◌, ◌<◌, ◌≤◌, ◌+◌, ◌↔◌, ◌⊎◌, ◌++◌, ◌∷◌, [], ◌==◌, Some, None, true, false, length, map, is_some, option_map, Contains, IfOk, IfErr, OnOk, OnErr, IsErr, IsErrOf, IsTrue, if◌then◌else◌};
-ghost use Rattle.std.specs.List.{list_any, fold, filter_map};
+ghost use Rattle.std.specs.Prelude.{◌≡◌, ◌<◌, ◌≤◌, ◌+◌, ◌↔◌, ◌⊎◌, ◌++◌, ◌∷◌, [], ◌==◌, Some, None, true, false, map, is_some, Contains, IfOk, IfErr, OnOk, IsErrOf, if◌then◌else◌};
 ghost use Rattle.std.specs.Option.{option_copied};
-ghost use Rattle.std.specs.String.{string_bytes};
 ghost use Rattle.oc_bytes.specs.Outcome.{Rose, cap_at_u64};
-ghost use Rattle.path_tree.specs.Paths.{same_name};
 ghost use Rattle.folder_store.specs.Folders.{FolderTree, after_prefix, content_of, entry_at, is_folder_at, view_entry, IsFolderTree, IsListed, IsRead, MayFail};
 ghost use Rattle.folder_store.specs.Memory.{AreEntries, entries_in, tree_of, ends_in_slash, file_name, folder_name, files_below, folders_below, with_folder};
 

@@ -49,6 +49,22 @@ fn push_edit(text: &mut String, edit: &Edit) -> Result<(), Fail> {
     Ok(())
 }
 
+/// A failure where a read of a root tells something else, or not so many faults are counted.
+fn tells(
+    alloc: Global,
+    folders: &mut MemFolders,
+    root: &str,
+    wanted: &str,
+    faults: u64,
+) -> Result<(), Fail> {
+    let given = told(alloc, folders, root)?;
+    if given.as_str() == wanted && folders.faults() == faults {
+        Ok(())
+    } else {
+        Err(Fail::new(format_args!("{given} in place of {wanted}")))
+    }
+}
+
 #[test]
 fn files_in_path_order(rt: HostRuntime) -> Result<(), Fail> {
     let alloc = rt.alloc();
@@ -59,41 +75,49 @@ fn files_in_path_order(rt: HostRuntime) -> Result<(), Fail> {
         ("E/x", b"4"),
     ];
     let mut folders = folders_of(alloc, &files, Vec::new(alloc))?;
-    assert_eq!(rt;
-        told(alloc, &mut folders, "F")?.as_str(),
-        "/a/c=1 /a-b=3 /b=2 "
-    );
-    assert_eq!(rt; told(alloc, &mut folders, "G")?.as_str(), "FolderFault");
-    assert_eq!(rt; told(alloc, &mut folders, "F/b")?.as_str(), "FolderFault");
-    assert_eq!(rt; folders.faults(), 0);
-    let files: [(&str, &[u8]); 1] = [("F/", b"")];
-    let mut folders = folders_of(alloc, &files, Vec::new(alloc))?;
-    assert_eq!(rt; told(alloc, &mut folders, "F")?.as_str(), "");
-    Ok(())
+    tells(alloc, &mut folders, "F", "/a/c=1 /a-b=3 /b=2 ", 0)?;
+    tells(alloc, &mut folders, "G", "FolderFault", 0)?;
+    tells(alloc, &mut folders, "F/b", "FolderFault", 0)
 }
 
 #[test]
-fn first_rule_that_breaks(rt: HostRuntime) -> Result<(), Fail> {
-    let alloc = rt.alloc();
+fn no_files(rt: HostRuntime) -> Result<(), Fail> {
+    let files: [(&str, &[u8]); 1] = [("F/", b"")];
+    let mut folders = folders_of(rt.alloc(), &files, Vec::new(rt.alloc()))?;
+    tells(rt.alloc(), &mut folders, "F", "", 0)
+}
+
+#[test]
+fn sixteen_names(rt: HostRuntime) -> Result<(), Fail> {
     let files: [(&str, &[u8]); 1] = [("F/a/b/c/d/e/f/g/h/i/j/k/l/m/n/o/p", b"1")];
-    let mut folders = folders_of(alloc, &files, Vec::new(alloc))?;
-    assert_eq!(rt;
-        told(alloc, &mut folders, "F")?.as_str(),
-        "/a/b/c/d/e/f/g/h/i/j/k/l/m/n/o/p=1 "
-    );
+    let mut folders = folders_of(rt.alloc(), &files, Vec::new(rt.alloc()))?;
+    tells(
+        rt.alloc(),
+        &mut folders,
+        "F",
+        "/a/b/c/d/e/f/g/h/i/j/k/l/m/n/o/p=1 ",
+        0,
+    )
+}
+
+#[test]
+fn a_bad_name_after_a_deep_folder(rt: HostRuntime) -> Result<(), Fail> {
     let files: [(&str, &[u8]); 2] = [
         ("F/a/b/c/d/e/f/g/h/i/j/k/l/m/n/o/p/", b""),
         ("F/b//x", b"1"),
     ];
-    let mut folders = folders_of(alloc, &files, Vec::new(alloc))?;
-    assert_eq!(rt; told(alloc, &mut folders, "F")?.as_str(), "BadName");
+    let mut folders = folders_of(rt.alloc(), &files, Vec::new(rt.alloc()))?;
+    tells(rt.alloc(), &mut folders, "F", "BadName", 0)
+}
+
+#[test]
+fn a_deep_path_before_a_bad_name(rt: HostRuntime) -> Result<(), Fail> {
     let files: [(&str, &[u8]); 2] = [
         ("F/a/b/c/d/e/f/g/h/i/j/k/l/m/n/o/p/q", b"1"),
         ("F/b//x", b"1"),
     ];
-    let mut folders = folders_of(alloc, &files, Vec::new(alloc))?;
-    assert_eq!(rt; told(alloc, &mut folders, "F")?.as_str(), "TooDeep");
-    Ok(())
+    let mut folders = folders_of(rt.alloc(), &files, Vec::new(rt.alloc()))?;
+    tells(rt.alloc(), &mut folders, "F", "TooDeep", 0)
 }
 
 #[test]
@@ -102,8 +126,7 @@ fn calls_that_fail(rt: HostRuntime) -> Result<(), Fail> {
     let files: [(&str, &[u8]); 2] = [("F/a", b"1"), ("F/b", b"2")];
     for call in 0..3u64 {
         let mut folders = folders_of(alloc, &files, vec![in alloc; call]?)?;
-        assert_eq!(rt; told(alloc, &mut folders, "F")?.as_str(), "FolderFault");
-        assert_eq!(rt; folders.faults(), 1);
+        tells(alloc, &mut folders, "F", "FolderFault", 1)?;
     }
     Ok(())
 }

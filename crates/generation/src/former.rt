@@ -1,6 +1,6 @@
 //! What objects had in the generation before: their keys and their modules.
 
-ghost use Rattle.std.specs.Prelude.{◌≡◌, ◌≢◌, ◌≤◌, List, ℕ, None, Some, map, IfOk};
+ghost use Rattle.std.specs.Prelude.{◌≡◌, ◌≢◌, None, Some, map, IfOk};
 ghost use Rattle.std.specs.List.{All, zip};
 ghost use Rattle.std.specs.Option.{option_map};
 ghost use Rattle.generation.specs.Publication.{AreRising};

@@ -1,6 +1,6 @@
 //! Which key each object has: its own key of the generation before, or the least number that is free.
 
-ghost use Rattle.std.specs.Prelude.{◌≡◌, ◌==◌, ◌≤◌, ◌<◌, ◌+◌, ◌^◌, List, ℕ, Option, true, false, length, map, slice_set, get_or, IfOk, OnOk};
+ghost use Rattle.std.specs.Prelude.{◌≡◌, ◌==◌, ◌≤◌, ◌<◌, ◌+◌, ℕ, Option, true, false, length, slice_set, get_or, IfOk};
 ghost use Rattle.std.specs.List.{list_any};
 ghost use Rattle.generation.specs.Layouts.{taken_in, free_keys, fill_keys};
 ghost use Rattle.generation.specs.declared.limit.TheConstants.{MOST_OBJECTS};

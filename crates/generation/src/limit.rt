@@ -1,9 +1,9 @@
 //! The sizes of objects, and the limits of a generation.
-ghost use Rattle.std.specs.Prelude.{◌≡◌, ◌≤◌, ◌<◌, ◌+◌, ◌^◌, List, ℕ, None, Some, Option, length, map, sum, IfOk, Ok, Err};
+ghost use Rattle.std.specs.Prelude.{◌≡◌, ◌≤◌, ◌<◌, ◌+◌, List, None, Some, length, map, sum, IfOk, Ok, Err};
 ghost use Rattle.std.specs.List.{All, sum_by, find};
 ghost use Rattle.oc_bytes.specs.Outcome.{Gives};
 ghost use Rattle.generation.specs.Limits.{check_of, limit_cause, unless_passed};
-ghost use Rattle.generation.specs.Publication.{Spot as SpotFields, spots_of, size_of as size_in, sizes_of, is_large_folder, large_folder, binding_size as binding_in, binding_rest as rest_of};
+ghost use Rattle.generation.specs.Publication.{Spot as SpotFields, size_of as size_in, is_large_folder, large_folder, binding_size as binding_in, binding_rest as rest_of};
 ghost use Rattle.path_tree.specs.Trees.{Tree, IsTree};
 ghost use Rattle.generation.specs.View.{view_spot, IsSpotIn, AreSpotsOf};
 

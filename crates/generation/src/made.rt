@@ -1,4 +1,4 @@
-ghost use Rattle.std.specs.Prelude.{◌≡◌, ◌≢◌, ◌==◌, ◌<◌, ◌≤◌, ◌+◌, ◌++◌, ◌∷◌, [], List, ℕ, None, Some, Ok, map, length, slice_get, get_or, true, false, IfOk, IfSome, MatchOption};
+ghost use Rattle.std.specs.Prelude.{◌≡◌, ◌==◌, ◌<◌, ◌≤◌, ◌+◌, ◌++◌, ◌∷◌, [], List, ℕ, None, Some, Ok, map, length, get_or, true, false, IfOk, IfSome};
 ghost use Rattle.std.specs.List.{All, Contains, filter, list_any};
 ghost use Rattle.std.specs.Arc.{arc_value};
 ghost use Rattle.std.specs.Option.{option_map, is_none};
@@ -7,8 +7,8 @@ ghost use Rattle.path_tree.specs.Trees.{Tree};
 ghost use Rattle.biop_object.specs.Names.{Layout, module_in};
 ghost use Rattle.cycle_planner.specs.Cycle.{AreLines};
 ghost use Rattle.dsmcc_section.specs.Sections.{IsFramed};
-ghost use Rattle.generation.specs.Layouts.{GenerationState, first_of, next_of, generation_of, lines_of, lines_in, items_of, section_of, count_in as count_at, layout_of, module_if_used, greatest, placed_all, keys_of, modules_for};
-ghost use Rattle.generation.specs.Kept.{StandsFor, layouts_of};
+ghost use Rattle.generation.specs.Layouts.{GenerationState, first_of, next_of, lines_of, lines_in, items_of, section_of, count_in as count_at, layout_of, module_if_used, greatest, placed_all, keys_of, modules_for};
+ghost use Rattle.generation.specs.Kept.{StandsFor};
 ghost use Rattle.generation.specs.Publication.{limit_of, spots_of};
 ghost use Rattle.generation.specs.Stays.{AreAsBefore, AreTheirs};
 ghost use Rattle.generation.specs.View.{view_listed, view_placed, AreReady, AreOld, IsMarked, AreMarked, IsSpotIn, counted_by};

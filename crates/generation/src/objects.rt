@@ -1,10 +1,8 @@
 //! The objects with their keys and modules, and their bytes.
-ghost use Rattle.std.specs.Prelude.{◌≡◌, ◌≤◌, ◌<◌, ◌+◌, ◌∷◌, ◌++◌, List, ℕ, [], None, Some, Option, length, map, IfOk, IfSome, OnOk, false};
+ghost use Rattle.std.specs.Prelude.{◌≡◌, ◌≤◌, ◌<◌, ◌+◌, ◌++◌, None, Some, Option, length, map, IfOk, IfSome, OnOk, false};
 ghost use Rattle.std.specs.List.{All};
-ghost use Rattle.std.specs.Option.{option_map};
 ghost use Rattle.path_tree.specs.Trees.{IsTree};
-ghost use Rattle.generation.specs.Publication.{size_of as size_in, spots_of, sizes_of};
-ghost use Rattle.generation.specs.Layouts.{placed_all, location_of, written_in, entries_of, object_bytes as bytes_of, module_bytes as bytes_in, is_in, key_bytes, bound_of};
+ghost use Rattle.generation.specs.Layouts.{location_of, written_in, entries_of, object_bytes as bytes_of, module_bytes as bytes_in, key_bytes, bound_of};
 ghost use Rattle.generation.specs.View.{view_spot, view_placed, IsSpotIn, placed_from, AreReady, kind_in};
 ghost use Rattle.biop_object.specs.Objects.{folder_spelling, IsEntry};
 ghost use Rattle.biop_object.specs.declared.written.TheConstants.{MOST_FOLDER_SIZE};

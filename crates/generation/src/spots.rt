@@ -1,10 +1,10 @@
 //! The objects of a tree, in order, without a copy of their paths.
-ghost use Rattle.std.specs.Prelude.{◌≡◌, ◌≤◌, ◌<◌, ◌+◌, ◌-◌, ◌∷◌, ◌++◌, List, ℕ, [], None, Some, Option, length, map, take, true, IfOk, OnOk, IfSome, IsTrue};
-ghost use Rattle.std.specs.List.{All, sum_by};
+ghost use Rattle.std.specs.Prelude.{◌≡◌, ◌≤◌, ◌<◌, ◌+◌, ◌-◌, ◌∷◌, ◌++◌, [], None, Some, Option, length, map, take, true, IfOk, OnOk, IfSome};
+ghost use Rattle.std.specs.List.{All};
 ghost use Rattle.std.specs.Option.{option_map};
 ghost use Rattle.path_tree.specs.Paths.{path_cmp, same_name, same_path, Bytes};
 ghost use Rattle.path_tree.specs.Trees.{IsTree};
-ghost use Rattle.generation.specs.Publication.{spots_of, shared_folders, folders_after, child_name as name_in, binding_size, size_of as size_in};
+ghost use Rattle.generation.specs.Publication.{spots_of, shared_folders, folders_after, child_name as name_in};
 ghost use Rattle.generation.specs.View.{view_spot, path_at, bytes_at, before_of, IsSpotIn};
 ghost use Rattle.path_tree.specs.declared.tree.TheConstants.{MOST_CONTENT};
 

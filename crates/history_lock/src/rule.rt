@@ -1,5 +1,4 @@
 // What seats know, the rule of the lock's table, and what each step on its word tells.
-ghost use Rattle.std.specs.Prelude.{List};
 
 use crate::chronicled::Chronicled;
 use atomic_table::{Join, Play, Split, TableRule};

@@ -9,7 +9,7 @@ use Rattle.oc_bytes.specs.Agreement.{at, Agrees, InBytes}
 use Rattle.oc_bytes.specs.Grammar.{Fits, spell, read, front_of}
 use Rattle.oc_bytes.proofs.CallerLemmas.{agrees_by, grammar_agrees, fits_reads, spelled_again, spelled_front, front_spelled}
 use Rattle.ior_tap.specs.declared.Location.{Location}
-use Rattle.ior_tap.specs.Iors.{TapFields, Component, ProfileFields, Biop, Fields, tap, location, taps, component, components, profile, ior, biop_tag, location_tag, binder_tag, both, biop_in, or_other, content_of, ReadsTap, Reads, written_tap, written_form, IsWritten, IsLocation, tap_bytes, component_bytes, location_bytes, biop_bytes, spelling}
+use Rattle.ior_tap.specs.Iors.{TapFields, Component, ProfileFields, Biop, Fields, tap, location, taps, component, components, profile, ior, biop_tag, location_tag, binder_tag, both, biop_in, or_other, tag_of, content_of, ReadsTap, Reads, written_tap, written_form, IsWritten, IsLocation, tap_bytes, component_bytes, location_bytes, biop_bytes, spelling}
 use Rattle.ior_tap.specs.IorReading.{tap_at, ior_at}
 
 pub tap_agrees : Agrees tap_at ReadsTap
@@ -19,16 +19,62 @@ tap_agrees = grammar_agrees tap
 pub ior_agrees : Agrees ior_at (InBytes Reads)
 ior_agrees = agrees_by (grammar_agrees ior) (λ s i fits h. record { fit = fits; reads = h }) (λ s i h. h.reads)
 
--- ---- the written form
+-- ---- the spelling, byte by byte, is the grammar's
 
 abbrev written_taps : List TapFields
 written_taps = written_tap ∷ []
 
-abbrev pub written_content : Location → List ℕ
+abbrev written_content : Location → List ℕ
 written_content l = content_of (Biop l written_taps)
 
-abbrev written_parts : Location → List Component
-written_parts l = (location_tag, spell location l) ∷ (binder_tag, spell taps written_taps) ∷ []
+abbrev spelled_content : Location → List ℕ
+spelled_content l = biop_bytes l written_taps
+
+location_whole : (l : Location) → spell location l ≡ location_bytes l
+unfolding spell
+location_whole l = simp append-nil
+
+both_whole : (a b : List ℕ) → spell components ((location_tag, a) ∷ (binder_tag, b) ∷ []) ≡ 0 ∷ 2 ∷ component_bytes location_tag a ++ component_bytes binder_tag b
+unfolding spell
+both_whole a b = rw (append-nil a) (simp append-nil)
+
+content_is : (l : Location) → written_content l ≡ spelled_content l
+unfolding spell
+content_is l =
+    both_whole (spell location l) (spell taps written_taps)
+    ∙ ap (λ (s : List ℕ). 0 ∷ 2 ∷ component_bytes location_tag s ++ component_bytes binder_tag (spell taps written_taps)) (location_whole l)
+
+spelled_length : (l : Location) → length l.key ≡ 4 → length (spelled_content l) ≡ 43
+spelled_length l key = omega (arith, key, length-append l.key (component_bytes binder_tag (1 ∷ tap_bytes written_tap)))
+
+-- what stands around the content of the one profile
+abbrev around : List ℕ → ℕ → List ℕ → List ℕ
+around kind tag content = four_bytes 4 ++ (kind ++ (four_bytes 1 ++ (four_bytes tag ++ (four_bytes (length content) ++ content))))
+
+form_whole : (kind : List ℕ) (p : ProfileFields) → spell ior (record { kind = kind; profiles = p ∷ [] }) ≡ around kind (tag_of p) (content_of p)
+unfolding spell
+form_whole kind p = simp append-nil
+
+grouped : (a k b t n p : List ℕ) → a ++ k ++ b ++ t ++ n ++ p ≡ a ++ (k ++ (b ++ (t ++ (n ++ p))))
+grouped a k b t n p = simp append_assoc
+
+spelling_whole : (kind : List ℕ) (l : Location) → spelling kind l ≡ around kind biop_tag (spelled_content l)
+spelling_whole kind l = grouped (four_bytes 4) kind (four_bytes 1) (four_bytes biop_tag) (four_bytes (length (spelled_content l))) (spelled_content l)
+
+spelling_is : (kind : List ℕ) (l : Location) → spell ior (written_form kind l) ≡ spelling kind l
+spelling_is kind l = form_whole kind (Biop l written_taps) ∙ ap (around kind biop_tag) (content_is l) ∙ sym (spelling_whole kind l)
+
+pub spelling_length : (kind : List ℕ) (l : Location) → length kind ≡ 4 → length l.key ≡ 4 → length (spelling kind l) ≡ 63
+spelling_length kind l four key =
+    let behind : List ℕ = four_bytes 1 ++ (four_bytes biop_tag ++ (four_bytes (length (spelled_content l)) ++ spelled_content l)) in
+    ap length (spelling_whole kind l) ∙ omega (arith, four, length-append kind behind, spelled_length l key)
+
+-- the parts that are put are the spelling
+pub put_is : (kind : List ℕ) (l : Location) → length l.key ≡ 4 → four_bytes 4 ++ (kind ++ (four_bytes 1 ++ (four_bytes biop_tag ++ (four_bytes 43 ++ (0 ∷ 2 ∷ four_bytes location_tag
+    ++ (13 ∷ four_bytes l.carousel ++ (two_bytes l.module ++ (1 ∷ 0 ∷ 4 ∷ l.key ++ component_bytes binder_tag (1 ∷ tap_bytes written_tap))))))))) ≡ spelling kind l
+put_is kind l key = sym (spelling_whole kind l ∙ rw (spelled_length l key, key) refl)
+
+-- ---- the written form
 
 location_fits : (l : Location) → length l.key ≡ 4 → IsLocation l → Fits location l
 unfolding Fits
@@ -38,99 +84,29 @@ taps_fit : Fits taps written_taps
 unfolding Fits
 taps_fit = (omega arith, (refl, ((omega arith, (omega arith, (omega arith, (omega arith, refl)))), tt)))
 
-pub location_length : (l : Location) → length (spell location l) ≡ 9 + length l.key
-unfolding spell
-location_length l = omega (arith, ap length (append-nil l.key))
-
-taps_length : length (spell taps written_taps) ≡ 18
-unfolding spell
-taps_length = refl
-
-parts_fit : (l : Location) → length l.key ≡ 4 → Fits components (written_parts l)
-unfolding Fits
-parts_fit l key = ((omega arith, refl), (omega arith, (refl, ((omega arith, (omega (arith, key, location_length l), refl)), ((omega arith, (omega (arith, taps_length), refl)), tt)))))
-
-nils : (k rest : List ℕ) → length (((k ++ []) ++ []) ++ rest) ≡ length k + length rest
-nils k rest = rw (append-nil (k ++ []), append-nil k) (length-append k rest)
-
-pub content_length : (l : Location) → length l.key ≡ 4 → length (written_content l) ≡ 43
-unfolding spell
-content_length l key = omega (arith, key, nils l.key (spell component (binder_tag, spell taps written_taps) ++ []))
+parts_fit : (l : Location) → length l.key ≡ 4 → Fits components ((location_tag, spell location l) ∷ (binder_tag, spell taps written_taps) ∷ [])
+unfolding Fits spell
+parts_fit l key = ((omega arith, refl), (omega arith, (refl, ((omega arith, (omega (arith, key, ap length (location_whole l)), refl)), ((omega arith, (omega arith, refl)), tt)))))
 
 biop_found : (l : Location) → length l.key ≡ 4 → IsLocation l → biop_in (front_of components (written_content l)) ≡ Some (Biop l written_taps)
 biop_found l key room =
-    ap biop_in (front_spelled components (written_parts l) (parts_fit l key))
-    ∙ ap (λ (o : Option Location). both o (front_of taps (spell taps written_taps))) (front_spelled location l (location_fits l key room))
-    ∙ ap (λ (o : Option (List TapFields)). both (Some l) o) (front_spelled taps written_taps taps_fit)
+    rw (
+      front_spelled components ((location_tag, spell location l) ∷ (binder_tag, spell taps written_taps) ∷ []) (parts_fit l key),
+      front_spelled location l (location_fits l key room),
+      front_spelled taps written_taps taps_fit,
+    )
 
 profile_fits : (l : Location) → length l.key ≡ 4 → IsLocation l → Fits profile (Biop l written_taps)
 unfolding Fits
 profile_fits l key room =
-    let content = written_content l in
-    let test : (biop_tag == biop_tag) ≡ true = eq-eqb biop_tag biop_tag refl in
-    let means = ap (λ (b : Bool). or_other biop_tag content (cond b (biop_in (front_of components content)) None)) test ∙ ap (or_other biop_tag content) (biop_found l key room) in
-    (omega arith, (omega (arith, content_length l key), sym means))
+    (omega arith, (omega (arith, ap length (content_is l), spelled_length l key), sym (ap (or_other biop_tag (written_content l)) (biop_found l key room))))
 
-pub written_fits : (kind : List ℕ) (l : Location) → IsWritten (written_form kind l) l → IsLocation l → Fits ior (written_form kind l)
+written_fits : (kind : List ℕ) (l : Location) → IsWritten (written_form kind l) l → IsLocation l → Fits ior (written_form kind l)
 unfolding Fits
 written_fits kind l form room = ((omega arith, refl), (form.four, (omega arith, ((refl, (profile_fits l form.key room, tt)), refl))))
 
--- ---- the spelling, byte by byte, is the grammar's
-
-abbrev pub spelled_content : Location → List ℕ
-spelled_content l = biop_bytes l written_taps
-
-location_whole : (l : Location) → spell location l ≡ location_bytes l
-unfolding spell
-location_whole l = ap (λ (s : List ℕ). four_bytes l.carousel ++ two_bytes l.module ++ 1 ∷ 0 ∷ length l.key ∷ s) (append-nil l.key)
-
-component_whole : (tag : ℕ) (content : List ℕ) → spell component (tag, content) ≡ component_bytes tag content
-unfolding spell
-component_whole tag content = ap (λ (s : List ℕ). four_bytes tag ++ length content ∷ s) (append-nil content)
-
-binder_whole : spell component (binder_tag, spell taps written_taps) ≡ component_bytes binder_tag (1 ∷ flat_map tap_bytes written_taps)
-unfolding spell
-binder_whole = refl
-
-content_whole : (l : Location) → written_content l ≡ 0 ∷ 2 ∷ spell component (location_tag, spell location l) ++ spell component (binder_tag, spell taps written_taps)
-unfolding spell
-content_whole l = ap (λ (s : List ℕ). 0 ∷ 2 ∷ spell component (location_tag, spell location l) ++ s) (append-nil (spell component (binder_tag, spell taps written_taps)))
-
-content_is : (l : Location) → written_content l ≡ spelled_content l
-content_is l =
-    content_whole l
-    ∙ ap (λ (s : List ℕ). 0 ∷ 2 ∷ s ++ spell component (binder_tag, spell taps written_taps)) (component_whole location_tag (spell location l) ∙ ap (component_bytes location_tag) (location_whole l))
-    ∙ ap (λ (s : List ℕ). 0 ∷ 2 ∷ component_bytes location_tag (location_bytes l) ++ s) binder_whole
-
-pub spelled_length : (l : Location) → length l.key ≡ 4 → length (spelled_content l) ≡ 43
-spelled_length l key = sym (ap length (content_is l)) ∙ content_length l key
-
-form_whole : (kind : List ℕ) (l : Location) → spell ior (written_form kind l) ≡ four_bytes 4 ++ (kind ++ (four_bytes 1 ++ (four_bytes biop_tag ++ (four_bytes (length (written_content l)) ++ written_content l))))
-unfolding spell
-form_whole kind l =
-    let one : List ℕ = spell profile (Biop l written_taps) in
-    let content : List ℕ = four_bytes (length (written_content l)) ++ written_content l in
-    ap (λ (s : List ℕ). four_bytes 4 ++ (kind ++ (four_bytes 1 ++ s))) (append-nil (one ++ []) ∙ append-nil one ∙ ap (λ (s : List ℕ). four_bytes biop_tag ++ s) (append-nil content))
-
-grouped : (a k b t n p : List ℕ) → a ++ k ++ b ++ t ++ n ++ p ≡ a ++ (k ++ (b ++ (t ++ (n ++ p))))
-grouped a k b t n p = simp append_assoc
-
-spelling_whole : (kind : List ℕ) (l : Location) → spelling kind l ≡ four_bytes 4 ++ (kind ++ (four_bytes 1 ++ (four_bytes biop_tag ++ (four_bytes (length (spelled_content l)) ++ spelled_content l))))
-spelling_whole kind l = grouped (four_bytes 4) kind (four_bytes 1) (four_bytes biop_tag) (four_bytes (length (spelled_content l))) (spelled_content l)
-
-spelling_is : (kind : List ℕ) (l : Location) → spell ior (written_form kind l) ≡ spelling kind l
-spelling_is kind l =
-    form_whole kind l
-    ∙ ap (λ (s : List ℕ). four_bytes 4 ++ (kind ++ (four_bytes 1 ++ (four_bytes biop_tag ++ (four_bytes (length s) ++ s))))) (content_is l)
-    ∙ sym (spelling_whole kind l)
-
 pub written_reads : (kind : List ℕ) (l : Location) → IsWritten (written_form kind l) l → IsLocation l → Reads (spelling kind l) (written_form kind l)
 written_reads kind l form room = subst (λ (s : List ℕ). Reads s (written_form kind l)) (spelling_is kind l) (fits_reads ior (written_form kind l) (written_fits kind l form room))
-
-pub spelling_length : (kind : List ℕ) (l : Location) → length kind ≡ 4 → length l.key ≡ 4 → length (spelling kind l) ≡ 63
-spelling_length kind l four key =
-    let behind : List ℕ = four_bytes 1 ++ (four_bytes biop_tag ++ (four_bytes (length (spelled_content l)) ++ spelled_content l)) in
-    ap length (spelling_whole kind l) ∙ omega (arith, four, length-append kind behind, spelled_length l key)
 
 -- what is written is read at any place, whatever stands after it
 pub written_again : (kind : List ℕ) (l : Location) → IsWritten (written_form kind l) l → IsLocation l → (place : ℕ) (rest : List ℕ) → ior_at (at place (spelling kind l ++ rest)) ≡ Ok (written_form kind l, at (place + 63) rest)

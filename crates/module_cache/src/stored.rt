@@ -1,11 +1,9 @@
 //! What is there of one module of the held DII.
 
-ghost use Rattle.std.specs.Prelude.{◌≡◌, ◌≢◌, ◌≤◌, ◌<◌, List, ℕ, IfOk, IfErr, OnOk, OnErr, length, replicate, None};
+ghost use Rattle.std.specs.Prelude.{◌≡◌, ◌≢◌, ◌≤◌, ◌<◌, ℕ, IfOk, IfErr, OnOk, OnErr};
 ghost use Rattle.std.specs.Arc.{arc_value};
-ghost use Rattle.std.specs.Option.{option_map};
-ghost use Rattle.ddb_block.specs.Blocks.{block_count_of};
-ghost use Rattle.block_assembler.specs.Blocks.{IsAssembled, offer_of, after_offer, join_all};
-ghost use Rattle.module_cache.specs.Contents.{by_offer, taken_again, taken_at, taken_in, stored_after, content_after, fresh_content, whole_or, Blocks};
+ghost use Rattle.block_assembler.specs.Blocks.{IsAssembled};
+ghost use Rattle.module_cache.specs.Contents.{taken_again, taken_at, taken_in, stored_after, content_after, fresh_content, Blocks};
 ghost use Rattle.module_cache.specs.StoredView.{view_state, IsShaped, IsState};
 ghost use Rattle.module_cache.specs.Contents as contents;
 ghost use Rattle.module_cache.specs.Slots.{view_slot, slot_of};

@@ -1,8 +1,8 @@
 //! What lies in each module while objects are placed.
 
-ghost use Rattle.std.specs.Prelude.{◌≡◌, ◌≤◌, ◌<◌, ◌+◌, ◌-◌, ◌^◌, ℕ, [], ◌∷◌, ◌++◌, Some, None, Option, MatchOption, IfSome, OnSome, length, nat_le, slice_index_or, slice_set};
+ghost use Rattle.std.specs.Prelude.{◌≡◌, ◌≤◌, ◌<◌, ◌+◌, ◌-◌, ◌^◌, ℕ, [], Some, None, Option, MatchOption, IfSome, OnSome, length, nat_le, slice_index_or, slice_set};
 ghost use Rattle.std.specs.List.{position};
-ghost use Rattle.std.specs.Option.{unwrap_or, option_map, is_none};
+ghost use Rattle.std.specs.Option.{unwrap_or, is_none};
 ghost use Rattle.module_packer.specs.Kept.{Filled, if_stays, filled_with, settled_in, filled_after};
 ghost use Rattle.module_packer.specs.Sums.{Tells, takes_more as takes, stays_by, sum_at, number_at, shared_of, moved_by};
 

@@ -1,7 +1,6 @@
 //! A placement that leaves objects where they were.
 
-ghost use Rattle.std.specs.Prelude.{◌≡◌, ◌≤◌, ℕ, ◌∷◌, Some, Option, MatchOption, IfOk, OnOk, false, true};
-ghost use Rattle.std.specs.List.{All};
+ghost use Rattle.std.specs.Prelude.{◌≡◌, ◌∷◌, Some, Option, MatchOption, IfOk, OnOk, false, true};
 ghost use Rattle.module_packer.specs.Placement.{IsPlacement, fresh};
 ghost use Rattle.module_packer.specs.Kept.{Filled, AreObjects, kept_modules, sizes_in, first_pass, first_filled, second_pass, within, WereWithin};
 ghost use Rattle.module_packer.specs.Sums.{Tells};

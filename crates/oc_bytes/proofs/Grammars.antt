@@ -8,8 +8,8 @@ use Rattle.oc_bytes.specs.Numbers.{IsBytes, number_of}
 use Rattle.oc_bytes.specs.Outcome.{Gives}
 use Rattle.oc_bytes.specs.Agreement.{at, move_by, shift_by, Agrees, ReadsEach, Then}
 use Rattle.oc_bytes.specs.Grammar.{Width, one, two, four, eight, size_of, limit_of, in_bytes, Grammar, number, bytes, sized, each, held, enclosed, counted, field, unkept, gives, read, front_of, Reads, spell, FitsEach, Fits}
-use Rattle.oc_bytes.proofs.Agree.{bind_ok, held_ok, value_taken, value_again, IsWide, wide_1, wide_2, wide_4, wide_8, number_agrees, bytes_agrees, sized_agrees, each_agrees, held_agrees, then_agrees, done_agrees}
-use Rattle.oc_bytes.proofs.Parts.{okay, nested_agrees, counted_agrees, Passes, pass_none, cut_passes, bind_passes, ends_there, nested_passes, each_passes}
+use Rattle.oc_bytes.proofs.Agree.{held_ok, okay, IsWide, wide_1, wide_2, wide_4, wide_8, number_agrees, bytes_agrees, sized_agrees, each_agrees, held_agrees, then_agrees, done_agrees}
+use Rattle.oc_bytes.proofs.Parts.{nested_agrees, counted_agrees, Passes, pass_none, cut_passes, bind_passes, ends_there, nested_passes, each_passes}
 
 wide : (w : Width) → IsWide (size_of w) (limit_of w) (in_bytes w)
 wide one = wide_1
@@ -63,9 +63,7 @@ pub spelled_again : {A : Type 0} (g : Grammar A) (a : A) → Fits g a → (place
 spelled_again g a fits place rest = (grammar_agrees g).again (spell g a) rest place a (fits_reads g a fits)
 
 pub spelled_front : {A : Type 0} (g : Grammar A) (a : A) → Fits g a → (s rest : List ℕ) → s ≡ spell g a ++ rest → read_from_start (read g (from_start s)) ≡ Ok (a, length (spell g a))
-spelled_front {A} g a fits s rest e = ap (λ (l : List ℕ). read_from_start (read g (from_start l))) e ∙ ap read_from_start (spelled_again g a fits 0 rest) ∙ ap answered (zero-add (length (spell g a))) where
-  answered : ℕ → Result (A × ℕ) ℕ
-  answered n = Ok (a, n)
+spelled_front g a fits s rest e = rw (e, spelled_again g a fits 0 rest, zero-add (length (spell g a))) refl
 
 pub front_spelled : {A : Type 0} (g : Grammar A) (a : A) → Fits g a → front_of g (spell g a) ≡ Some a
 front_spelled g a fits = ap (λ (s : List ℕ). front_of g s) (sym (append-nil (spell g a))) ∙ ap value_read (spelled_again g a fits 0 [])
@@ -75,9 +73,7 @@ front_spelled g a fits = ap (λ (s : List ℕ). front_of g s) (sym (append-nil (
 pub from_some : {A : Type 0} (m : Reading A) (y : A × ℕ) → read_from_start m ≡ Ok y → (d : Cursor) × (m ≡ Ok (y.0, d)) × (d.place ≡ y.1)
 from_some {A} (Ok x) y e =
     let is : (x.0, x.1.place) ≡ y = cc in
-    (x.1, ap (λ (z : A × ℕ). good (z.0, x.1)) is, ap (λ (z : A × ℕ). z.1) is) where
-      good : A × Cursor → Reading A
-      good z = Ok z
+    (x.1, ap (λ (z : A × ℕ). okay (z.0, x.1)) is, ap (λ (z : A × ℕ). z.1) is)
 from_some (Err place) y e = absurd cc
 
 pub from_fault : {A : Type 0} (m : Reading A) (p : ℕ) → read_from_start m ≡ Err p → m ≡ Err p
@@ -103,11 +99,9 @@ is_found agrees view cause s (Err e) fits given = tt
 
 -- what stands in front is read
 pub front_read : {A : Type 0} {r : Cursor → Reading A} {R : List ℕ → A → Type 0} → Agrees r R → (s : List ℕ) (a : A) (n : ℕ) → StandsFirst R s a n → read_from_start (r (from_start s)) ≡ Ok (a, n)
-front_read {A} {r} {R} agrees s a n h =
+front_read agrees s a n h =
     let len : 0 + length (take n s) ≡ n = omega (arith, length-take n s, h.0) in
-    ap (λ (b : List ℕ). read_from_start (r (from_start b))) (sym (take-append-drop n s)) ∙ ap read_from_start (agrees.again (take n s) (drop n s) 0 a h.1) ∙ ap answered len where
-      answered : ℕ → Result (A × ℕ) ℕ
-      answered k = Ok (a, k)
+    rw (rw (take-append-drop n s) at (agrees.again (take n s) (drop n s) 0 a h.1), len) refl
 
 stops_inside : {A : Type 0} {r : Cursor → Reading A} {R : List ℕ → A → Type 0} → Agrees r R → (s : List ℕ) (o : Option ℕ) → IsBytes s → MatchOption o ⊤ (λ p. read_from_start (r (from_start s)) ≡ Err p) → IfSome o (λ p. p ≤ length s)
 stops_inside agrees s None fits e = tt
@@ -125,20 +119,13 @@ pub passes : {A : Type 0} (g : Grammar A) (c : Cursor) (x : A × Cursor) → rea
 unfolding read sized_at
 passes (number w) c x e = cut_passes (size_of w) c (number_of (take (size_of w) c.rest)) x e
 passes (bytes n) c x e = cut_passes n c (take n c.rest) x e
-passes (sized w) c x e =
-    bind_passes c (number_at (size_of w) c) (λ n. bytes_at n.0 n.1) x e (λ y h. cut_passes (size_of w) c (number_of (take (size_of w) c.rest)) y h) (λ y h. cut_passes y.0 y.1 (take y.0 y.1.rest) x h)
-passes (each g n) c x e = each_passes (read g) (λ d y h. passes g d y h) n c x e
-passes (held g test) c x e =
-    let k = bind_ok (read g c) (λ y. if_holds c (test y.0) y) x e in
-    let h = held_ok (test k.0.0) c.place k.0 x k.2 in
-    ends_there c k.0.1 k.0.0 x (ap okay h.1) (passes g c k.0 k.1)
-passes (enclosed w g) c x e =
-    bind_passes c (number_at (size_of w) c) (λ n. nested_at n.0 (read g) n.1) x e (λ y h. cut_passes (size_of w) c (number_of (take (size_of w) c.rest)) y h) (λ y h. nested_passes (read g) y.0 y.1 x h)
-passes (counted g) c x e =
-    let k = bind_ok (read g c) (counting c.place) x e in
-    ends_there c k.0.1 (k.0.0, k.0.1.place - c.place) x k.2 (passes g c k.0 k.1)
-passes (field g part next) c x e = bind_passes c (read g c) (λ y. read (next y.0) y.1) x e (λ y h. passes g c y h) (λ y h. passes (next y.0) y.1 x h)
-passes (unkept g next) c x e = bind_passes c (read g c) (λ y. read (next y.0) y.1) x e (λ y h. passes g c y h) (λ y h. passes (next y.0) y.1 x h)
+passes (sized w) c x e = bind_passes c (number_at (size_of w) c) (λ n. bytes_at n.0 n.1) x e (cut_passes (size_of w) c _) (λ y h. cut_passes y.0 y.1 _ x h)
+passes (each g n) c x e = each_passes (read g) (passes g) n c x e
+passes (held g test) c x e = bind_passes c (read g c) (λ y. if_holds c (test y.0) y) x e (passes g c) (λ y h. ends_there y.1 y.1 y.0 x (ap okay (held_ok (test y.0) c.place y x h).1) (pass_none y.1))
+passes (enclosed w g) c x e = bind_passes c (number_at (size_of w) c) (λ n. nested_at n.0 (read g) n.1) x e (cut_passes (size_of w) c _) (λ y h. nested_passes (read g) y.0 y.1 x h)
+passes (counted g) c x e = bind_passes c (read g c) (counting c.place) x e (passes g c) (λ y h. ends_there y.1 y.1 (y.0, y.1.place - c.place) x h (pass_none y.1))
+passes (field g part next) c x e = bind_passes c (read g c) (λ y. read (next y.0) y.1) x e (passes g c) (λ y h. passes (next y.0) y.1 x h)
+passes (unkept g next) c x e = bind_passes c (read g c) (λ y. read (next y.0) y.1) x e (passes g c) (λ y h. passes (next y.0) y.1 x h)
 passes (gives v) c x e = ends_there c c v x e (pass_none c)
 
 -- the number of bytes with which a counted part is read
@@ -163,19 +150,6 @@ read_here g c a n e =
     ∙ ap (λ (m : ℕ). okay (a, at (0 + m + c.place) (drop m c.rest))) same ∙ ap (λ (q : ℕ). okay (a, at q (drop n c.rest))) place
 
 pub stops_here : {A : Type 0} (g : Grammar A) (c : Cursor) (p : ℕ) → read_from_start (read g (from_start c.rest)) ≡ Err p → read g c ≡ Err (c.place + p)
-stops_here {A} g c p e =
+stops_here g c p e =
     let place : p + c.place ≡ c.place + p = omega arith in
-    at_place g c ∙ ap (shift_by c.place) (from_fault (read g (from_start c.rest)) p e) ∙ ap (λ (q : ℕ). failed q) place where
-      failed : ℕ → Reading A
-      failed q = Err q
-
--- ---- the value at the front of some bytes
-
-abbrev pub HasFront : {A : Type 0} → Grammar A → List ℕ → A → Type 0
-HasFront g s a = (front : List ℕ) × (trailing : List ℕ) × (s ≡ front ++ trailing) × Reads g front a
-
-pub front_exact : {A : Type 0} (g : Grammar A) (s : List ℕ) (a : A) → IsBytes s → (front_of g s ≡ Some a) ↔ HasFront g s a
-front_exact g s a fits = (
-  λ e. value_taken (grammar_agrees g) s a fits e,
-  λ h. ap (λ (l : List ℕ). front_of g l) h.2 ∙ value_again (grammar_agrees g) h.0 h.1 a h.3,
-)
+    at_place g c ∙ rw (from_fault (read g (from_start c.rest)) p e, place) refl

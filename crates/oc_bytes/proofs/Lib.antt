@@ -3,6 +3,5 @@ pub mod CallerLemmas
 pub mod Loops
 pub mod Outcomes
 pub mod Reading
-pub mod Within
 pub mod Parts
 pub mod Grammars

@@ -17,8 +17,7 @@ pub goes_on : {A : Type 0} (read : Cursor → Reading A) (front : List A) (count
 unfolding each_at
 goes_on read front count i c d a total lt h so_far =
     let k : count - i ≡ suc (count - (i + 1)) = omega arith in
-    let one : with_front front (each_at read (count - i) c) ≡ with_front (front ++ a ∷ []) (each_at read (count - (i + 1)) d) = rw (k, h) (regroup front a (each_at read (count - (i + 1)) d)) in
-    sym one ∙ so_far
+    rw (k, h, regroup front a (each_at read (count - (i + 1)) d)) at so_far
 
 pub ends : {A : Type 0} (read : Cursor → Reading A) (o : Option ℕ) (front : List A) (count i : ℕ) (c : Cursor) (total : Reading (List A)) → i < count → MatchOption o ⊤ (λ place. read c ≡ Err place)
     → with_front front (each_at read (count - i) c) ≡ total → MatchOption o ⊤ (λ place. total ≡ Err place)
@@ -26,15 +25,13 @@ unfolding each_at
 ends read None front count i c total lt h so_far = tt
 ends read (Some place) front count i c total lt h so_far =
     let k : count - i ≡ suc (count - (i + 1)) = omega arith in
-    let one : with_front front (each_at read (count - i) c) ≡ Err place = rw (k, h) refl in
-    sym so_far ∙ one
+    sym (rw (k, h) at so_far)
 
 pub is_done : {A : Type 0} (read : Cursor → Reading A) (front : List A) (count i : ℕ) (c : Cursor) (total : Reading (List A)) → count ≤ i → with_front front (each_at read (count - i) c) ≡ total → total ≡ Ok (front, c)
 unfolding each_at
-is_done {A} read front count i c total le so_far =
+is_done read front count i c total le so_far =
     let k : count - i ≡ 0 = omega arith in
-    let one : with_front front (each_at read (count - i) c) ≡ Ok (front, c) = rw k (ap (λ (xs : List A). Ok (xs, c)) (append-nil front)) in
-    sym so_far ∙ one
+    sym (rw (k, append-nil front) at so_far)
 
 unchanged : {A : Type 0} (r : Reading (List A)) → with_front [] r ≡ r
 unchanged (Ok x) = refl
@@ -58,9 +55,7 @@ pub pass_on : {A : Type 0} (read : Cursor → Reading A) (count i : ℕ) (c d : 
 unfolding each_at
 pass_on read count i c d total lt h so_far =
     let k : count - i ≡ suc (count - (i + 1)) = omega arith in
-    let one : skip_reading (each_at read (count - i) c) ≡ (skip_reading (read c) >>= λ u. skip_reading (each_at read (count - (i + 1)) u.1)) = rw k (pass_step read (count - (i + 1)) (read c)) in
-    let two : skip_reading (each_at read (count - i) c) ≡ skip_reading (each_at read (count - (i + 1)) d) = one ∙ ap (λ (m : Reading (Unit {0})). m >>= λ u. skip_reading (each_at read (count - (i + 1)) u.1)) h in
-    sym two ∙ so_far
+    rw (k, pass_step read (count - (i + 1)) (read c), h) at so_far
 
 pub pass_ends : {A : Type 0} (read : Cursor → Reading A) (o : Option ℕ) (count i : ℕ) (c : Cursor) (total : Reading (Unit {0})) → i < count → MatchOption o ⊤ (λ p. skip_reading (read c) ≡ Err p)
     → skip_reading (each_at read (count - i) c) ≡ total → MatchOption o ⊤ (λ p. total ≡ Err p)
@@ -68,16 +63,13 @@ unfolding each_at
 pass_ends read None count i c total lt h so_far = tt
 pass_ends read (Some p) count i c total lt h so_far =
     let k : count - i ≡ suc (count - (i + 1)) = omega arith in
-    let one : skip_reading (each_at read (count - i) c) ≡ (skip_reading (read c) >>= λ u. skip_reading (each_at read (count - (i + 1)) u.1)) = rw k (pass_step read (count - (i + 1)) (read c)) in
-    let two : skip_reading (each_at read (count - i) c) ≡ Err p = one ∙ ap (λ (m : Reading (Unit {0})). m >>= λ u. skip_reading (each_at read (count - (i + 1)) u.1)) h in
-    sym so_far ∙ two
+    sym (rw (k, pass_step read (count - (i + 1)) (read c), h) at so_far)
 
 pub pass_done : {A : Type 0} (read : Cursor → Reading A) (count i : ℕ) (c : Cursor) (total : Reading (Unit {0})) → count ≤ i → skip_reading (each_at read (count - i) c) ≡ total → total ≡ Ok (tt, c)
 unfolding each_at
 pass_done read count i c total le so_far =
     let k : count - i ≡ 0 = omega arith in
-    let one : skip_reading (each_at read (count - i) c) ≡ Ok (tt, c) = rw k refl in
-    sym so_far ∙ one
+    sym (rw k at so_far)
 
 pub pass_begins : {A : Type 0} (read : Cursor → Reading A) (count : ℕ) (c : Cursor) → skip_reading (each_at read (count - 0) c) ≡ skip_reading (each_at read count c)
 pass_begins read count c = let k : count - 0 ≡ count = omega arith in rw k refl

@@ -1,8 +1,9 @@
-ghost use Rattle.std.specs.Prelude.{◌≡◌, ◌++◌, [], OnOk, OnErr};
+ghost use Rattle.std.specs.Prelude.{◌≡◌, ◌++◌, [], length, OnOk, OnErr, IfSome};
+ghost use Rattle.std.specs.List.{flat_map};
 ghost use Rattle.oc_bytes.specs.Numbers.{byte, two_bytes, four_bytes, eight_bytes};
 
 use crate::NoMemory;
-use std::alloc::Global;
+use std::alloc::{AllocError, Global};
 use std::marker::Model;
 
 /// A message that is written field by field. Numbers go out big-endian, as ISO/IEC 13818-1 and 13818-6
@@ -47,6 +48,21 @@ impl Writer {
         self.bytes.extend_from_slice(v)
     }
 
+    /// Puts several runs of bytes as one, one after another. Room for all of them is found before the first is put.
+    pub fn put_each(&mut self, parts: &[&[u8]]) -> Result<(), NoMemory>
+        ensures ok { OnOk result (self.new ≡ self.old ++ flat_map (λ part. part.now) parts.now) }
+        ensures err { OnErr result (self.new ≡ self.old) }
+    {
+        let Some(size) = size_of_all(parts) else {
+            return Err(AllocError);
+        };
+        self.bytes.reserve(size)?;
+        for part in parts {
+            self.bytes.extend_from_slice(part)?;
+        }
+        Ok(())
+    }
+
     /// Puts a number in two bytes.
     pub fn put_u16(&mut self, v: u16) -> Result<(), NoMemory>
         ensures ok { OnOk result (self.new ≡ self.old ++ two_bytes v) }
@@ -77,4 +93,15 @@ impl Writer {
     {
         self.bytes
     }
+}
+
+/// How many bytes these runs have together, or None where no memory could hold so many.
+fn size_of_all(parts: &[&[u8]]) -> Option<usize>
+    ensures { IfSome result (λ size. size ≡ length (flat_map (λ part. part.now) parts.now)) }
+{
+    let mut size: usize = 0;
+    for part in parts {
+        size = size.checked_add(part.len())?;
+    }
+    Some(size)
 }

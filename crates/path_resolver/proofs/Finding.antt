@@ -1,24 +1,17 @@
--- The first element that passes a test, seen through a view, and a walk along names.
-use Rattle.std.proofs.Common.{◌≡◌, ℕ, zero, suc, ◌+◌, ◌<◌, Bool, true, false, nat_eq, ◌==◌, ◌&&◌, List, [], ◌∷◌, length, map, get_or, drop, Option, Some, refl, sym, ap, ◌∙◌, add-one, drop-cons}
+-- The first binding of a name, and a walk along names.
+use Rattle.std.proofs.Common.{◌≡◌, ℕ, zero, suc, ◌+◌, List, [], ◌∷◌, drop, Option, Some, None, refl, sym, ap, ◌∙◌, add-one}
 use Rattle.std.proofs.lemmas.Option.{same_Some}
 use Rattle.std.specs.Prelude.{slice_get}
-use Rattle.std.specs.List.{find}
-use Rattle.std.specs.Cmp.Lexicographic.{pointwise}
-use Rattle.path_tree.specs.Paths.{Bytes, PathNames, same_name}
+use Rattle.path_tree.specs.Paths.{Bytes, PathNames}
 use Rattle.path_resolver.specs.declared.answer.Answer.{Answer}
-use Rattle.path_resolver.specs.Resolving.{Held, Target, walk, turn}
-
-pub here : {A B : Type 0} (v : A → B) (p : B → Bool) (xs : List A) (i : ℕ) (x : A) (all : Option B) → i < length xs → x ≡ get_or xs i x → p (v x) ≡ true → find p (map v (drop i xs)) ≡ all → Some (v x) ≡ all
-here {A = A} v p xs i x all lt is e so_far =
-    let front : drop i xs ≡ x ∷ drop (suc i) xs = drop-cons xs i x lt ∙ ap (λ (y : A). y ∷ drop (suc i) xs) (sym is) in
-    let one : find p (map v (drop i xs)) ≡ Some (v x) = rw (front, e) refl in
-    sym one ∙ so_far
-
-pub later : {A B : Type 0} (v : A → B) (p : B → Bool) (xs : List A) (i : ℕ) (x : A) (all : Option B) → i < length xs → x ≡ get_or xs i x → p (v x) ≡ false → find p (map v (drop i xs)) ≡ all → find p (map v (drop (i + 1) xs)) ≡ all
-later {A = A} v p xs i x all lt is e so_far =
-    let front : drop i xs ≡ x ∷ drop (suc i) xs = drop-cons xs i x lt ∙ ap (λ (y : A). y ∷ drop (suc i) xs) (sym is) in
-    let one : find p (map v (drop i xs)) ≡ find p (map v (drop (suc i) xs)) = rw (front, e) refl in
-    rw add-one (sym one ∙ so_far)
+use Rattle.path_resolver.specs.Resolving.{Held, Target, walk, turn, goes_on, in_folder, by_binding}
+use Rattle.path_resolver.specs.Targets.{BindingGoes, ObjectGoes}
+use Rattle.path_resolver.specs.declared.walking.Step.{Step}
+use Rattle.path_resolver.specs.declared.walking.Step.TheVariants as steps
+use Rattle.biop_object.specs.Objects.{BindingFields}
+use Rattle.biop_object.specs.ObjectReading.{bindings_of, binding_in}
+use Rattle.biop_object.specs.declared.module.Found.{Found}
+use Rattle.biop_object.specs.declared.module.Found.TheVariants as founds
 
 -- ---- one name more
 
@@ -38,3 +31,13 @@ pub goes : (carousel : ℕ) (held : Held) (path : PathNames) (i : ℕ) (name : B
 goes carousel held path i name t next whole e h so_far =
     let one : walk carousel held (drop i path) t ≡ walk carousel held (drop (suc i) path) next = ap (λ (ns : PathNames). walk carousel held ns t) (front_of path i name e) ∙ h (walk carousel held (drop (suc i) path)) in
     rw add-one (sym one ∙ so_far)
+
+-- ---- a folder's first binding of the name
+
+in_folder_is : (rest : Target → Answer) (name : Bytes) (o : Option (List BindingFields)) → in_folder rest name o ≡ by_binding rest (binding_in name o)
+in_folder_is rest name (Some bindings) = refl
+in_folder_is rest name None = refl
+
+pub folder_goes : (name : Bytes) (m k : ℕ) (bytes : Bytes) (found : Found) (o : Option BindingFields) (step : Step) → found ≡ founds.Folder k → o ≡ binding_in name (bindings_of bytes k) → BindingGoes o step → ObjectGoes name m bytes found step
+folder_goes name m k bytes found o (steps.On next) is e h = λ rest. ap (goes_on rest name m bytes) is ∙ in_folder_is rest name (bindings_of bytes k) ∙ ap (by_binding rest) (sym e) ∙ h rest
+folder_goes name m k bytes found o (steps.Ends answer) is e h = λ rest. ap (goes_on rest name m bytes) is ∙ in_folder_is rest name (bindings_of bytes k) ∙ ap (by_binding rest) (sym e) ∙ h rest

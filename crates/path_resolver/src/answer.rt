@@ -1,7 +1,7 @@
 ghost use Rattle.std.specs.Prelude.{◌≡◌, ◌≤◌, ◌<◌, ◌+◌, Some, take, drop, length, slice_get, IfOk, IsSome};
 ghost use Rattle.std.specs.Arc.{arc_value};
 ghost use Rattle.biop_object.specs.ObjectReading.{bindings_of};
-ghost use Rattle.path_resolver.specs.Names.{names_of};
+ghost use Rattle.path_resolver.specs.Names.{names_of, is_first_in};
 
 use biop_object::{Module, Span};
 use oc_bytes::NoMemory;
@@ -102,6 +102,15 @@ impl FolderRef {
         ensures { slice_get self.now i ≡ Some result.now }
     {
         self.module.bindings(self.folder)[i].name.bytes()
+    }
+
+    /// Whether no binding before binding `i` has its name; `i` is from 0 and below `count`. Takes no memory, and finds the
+    /// name by halves.
+    pub fn is_first(&self, i: usize) -> bool
+        requires { i < length self.now }
+        ensures { result ≡ is_first_in self.now i }
+    {
+        self.module.is_first(self.folder, i)
     }
 
     /// The same names in the same module: only the module is shared. The one refusal is out of memory.

@@ -203,6 +203,7 @@ fn lent(rt: HostRuntime) -> Result<(), Fail> {
                 (shared.name(1), folder.name(13)),
                 (b"c".as_slice(), b"p".as_slice())
             );
+            assert_eq!(rt; (folder.is_first(0), folder.is_first(12)), (true, false));
         }
         _ => return Err(Fail::from("no folder")),
     }

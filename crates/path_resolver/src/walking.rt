@@ -2,7 +2,7 @@ ghost use Rattle.std.specs.Prelude.{◌≡◌, ◌==◌, Option, map, IsTrue, If
 ghost use Rattle.std.specs.List.{find};
 ghost use Rattle.std.specs.Option.{option_map};
 ghost use Rattle.std.specs.Arc.{arc_value};
-ghost use Rattle.path_tree.specs.Paths.{Bytes, same_name};
+ghost use Rattle.path_tree.specs.Paths.{Bytes};
 ghost use Rattle.biop_object.specs.Objects.{view_binding};
 ghost use Rattle.biop_object.specs.ObjectReading.{found_of};
 ghost use Rattle.path_resolver.specs.Resolving as resolving;
@@ -40,18 +40,6 @@ fn held_in(table: &[Held], id: u16) -> Option<&Held>
     for held in table {
         if held.line.id == id {
             return Some(held);
-        }
-    }
-    None
-}
-
-/// The first binding of a name.
-fn binding_of<'a>(bindings: &'a [Binding], name: &[u8]) -> Option<&'a Binding>
-    ensures { option_map (λ b. view_binding b.now) result ≡ find (λ b. same_name name.now b.name) (map view_binding bindings.now) }
-{
-    for binding in bindings {
-        if name == binding.name.bytes() {
-            return Some(binding);
         }
     }
     None
@@ -136,13 +124,14 @@ fn along(binding: Option<&Binding>) -> Step<'_>
 }
 
 /// Where a name leads from a location's object.
+#[tactic(auto, using(crate::proofs::Finding::folder_goes))]
 fn next_in<'a>(module: &'a Arc<Module>, location: &Location, name: &[u8]) -> Step<'a>
     ensures { ObjectGoes name.now location.now.module (arc_value module.now) (found_of (arc_value module.now) location.now.key) result }
 {
     let id = location.module;
     match module.find(location.key.bytes()) {
         Found::File(_) => Step::Ends(Answer::NoSuch),
-        Found::Folder(folder) => along(binding_of(module.bindings(folder), name)),
+        Found::Folder(folder) => along(module.binding(folder, name)),
         Found::Other => Step::Ends(Answer::OtherKind(id)),
         Found::Bad(place) => Step::Ends(Answer::Bad(id, place)),
         Found::Missing => Step::Ends(Answer::Dangling(id)),

@@ -1,6 +1,6 @@
 //! Searches among a tree's files, which stand in the order of paths: what lies below a path stands right
 //! after it, and a file that it leads through right before it.
-ghost use Rattle.std.specs.Prelude.{◌≡◌, ◌≤◌, ◌<◌, ◌||◌, ◌==◌, length, take, drop, IfOk, OnOk, OnErr};
+ghost use Rattle.std.specs.Prelude.{◌≡◌, ◌≤◌, ◌<◌, ◌||◌, ◌==◌, length, IfOk, OnOk, OnErr};
 ghost use Rattle.std.specs.List.{dedup, filter_map};
 ghost use Rattle.path_tree.specs.Paths.{same_name, next_name, IsPath};
 ghost use Rattle.path_tree.specs.Trees.{IsTree, is_folder, names_below};

@@ -1,7 +1,17 @@
 use crate::{ApplyFault, Edit, EditFault, Edits, Lookup, Path, PathFault, Tree, apply};
 use oc_bytes::Blob;
 use std::alloc::Global;
+use std::fmt::Display;
 use std::test::Fail;
+
+/// A failure where two texts differ.
+fn same(given: &str, wanted: &str) -> Result<(), Fail> {
+    if given == wanted {
+        Ok(())
+    } else {
+        Err(Fail::new(format_args!("{given} in place of {wanted}")))
+    }
+}
 
 /// The text that a text's path prints, or a word for the fault.
 fn printed(alloc: Global, text: &[u8]) -> Result<String, Fail> {
@@ -13,70 +23,83 @@ fn printed(alloc: Global, text: &[u8]) -> Result<String, Fail> {
     }
 }
 
+/// Texts, each with what is printed after a bar.
+static TEXTS: [&str; 16] = [
+    "/|/",
+    "|bad name 0",
+    "a|bad name 0",
+    "/a//b|bad name 3",
+    "/a/|bad name 3",
+    "//|bad name 1",
+    "/%2f|bad name 1",
+    "/a/%00|bad name 3",
+    "/%4|bad name 1",
+    "/%/1|bad name 1",
+    "/x%4G|bad name 1",
+    "/%41|/A",
+    "/a b/%7e%7F|/a%20b/~%7F",
+    "/a/a/a/a/a/a/a/a/a/a/a/a/a/a/a/a/%|too deep",
+    "/a/a/a/a/a/a/a/a/a/a/a/a/a/a/a/%/%|bad name 31",
+    "/a/a/a/a/a/a/a/a/a/a/a/a/a/a/a/a|/a/a/a/a/a/a/a/a/a/a/a/a/a/a/a/a",
+];
+
+fn prints(alloc: Global, row: &str) -> Result<(), Fail> {
+    let Some((text, wanted)) = row.split_once('|') else {
+        return Err(Fail::new("no bar"));
+    };
+    let given = printed(alloc, text.as_bytes())?;
+    same(given.as_str(), wanted)
+}
+
 #[test]
 fn texts_of_paths(rt: HostRuntime) -> Result<(), Fail> {
-    let cases: [(&[u8], &str); 16] = [
-        (b"/", "/"),
-        (b"", "bad name 0"),
-        (b"a", "bad name 0"),
-        (b"/a//b", "bad name 3"),
-        (b"/a/", "bad name 3"),
-        (b"//", "bad name 1"),
-        (b"/%2f", "bad name 1"),
-        (b"/a/%00", "bad name 3"),
-        (b"/%4", "bad name 1"),
-        (b"/%/1", "bad name 1"),
-        (b"/x%4G", "bad name 1"),
-        (b"/%41", "/A"),
-        (b"/a b/%7e%7F", "/a%20b/~%7F"),
-        (b"/a/a/a/a/a/a/a/a/a/a/a/a/a/a/a/a/%", "too deep"),
-        (b"/a/a/a/a/a/a/a/a/a/a/a/a/a/a/a/%/%", "bad name 31"),
-        (
-            b"/a/a/a/a/a/a/a/a/a/a/a/a/a/a/a/a",
-            "/a/a/a/a/a/a/a/a/a/a/a/a/a/a/a/a",
-        ),
-    ];
-    for (text, wanted) in cases {
-        let given = printed(rt.alloc(), text)?;
-        assert_eq!(rt; given.as_str(), wanted);
+    for row in &TEXTS {
+        prints(rt.alloc(), row)?;
     }
     Ok(())
+}
+
+/// What is printed of a path with one byte, which is escaped.
+fn of_one_byte(alloc: Global, byte: u8) -> Result<String, Fail> {
+    match byte {
+        0 | b'/' => Ok(String::from_str(alloc, "bad name 1")?),
+        b'%' => Ok(String::from_str(alloc, "/%25")?),
+        0x21..=0x7E => Ok(format!(in alloc; "/{}", char::from(byte))?),
+        _ => Ok(format!(in alloc; "/%{byte:02X}")?),
+    }
+}
+
+fn prints_one_byte(alloc: Global, byte: u8) -> Result<(), Fail> {
+    let wanted = of_one_byte(alloc, byte)?;
+    let lower = format!(in alloc; "/%{byte:02x}")?;
+    same(printed(alloc, lower.as_bytes())?.as_str(), wanted.as_str())?;
+    let upper = format!(in alloc; "/%{byte:02X}")?;
+    same(printed(alloc, upper.as_bytes())?.as_str(), wanted.as_str())
 }
 
 #[test]
 fn every_byte_escaped(rt: HostRuntime) -> Result<(), Fail> {
     for byte in 0..=255u8 {
-        let lower = format!(in rt.alloc(); "/%{byte:02x}")?;
-        let upper = format!(in rt.alloc(); "/%{byte:02X}")?;
-        let wanted = match byte {
-            0 | b'/' => String::from_str(rt.alloc(), "bad name 1")?,
-            b'%' => String::from_str(rt.alloc(), "/%25")?,
-            0x21..=0x7E => format!(in rt.alloc(); "/{}", char::from(byte))?,
-            _ => format!(in rt.alloc(); "/%{byte:02X}")?,
-        };
-        assert_eq!(rt;
-            printed(rt.alloc(), lower.as_bytes())?.as_str(),
-            wanted.as_str()
-        );
-        assert_eq!(rt;
-            printed(rt.alloc(), upper.as_bytes())?.as_str(),
-            wanted.as_str()
-        );
+        prints_one_byte(rt.alloc(), byte)?;
     }
     Ok(())
 }
 
 #[test]
-fn names_of_a_path(rt: HostRuntime) -> Result<(), Fail> {
+fn names_of_255_and_254_bytes(rt: HostRuntime) -> Result<(), Fail> {
     let mut text = [b'n'; 256];
     text[0] = b'/';
-    assert!(rt; matches!(Path::parse(rt.alloc(), &text), Err(PathFault::BadName(1))));
+    same(printed(rt.alloc(), &text)?.as_str(), "bad name 1")?;
     let path = Path::parse(rt.alloc(), &text[..255])?.share()?;
-    assert_eq!(rt; path.len(), 1);
-    assert_eq!(rt; path.name(0), &text[1..255]);
-    let folder = Path::parse(rt.alloc(), b"/a/b/c")?.above(2)?;
-    assert_eq!(rt; folder.print()?.as_str(), "/a/b");
+    assert!(rt; path.len() == 1 && path.name(0) == &text[1..255]);
     Ok(())
+}
+
+#[test]
+fn the_path_above(rt: HostRuntime) -> Result<(), Fail> {
+    let path = path(rt.alloc(), "/a/b/c")?;
+    assert!(rt; path.len() == 3);
+    same(path.above(2)?.print()?.as_str(), "/a/b")
 }
 
 fn path(alloc: Global, text: &str) -> Result<Path, Fail> {
@@ -86,103 +109,136 @@ fn path(alloc: Global, text: &str) -> Result<Path, Fail> {
     }
 }
 
-fn blob(alloc: Global, content: &[u8]) -> Result<Blob, Fail> {
-    Ok(Blob::new(alloc, Vec::from_slice(alloc, content)?)?)
+/// Edits, a space between them: a path and what is put there after `=`, or a path that is removed.
+fn edits(alloc: Global, texts: &str) -> Result<Edits, Fail> {
+    let mut edits = Vec::new(alloc);
+    for text in texts.split(' ') {
+        edits.push(edit(alloc, text)?)?;
+    }
+    Ok(Edits::new(edits))
 }
 
-fn put(alloc: Global, text: &str, content: &[u8]) -> Result<Edit, Fail> {
-    Ok(Edit::Put(path(alloc, text)?, blob(alloc, content)?))
+fn edit(alloc: Global, text: &str) -> Result<Edit, Fail> {
+    match text.split_once('=') {
+        Some((place, content)) => {
+            let bytes = Vec::from_slice(alloc, content.as_bytes())?;
+            Ok(Edit::Put(path(alloc, place)?, Blob::new(alloc, bytes)?))
+        }
+        None => Ok(Edit::Remove(path(alloc, text)?)),
+    }
+}
+
+/// The tree of the files that edits put.
+fn tree_of(alloc: Global, texts: &str) -> Result<Tree, Fail> {
+    match apply(alloc, &Tree::empty(alloc), edits(alloc, texts)?.list()) {
+        Ok(tree) => Ok(tree),
+        Err(_) => Err(Fail::from("refused")),
+    }
+}
+
+fn push_text(text: &mut String, bytes: &[u8]) -> Result<(), Fail> {
+    for byte in bytes {
+        text.push(char::from(*byte))?;
+    }
+    Ok(())
+}
+
+/// The files of a tree: the path of each, its bytes after `=`, and a space.
+fn listed(alloc: Global, tree: &Tree) -> Result<String, Fail> {
+    let mut text = String::new(alloc);
+    for i in 0..tree.len() {
+        let (path, content) = tree.file(i);
+        text.push_str(&path.print()?)?;
+        text.push('=')?;
+        push_text(&mut text, content.bytes())?;
+        text.push(' ')?;
+    }
+    Ok(text)
 }
 
 /// What stands at a path, as a text: a file's bytes after `=`, or a folder's names, each after a `/`.
-fn shown(alloc: Global, tree: &Tree, text: &str) -> Result<Vec<u8>, Fail> {
-    let mut shown = Vec::new(alloc);
+fn shown(alloc: Global, tree: &Tree, text: &str) -> Result<String, Fail> {
+    let mut shown = String::new(alloc);
     match tree.lookup(&path(alloc, text)?)? {
         Lookup::File(content) => {
-            shown.push(b'=')?;
-            shown.extend_from_slice(content.bytes())?;
+            shown.push('=')?;
+            push_text(&mut shown, content.bytes())?;
         }
         Lookup::Folder(names) => {
             for name in &names {
-                shown.push(b'/')?;
-                shown.extend_from_slice(name.bytes())?;
+                shown.push('/')?;
+                push_text(&mut shown, name.bytes())?;
             }
         }
-        Lookup::NoSuch => shown.push(b'-')?,
+        Lookup::NoSuch => shown.push('-')?,
     }
     Ok(shown)
 }
 
+/// Paths, each with what stands there after a bar.
+static LOOKUPS: [&str; 6] = [
+    "/|/a/a-b", "/a|/b/c", "/a/b|=5", "/a-b|=1", "/d|-", "/a/b/c|-",
+];
+
+fn shows(alloc: Global, tree: &Tree, row: &str) -> Result<(), Fail> {
+    let Some((text, wanted)) = row.split_once('|') else {
+        return Err(Fail::new("no bar"));
+    };
+    let given = shown(alloc, tree, text)?;
+    same(given.as_str(), wanted)
+}
+
 #[test]
 fn edits_of_a_tree(rt: HostRuntime) -> Result<(), Fail> {
-    let alloc = rt.alloc();
-    let edits = Edits::new(vec![in alloc;
-        put(alloc, "/a-b", b"1")?,
-        put(alloc, "/a/c", b"2")?,
-        put(alloc, "/a/b", b"3")?,
-        put(alloc, "/d", b"4")?,
-        put(alloc, "/a/b", b"5")?,
-        Edit::Remove(path(alloc, "/d")?),
-    ]?);
-    let Ok(tree) = apply(alloc, &Tree::empty(alloc), edits.list()) else {
-        return Err(Fail::from("refused"));
-    };
-    assert_eq!(rt; tree.len(), 3);
-    assert_eq!(rt; tree.file(0).0.print()?.as_str(), "/a/b");
-    assert_eq!(rt; tree.file(2).0.print()?.as_str(), "/a-b");
-    assert_eq!(rt; tree.file(0).1.bytes(), b"5".as_slice());
-    for (text, wanted) in [
-        ("/", "/a/a-b"),
-        ("/a", "/b/c"),
-        ("/a/b", "=5"),
-        ("/a-b", "=1"),
-        ("/d", "-"),
-        ("/a/b/c", "-"),
-    ] {
-        assert_eq!(rt; shown(alloc, &tree, text)?.as_slice(), wanted.as_bytes());
+    let tree = tree_of(rt.alloc(), "/a-b=1 /a/c=2 /a/b=3 /d=4 /a/b=5 /d")?;
+    same(listed(rt.alloc(), &tree)?.as_str(), "/a/b=5 /a/c=2 /a-b=1 ")?;
+    for row in &LOOKUPS {
+        shows(rt.alloc(), &tree, row)?;
     }
     Ok(())
+}
+
+/// Edits, each list with its refusal after a bar.
+static REFUSED: [&str; 4] = [
+    "/c= /a=|Edit(1, FolderThere)",
+    "/c= /=|Edit(1, FolderThere)",
+    "/c= /a/b/c=|Edit(1, ThroughFile)",
+    "/a|Edit(0, NoSuchFile)",
+];
+
+fn refuses(alloc: Global, tree: &Tree, row: &str) -> Result<(), Fail> {
+    let Some((texts, wanted)) = row.split_once('|') else {
+        return Err(Fail::new("no bar"));
+    };
+    match apply(alloc, tree, edits(alloc, texts)?.list()) {
+        Ok(_) => Err(Fail::new("not refused")),
+        Err(fault) => same(format!(in alloc; "{fault:?}")?.as_str(), wanted),
+    }
 }
 
 #[test]
 fn edits_that_are_refused(rt: HostRuntime) -> Result<(), Fail> {
-    let alloc = rt.alloc();
-    let Ok(tree) = apply(alloc, &Tree::empty(alloc), &[put(alloc, "/a/b", b"")?]) else {
-        return Err(Fail::from("refused"));
-    };
-    let cases = [
-        ("/a", EditFault::FolderThere),
-        ("/", EditFault::FolderThere),
-        ("/a/b/c", EditFault::ThroughFile),
-    ];
-    for (text, wanted) in cases {
-        let edits = [put(alloc, "/c", b"")?, put(alloc, text, b"")?];
-        match apply(alloc, &tree, &edits) {
-            Err(ApplyFault::Edit(place, fault)) => {
-                assert_eq!(rt; place, 1);
-                assert_eq!(rt; fault, wanted);
-            }
-            _ => return Err(Fail::from("not refused")),
-        }
+    let tree = tree_of(rt.alloc(), "/a/b=")?;
+    for row in &REFUSED {
+        refuses(rt.alloc(), &tree, row)?;
     }
-    let edits = [Edit::Remove(path(alloc, "/a")?)];
-    assert!(rt;
-        matches!(
-            apply(alloc, &tree, &edits),
-            Err(ApplyFault::Edit(0, EditFault::NoSuchFile))
-        )
-    );
     Ok(())
 }
 
+fn tells<T: Display>(alloc: Global, value: &T, wanted: &str) -> Result<(), Fail> {
+    let text = format!(in alloc; "{value}")?;
+    same(text.as_str(), wanted)
+}
+
 #[test]
-fn faults_as_text(rt: HostRuntime) -> Result<(), Fail> {
-    let text = format!(in rt.alloc(); "{}", PathFault::BadName(3))?;
-    assert_eq!(rt; text.as_str(), "no path: the name at byte 3 is not allowed");
-    let text = format!(in rt.alloc(); "{}", ApplyFault::Edit(1, EditFault::ThroughFile))?;
-    assert_eq!(rt; text.as_str(), "edit 1: the path leads through a file");
-    let path = Path::parse(rt.alloc(), b"/a%20b/%2d")?;
-    let text = format!(in rt.alloc(); "{path}")?;
-    assert_eq!(rt; text.as_str(), "/a%20b/-");
-    Ok(())
+fn values_as_text(rt: HostRuntime) -> Result<(), Fail> {
+    let fault = PathFault::BadName(3);
+    tells(
+        rt.alloc(),
+        &fault,
+        "no path: the name at byte 3 is not allowed",
+    )?;
+    let fault = ApplyFault::Edit(1, EditFault::ThroughFile);
+    tells(rt.alloc(), &fault, "edit 1: the path leads through a file")?;
+    tells(rt.alloc(), &path(rt.alloc(), "/a%20b/%2d")?, "/a%20b/-")
 }

@@ -1,4 +1,4 @@
-ghost use Rattle.std.specs.Prelude.{◌≡◌, ◌++◌, ◌∷◌, ◌<◌, [], ℕ, List, Bool, true, false, length, map, slice_set, Some, None, IfOk, IsErr, OnOk, MatchOption, ◌==◌, ◌&&◌};
+ghost use Rattle.std.specs.Prelude.{◌≡◌, ◌++◌, ◌∷◌, ◌<◌, [], ℕ, List, true, false, length, map, Some, None, IfOk, IsErr, OnOk, ◌==◌, ◌&&◌};
 ghost use Rattle.std.specs.List.{find, position_from, list_any};
 ghost use Rattle.std.specs.Option.{option_map};
 ghost use Rattle.section_stream.specs.Cuts.{Bytes};
@@ -7,7 +7,7 @@ ghost use Rattle.psi_tables.specs.Pats.{PatFields, view_pat};
 ghost use Rattle.psi_tables.specs.Receiving.{pid_of};
 ghost use Rattle.psi_tables.specs.Finding as finding;
 ghost use Rattle.psi_tables.specs.Finding.{choose, is_section, lines_in_section, listed_pids, pat_in};
-ghost use Rattle.psi_tables.specs.Stands.{FollowedState, DirectoryState, FollowsEach, Keeps, view_followed, view_directory, named_by, named_for, section_kept, found_by};
+ghost use Rattle.psi_tables.specs.Stands.{FollowedState, DirectoryState, FollowsEach, Keeps, view_followed, view_directory, named_by, section_kept, found_by};
 ghost use Rattle.psi_tables.specs.Steps.{put, Each, Heard, becomes_followed};
 
 use crate::finder::Find;

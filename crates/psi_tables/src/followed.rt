@@ -1,4 +1,4 @@
-ghost use Rattle.std.specs.Prelude.{◌≡◌, ◌++◌, ◌∷◌, ◌<◌, [], ℕ, List, true, false, length, map, slice_set, Option, IfOk, OnOk, Some, MatchOption, option_and_then, ◌==◌};
+ghost use Rattle.std.specs.Prelude.{◌≡◌, ◌++◌, ◌∷◌, ◌<◌, [], List, false, map, Option, IfOk, OnOk, Some, ◌==◌};
 ghost use Rattle.std.specs.List.{find, position_from};
 ghost use Rattle.std.specs.Option.{option_map};
 ghost use Rattle.section_stream.specs.Cuts.{Bytes};

@@ -1,4 +1,4 @@
-ghost use Rattle.std.specs.Prelude.{◌≡◌, ◌%◌, ◌↔◌, Some, None, Ok, Err, length, IfOk, IsErrOf, MatchResult};
+ghost use Rattle.std.specs.Prelude.{◌≡◌, ◌%◌, Some, None, Ok, Err, IfOk, IsErrOf, MatchResult};
 ghost use Rattle.oc_bytes.specs.Outcome.{Gives};
 ghost use Rattle.psi_tables.specs.Frames.{cause, view, fields_of};
 ghost use Rattle.psi_tables.specs.Pats.{PatFields, ReadsPat, view_pat, read_pat, pat_fault, lines_in, line_of};

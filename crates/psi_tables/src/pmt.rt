@@ -1,10 +1,9 @@
-ghost use Rattle.std.specs.Prelude.{◌≡◌, ◌%◌, ◌↔◌, ◌≤◌, List, ℕ, map, Some, None, Ok, Err, length, IfOk, IsErrOf, MatchResult};
+ghost use Rattle.std.specs.Prelude.{◌≡◌, ◌%◌, ◌≤◌, map, Some, None, Ok, Err, length, IfOk, IsErrOf, MatchResult};
 ghost use Rattle.std.specs.Option.{option_map};
-ghost use Rattle.std.specs.List.{filter_map};
 ghost use Rattle.oc_bytes.specs.Outcome.{Gives};
 ghost use Rattle.psi_tables.specs.Frames.{cause, view, fields_of};
 ghost use Rattle.psi_tables.specs.Pmts as pmts;
-ghost use Rattle.psi_tables.specs.Pmts.{PmtFields, ReadsPmt, view_pmt, view_line, read_pmt, pmt_fault, body_fault, left_fault, stream_bytes, streams_run, lines_of, carousels_in, carousel_of};
+ghost use Rattle.psi_tables.specs.Pmts.{PmtFields, ReadsPmt, view_pmt, view_line, read_pmt, pmt_fault, body_fault, stream_bytes, streams_run, lines_of, carousels_in, carousel_of};
 
 use crate::frame::{Frame, check_crc, frame_of};
 use crate::{Pmt, PmtLine, PsiFault};

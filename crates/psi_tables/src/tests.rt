@@ -3,7 +3,7 @@
 ghost use Rattle.std.specs.Prelude.{◌<◌};
 
 use super::*;
-use std::alloc::Global;
+use std::alloc::{AllocError, Global};
 use std::test::Fail;
 use ts_packet::build;
 
@@ -103,160 +103,250 @@ fn part(pid: u16, counter: u8, section: &[u8], place: usize) -> [u8; 188]
     build(pid, place == 0, counter % 16, &payload)
 }
 
-/// Hands a section of fewer than 184 bytes to the finder.
-fn send(finder: &mut Finder, pid: u16, counter: u8, section: &[u8]) -> Result<(), Fail>
-    requires pid { pid < 8192 }
+/// A table that a test sends.
+#[derive(Clone, Copy)]
+enum Sent {
+    Pat,
+    NextPat,
+    SecondPat,
+    Shared,
+    Pmt,
+    Other,
+    NoStream,
+    CutDescriptor,
+    LastFollowed,
+    OneTooMany,
+}
+
+/// The one packet of a table.
+fn packet(table: Sent, pid: u16, counter: u8) -> [u8; 188]
+    requires { pid < 8192 }
 {
-    finder.feed(&part(pid, counter, section, 0))?;
+    match table {
+        Sent::Pat => part(pid, counter, &PAT, 0),
+        Sent::NextPat => part(pid, counter, &NEXT_PAT, 0),
+        Sent::SecondPat => part(pid, counter, &SECOND_PAT, 0),
+        Sent::Shared => part(pid, counter, &SHARED, 0),
+        Sent::Pmt => part(pid, counter, &PMT, 0),
+        Sent::Other => part(pid, counter, &OTHER, 0),
+        Sent::NoStream => part(pid, counter, &NO_STREAM, 0),
+        Sent::CutDescriptor => part(pid, counter, &CUT_DESCRIPTOR, 0),
+        Sent::LastFollowed => part(pid, counter, &LAST_FOLLOWED, 0),
+        Sent::OneTooMany => part(pid, counter, &ONE_TOO_MANY, 0),
+    }
+}
+
+/// Hands a table's packet to the finder.
+fn hand(finder: &mut Finder, table: Sent, pid: u16, counter: u8) -> Result<(), Fail> {
+    if pid >= 8192 {
+        return Err(Fail::new("no PID"));
+    }
+    finder.feed(&packet(table, pid, counter))?;
     Ok(())
+}
+
+/// Hands a table's packet to the finder; a failure where the carousel is elsewhere after it.
+fn send(finder: &mut Finder, table: Sent, pid: u16, counter: u8, wanted: Find) -> Result<(), Fail> {
+    hand(finder, table, pid, counter)?;
+    finds(finder, wanted)
+}
+
+/// A failure where the carousel is elsewhere.
+fn finds(finder: &Finder, wanted: Find) -> Result<(), Fail> {
+    if finder.find() == wanted {
+        Ok(())
+    } else {
+        Err(Fail::new("found elsewhere"))
+    }
 }
 
 /// The tables as they come, and where the carousel is after each.
 #[test]
 fn the_carousel_is_found(rt: HostRuntime) -> Result<(), Fail> {
     let mut finder = Finder::new(rt.alloc(), 1)?;
-    send(&mut finder, 32, 0, &PMT)?;
-    assert_eq!(rt; finder.find(), Find::NoPat);
+    send(&mut finder, Sent::Pmt, 32, 0, Find::NoPat)?;
     // the map table came before the PAT listed its PID
-    send(&mut finder, 0, 0, &PAT)?;
-    assert_eq!(rt; finder.find(), Find::NotNamed);
-    send(&mut finder, 32, 1, &PMT)?;
-    assert_eq!(rt; finder.find(), Find::At(256));
+    send(&mut finder, Sent::Pat, 0, 0, Find::NotNamed)?;
+    send(&mut finder, Sent::Pmt, 32, 1, Find::At(256))?;
     // another version lists another program
-    send(&mut finder, 0, 1, &NEXT_PAT)?;
-    assert_eq!(rt; finder.find(), Find::NotNamed);
-    send(&mut finder, 33, 0, &OTHER)?;
-    assert_eq!(rt; finder.find(), Find::At(400));
+    send(&mut finder, Sent::NextPat, 0, 1, Find::NotNamed)?;
+    send(&mut finder, Sent::Other, 33, 0, Find::At(400))?;
     // the version before is in force again, now in two sections, of which that of number 0 comes first
-    send(&mut finder, 0, 2, &SECOND_PAT)?;
-    assert_eq!(rt; finder.find(), Find::At(256));
-    Ok(())
+    send(&mut finder, Sent::SecondPat, 0, 2, Find::At(256))
 }
 
 /// Two programs on one PID: the last map table of each counts.
 #[test]
 fn programs_share_a_pid(rt: HostRuntime) -> Result<(), Fail> {
     let mut finder = Finder::new(rt.alloc(), 1)?;
-    send(&mut finder, 0, 0, &SHARED)?;
-    send(&mut finder, 32, 0, &OTHER)?;
-    assert_eq!(rt; finder.find(), Find::At(400));
-    send(&mut finder, 32, 1, &PMT)?;
-    assert_eq!(rt; finder.find(), Find::At(256));
-    send(&mut finder, 32, 2, &NO_STREAM)?;
-    assert_eq!(rt; finder.find(), Find::At(400));
-    send(&mut finder, 32, 3, &CUT_DESCRIPTOR)?;
-    assert_eq!(rt; finder.find(), Find::At(400));
-    Ok(())
+    hand(&mut finder, Sent::Shared, 0, 0)?;
+    send(&mut finder, Sent::Other, 32, 0, Find::At(400))?;
+    send(&mut finder, Sent::Pmt, 32, 1, Find::At(256))?;
+    send(&mut finder, Sent::NoStream, 32, 2, Find::At(400))?;
+    send(&mut finder, Sent::CutDescriptor, 32, 3, Find::At(400))
 }
 
-/// Of 65 PIDs the first 64 are followed. The table has two packets.
+/// A finder of a carousel that heard the table of 65 programs, which has two packets.
+fn finder_of_many(alloc: Global, carousel: u32) -> Result<Finder, Fail> {
+    let mut finder = Finder::new(alloc, carousel)?;
+    finder.feed(&part(0, 0, &MANY, 0))?;
+    finder.feed(&part(0, 1, &MANY, 184))?;
+    Ok(finder)
+}
+
+/// Of 65 PIDs the first 64 are followed.
 #[test]
 fn the_first_64_pids_are_followed(rt: HostRuntime) -> Result<(), Fail> {
-    let mut first = Finder::new(rt.alloc(), 1)?;
-    let mut second = Finder::new(rt.alloc(), 2)?;
-    let front = part(0, 0, &MANY, 0);
-    let back = part(0, 1, &MANY, 184);
-    first.feed(&front)?;
-    first.feed(&back)?;
-    second.feed(&front)?;
-    second.feed(&back)?;
-    send(&mut first, 95, 0, &LAST_FOLLOWED)?;
-    send(&mut second, 96, 0, &ONE_TOO_MANY)?;
-    assert_eq!(rt; first.find(), Find::At(401));
-    assert_eq!(rt; second.find(), Find::NotNamed);
-    Ok(())
+    let mut first = finder_of_many(rt.alloc(), 1)?;
+    let mut second = finder_of_many(rt.alloc(), 2)?;
+    send(&mut first, Sent::LastFollowed, 95, 0, Find::At(401))?;
+    send(&mut second, Sent::OneTooMany, 96, 0, Find::NotNamed)
 }
 
-/// The tables that are written are, byte for byte, those that another program makes, and they name the carousel.
+/// The packets of the tables that are written.
+fn announced(alloc: Global) -> Result<Vec<[u8; 188]>, Fail> {
+    let mut out = Vec::new(alloc);
+    let mut announcer = Announcer::new(alloc, 1)?;
+    announcer.packets(&mut out)?;
+    Ok(out)
+}
+
+/// The tables that are written are, byte for byte, those that another program makes.
 #[test]
 fn written_tables_are_those_of_another_program(rt: HostRuntime) -> Result<(), Fail> {
-    assert_eq!(rt; written_pat(rt.alloc())?.as_slice(), PAT.as_slice());
-    assert_eq!(rt; written_pmt(rt.alloc(), 1)?.as_slice(), PMT.as_slice());
-    let mut out = Vec::new(rt.alloc());
-    let mut announcer = Announcer::new(rt.alloc(), 1)?;
-    announcer.packets(&mut out)?;
-    assert_eq!(rt; out.len(), 2);
+    let pat = written_pat(rt.alloc())?;
+    assert!(rt; pat.as_slice() == PAT.as_slice());
+    let pmt = written_pmt(rt.alloc(), 1)?;
+    assert!(rt; pmt.as_slice() == PMT.as_slice());
+    Ok(())
+}
+
+/// The tables that are written name the carousel.
+#[test]
+fn written_tables_name_the_carousel(rt: HostRuntime) -> Result<(), Fail> {
+    let packets = announced(rt.alloc())?;
+    assert!(rt; packets.len() == 2);
     let mut finder = Finder::new(rt.alloc(), 1)?;
-    for packet in &out {
+    for packet in &packets {
         finder.feed(packet)?;
     }
-    assert_eq!(rt; finder.find(), Find::At(256));
-    Ok(())
+    finds(&finder, Find::At(256))
 }
 
-/// What is read of tables.
+fn is_line(line: Option<&PatLine>, program: u16, pid: u16) -> bool {
+    match line {
+        Some(line) => line.program == program && line.pid == pid,
+        None => false,
+    }
+}
+
+fn is_shared(pat: &Pat) -> bool {
+    pat.stream == 1
+        && pat.version == 0
+        && pat.number == 0
+        && pat.lines.len() == 2
+        && is_line(pat.lines.first(), 1, 32)
+        && is_line(pat.lines.last(), 2, 32)
+}
+
+/// What is read of a PAT.
 #[test]
-fn tables_are_read(rt: HostRuntime) -> Result<(), Fail> {
-    let pat = decode_pat(rt.alloc(), &SHARED).ok().ok_or("no table")?;
-    assert_eq!(rt; pat.stream, 1);
-    assert_eq!(rt; pat.version, 0);
-    assert_eq!(rt; pat.number, 0);
-    let first = PatLine {
-        program: 1,
-        pid: 32,
-    };
-    let second = PatLine {
-        program: 2,
-        pid: 32,
-    };
-    assert_eq!(rt; pat.lines.as_slice(), [first, second].as_slice());
-    let pmt = decode_pmt(rt.alloc(), &CUT_DESCRIPTOR)
-        .ok()
-        .ok_or("no table")?;
-    assert_eq!(rt; pmt.program, 1);
-    let line = pmt.lines.first().ok_or("no stream")?;
-    assert_eq!(rt; line.pid, 256);
-    assert_eq!(rt; line.carousels.as_slice(), [5].as_slice());
+fn a_pat_is_read(rt: HostRuntime) -> Result<(), Fail> {
+    match decode_pat(rt.alloc(), &SHARED) {
+        Ok(pat) => assert!(rt; is_shared(&pat)),
+        Err(_) => return Err(Fail::new("no table")),
+    }
     Ok(())
 }
 
-/// The place of the first fault of a PAT with one byte changed.
-fn pat_fault(alloc: Global, place: usize, byte: u8) -> Option<usize>
-    requires { place < 16 }
-{
-    let mut bytes = PAT;
-    bytes[place] = byte;
-    match decode_pat(alloc, &bytes) {
-        Err(PsiFault::NotPsi(fault)) => Some(fault),
-        _ => None,
+fn is_cut_descriptor(pmt: &Pmt) -> bool {
+    match pmt.lines.first() {
+        Some(line) => {
+            pmt.program == 1 && line.pid == 256 && line.carousels.as_slice() == [5].as_slice()
+        }
+        None => false,
     }
 }
 
-/// The place of the first fault of a map table with one byte changed.
-fn pmt_fault(alloc: Global, place: usize, byte: u8) -> Option<usize>
-    requires { place < 31 }
-{
-    let mut bytes = PMT;
-    bytes[place] = byte;
-    match decode_pmt(alloc, &bytes) {
-        Err(PsiFault::NotPsi(fault)) => Some(fault),
-        _ => None,
+/// What is read of a map table.
+#[test]
+fn a_map_table_is_read(rt: HostRuntime) -> Result<(), Fail> {
+    match decode_pmt(rt.alloc(), &CUT_DESCRIPTOR) {
+        Ok(pmt) => assert!(rt; is_cut_descriptor(&pmt)),
+        Err(_) => return Err(Fail::new("no table")),
+    }
+    Ok(())
+}
+
+/// A table with one byte changed.
+fn changed(alloc: Global, table: &[u8], place: usize, byte: u8) -> Result<Vec<u8>, AllocError> {
+    let mut bytes = table.to_vec(alloc)?;
+    if let Some(to) = bytes.get_mut(place) {
+        *to = byte;
+    }
+    Ok(bytes)
+}
+
+/// A failure where the first fault of a PAT with one byte changed is elsewhere.
+fn pat_fault(alloc: Global, place: usize, byte: u8, wanted: usize) -> Result<(), Fail> {
+    let bytes = changed(alloc, &PAT, place, byte)?;
+    match decode_pat(alloc, &bytes) {
+        Err(PsiFault::NotPsi(fault)) => is_at(fault, wanted),
+        _ => Err(Fail::new("no fault")),
     }
 }
+
+/// A failure where the first fault of a map table with one byte changed is elsewhere.
+fn pmt_fault(alloc: Global, place: usize, byte: u8, wanted: usize) -> Result<(), Fail> {
+    let bytes = changed(alloc, &PMT, place, byte)?;
+    match decode_pmt(alloc, &bytes) {
+        Err(PsiFault::NotPsi(fault)) => is_at(fault, wanted),
+        _ => Err(Fail::new("no fault")),
+    }
+}
+
+fn is_at(fault: usize, wanted: usize) -> Result<(), Fail> {
+    if fault == wanted {
+        Ok(())
+    } else {
+        Err(Fail::new(format_args!("a fault at {fault}")))
+    }
+}
+
+/// A place of the PAT, the byte there, and the place of the fault.
+static PAT_FAULTS: [(usize, u8, usize); 5] = [
+    (0, 2, 0),
+    (1, 0x30, 1),
+    (2, 0x0E, 1),
+    (5, 0xC0, 5),
+    (9, 2, 12),
+];
+
+/// The same of the map table: the program's descriptors, then a stream's, one cut stream, and the CRC.
+static PMT_FAULTS: [(usize, u8, usize); 4] = [
+    (11, 0x11, 12),
+    (16, 0x0B, 17),
+    (16, 0x08, 25),
+    (30, 0, 27),
+];
 
 /// The first fault of tables that don't read.
 #[test]
 fn faults_have_places(rt: HostRuntime) -> Result<(), Fail> {
-    let alloc = rt.alloc();
-    assert_eq!(rt; pat_fault(alloc, 0, 2), Some(0));
-    assert_eq!(rt; pat_fault(alloc, 1, 0x30), Some(1));
-    assert_eq!(rt; pat_fault(alloc, 2, 0x0E), Some(1));
-    assert_eq!(rt; pat_fault(alloc, 5, 0xC0), Some(5));
-    assert_eq!(rt; pat_fault(alloc, 9, 2), Some(12));
-    // the program's descriptors, then a stream's, one cut stream, and the CRC
-    assert_eq!(rt; pmt_fault(alloc, 11, 0x11), Some(12));
-    assert_eq!(rt; pmt_fault(alloc, 16, 0x0B), Some(17));
-    assert_eq!(rt; pmt_fault(alloc, 16, 0x08), Some(25));
-    assert_eq!(rt; pmt_fault(alloc, 30, 0), Some(27));
+    for (place, byte, wanted) in &PAT_FAULTS {
+        pat_fault(rt.alloc(), *place, *byte, *wanted)?;
+    }
+    for (place, byte, wanted) in &PMT_FAULTS {
+        pmt_fault(rt.alloc(), *place, *byte, *wanted)?;
+    }
     Ok(())
 }
 
 #[test]
 fn faults_as_text(rt: HostRuntime) -> Result<(), Fail> {
     let text = format!(in rt.alloc(); "{}", PsiFault::NotPsi(3))?;
-    assert_eq!(rt;
-        text.as_str(),
-        "no section of the table: the field at byte 3 is cut or breaks a rule"
+    assert!(rt;
+        text.as_str() == "no section of the table: the field at byte 3 is cut or breaks a rule"
     );
     Ok(())
 }

@@ -1,4 +1,4 @@
-ghost use Rattle.std.specs.Prelude.{◌≡◌, ℕ, IfOk, OnOk};
+ghost use Rattle.std.specs.Prelude.{◌≡◌, OnOk};
 ghost use Rattle.rehearsal.specs.Lines.{Pending, none_pending, with_edit, without};
 ghost use Rattle.rehearsal.specs.Steps.{Holds};
 

@@ -1,16 +1,16 @@
 -- Memory is asked for only where a section is complete.
-use Rattle.std.proofs.Common.{◌≡◌, ℕ, ◌+◌, ◌<◌, ◌≤◌, Bool, false, List, [], ◌∷◌, ◌++◌, Option, Some, length, take, drop, slice_index, refl, sym, ◌∙◌, ap, subst, arith, length-append}
+use Rattle.std.proofs.Common.{◌≡◌, ℕ, ◌+◌, ◌<◌, ◌≤◌, Bool, false, List, [], ◌∷◌, ◌++◌, Option, Some, length, take, drop, refl, sym, ◌∙◌, ap, subst, arith, length-append}
 use Rattle.std.specs.Prelude.{Result, Ok, Err, OnErr}
 use Rattle.ts_packet.specs.Packets.{Fields}
 use Rattle.section_stream.specs.Cuts.{Bytes, candidates}
 use Rattle.section_stream.specs.Kept.{with_unfinished}
 use Rattle.section_stream.specs.Pieces.{packets_of, rest_of, StandsForBytes}
-use Rattle.section_stream.specs.Rules.{After, DemuxState, Receiving, StandsFor, Whole, after_all, closes, as_grown, jumps_from, one_more, outputs, starts, step, takes}
+use Rattle.section_stream.specs.Rules.{After, DemuxState, Receiving, StandsFor, Whole, after_all, as_grown, jumps_from, one_more, outputs, step, takes}
 use Rattle.section_stream.specs.Steps.{Completes, Gives, HasDone, HasOut, done_by, kept_unless, no_section_in, open_all, with_packet}
 use Rattle.section_stream.specs.declared.counts.Counts.{Counts}
 use Rattle.section_stream.proofs.Bytes.{ends_cut, ends_some, packets_some}
 use Rattle.section_stream.proofs.Feeding.{cuts_step}
-use Rattle.section_stream.proofs.Opening.{starts_is, whole_step}
+use Rattle.section_stream.proofs.Opening.{whole_step}
 use Rattle.section_stream.proofs.Taking.{takes_done}
 
 pub on_err : {T E P : Type 0} (r : Result T E) → P → OnErr r P
@@ -35,25 +35,6 @@ longer xs ys all e h = subst (λ zs. length xs < length zs) (sym e) (omega (arit
 pub open-gives : (here : Bytes) (c : Counts) (n : ℕ) → length here ≤ 188 → no_section_in here ≡ false → as_grown here ≡ Whole n → 0 < length (open_all here c).out
 open-gives here c n h e g =
     subst (λ (a : After). 0 < length a.out) (sym (whole_step here c n h e g)) (more_left (take n here ∷ []) (open_all (drop n here) c).out (omega arith))
-
-first_or_rest : (o : Option Bytes) (payload : Bytes) (c : Counts) (p : ℕ) → p ≡ slice_index payload 0 → p < length payload
-    → 0 < length ((closes o (take p (drop 1 payload)) c).out ++ (open_all (drop (1 + p) payload) (closes o (take p (drop 1 payload)) c).counts).out) → HasOut (starts o payload c)
-first_or_rest o payload c p e h g = record { some = subst (λ (a : After). 0 < length a.out) (sym (starts_is o payload c p e h)) g }
-
-pub starts-first : (o : Option Bytes) (payload : Bytes) (c : Counts) (p : ℕ) (part : Bytes) → p ≡ slice_index payload 0 → p < length payload → part ≡ take p (drop 1 payload)
-    → 0 < length (closes o part c).out → HasOut (starts o payload c)
-starts-first o payload c p part e h q g =
-    let first = closes o (take p (drop 1 payload)) c in
-    first_or_rest o payload c p e h (more_left first.out (open_all (drop (1 + p) payload) first.counts).out (subst (λ x. 0 < length (closes o x c).out) q g))
-
-pub starts-rest : (o : Option Bytes) (payload : Bytes) (c : Counts) (p : ℕ) (part here : Bytes) (k : Counts) → p ≡ slice_index payload 0 → p < length payload → part ≡ take p (drop 1 payload)
-    → here ≡ drop (1 + p) payload → (closes o part c).counts ≡ k → 0 < length (open_all here k).out → HasOut (starts o payload c)
-starts-rest o payload c p part here k e h q r counted g =
-    let first = closes o (take p (drop 1 payload)) c in
-    let same : k ≡ first.counts = sym counted ∙ ap (λ x. (closes o x c).counts) q in
-    first_or_rest o payload c p e h
-    (more_right first.out (open_all (drop (1 + p) payload) first.counts).out
-    (subst (λ x. 0 < length (open_all x first.counts).out) r (subst (λ x. 0 < length (open_all here x).out) same g)))
 
 -- ---- a packet
 

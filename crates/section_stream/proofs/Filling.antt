@@ -1,5 +1,5 @@
 -- A payload that is filled in three writes.
-use Rattle.std.proofs.Common.{◌≡◌, ℕ, ◌+◌, ◌-◌, ◌≤◌, ◌<◌, ◌⊎◌, inl, inr, min, ◌++◌, length, take, drop, replicate, refl, sym, ◌∙◌, ap, arith, append_assoc, length-append, zero-add}
+use Rattle.std.proofs.Common.{◌≡◌, ℕ, ◌+◌, ◌-◌, ◌≤◌, ◌<◌, ◌⊎◌, inl, inr, min, [], ◌∷◌, ◌++◌, length, take, drop, replicate, nat_lt, false, append-nil, refl, sym, ◌∙◌, ap, arith, append_assoc, length-append, zero-add}
 use Rattle.std.proofs.lemmas.List.{drop_all, drop-replicate}
 use Rattle.std.proofs.Math.Seq.{take-append_seam, drop-append-add}
 use Rattle.std.proofs.lemmas.Bool.{cases_lt}
@@ -33,6 +33,12 @@ three_writes pointer held front one two three h a b c =
     ∙ second_write (pointer ++ held) front left in
     let spare : left - length front ≡ 184 - length (pointer ++ (held ++ front)) = omega (arith, length-append pointer (held ++ front), length-append held front) in
     third ∙ ap (λ n. (pointer ++ held) ++ (front ++ stuffing n)) spare ∙ simp append_assoc
+
+-- a front that fills the payload stands alone in it
+pub no_stuffing : (pointer held front : Bytes) → length pointer + length held + length front ≤ 184 → length front ≡ 184 → (with_stuffing (pointer ++ (held ++ front)) ≡ front) × (nat_lt 0 (length pointer) ≡ false)
+no_stuffing [] [] front h e = let none : 184 - length front ≡ 0 = omega (arith, e) in (ap (λ n. front ++ replicate n 0xFF) none ∙ append-nil front, refl)
+no_stuffing [] (x ∷ xs) front h e = absurd (omega (arith, h, e))
+no_stuffing (x ∷ xs) held front h e = absurd (omega (arith, h, e))
 
 -- ---- the bytes of one packet, where there are that many
 

@@ -288,10 +288,6 @@ leaves_start o begun s ss k h all i = go (fill (5 + length begun) (183 - length 
         fewer = omega (arith, some, sizes);
       })
 
-none_is : (rest : List Bytes) → is_none rest ≡ true → rest ≡ []
-none_is [] e = refl
-none_is (s ∷ ss) e = cc
-
 -- a packet of a group leaves the section under way and those after it
 pub laid_leaves : (o : Option Bytes) (begun : Bytes) (rest : List Bytes) (k : Counts) → IsUnderWay o begun → All IsSectionLike rest → is_done begun rest ≡ false
     → Leaves o begun rest (does o k (lay_packet begun rest)) (lay_packet begun rest)

@@ -90,22 +90,6 @@ starts_is o payload c p e h = subst Claim (sym e) at_pointer where
   at_pointer : Claim (slice_index payload 0)
   at_pointer = rw fits refl
 
--- a start packet: the part before its first section, then the sections that begin in it
-pub starts-done : (o : Option Bytes) (payload : Bytes) (c : Counts) (p : ℕ) (part here : Bytes) (left : Option Bytes) (before between candidates : List Bytes) (k counts : Counts)
-    → p ≡ slice_index payload 0 → p < length payload → part ≡ take p (drop 1 payload) → here ≡ drop (1 + p) payload
-    → HasDone (closes o part c) None before between k → HasDone (open_all here k) left between candidates counts
-    → HasDone (starts o payload c) left before candidates counts
-starts-done o payload c p part here left before between candidates k counts e h a b first second =
-    let is : starts o payload c ≡ with_out (closes o part c).out (open_all here k) =
-    starts_is o payload c p e h ∙ ap (λ x. with_out (closes o x c).out (open_all (drop (1 + p) payload) (closes o x c).counts)) (sym a)
-    ∙ ap (λ x. with_out (closes o part c).out (open_all x (closes o part c).counts)) (sym b)
-    ∙ ap (λ x. with_out (closes o part c).out (open_all here x)) first.counted in
-    record {
-      opened = ap (λ x. x.opened) is ∙ second.opened;
-      out = second.out ∙ ap (λ x. x ++ (open_all here k).out) first.out ∙ append_assoc before (closes o part c).out (open_all here k).out ∙ ap (λ out. before ++ out) (sym (ap (λ x. x.out) is));
-      counted = ap (λ x. x.counts) is ∙ second.counted;
-    }
-
 -- the slice between two places
 pub part_is : (payload : Bytes) (p : ℕ) → take (1 + p - 1) (drop 1 payload) ≡ take p (drop 1 payload)
 part_is payload p = ap (λ n. take n (drop 1 payload)) (omega arith)

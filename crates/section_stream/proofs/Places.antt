@@ -37,9 +37,6 @@ rises_at e lo (n ∷ ns) r (suc i) (suc j) d lt inside = rises_at e (n + e) ns r
 
 -- ---- packets that were received
 
-numbers : List Received → List ℕ
-numbers rs = map (λ r. r.number) rs
-
 kept_number : (pid n : ℕ) (r : Result Fields PacketFault) (x : Received) → kept_of pid n r ≡ Some x → x.number ≡ n
 kept_number pid n (Err f) x e = cc
 kept_number pid n (Ok p) x e = go ((p.pid == pid) && not (length p.payload == 0)) e where

@@ -4,7 +4,7 @@ use Rattle.std.proofs.lemmas.List.{take_all, drop_all}
 use Rattle.std.proofs.lemmas.Bool.{leb-true, lt-leb}
 use Rattle.ts_packet.specs.Packets.{packet_bytes}
 use Rattle.section_stream.specs.Cuts.{Bytes}
-use Rattle.section_stream.specs.Packing.{MuxState, Back, Held, with_stuffing, give, send_begun, sent_of, put, number_packets, packets_of, past}
+use Rattle.section_stream.specs.Packing.{MuxState, Back, Held, with_stuffing, give, send_begun, sent_of, put, number_packets, past}
 
 -- ---- what is left of a begun section
 
@@ -105,41 +105,12 @@ put_by room tail body s t =
     if t then record { given = []; tail = tail; body = body ++ s }
     else give (true, length tail ∷ (tail ++ (body ++ take room s))) (sent_of (drop room s))
 
--- it leaves room
-put_small : (m : MuxState) (s : Bytes) → length s < 183 - (length m.tail + length m.body) → put m.tail m.body s ≡ record { given = []; tail = m.tail; body = m.body ++ s }
-put_small m s h =
-    let t : nat_lt (length s) (183 - (length m.tail + length m.body)) ≡ true = grind (arith, h) in
-    ap (put_by (183 - (length m.tail + length m.body)) m.tail m.body s) t
-
-pub small_packets : (m : MuxState) (s : Bytes) (out : List Bytes) → length s < 183 - (length m.tail + length m.body) → out ≡ out ++ packets_of m s
-small_packets m s out h = sym (ap (λ (x : Held). out ++ number_packets m.pid m.counter x.given) (put_small m s h) ∙ append-nil out)
-
-pub small_past : (m : MuxState) (s : Bytes) → length s < 183 - (length m.tail + length m.body) → m.counter < 16
-    → record { pid = m.pid; counter = m.counter; tail = m.tail; body = m.body ++ s } ≡ past m s
-small_past m s h k =
-    let here : m.counter ≡ (m.counter + 0) % 16 = omega (arith, k) in
-    ap (λ c. record { pid = m.pid; counter = c; tail = m.tail; body = m.body ++ s }) here
-    ∙ sym (ap (λ (x : Held). record { pid = m.pid; counter = (m.counter + length x.given) % 16; tail = x.tail; body = x.body }) (put_small m s h))
-
 -- it fills the packet under way
 put_large : (m : MuxState) (s : Bytes) (room : ℕ) → room ≡ 183 - (length m.tail + length m.body) → room ≤ length s
     → put m.tail m.body s ≡ give (true, length m.tail ∷ (m.tail ++ (m.body ++ take room s))) (sent_of (drop room s))
 put_large m s room e h =
     let t : nat_lt (length s) room ≡ false = grind (arith, h) in
     ap (λ k. put_by k m.tail m.body s (nat_lt (length s) k)) (sym e) ∙ ap (put_by room m.tail m.body s) t
-
-pub large_packets : (m : MuxState) (s : Bytes) (room : ℕ) (held front behind : Bytes) (out one two : List Bytes) → room ≡ 183 - (length m.tail + length m.body) → room ≤ length s
-    → held ≡ m.tail ++ m.body → front ≡ take room s → behind ≡ drop room s
-    → one ≡ out ++ packet_bytes m.pid true m.counter (with_stuffing (length m.tail ∷ (held ++ front))) ∷ []
-    → two ≡ one ++ number_packets m.pid ((m.counter + 1) % 16) (sent_of behind).given
-    → two ≡ out ++ packets_of m s
-large_packets m s room held front behind out one two e h a f b o t =
-    let bytes : held ++ front ≡ m.tail ++ (m.body ++ take room s) = ap (λ x. x ++ front) a ∙ ap (λ x. (m.tail ++ m.body) ++ x) f ∙ append_assoc m.tail m.body (take room s) in
-    t ∙ ap (λ x. x ++ number_packets m.pid ((m.counter + 1) % 16) (sent_of behind).given) o
-    ∙ append_assoc out (packet_bytes m.pid true m.counter (with_stuffing (length m.tail ∷ (held ++ front))) ∷ []) (number_packets m.pid ((m.counter + 1) % 16) (sent_of behind).given)
-    ∙ ap (λ x. out ++ (packet_bytes m.pid true m.counter (with_stuffing (length m.tail ∷ x)) ∷ number_packets m.pid ((m.counter + 1) % 16) (sent_of behind).given)) bytes
-    ∙ ap (λ x. out ++ (packet_bytes m.pid true m.counter (with_stuffing (length m.tail ∷ (m.tail ++ (m.body ++ take room s)))) ∷ number_packets m.pid ((m.counter + 1) % 16) (sent_of x).given)) b
-    ∙ sym (ap (λ (x : Held). out ++ number_packets m.pid m.counter x.given) (put_large m s room e h))
 
 pub large_past : (m : MuxState) (s : Bytes) (room : ℕ) (behind tail : Bytes) (counter : ℕ) → room ≡ 183 - (length m.tail + length m.body) → room ≤ length s → behind ≡ drop room s
     → tail ≡ (sent_of behind).tail → counter ≡ ((m.counter + 1) % 16 + length (sent_of behind).given) % 16
@@ -151,11 +122,6 @@ large_past m s room behind tail counter e h b t k =
     ∙ ap (λ x. record { pid = m.pid; counter = (m.counter + suc (length (sent_of behind).given)) % 16; tail = (sent_of behind).tail; body = x }) (sym (sent_body behind))
     ∙ ap (λ x. record { pid = m.pid; counter = (m.counter + suc (length (sent_of x).given)) % 16; tail = (sent_of x).tail; body = (sent_of x).body }) b
     ∙ sym (ap (λ (x : Held). record { pid = m.pid; counter = (m.counter + length x.given) % 16; tail = x.tail; body = x.body }) (put_large m s room e h))
-
--- then a packet is given
-pub large_gives : (m : MuxState) (s : Bytes) (room : ℕ) → room ≡ 183 - (length m.tail + length m.body) → room ≤ length s → 0 < length (packets_of m s)
-large_gives m s room e h =
-    subst (λ (x : Held). 0 < length (number_packets m.pid m.counter x.given)) (sym (put_large m s room e h)) (omega arith)
 
 -- what is held back of a section that fills the packet under way
 pub large_state : (m : MuxState) (pid first : ℕ) (held kept : Back) (bytes s behind tail : Bytes) (counter : ℕ)

@@ -1,8 +1,8 @@
 -- A packet that is taken: what is kept and given is what the rules say.
-use Rattle.std.proofs.Common.{◌≡◌, ℕ, Bool, true, false, List, Option, Some, None, if◌then◌else◌, refl, sym, ◌∙◌, ap, ap₂, subst, append-nil}
+use Rattle.std.proofs.Common.{◌≡◌, ℕ, Bool, true, false, List, Option, Some, None, if◌then◌else◌, refl, sym, ◌∙◌, ap, ap₂, subst}
 use Rattle.ts_packet.specs.Packets.{Fields}
 use Rattle.section_stream.specs.Cuts.{Bytes}
-use Rattle.section_stream.specs.Rules.{Receiving, After, with_counts, goes_on, jumps_from, keeps, one_more, starts, step, takes, up}
+use Rattle.section_stream.specs.Rules.{Receiving, After, goes_on, jumps_from, keeps, one_more, starts, takes, up}
 use Rattle.section_stream.specs.Steps.{Gives, HasDone, done_by, kept_unless, with_packet}
 use Rattle.section_stream.specs.declared.counts.Counts.{Counts}
 
@@ -44,11 +44,6 @@ takes_done s t p jumped last kept c before left now candidates counts is j l k w
           ∙ ap (λ (x : Option Bytes). record { pid = s.pid; last = last; opened = x; counts = counts }) (sym n);
       out = g.out;
     }
-
--- a packet that changes nothing but a count
-pub counted_gives : (s : Receiving) (x : Bytes) (c : Counts) (t : Receiving) (before : List Bytes) → step s x ≡ with_counts (one_more s) c → record s { counts = c } ≡ t → Gives (step s x) t before before
-counted_gives s x c t before e f =
-    subst (λ r. Gives r t before before) (sym e) (record { state = f; out = sym (append-nil before) })
 
 -- with the two counts of a packet as they were, all are
 pub uncounted : (jumped : Bool) (c d e : Counts) → d ≡ with_packet jumped c → e ≡ d → record e { packets = c.packets; jumps = c.jumps } ≡ c

@@ -139,6 +139,7 @@ fn put_rest<'a>(pid: u16, first: u8, section: &'a [u8], out: &mut Vec<[u8; 188]>
 
 /// Puts one packet after those in `out`, where there is room for it: its payload is the pointer field, if a section begins in
 /// it, what was held back, the front of a section, and stuffing.
+#[tactic(auto, using(crate::proofs::Filling::no_stuffing))]
 fn put(pid: u16, counter: u8, pointer: &[u8], held: &[u8], front: &[u8], out: &mut Vec<[u8; 188]>)
     requires pid { pid < 8192 }
     requires counter { counter < 16 }
@@ -148,9 +149,33 @@ fn put(pid: u16, counter: u8, pointer: &[u8], held: &[u8], front: &[u8], out: &m
     ensures room { vec_capacity out.old ≤ vec_capacity out.new }
     ensures one { vec_len out.new ≡ vec_len out.old + 1 }
 {
-    let payload = payload_of(pointer, held, front);
-    // It takes no memory, and so isn't refused.
-    let _ = out.push(build(pid, !pointer.is_empty(), counter, &payload));
+    match front.as_array() {
+        // It is the whole payload, and needs no other buffer.
+        Some(payload) => push(pid, false, counter, payload, out),
+        None => push(
+            pid,
+            !pointer.is_empty(),
+            counter,
+            &payload_of(pointer, held, front),
+            out,
+        ),
+    }
+}
+
+/// Puts the packet with this payload after those in `out`, where there is room for it.
+fn push(pid: u16, start: bool, counter: u8, payload: &[u8; 184], out: &mut Vec<[u8; 188]>)
+    requires pid { pid < 8192 }
+    requires counter { counter < 16 }
+    requires room { vec_len out.old < vec_capacity out.old }
+    ensures packet { out.new.items ≡ out.old.items ++ packet_bytes pid start counter payload.now ∷ [] }
+    ensures room { vec_capacity out.old ≤ vec_capacity out.new }
+    ensures one { vec_len out.new ≡ vec_len out.old + 1 }
+{
+    // There is room, so the push takes no memory and isn't refused. By the test the compiler knows it too, and makes the packet in
+    // its place: the payload is copied once.
+    if out.len() < out.capacity() {
+        let _ = out.push(build(pid, start, counter, payload));
+    }
 }
 
 /// The payload of these bytes, with stuffing after them.

@@ -1,5 +1,5 @@
 //! The lines above `start`, and those below it before their actors.
-ghost use Rattle.std.specs.Prelude.{◌≡◌, ◌++◌, ◌∷◌, [], List, ℕ, map, OnOk, IfOk};
+ghost use Rattle.std.specs.Prelude.{◌≡◌, [], map, OnOk, IfOk};
 ghost use Rattle.path_resolver.specs.declared.shot.Shot.{Shot as ShotFields};
 ghost use Rattle.shot_board.specs.Showers.{shown_by, IsSameBoard};
 ghost use Rattle.session.specs.Acting.{AreInRange, Setting, is_after, steps_where, view_deed, view_staged};

@@ -1,6 +1,5 @@
 //! What happens before the actors' threads begin.
-ghost use Rattle.std.specs.Prelude.{◌≡◌, ◌++◌, ◌∷◌, [], List, ℕ, OnOk};
-ghost use Rattle.std.specs.List.{All};
+ghost use Rattle.std.specs.Prelude.{◌++◌, ◌∷◌, [], List, OnOk};
 ghost use Rattle.session_script.specs.declared.script.Stage.{Stage as Stages};
 ghost use Rattle.session_script.specs.declared.script.Stage.TheVariants.{Before, During};
 ghost use Rattle.path_resolver.specs.declared.shot.Shot.{Shot as ShotFields};

@@ -1,5 +1,5 @@
 //! The seats of the editors.
-ghost use Rattle.std.specs.Prelude.{◌≡◌, ◌++◌, ◌∷◌, ◌<◌, ◌≤◌, [], List, ℕ, length, map, OnOk, IfOk, slice_index_or};
+ghost use Rattle.std.specs.Prelude.{◌≡◌, ◌++◌, ◌∷◌, ◌<◌, ◌≤◌, [], List, length, OnOk, IfOk, slice_index_or};
 ghost use Rattle.std.specs.List.{All, Contains};
 ghost use Rattle.session_script.specs.declared.script.Stage.TheVariants.{Before, During};
 ghost use Rattle.session_script.specs.declared.script.Stage.{Stage};

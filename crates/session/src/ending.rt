@@ -1,5 +1,5 @@
 //! What comes after the actors' threads.
-ghost use Rattle.std.specs.Prelude.{◌≡◌, ◌++◌, ◌∷◌, ◌+◌, ◌<◌, ◌≤◌, [], List, ℕ, map, length, slice_index_or, OnOk, IfOk};
+ghost use Rattle.std.specs.Prelude.{◌≡◌, ◌++◌, ◌∷◌, ◌+◌, ◌<◌, ◌≤◌, [], List, ℕ, map, length, OnOk, IfOk};
 ghost use Rattle.std.specs.List.{All};
 ghost use Rattle.path_resolver.specs.declared.shot.Shot.{Shot as ShotFields};
 ghost use Rattle.path_tree.specs.declared.tree.Edit.{Edit as EditFields};

@@ -1,13 +1,12 @@
 //! The seats of the readers.
-ghost use Rattle.std.specs.Prelude.{◌≡◌, ◌++◌, ◌∷◌, ◌<◌, ◌≤◌, ◌+◌, [], List, ℕ, length, map, slice_index_or, OnOk, IfOk};
+ghost use Rattle.std.specs.Prelude.{◌≡◌, ◌++◌, ◌∷◌, ◌<◌, ◌+◌, [], List, ℕ, length, slice_index_or, OnOk};
 ghost use Rattle.std.specs.List.{All, Contains};
-ghost use mathlib.Core.List.{IsPrefix};
 ghost use Rattle.logbook.specs.Pages.{Book};
 ghost use Rattle.path_resolver.specs.declared.shot.Shot.{Shot as ShotFields};
 ghost use Rattle.session_script.specs.declared.script.Stage.TheVariants.{Before, During};
 ghost use Rattle.session_script.specs.declared.script.Stage.{Stage};
 ghost use Rattle.carousel_world.specs.Events.{Step, Open};
-ghost use Rattle.shot_board.specs.Showers.{shown_by, shower_board, most_by, IsSameBoard};
+ghost use Rattle.shot_board.specs.Showers.{shown_by, shower_board, IsSameBoard};
 ghost use Rattle.session.specs.Acting.{AreApart, IsKnown, Setting, ReadersStand, IsNext, readers_of, steps_where};
 ghost use Rattle.session.specs.Lines.{draws_in, is_before};
 

@@ -1,5 +1,5 @@
 //! The seats that a session begins with.
-ghost use Rattle.std.specs.Prelude.{◌≡◌, ◌≤◌, [], ◌∷◌, List, ℕ, map, length, if◌then◌else◌, IfOk};
+ghost use Rattle.std.specs.Prelude.{◌≡◌, ◌≤◌, [], ◌∷◌, List, map, length, if◌then◌else◌, IfOk};
 ghost use Rattle.path_resolver.specs.declared.shot.Shot.{Shot as ShotFields};
 ghost use Rattle.shot_board.specs.Shots.{Each};
 ghost use Rattle.session_script.specs.declared.script.Stage.{Stage};

@@ -1,5 +1,5 @@
 //! The actors at once.
-ghost use Rattle.std.specs.Prelude.{ℕ, ◌≡◌, ◌<◌, ◌≤◌, ◌+◌, length, slice_index_or};
+ghost use Rattle.std.specs.Prelude.{ℕ, ◌<◌, ◌≤◌, ◌+◌, length, slice_index_or};
 ghost use Rattle.std.specs.List.{All};
 ghost use Rattle.shot_board.specs.Showers.{shown_by, most_by, IsSameBoard};
 ghost use Rattle.station.specs.Passes.{IsStationPass};

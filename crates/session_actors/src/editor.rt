@@ -1,5 +1,5 @@
 //! What an editor does.
-ghost use Rattle.std.specs.Prelude.{◌≡◌, ◌++◌, ◌∷◌, [], List, ℕ, OnOk, OnErr};
+ghost use Rattle.std.specs.Prelude.{◌++◌, ◌∷◌, [], List, ℕ, OnOk, OnErr};
 ghost use Rattle.path_tree.specs.declared.tree.Edit.{Edit as EditFields};
 ghost use Rattle.station.specs.Passes.{IsStationPass};
 ghost use Rattle.session_actors.specs.Seats.{HasCommitted, WouldBeEntered, DidEdit};

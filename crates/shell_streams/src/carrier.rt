@@ -1,4 +1,4 @@
-ghost use Rattle.std.specs.Prelude.{◌≡◌, ◌++◌, ◌∷◌, [], List, map, OnOk};
+ghost use Rattle.std.specs.Prelude.{◌++◌, ◌∷◌, [], List, map, OnOk};
 ghost use Rattle.section_stream.specs.Kept.{view_bytes};
 ghost use Rattle.shell_streams.specs.Cuts.{Bytes};
 ghost use Rattle.shell_streams.specs.Carriers.{Hears, sections_by};

@@ -1,4 +1,4 @@
-ghost use Rattle.std.specs.Prelude.{◌≡◌, ◌≢◌, ◌<◌, ◌≤◌, ◌↔◌, ℕ, [], Ok, Some, None, false, IsTrue, length, IfOk, OnErr};
+ghost use Rattle.std.specs.Prelude.{◌≡◌, ◌≢◌, ◌<◌, ◌≤◌, ◌↔◌, [], Ok, Some, None, false, IsTrue, length, IfOk, OnErr};
 ghost use Rattle.oc_bytes.specs.Outcome.{Rose};
 ghost use Rattle.shell_streams.specs.Cuts.{Bytes, prefix_length};
 ghost use Rattle.shell_streams.specs.Held.{onto_left, IsDry};

@@ -1,4 +1,4 @@
-ghost use Rattle.std.specs.Prelude.{◌≡◌, ◌+◌, ◌-◌, ◌<◌, ◌≤◌, ℕ, [], Ok, false, true, length, take, drop, IfOk, OnErr, IsErr};
+ghost use Rattle.std.specs.Prelude.{◌≡◌, ◌+◌, ◌-◌, ◌<◌, ◌≤◌, ℕ, [], Ok, false, true, length, take, drop, IfOk, OnErr};
 ghost use Rattle.oc_bytes.specs.Outcome.{Rose, Known};
 ghost use Rattle.shell_streams.specs.Held.{onto_left, IsDry, ReadsAfter};
 

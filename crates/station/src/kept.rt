@@ -1,5 +1,5 @@
 // The history as the lock keeps it, and the list that it stands for.
-ghost use Rattle.std.specs.Prelude.{◌≡◌, IfOk, length, ◌≤◌, [], ◌∷◌, List};
+ghost use Rattle.std.specs.Prelude.{◌≡◌, IfOk, length, ◌≤◌};
 ghost use Rattle.std.specs.Arc.{arc_value};
 ghost use Rattle.std.specs.List.{All, Contains};
 ghost use Rattle.generation.specs.Layouts.{items_of as items_in};

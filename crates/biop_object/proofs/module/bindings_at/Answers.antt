@@ -5,4 +5,4 @@ pub unreachable-requires : goal.unreachable-requires
 unreachable-requires c = never_other c.args.index.now c.args.folder c.index-index-folder.result c.requires.below c.index-index-folder.is c.requires.folder c.in_default.not-Folder
 
 pub returns : goal.returns
-returns c = folder_there c.args.index.now c.args.folder c.index-index-folder.result c.in-Folder.bindings c.deref.result.now c.requires.below c.index-index-folder.is c.in-Folder.is c.deref.ensures.value
+returns c = folder_there c.args.index.now c.args.folder c.index-index-folder.result c.in-Folder.bindings c.requires.below c.index-index-folder.is c.in-Folder.is

@@ -1,19 +1,16 @@
-use Rattle.std.proofs.Common.{ap, sym, ◌∙◌, List, ℕ}
-use Rattle.std.specs.Prelude.{nat_eq}
-use Rattle.std.specs.Cmp.Lexicographic.{pointwise}
-use Rattle.biop_object.specs.Index.{view_index}
-use Rattle.biop_object.specs.ObjectReading.{found_from}
-use Rattle.biop_object.proofs.Finding.{found_here, found_later}
+use Rattle.std.proofs.Common.{◌≡◌, ◌∙◌, ap, sym}
+use Rattle.biop_object.specs.ObjectReading.{missing_or_bad}
+use Rattle.biop_object.proofs.Finding.{object_found, object_missed, folder_has}
 use Rattle.biop_object.proofs.module.find_in.Goals as goal
 
-pub returns-then-eq : goal.returns-then-eq
-returns-then-eq c =
-    let o = c.index-index-number.result in
-    let same = ap (λ (k : List ℕ). pointwise nat_eq c.args.key.now k) (sym c.as_slice.ensures.value) ∙ sym c.eq.ensures ∙ c.if-eq.true in
-    c.found.ensures ∙ found_here c.args.index.now c.loop-number.number o c.args.key.now c.args.stop (found_from 0 c.args.key.now (view_index c.args.index.now) c.args.stop) c.loop-number-test.true c.index-index-number.is same c.loop-number.invariant
+pub returns-in-Some-default-clause-found : goal.returns-in-Some-default-clause-found
+returns-in-Some-default-clause-found c = (rw (← c.index-items-number.is) at c.found.ensures) ∙ sym (object_found c.args.key.now c.args.stop c.args.index.now c.in-Some-default.number c.index-items-number.result (sym c.in-Some-default.ensures.first) (rw c.items.ensures at c.index-items-number.is))
 
-pub loop-number-preserved : goal.loop-number-preserved
-loop-number-preserved c =
-    let o = c.index-index-number.result in
-    let other = ap (λ (k : List ℕ). pointwise nat_eq c.args.key.now k) (sym c.as_slice.ensures.value) ∙ sym c.eq.ensures ∙ c.if-eq.false in
-    found_later c.args.index.now c.loop-number.number o c.args.key.now c.args.stop (found_from 0 c.args.key.now (view_index c.args.index.now) c.args.stop) c.loop-number-test.true c.index-index-number.is other c.loop-number.invariant
+pub returns-in-Some-default-clause-folder : goal.returns-in-Some-default-clause-folder
+returns-in-Some-default-clause-folder c = λ k e. folder_has c.args.index.now c.in-Some-default.number k c.index-items-number.result c.in-Some-default.ensures.inside (rw c.items.ensures at c.index-items-number.is) (sym (rw (← c.index-items-number.is) at c.found.ensures) ∙ e)
+
+pub returns-in-None-Some-clause-found : goal.returns-in-None-Some-clause-found
+returns-in-None-Some-clause-found c = sym (object_missed c.args.key.now c.args.stop c.args.index.now (sym c.in-None-Some.ensures.first) ∙ ap missing_or_bad c.in-None-Some.is-1)
+
+pub returns-in-None-None-clause-found : goal.returns-in-None-None-clause-found
+returns-in-None-None-clause-found c = sym (object_missed c.args.key.now c.args.stop c.args.index.now (sym c.in-None-None.ensures.first) ∙ ap missing_or_bad c.in-None-None.is-1)

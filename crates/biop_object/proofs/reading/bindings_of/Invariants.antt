@@ -6,4 +6,4 @@ use Rattle.oc_bytes.proofs.CallerLemmas.{with_front}
 use Rattle.biop_object.proofs.reading.bindings_of.Given as goal
 
 abbrev pub invariant-loop : goal.invariant-loop
-invariant-loop l = with_front (map view_binding l.bindings.items) (each_at (read binding) (l.count - l.counter) l.fields) ≡ each_at (read binding) l.count l.fn.fields
+invariant-loop l = with_front (map view_binding l.bindings) (each_at (read binding) (l.count - l.counter) l.fields) ≡ each_at (read binding) l.count l.fn.fields

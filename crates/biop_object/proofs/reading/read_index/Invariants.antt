@@ -6,7 +6,7 @@ use Rattle.biop_object.proofs.Indexing.{Leads, HasBegun}
 use Rattle.biop_object.proofs.reading.read_index.Given as goal
 
 abbrev pub invariant-loop-fields : goal.invariant-loop-fields
-invariant-loop-fields l = Leads (view_index l.objects.items) l.fields (index_of l.fn.bytes) × HasBegun (from_start l.fn.bytes) l.fields
+invariant-loop-fields l = Leads (view_index l.objects) l.fields (index_of l.fn.bytes) × HasBegun (from_start l.fn.bytes) l.fields
 
 abbrev pub decreases-loop-fields : goal.decreases-loop-fields
 decreases-loop-fields l = length l.fields.rest

@@ -1,20 +1,17 @@
 use Rattle.std.proofs.lemmas.Result.{err_from_is_err_and}
 use Rattle.oc_bytes.specs.Cause.{place_of}
-use Rattle.oc_bytes.specs.Cursor.{each_at, skip_reading}
-use Rattle.oc_bytes.proofs.CallerLemmas.{pass_begins, pass_on, pass_ends, pass_done}
+use Rattle.oc_bytes.proofs.CallerLemmas.{pass_on, pass_ends, pass_done}
 use Rattle.ior_tap.specs.IorReading.{tap_at}
 use Rattle.dsi_dii.proofs.reading.pass_taps.Goals as goal
-
-pub loop-init : goal.loop-init
-loop-init c = pass_begins tap_at c.args.count c.args.fields.now
 
 pub returns-in_err-pass_tap : goal.returns-in_err-pass_tap
 returns-in_err-pass_tap c =
     let p = err_from_is_err_and c.from_residual.result c.from_residual.ensures.1 in
-    rw (p.1, p.2) (pass_ends tap_at (place_of c.in_err-pass_tap.field-0.0) c.args.count c.loop.counter c.loop.fields (skip_reading (each_at tap_at c.args.count c.args.fields.now)) c.loop-test.true c.in_err-pass_tap.ensures c.loop.invariant)
+    let fault = place_of c.in_err-pass_tap.field-0.0 in
+    rw (p.1, p.2) (pass_ends tap_at fault _ _ _ _ c.loop-test.true c.in_err-pass_tap.ensures c.loop.invariant)
 
 pub loop-preserved : goal.loop-preserved
-loop-preserved c = pass_on tap_at c.args.count c.loop.counter c.loop.fields c.pass_tap.new.fields (skip_reading (each_at tap_at c.args.count c.args.fields.now)) c.loop-test.true c.in_ok-pass_tap.ensures c.loop.invariant
+loop-preserved c = pass_on tap_at _ _ _ _ _ c.loop-test.true c.in_ok-pass_tap.ensures c.loop.invariant
 
 pub returns : goal.returns
-returns c = pass_done tap_at c.args.count c.loop.counter c.loop.fields (skip_reading (each_at tap_at c.args.count c.args.fields.now)) c.loop-test.false c.loop.invariant
+returns c = pass_done tap_at _ _ _ _ c.loop-test.false c.loop.invariant

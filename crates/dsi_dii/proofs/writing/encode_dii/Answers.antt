@@ -1,25 +1,25 @@
-use Rattle.std.proofs.Common.{◌≡◌, ◌∙◌, ◌++◌, ◌+◌, ◌*◌, ◌≤◌, length, subst, sym, ap, refl, arith, List, ℕ}
-use Rattle.std.specs.List.{flat_map, All}
-use Rattle.dsi_dii.specs.declared.ModuleLine.{ModuleLine}
-use Rattle.dsi_dii.specs.Controls.{view_dii, dii_spelling, line_bytes, LineFits, ReadsDii}
-use Rattle.dsi_dii.proofs.Spelled.{dii_put, dii_spelled}
+use Rattle.std.proofs.Common.{◌≡◌, ◌+◌, ◌*◌, length, ap, refl, arith}
+use Rattle.dsi_dii.specs.Controls.{view_dii}
+use Rattle.dsi_dii.specs.Spellings.{IsSpellable}
+use Rattle.dsi_dii.proofs.Spelled.{dii_bytes, dii_body_length, dii_spelled}
 use Rattle.dsi_dii.proofs.writing.encode_dii.Goals as goal
 
-spelled : (c : goal.After-done) → c.done.result.items ≡ dii_spelling (view_dii c.args.dii.now)
-spelled c =
-    let count = c.len-count.result in
-    let counted : count ≡ length c.args.dii.now.modules.items = c.len-count.ensures ∙ sym c.deref.ensures.len ∙ ap length c.deref.ensures.value in
-    let lines : c.put_lines.new.writer ≡ c.put_head.new.writer ++ flat_map line_bytes c.args.dii.now.modules.items =
-    c.in_ok-put_lines.ensures.bytes ∙ ap (λ (ls : List ModuleLine). c.put_head.new.writer ++ flat_map line_bytes ls) c.deref.ensures.value in
-    c.done.ensures ∙ dii_put (view_dii c.args.dii.now) (22 + 29 * count) count c.new-writer.result c.put_header.new.writer c.put_head.new.writer c.put_lines.new.writer c.put_u16.new.self
-    counted c.new-writer.ensures c.in_ok-put_header.ensures.bytes c.in_ok-put_head.ensures.bytes lines c.in_ok-put_u16.ensures.ok refl
-
 pub returns-clause-spells : goal.returns-clause-spells
-returns-clause-spells c = spelled c
+returns-clause-spells c =
+    let d = view_dii c.args.dii.now in
+    let count : c.len-count.result ≡ length d.modules = omega (arith, ap length c.deref.ensures.value) in
+    let body : 22 + 29 * c.len-count.result ≡ length (dii_bytes d) = omega (arith, count, dii_body_length d) in
+    rw (c.done.ensures, c.in_ok-put_u16.ensures.ok, c.in_ok-put_lines.ensures.bytes, c.deref.ensures.value)
+    (rw (c.in_ok-put_head.ensures.bytes, c.in_ok-put_header.ensures.bytes, c.new-writer.ensures, body, count) refl)
 
 pub returns-clause-reads : goal.returns-clause-reads
 returns-clause-reads c =
-    let few : length c.args.dii.now.modules.items ≤ 139 = omega (arith, c.len-count.ensures ∙ sym c.deref.ensures.len ∙ ap length c.deref.ensures.value, c.if-count-gt-MOST_MODULES.false) in
-    let fit : All LineFits c.args.dii.now.modules.items = subst (λ (ls : List ModuleLine). All LineFits ls) c.deref.ensures.value c.in_ok-put_lines.ensures.fit in
-    subst (λ (b : List ℕ). ReadsDii b (view_dii c.args.dii.now)) (sym (spelled c))
-    (dii_spelled (view_dii c.args.dii.now) c.requires fit few c.in_ok-put_head.ensures.fits c.in_ok-put_header.ensures.fits)
+    let d = view_dii c.args.dii.now in
+    let spellable : IsSpellable d = record {
+      written = c.requires;
+      lines = rw c.deref.ensures.value at c.in_ok-put_lines.ensures.fit;
+      few = omega (arith, ap length c.deref.ensures.value, c.if-count-gt-MOST_MODULES.false);
+      download = c.in_ok-put_head.ensures.fits;
+      transaction = c.in_ok-put_header.ensures.fits;
+    } in
+    rw (returns-clause-spells c) (dii_spelled d spellable)

@@ -1,6 +1,7 @@
-use Rattle.dsi_dii.proofs.Spelled.{line_put}
+use Rattle.std.proofs.Common.{append_assoc}
 use Rattle.dsi_dii.proofs.writing.put_line.Goals as goal
 
 pub returns-clause-bytes : goal.returns-clause-bytes
-returns-clause-bytes c = line_put c.args.line c.args.writer.now c.put_u16.new.self c.put_u32.new.self c.put_bytes.new.self c.put_bytes-2.new.self
-    c.in_ok-put_u16.ensures.ok c.in_ok-put_u32.ensures.ok c.in_ok-put_bytes.ensures.ok c.in_ok-put_bytes-2.ensures.ok
+returns-clause-bytes c =
+    rw (c.in_ok-put_bytes-2.ensures.ok, c.in_ok-put_bytes.ensures.ok)
+    (rw (c.in_ok-put_u32.ensures.ok, c.in_ok-put_u16.ensures.ok) (simp append_assoc))

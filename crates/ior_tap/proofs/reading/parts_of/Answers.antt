@@ -1,22 +1,37 @@
+use Rattle.std.proofs.Common.{refl, ap, List, [], ◌∷◌, ◌++◌, Ok}
 use Rattle.std.specs.Option.{option_copied}
 use Rattle.std.proofs.lemmas.Result.{err_from_is_err_and}
 use Rattle.oc_bytes.specs.Cause.{place_of}
-use Rattle.ior_tap.specs.IorReading.{parts_at}
-use Rattle.ior_tap.proofs.Loop.{parts_begin, parts_go_on, parts_end, parts_done}
+use Rattle.oc_bytes.specs.Cursor.{Reading, ◌>>=◌, each_at}
+use Rattle.oc_bytes.proofs.CallerLemmas.{begins, goes_on, ends, is_done}
+use Rattle.ior_tap.specs.Iors.{Component, location_tag, binder_tag}
+use Rattle.ior_tap.specs.IorReading.{Parts, component_at, parts_of}
+use Rattle.ior_tap.proofs.Loop.{first_more}
 use Rattle.ior_tap.proofs.reading.parts_of.Goals as goal
 
+abbrev chosen : Reading (List Component) → Reading Parts
+chosen read = read >>= λ x. Ok (parts_of x.0, x.1)
+
 pub loop-init : goal.loop-init
-loop-init c = parts_begin c.args.count c.args.fields.now
+loop-init c = ([], refl, refl, begins component_at c.args.count c.args.fields.now)
 
 pub returns-in_err-component : goal.returns-in_err-component
 returns-in_err-component c =
     let p = err_from_is_err_and c.from_residual.result c.from_residual.ensures.1 in
-    rw (p.1, p.2) (parts_end (place_of c.in_err-component.field-0.0) (option_copied c.loop.parts.location, option_copied c.loop.parts.binder) c.args.count c.loop.counter c.loop.fields (parts_at c.args.count c.args.fields.now) c.loop-test.true c.in_err-component.ensures c.loop.invariant)
+    let s = c.loop.invariant in
+    rw (p.1, p.2) (ap chosen (ends component_at (place_of c.in_err-component.field-0.0) s.0 c.args.count c.loop.counter c.loop.fields (each_at component_at c.args.count c.args.fields.now) c.loop-test.true c.in_err-component.ensures s.3))
 
 pub loop-preserved : goal.loop-preserved
 loop-preserved c =
-    let x = c.in_ok-component.component in
-    rw (c.with-parts.ensures.location, c.with-parts.ensures.binder) (parts_go_on (option_copied c.loop.parts.location, option_copied c.loop.parts.binder) c.args.count c.loop.counter c.loop.fields c.component_of.new.fields (x.tag, x.content.now) (parts_at c.args.count c.args.fields.now) c.loop-test.true c.in_ok-component.ensures c.loop.invariant)
+    let x : Component = (c.in_ok-component.component.tag, c.in_ok-component.component.content.now) in
+    let s = c.loop.invariant in (
+      s.0 ++ x ∷ [],
+      first_more location_tag x s.0 _ _ s.1 c.with-parts.ensures.location,
+      first_more binder_tag x s.0 _ _ s.2 c.with-parts.ensures.binder,
+      goes_on component_at s.0 c.args.count c.loop.counter c.loop.fields c.component_of.new.fields x (each_at component_at c.args.count c.args.fields.now) c.loop-test.true c.in_ok-component.ensures s.3,
+    )
 
 pub returns : goal.returns
-returns c = parts_done (option_copied c.loop.parts.location, option_copied c.loop.parts.binder) c.args.count c.loop.counter c.loop.fields (parts_at c.args.count c.args.fields.now) c.loop-test.false c.loop.invariant
+returns c =
+    let s = c.loop.invariant in
+    rw (s.1, s.2) (ap chosen (is_done component_at s.0 c.args.count c.loop.counter c.loop.fields (each_at component_at c.args.count c.args.fields.now) c.loop-test.false s.3))

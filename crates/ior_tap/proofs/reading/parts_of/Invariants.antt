@@ -1,8 +1,13 @@
-use Rattle.std.proofs.Common.{◌≡◌, ◌-◌}
+use Rattle.std.proofs.Common.{◌≡◌, ◌-◌, List}
 use Rattle.std.specs.Option.{option_copied}
-use Rattle.ior_tap.specs.IorReading.{parts_at}
-use Rattle.ior_tap.proofs.Loop.{with_parts}
+use Rattle.oc_bytes.specs.Cursor.{each_at}
+use Rattle.oc_bytes.proofs.CallerLemmas.{with_front}
+use Rattle.ior_tap.specs.Iors.{Component, component_of, location_tag, binder_tag}
+use Rattle.ior_tap.specs.IorReading.{component_at}
 use Rattle.ior_tap.proofs.reading.parts_of.Given as goal
 
+-- the components that were read, of which the first of each of the two tags are kept
 abbrev pub invariant-loop : goal.invariant-loop
-invariant-loop l = with_parts (option_copied l.parts.location, option_copied l.parts.binder) (parts_at (l.count - l.counter) l.fields) ≡ parts_at l.count l.fn.fields
+invariant-loop l =
+    (front : List Component) × (option_copied l.parts.location ≡ component_of location_tag front) × (option_copied l.parts.binder ≡ component_of binder_tag front)
+    × (with_front front (each_at component_at (l.count - l.counter) l.fields) ≡ each_at component_at l.count l.fn.fields)

@@ -1,9 +1,7 @@
-use Rattle.std.proofs.Common.{arith, refl, sym, ◌∙◌}
-use Rattle.std.specs.Vec.{with_items}
-use Rattle.std.proofs.lemmas.List.{with_items_is}
+use Rattle.std.proofs.Common.{ℕ, ◌*◌, ap, arith, refl, sym, ◌∙◌}
 use Rattle.block_assembler.specs.declared.Offer.TheVariants.{WrongPlace, WrongLength, Again}
 use Rattle.block_assembler.proofs.Calls.{stands_offer}
-use Rattle.block_assembler.proofs.Places.{is_wrong_place, is_wrong_length, is_again, is_new_block, not_taken, taken_through}
+use Rattle.block_assembler.proofs.Places.{is_wrong_place, is_wrong_length, is_again, is_new_block, not_taken, taken}
 use Rattle.block_assembler.proofs.kept.Assembler.offer.Goals as goal
 
 pub returns-then-place-len-clause-answer : goal.returns-then-place-len-clause-answer
@@ -51,10 +49,8 @@ returns-clause-answer c =
 pub returns-clause-after : goal.returns-clause-after
 returns-clause-after c =
     let o = rw (← c.self.view_is) at (returns-clause-answer c) in
-    rw (← c.self.view_is) (taken_through c.self.inside.size c.self.inside.block_size c.self.inside.bytes.items c.self.inside.there.items c.from-place.result c.args.block c.from-2.result c.args.bytes.now
-    c.deref_mut.result.now c.put.new.into (with_items c.self.inside.bytes c.put.new.into).items
-    c.self.invariant.sizes.some_block_size c.from-place.ensures c.from-2.ensures (omega arith) c.self.invariant.bytes c.self.invariant.marks
-    (c.if-bytes-from.false ∙ c.from.ensures ∙ c.block_span.ensures) o c.deref_mut.ensures.value c.put.ensures (with_items_is c.self.inside.bytes c.put.new.into (omega arith)))
+    rw (← c.self.view_is) (taken c.self.inside c.self.invariant c.args.block c.from-place.result _ c.args.bytes.now _ (omega arith) c.from-place.ensures
+    (ap (λ (k : ℕ). c.from-place.result * k) c.from-2.ensures) (c.if-bytes-from.false ∙ c.from.ensures ∙ c.block_span.ensures) o c.put.ensures.bytes)
 
 pub returns-clause-stands : goal.returns-clause-stands
 returns-clause-stands c = stands_offer c.args.self.now _ c.args.block c.args.bytes.now (returns-clause-after c)

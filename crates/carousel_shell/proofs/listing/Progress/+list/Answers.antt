@@ -6,9 +6,9 @@ use Rattle.path_resolver.specs.Resolving.{answer_of}
 use Rattle.path_resolver.specs.Shots.{held_of}
 use Rattle.shell_streams.proofs.CallerLemmas.{puts_nothing, puts_none, puts_ok, puts_as}
 use Rattle.carousel_shell.specs.Listing.{Lists, folder_in, lines_in, paths_below}
-use Rattle.carousel_shell.proofs.Walking.{next_lists, next_puts, full_lists, full_puts, next_stops, below_met, walk_deep, walk_none, lists_one, lists_none, lists_nothing, lines_nothing, stops_at, puts_one, puts_folder, lists_folder, below_some}
+use Rattle.carousel_shell.proofs.Walking.{next_lists, next_puts, full_lists, full_puts, next_stops, below_met, walk_deep, walk_none, lists_one, lists_none, lists_nothing, lines_nothing, stops_at, puts_one, puts_folder, lists_folder, below_some, met, unmet}
 use Rattle.carousel_shell.proofs.listing.Progress.+list.Goals as goal
-use Rattle.carousel_shell.proofs.listing.Progress.+list.Goals.{list_names-then-not-is_met+in_ok-whole+else-not-whole, list_names-else-not-is_met}
+use Rattle.carousel_shell.proofs.listing.Progress.+list.Goals.{list_names-then-is_first+in_ok-whole+else-not-whole, list_names-else-is_first}
 
 pub list_below-returns-in_err-below-clause-puts : goal.list_below-returns-in_err-below-clause-puts
 list_below-returns-in_err-below-clause-puts g t c =
@@ -76,17 +76,17 @@ list_names-returns-in_err-whole-clause-puts g t c =
     let answer = answer_of (held_of c.args.shot.now) in
     let p = err_from_is_err_and c.from_residual.result c.from_residual.ensures.1 in
     rw (p.1, p.2) (next_stops answer (15 - length c.args.path.now) c.args.path.now c.args.folder.now c.loop-i.i c.name-name.result.now c.args.self.now.left c.loop-i.self.left
-    c.name-name.ensures (sym c.is_met.ensures ∙ c.if-not-is_met.true) c.loop-i.invariant.lists.left_is c.loop-i.invariant.puts c.in_err-whole.ensures.puts)
+    c.name-name.ensures (unmet _ _ _ c.name-name.ensures (sym c.is_first.ensures ∙ c.if-is_first.true)) c.loop-i.invariant.lists.left_is c.loop-i.invariant.puts c.in_err-whole.ensures.puts)
 
 pub list_names-returns-then-not-whole-clause-listed : goal.list_names-returns-then-not-whole-clause-listed
 list_names-returns-then-not-whole-clause-listed g t c =
     full_lists (answer_of (held_of c.args.shot.now)) (15 - length c.args.path.now) c.args.path.now c.args.folder.now c.loop-i.i c.name-name.result.now c.args.self.now.left c.args.self.now.all c.loop-i.self.left c.loop-i.self.all _ _
-    c.name-name.ensures (sym c.is_met.ensures ∙ c.if-not-is_met.true) c.loop-i.invariant.lists (rw c.if-not-whole.true at c.in_ok-whole.ensures.listed)
+    c.name-name.ensures (unmet _ _ _ c.name-name.ensures (sym c.is_first.ensures ∙ c.if-is_first.true)) c.loop-i.invariant.lists (rw c.if-not-whole.true at c.in_ok-whole.ensures.listed)
 
 pub list_names-returns-then-not-whole-clause-puts : goal.list_names-returns-then-not-whole-clause-puts
 list_names-returns-then-not-whole-clause-puts g t c =
     puts_ok _ (full_puts (answer_of (held_of c.args.shot.now)) (15 - length c.args.path.now) c.args.path.now c.args.folder.now c.loop-i.i c.name-name.result.now c.args.self.now.left c.args.self.now.all c.loop-i.self.left c.loop-i.self.all _ _
-    c.name-name.ensures (sym c.is_met.ensures ∙ c.if-not-is_met.true) c.loop-i.invariant.lists (rw c.if-not-whole.true at c.in_ok-whole.ensures.listed)
+    c.name-name.ensures (unmet _ _ _ c.name-name.ensures (sym c.is_first.ensures ∙ c.if-is_first.true)) c.loop-i.invariant.lists (rw c.if-not-whole.true at c.in_ok-whole.ensures.listed)
     c.loop-i.invariant.puts c.in_ok-whole.ensures.puts)
 
 pub list_names-loop-i-preserved : goal.list_names-loop-i-preserved
@@ -94,15 +94,15 @@ list_names-loop-i-preserved g t c =
     let answer = answer_of (held_of c.args.shot.now) in
     let room = 15 - length c.args.path.now in
     let inv = c.loop-i.invariant in
-    elim c.if-not-is_met.branch [
-      | list_names-then-not-is_met+in_ok-whole+else-not-whole w ↦ rw (w.self-is, w.out-is) (record {
+    elim c.if-is_first.branch [
+      | list_names-then-is_first+in_ok-whole+else-not-whole w ↦ rw (w.self-is, w.out-is) (record {
         lists = next_lists answer room c.args.path.now c.args.folder.now c.loop-i.i c.name-name.result.now c.args.self.now.left c.args.self.now.all c.loop-i.self.left c.loop-i.self.all _ _
-            c.name-name.ensures (sym c.is_met.ensures ∙ w.if-not-is_met.true) inv.lists (rw w.if-not-whole.false at w.in_ok-whole.ensures.listed);
+            c.name-name.ensures (unmet _ _ _ c.name-name.ensures (sym c.is_first.ensures ∙ w.if-is_first.true)) inv.lists (rw w.if-not-whole.false at w.in_ok-whole.ensures.listed);
         puts = puts_ok tt (next_puts answer room c.args.path.now c.args.folder.now c.loop-i.i c.name-name.result.now c.args.self.now.left c.loop-i.self.left
-            c.name-name.ensures (sym c.is_met.ensures ∙ w.if-not-is_met.true) inv.lists.left_is inv.puts w.in_ok-whole.ensures.puts);
+            c.name-name.ensures (unmet _ _ _ c.name-name.ensures (sym c.is_first.ensures ∙ w.if-is_first.true)) inv.lists.left_is inv.puts w.in_ok-whole.ensures.puts);
       })
-      | list_names-else-not-is_met w ↦
-          let same = below_met answer room c.args.path.now c.args.folder.now c.loop-i.i c.name-name.result.now c.name-name.ensures (sym c.is_met.ensures ∙ w.if-not-is_met.false) in
+      | list_names-else-is_first w ↦
+          let same = below_met answer room c.args.path.now c.args.folder.now c.loop-i.i c.name-name.result.now c.name-name.ensures (met _ _ _ c.name-name.ensures (sym c.is_first.ensures ∙ w.if-is_first.false)) in
           rw (w.self-is, w.out-is) (record {
             lists = subst (λ (ps : List PathNames). Lists answer ps c.args.self.now.left c.args.self.now.all c.loop-i.self.left c.loop-i.self.all true) (sym same) inv.lists;
             puts = puts_as (ap (lines_in answer c.args.self.now.left) (sym same)) inv.puts;

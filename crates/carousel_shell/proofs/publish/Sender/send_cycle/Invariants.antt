@@ -1,13 +1,21 @@
-use Rattle.std.proofs.Common.{◌≡◌, map, take}
-use Rattle.std.specs.List.{concat, fold}
+use Rattle.std.proofs.Common.{length}
+use Rattle.std.specs.List.{All, Contains}
 use Rattle.cycle_planner.specs.Cycle.{cycle_of}
-use Rattle.generation.specs.Layouts.{lines_of, section_of}
-use Rattle.section_stream.specs.Packing.{packets_of_all, past}
+use Rattle.cycle_planner.specs.Walks.{IsWalk, left_of}
+use Rattle.generation.specs.Layouts.{items_of, lines_of, section_of}
+use Rattle.shell_streams.specs.Cuts.{Bytes}
 use Rattle.shell_streams.specs.Sending.{HasPut}
+use Rattle.carousel_shell.proofs.Cycling.{IsSending}
 use Rattle.carousel_shell.proofs.publish.Sender.send_cycle.Given as goal
 
-abbrev pub invariant-loop-at : goal.invariant-loop-at
-invariant-loop-at g l = record {
-  puts : HasPut (g.O.Output.state l.fn.out) (g.O.Output.state l.out) (concat (packets_of_all l.fn.self.mux (map (section_of l.generation) (take l.at (cycle_of l.weigh.weights (lines_of l.generation))))));
-  mux : l.self.mux ≡ fold past l.fn.self.mux (map (section_of l.generation) (take l.at (cycle_of l.weigh.weights (lines_of l.generation))));
+abbrev pub invariant-loop-item : goal.invariant-loop-item
+invariant-loop-item g l = record {
+  walk : IsWalk l.weigh.weights l.lines l.walk;
+  own : All (Contains (items_of l.generation)) (left_of l.weigh.weights l.lines l.walk);
+  put : Bytes;
+  puts : HasPut (g.O.Output.state l.fn.out) (g.O.Output.state l.out) put;
+  sending : IsSending (section_of l.generation) l.fn.self.mux l.self.mux (cycle_of l.weigh.weights (lines_of l.generation)) (left_of l.weigh.weights l.lines l.walk) put;
 }
+
+abbrev pub decreases-loop-item : goal.decreases-loop-item
+decreases-loop-item g l = length (left_of l.weigh.weights l.lines l.walk)
