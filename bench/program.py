@@ -27,6 +27,14 @@ def find():
     return built
 
 
+def measured_work(*words):
+    """The words that start a work of crates/bench_programs; that program is proved and built first where it is missing or old."""
+    folder = os.path.join(TOP, "crates", "bench_programs")
+    how = {"stdin": subprocess.DEVNULL, "stdout": subprocess.DEVNULL, "stderr": subprocess.DEVNULL}
+    subprocess.run(["rt", "run", "--", "crc"], cwd=folder, check=True, **how)
+    return [os.path.join(folder, "out", "bench_programs"), *words]
+
+
 def compiled(name):
     """The program of a Rust source in this folder, compiled by rustc."""
     made = os.path.join(WORK, name)

@@ -26,6 +26,3 @@ pub use written::{
     Bound, FILE_BINDING, FILE_FRONT, FOLDER_BINDING, FOLDER_FRONT, FolderKind, MOST_FOLDER_SIZE,
     ObjectFault, Written, encode_file, encode_folder,
 };
-
-#[cfg(test)]
-mod tests;

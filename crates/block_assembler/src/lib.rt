@@ -54,6 +54,3 @@ pub enum Offer {
     /// The block was taken.
     New,
 }
-
-#[cfg(test)]
-mod tests;

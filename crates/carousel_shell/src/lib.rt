@@ -40,18 +40,3 @@ pub use listing::MOST_LINES;
 pub use plain::{MOST_OPENED, run_plain};
 pub use rehearse::MOST_SCRIPT_BYTES;
 pub use status::Status;
-
-#[cfg(test)]
-mod failing_tests;
-#[cfg(test)]
-mod listing_tests;
-#[cfg(test)]
-mod psi_tests;
-#[cfg(test)]
-mod publish_tests;
-#[cfg(test)]
-mod record_tests;
-#[cfg(test)]
-mod rehearse_tests;
-#[cfg(test)]
-mod tests;

@@ -33,6 +33,3 @@ pub use laws::{
 };
 pub use ts_packet::Fate;
 pub use world::World;
-
-#[cfg(test)]
-mod tests;

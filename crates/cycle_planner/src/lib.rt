@@ -142,6 +142,3 @@ fn block_at(lines: &[(u16, u32)], weigh: &Weigh, number: u8, at: u64) -> Item
     }
     unreachable!()
 }
-
-#[cfg(test)]
-mod tests;

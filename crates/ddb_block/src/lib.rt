@@ -252,6 +252,3 @@ pub fn block_span(size: u32, block_size: u16, block: u16) -> u16
     let left = u64::from(size).saturating_sub(u64::from(block) * u64::from(block_size));
     left.min(u64::from(block_size)) as u16
 }
-
-#[cfg(test)]
-mod tests;

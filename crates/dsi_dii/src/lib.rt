@@ -191,6 +191,3 @@ pub fn distance(old: u16, new: u16) -> u16
 {
     (new + 16384 - old) % 16384
 }
-
-#[cfg(test)]
-mod tests;

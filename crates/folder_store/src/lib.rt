@@ -26,8 +26,3 @@ pub use laws::edits_make_the_files;
 pub use memory::MemFolders;
 pub use reading::{ReadTree, TreeFault, read_tree};
 pub use real::OsFolders;
-
-#[cfg(test)]
-mod reading_tests;
-#[cfg(test)]
-mod tests;

@@ -20,8 +20,6 @@ mod limit;
 mod made;
 mod objects;
 mod spots;
-#[cfg(test)]
-mod tests;
 mod unchanged;
 
 pub use laws::{equal_versions_mean_equal_bytes, generations_are_of_the_lists, layouts_are_lawful};

@@ -31,6 +31,3 @@ pub use entry::{Batch, CommitFault, DrawFault, Entry, Refusal};
 pub use journal::{Journal, MOST_DRAWS, MOST_PUT_BYTES};
 pub use laws::histories_grow;
 pub use threads::cross_threads;
-
-#[cfg(test)]
-mod tests;

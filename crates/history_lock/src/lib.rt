@@ -11,6 +11,12 @@
 //! list of lines, to which each adds one:
 //!
 //! ```
+//! ghost use Rattle.history_lock.specs.Passes.{IsPassOf};
+//!
+//! use history_lock::{Chronicled, HistoryLock, Pass};
+//! use std::alloc::AllocError;
+//! use std::sync::Wait;
+//!
 //! #[derive(Drop)]
 //! struct Page {
 //!     lines: Vec<u32>,
@@ -54,6 +60,3 @@ pub use chronicled::Chronicled;
 pub use hold::Hold;
 pub use lock::HistoryLock;
 pub use pass::Pass;
-
-#[cfg(test)]
-mod tests;

@@ -124,6 +124,3 @@ impl<T: Drop> From<AllocFailed<T>> for IorFault {
         IorFault::NoMemory
     }
 }
-
-#[cfg(test)]
-mod tests;

@@ -29,6 +29,3 @@ pub use limits::is_within;
 pub use stored::{Line, Stored};
 pub use taken::{Slot, Taken};
 pub use tuned::Tuned;
-
-#[cfg(test)]
-mod tests;

@@ -80,33 +80,3 @@ pub fn objects_stay_where_there_is_room()
 pub fn fresh_is_a_placement()
     ensures { FreshIsAPlacement }
 {}
-
-#[cfg(test)]
-mod tests {
-    use super::*;
-    use std::test::Fail;
-
-    #[test]
-    fn objects_share_modules(rt: HostRuntime) -> Result<(), Fail> {
-        let sizes = [117, 65_000, 500, 65_537, 400];
-        assert_eq!(rt; need(&sizes), 3);
-        assert_eq!(rt; need(&[16_777_300]), 1);
-        let modules = place_fresh(rt.alloc(), &sizes)?;
-        assert_eq!(rt; modules.as_slice(), [1, 1, 2, 3, 2].as_slice());
-        Ok(())
-    }
-
-    #[test]
-    fn objects_stay(rt: HostRuntime) -> Result<(), Fail> {
-        let grown = [
-            (117, Some(1)),
-            (65_500, Some(1)),
-            (500, Some(2)),
-            (65_537, Some(3)),
-            (400, Some(2)),
-        ];
-        let modules = place(rt.alloc(), &grown)?;
-        assert_eq!(rt; modules.as_slice(), [1, 4, 2, 3, 2].as_slice());
-        Ok(())
-    }
-}

@@ -35,6 +35,3 @@ pub use writer::Writer;
 
 /// Out of memory, where it is a call's only refusal.
 pub type NoMemory = AllocError;
-
-#[cfg(test)]
-mod tests;

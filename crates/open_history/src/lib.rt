@@ -33,6 +33,3 @@ pub use crossing::cross_threads;
 pub use entry::OpenEntry;
 pub use pass::ReaderPass;
 pub use sharing::share;
-
-#[cfg(test)]
-mod tests;

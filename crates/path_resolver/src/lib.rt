@@ -28,6 +28,3 @@ pub use answer::{Answer, FileRef, FolderRef};
 pub use crossing::cross_threads;
 pub use shot::{Gateway, Held, Shot};
 pub use walking::resolve;
-
-#[cfg(test)]
-mod tests;

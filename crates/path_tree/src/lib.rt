@@ -23,6 +23,3 @@ pub use text::{MOST_NAMES, print_name};
 pub use tree::{
     ApplyFault, Edit, EditFault, Edits, Lookup, MOST_CONTENT, Tree, apply, others_stay,
 };
-
-#[cfg(test)]
-mod tests;

@@ -36,6 +36,3 @@ pub use pat::decode_pat;
 pub use pmt::decode_pmt;
 pub use tables::{Pat, PatLine, Pmt, PmtLine, PsiFault};
 pub use written::{written_pat, written_pmt};
-
-#[cfg(test)]
-mod tests;

@@ -30,6 +30,3 @@ pub use filling::filled;
 pub use pending::PendingEdits;
 pub use rehearsal::rehearse;
 pub use told::put_report;
-
-#[cfg(test)]
-mod tests;

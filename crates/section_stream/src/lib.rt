@@ -34,6 +34,3 @@ pub use laws::{
 };
 pub use mux::Mux;
 pub use packet_demux::PacketDemux;
-
-#[cfg(test)]
-mod tests;

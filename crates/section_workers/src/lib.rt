@@ -21,6 +21,3 @@ mod gate;
 
 pub use encoding::encode_batch;
 pub use gate::{Actor, Gate, NoGate};
-
-#[cfg(test)]
-mod tests;

@@ -40,6 +40,3 @@ pub use actors::run_actors;
 pub use editor::{CommitLine, EditorSeat, commit};
 pub use feeder::{DrawLine, FeederSeat, draw, send_and_show};
 pub use reader::{ReaderSeat, open};
-
-#[cfg(test)]
-mod tests;

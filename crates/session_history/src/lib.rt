@@ -28,6 +28,3 @@ mod waiting;
 pub use history::merge;
 pub use laws::{merges_are_runs, merges_grow, opens_have_places, premises_can_be_met};
 pub use opens::{Open, ReaderOpens};
-
-#[cfg(test)]
-mod tests;

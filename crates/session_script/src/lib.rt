@@ -24,6 +24,3 @@ mod words;
 
 pub use reading::parse;
 pub use script::{Action, Line, LineCause, Script, ScriptFault, Stage};
-
-#[cfg(test)]
-mod tests;

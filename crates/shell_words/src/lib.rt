@@ -24,6 +24,3 @@ mod words;
 pub use parsing::command;
 pub use texts::{answer_text, answered_text, refusal_text};
 pub use words::{Command, WordsFault};
-
-#[cfg(test)]
-mod tests;

@@ -1,6 +1,6 @@
 -- One element more at the end of a list.
 use Rattle.std.proofs.Common.{◌≡◌, ℕ, zero, suc, List, [], ◌∷◌, ◌++◌, length, Some, slice_get, refl, ap, sym, ◌∙◌, arith, ◌⊎◌, inl, inr, ⊎_elim}
-use Rattle.shot_board.specs.Shots.{AreNumbered, Each}
+use Rattle.shot_board.specs.Shots.{AreNumbered}
 
 module _ {A : Type 0} where
   pub get_last : (xs : List A) (x : A) (n : ℕ) → length xs ≡ n → slice_get (xs ++ x ∷ []) n ≡ Some x
@@ -19,8 +19,3 @@ module _ {A : Type 0} where
   pub numbered_push : (number : A → ℕ) (xs : List A) (x : A) → AreNumbered number xs → number x ≡ length xs → AreNumbered number (xs ++ x ∷ [])
   numbered_push number xs x before here k y at =
       ⊎_elim (before k y) (λ (t : (k ≡ length xs) × (y ≡ x)). ap number t.1 ∙ (here ∙ sym t.0)) (get_push xs x y k at)
-
-  -- what holds of each holds of the last, and of each before it
-  pub each_push : (P : A → Type 0) (xs : List A) (x : A) → Each P (xs ++ x ∷ []) → Each P xs × P x
-  each_push P [] x h = (tt, h.0)
-  each_push P (y ∷ xs) x h = let rest = each_push P xs x h.1 in ((h.0, rest.0), rest.1)

@@ -36,6 +36,3 @@ pub use numbered::Numbered;
 pub use opening::board;
 pub use shower::Shower;
 pub use viewer::Viewer;
-
-#[cfg(test)]
-mod tests;

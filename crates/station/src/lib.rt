@@ -33,6 +33,3 @@ mod threads;
 pub use kept::{Kept, KeptItem};
 pub use station::{Pass, Station};
 pub use threads::cross_threads;
-
-#[cfg(test)]
-mod tests;

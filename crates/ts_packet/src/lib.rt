@@ -163,6 +163,3 @@ pub fn build(pid: u16, start: bool, counter: u8, payload: &[u8; 184]) -> [u8; 18
     bytes[4..].copy_from_slice(payload);
     bytes
 }
-
-#[cfg(test)]
-mod tests;

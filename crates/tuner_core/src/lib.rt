@@ -30,6 +30,3 @@ pub use laws::spans_are_of_the_list;
 pub use module_cache::Taken;
 pub use told::{Cause, Fed};
 pub use tuner::Tuner;
-
-#[cfg(test)]
-mod tests;

@@ -1,9 +1,0 @@
-use Rattle.std.proofs.Common.{◌≡◌, length, refl, ap, ◌∙◌}
-use Rattle.ior_tap.specs.declared.Location.{Location}
-use Rattle.dsi_dii.proofs.tests.gateway.Goals as goal
-
-pub returns : goal.returns
-returns c =
-    let location : Location = record { carousel = 1; «module» = 1; key = c.new-key.result } in
-    let four : length c.new-key.result ≡ 4 = ap length (c.new-key.ensures ∙ c.in_ok-vec.ensures.items) in
-    (location, record { form = rw (c.in_ok-vec-4.ensures.items, c.in_ok-vec-3.ensures.items, c.in_ok-vec-2.ensures.items) refl; four = refl; key = four })

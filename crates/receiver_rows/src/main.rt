@@ -1,0 +1,55 @@
+//! Rows of calls on the parts of a receiver: a module out of its blocks, the modules of the DII that is held, answers to paths,
+//! and the receiver that is fed sections. The program writes what each call answers, and the gate compares that.
+#![tactic(auto)]
+
+mod assembler;
+mod cache;
+mod numbers;
+mod resolver;
+mod tuner;
+
+use crate::assembler::AssemblerRows;
+use crate::cache::CacheRows;
+use crate::resolver::ShotRows;
+use crate::tuner::TunerRows;
+use std::alloc::Global;
+use std::io;
+use test_rows::{Calls, Row, RowFault, answer_rows};
+
+/// What the rows so far have made.
+#[derive(Drop)]
+struct Receiver {
+    assembler: AssemblerRows,
+    cache: CacheRows,
+    shot: ShotRows,
+    tuner: TunerRows,
+}
+
+impl Calls for Receiver {
+    fn call(&mut self, alloc: Global, row: &Row<'_>) -> Result<String, RowFault> {
+        if let Some(text) = self.assembler.call(alloc, row)? {
+            return Ok(text);
+        }
+        if let Some(text) = self.cache.call(alloc, row)? {
+            return Ok(text);
+        }
+        if let Some(text) = self.shot.call(alloc, row)? {
+            return Ok(text);
+        }
+        match self.tuner.call(alloc, row)? {
+            Some(text) => Ok(text),
+            None => Err(RowFault::BadRow),
+        }
+    }
+}
+
+fn main(rt: HostRuntime) -> io::Result<()> {
+    let alloc = rt.alloc();
+    let mut receiver = Receiver {
+        assembler: AssemblerRows::new(),
+        cache: CacheRows::new(alloc),
+        shot: ShotRows::new(alloc),
+        tuner: TunerRows::new(alloc),
+    };
+    answer_rows(&rt, &mut receiver)
+}

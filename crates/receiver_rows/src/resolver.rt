@@ -1,0 +1,208 @@
+//! Answers to paths on a shot.
+
+use crate::numbers::{number_16, number_32};
+use biop_object::Module;
+use dsi_dii::ModuleLine;
+use ior_tap::{Key, Location};
+use path_resolver::{Answer, FileRef, FolderRef, Gateway, Held, Shot, cross_threads, resolve};
+use path_tree::{Path, PathFault, print_name};
+use std::alloc::{AllocError, Global};
+use std::sync::Arc;
+use test_rows::{Row, RowFault, hex_text};
+
+/// The shot on which paths are resolved.
+#[derive(Drop)]
+pub(crate) struct ShotRows {
+    shot: Shot,
+}
+
+impl ShotRows {
+    /// A shot of nothing.
+    pub(crate) fn new(alloc: Global) -> ShotRows {
+        ShotRows {
+            shot: empty_shot(alloc, None),
+        }
+    }
+
+    /// What the call of a row answers, where it is one of these.
+    pub(crate) fn call(
+        &mut self,
+        alloc: Global,
+        row: &Row<'_>,
+    ) -> Result<Option<String>, RowFault> {
+        let text = match row.name() {
+            "shot" => self.make(alloc, row)?,
+            "shot-gateway" => self.put_gateway(alloc, row)?,
+            "shot-module" => {
+                let module = module_of(alloc, row.bytes(alloc, 1)?)?;
+                self.put_line(alloc, number_16(row, 0)?, false, Some(module))?
+            }
+            "shot-missing" => self.put_line(alloc, number_16(row, 0)?, false, None)?,
+            "shot-compressed" => self.put_line(alloc, number_16(row, 0)?, true, None)?,
+            "resolve" => answer_text(alloc, &self.answer(alloc, row)?)?,
+            "bytes" => self.bytes(alloc, row)?,
+            "shared-bytes" => self.shared_bytes(alloc, row)?,
+            "names" => self.names(alloc, row)?,
+            "shared-names" => self.shared_names(alloc, row)?,
+            "cross-threads" => {
+                cross_threads();
+                String::from_str(alloc, "shots and answers may cross threads")?
+            }
+            _ => return Ok(None),
+        };
+        Ok(Some(text))
+    }
+
+    /// Makes a shot anew, of a label or of `none`.
+    fn make(&mut self, alloc: Global, row: &Row<'_>) -> Result<String, RowFault> {
+        let label = match row.word(0)? {
+            "none" => None,
+            _ => Some(row.number(0)?),
+        };
+        self.shot = empty_shot(alloc, label);
+        Ok(String::from_str(alloc, "made")?)
+    }
+
+    /// Puts the gateway at a carousel, a module and a key, delivered by a transactionId.
+    fn put_gateway(&mut self, alloc: Global, row: &Row<'_>) -> Result<String, RowFault> {
+        let key = row.bytes(alloc, 2)?;
+        if key.len() > 255 {
+            return Err(RowFault::BadRow);
+        }
+        let location = Location {
+            carousel: number_32(row, 0)?,
+            module: number_16(row, 1)?,
+            key: Key::new(key),
+        };
+        self.shot.gateway = Some(Gateway {
+            location,
+            delivery: Some(number_32(row, 3)?),
+        });
+        Ok(String::from_str(alloc, "put")?)
+    }
+
+    /// Puts a module behind those of the table.
+    fn put_line(
+        &mut self,
+        alloc: Global,
+        id: u16,
+        compressed: bool,
+        module: Option<Arc<Module>>,
+    ) -> Result<String, AllocError> {
+        let line = ModuleLine {
+            id,
+            size: 0,
+            version: 0,
+            compressed,
+        };
+        self.shot.table.push(Held { line, module })?;
+        String::from_str(alloc, "put")
+    }
+
+    /// The answer to the path of a row.
+    fn answer(&self, alloc: Global, row: &Row<'_>) -> Result<Answer, RowFault> {
+        let path = path_of(alloc, row)?;
+        Ok(resolve(&self.shot, &path)?)
+    }
+
+    /// The bytes of the file at a path.
+    fn bytes(&self, alloc: Global, row: &Row<'_>) -> Result<String, RowFault> {
+        match self.answer(alloc, row)? {
+            Answer::File(file) => Ok(hex_text(alloc, file.bytes())?),
+            answer => Ok(answer_text(alloc, &answer)?),
+        }
+    }
+
+    /// The bytes of the file at a path, lent from a second reference to it.
+    fn shared_bytes(&self, alloc: Global, row: &Row<'_>) -> Result<String, RowFault> {
+        match self.answer(alloc, row)? {
+            Answer::File(file) => Ok(hex_text(alloc, FileRef::share(&file)?.bytes())?),
+            answer => Ok(answer_text(alloc, &answer)?),
+        }
+    }
+
+    /// The names of the folder at a path.
+    fn names(&self, alloc: Global, row: &Row<'_>) -> Result<String, RowFault> {
+        match self.answer(alloc, row)? {
+            Answer::Folder(folder) => Ok(names_text(alloc, &folder)?),
+            answer => Ok(answer_text(alloc, &answer)?),
+        }
+    }
+
+    /// The names of the folder at a path, lent from a second reference to it.
+    fn shared_names(&self, alloc: Global, row: &Row<'_>) -> Result<String, RowFault> {
+        match self.answer(alloc, row)? {
+            Answer::Folder(folder) => Ok(names_text(alloc, &folder.share()?)?),
+            answer => Ok(answer_text(alloc, &answer)?),
+        }
+    }
+}
+
+/// A shot of a carousel of identification 1, without a gateway and without a module.
+fn empty_shot(alloc: Global, label: Option<u64>) -> Shot {
+    Shot {
+        number: 0,
+        draws: 0,
+        mark: 0,
+        epoch: 0,
+        label,
+        identification: 1,
+        gateway: None,
+        table: Vec::new(alloc),
+    }
+}
+
+/// The module of these bytes.
+fn module_of(alloc: Global, bytes: Vec<u8>) -> Result<Arc<Module>, AllocError> {
+    match Module::read(alloc, bytes) {
+        Ok(module) => Ok(Arc::new(alloc, module)?),
+        Err((error, _bytes)) => Err(error),
+    }
+}
+
+/// The path that a row's first word says.
+pub(crate) fn path_of(alloc: Global, row: &Row<'_>) -> Result<Path, RowFault> {
+    match Path::parse(alloc, row.word(0)?.as_bytes()) {
+        Ok(path) => Ok(path),
+        Err(PathFault::NoMemory) => Err(RowFault::NoMemory),
+        Err(_fault) => Err(RowFault::BadRow),
+    }
+}
+
+/// An answer: a file with how many bytes it has, a folder with how many names it has, or the cause with its module and place.
+pub(crate) fn answer_text(alloc: Global, answer: &Answer) -> Result<String, AllocError> {
+    match answer {
+        Answer::File(file) => {
+            let size = file.bytes().len();
+            format!(in alloc; "file {size}")
+        }
+        Answer::Folder(folder) => {
+            let count = folder.count();
+            format!(in alloc; "folder {count}")
+        }
+        Answer::NoSuch => String::from_str(alloc, "no-such"),
+        Answer::NotYet(module) => format!(in alloc; "not-yet {module}"),
+        Answer::NoCarousel => String::from_str(alloc, "no-carousel"),
+        Answer::Elsewhere => String::from_str(alloc, "elsewhere"),
+        Answer::Compressed(module) => format!(in alloc; "compressed {module}"),
+        Answer::Bad(module, place) => format!(in alloc; "bad {module} {place}"),
+        Answer::Dangling(module) => format!(in alloc; "dangling {module}"),
+        Answer::OtherKind(module) => format!(in alloc; "other-kind {module}"),
+    }
+}
+
+/// How many names a folder has, and the names in its order; one that stood before is in brackets.
+fn names_text(alloc: Global, folder: &FolderRef) -> Result<String, AllocError> {
+    let count = folder.count();
+    let mut text = format!(in alloc; "names {count}:")?;
+    for i in 0..count {
+        let name = print_name(alloc, folder.name(i))?;
+        let word = if folder.is_first(i) {
+            format!(in alloc; " {name}")?
+        } else {
+            format!(in alloc; " ({name})")?
+        };
+        text.push_str(word.as_str())?;
+    }
+    Ok(text)
+}

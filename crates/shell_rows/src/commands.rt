@@ -1,0 +1,134 @@
+//! Whole commands over input, output and folders in memory.
+
+use crate::folders::Folder;
+use crate::texts::{bytes_text, output_text, spelled};
+use crate::weights::{run_first_twice, run_once};
+use crate::words::{size_of, words_of};
+use carousel_shell::Status;
+use oc_bytes::{MemSink, MemSource};
+use std::alloc::Global;
+use test_rows::{Row, RowFault, hex_text};
+
+/// The ends of the next command, and what the last one wrote and how it ended.
+#[derive(Drop)]
+pub(crate) struct Commands {
+    input: Vec<u8>,
+    /// How many bytes one read gives at most, at least 1.
+    read_piece: usize,
+    /// How many bytes one write takes at most, at least 1.
+    written_piece: usize,
+    folder: Folder,
+    output: Vec<u8>,
+    status: Status,
+}
+
+impl Commands {
+    pub(crate) fn new(alloc: Global) -> Commands {
+        Commands {
+            input: Vec::new(alloc),
+            read_piece: 100,
+            written_piece: 100,
+            folder: Folder::Nothing,
+            output: Vec::new(alloc),
+            status: Status::Done,
+        }
+    }
+
+    /// What a row that sets an end, runs a command or asks for its status answers.
+    pub(crate) fn call(&mut self, alloc: Global, row: &Row<'_>) -> Result<String, RowFault> {
+        match row.name() {
+            "pieces" => self.set_pieces(alloc, row),
+            "folder" => self.set_folder(alloc, row),
+            "input" => self.set_input(alloc, row.bytes(alloc, 0)?),
+            "script" => self.set_input(alloc, spelled(alloc, row)?.into_bytes()),
+            "take" => self.take(alloc),
+            "run" => self.run(alloc, row, false),
+            "run-first-twice" => self.run(alloc, row, true),
+            "written" => self.written(alloc, row),
+            "line" => self.line(alloc),
+            "status" => self.set_status(alloc, row),
+            _ => Err(RowFault::BadRow),
+        }
+    }
+
+    /// `pieces READ WRITTEN`: how many bytes one read gives and one write takes at most.
+    fn set_pieces(&mut self, alloc: Global, row: &Row<'_>) -> Result<String, RowFault> {
+        self.read_piece = size_of(row, 0)?;
+        self.written_piece = size_of(row, 1)?;
+        Ok(String::from_str(alloc, "set")?)
+    }
+
+    /// `folder -`, `folder F/` and `folder F/a BYTES`: what stands in the folders.
+    fn set_folder(&mut self, alloc: Global, row: &Row<'_>) -> Result<String, RowFault> {
+        self.folder = Folder::of_row(alloc, row)?;
+        Ok(String::from_str(alloc, "set")?)
+    }
+
+    /// `input BYTES` and `script TEXT`: what the commands read. It answers how many bytes that are.
+    fn set_input(&mut self, alloc: Global, input: Vec<u8>) -> Result<String, RowFault> {
+        self.input = input;
+        Ok(bytes_text(alloc, &self.input)?)
+    }
+
+    /// `take`: the commands read what the last one wrote.
+    fn take(&mut self, alloc: Global) -> Result<String, RowFault> {
+        let output = Vec::from_slice(alloc, &self.output)?;
+        self.set_input(alloc, output)
+    }
+
+    /// `run WORD..` and `run-first-twice WORD..`: the exit status of a command and what it wrote. Each module is sent once a cycle, or
+    /// module 1 twice.
+    fn run(
+        &mut self,
+        alloc: Global,
+        row: &Row<'_>,
+        is_first_twice: bool,
+    ) -> Result<String, RowFault> {
+        let words = words_of(alloc, row)?;
+        let input = Vec::from_slice(alloc, &self.input)?;
+        let mut source = MemSource::new(input, Vec::new(alloc), self.read_piece.max(1));
+        let mut sink = MemSink::new(alloc, Vec::new(alloc), self.written_piece.max(1));
+        let mut folders = self.folder.made(alloc)?;
+        self.status = if is_first_twice {
+            run_first_twice(alloc, &words, &mut source, &mut sink, &mut folders)?
+        } else {
+            run_once(alloc, &words, &mut source, &mut sink, &mut folders)?
+        };
+        self.output = Vec::from_slice(alloc, sink.written())?;
+        let code = self.status.code();
+        let output = output_text(alloc, &self.output)?;
+        Ok(format!(in alloc; "{code} {output}")?)
+    }
+
+    /// `written BYTES`: whether the last command wrote these bytes, and which it did where it wrote others.
+    fn written(&self, alloc: Global, row: &Row<'_>) -> Result<String, RowFault> {
+        let wanted = row.bytes(alloc, 0)?;
+        if wanted.as_slice() == self.output.as_slice() {
+            return Ok(String::from_str(alloc, "the same")?);
+        }
+        let hex = hex_text(alloc, &self.output)?;
+        Ok(format!(in alloc; "others: {hex}")?)
+    }
+
+    /// `line`: the line for standard error, or `-` for none.
+    fn line(&self, alloc: Global) -> Result<String, RowFault> {
+        match self.status.line(alloc)? {
+            Some(line) => Ok(line),
+            None => Ok(String::from_str(alloc, "-")?),
+        }
+    }
+
+    /// `status done` and `status incomplete BLOCK`: the last command ended so.
+    fn set_status(&mut self, alloc: Global, row: &Row<'_>) -> Result<String, RowFault> {
+        self.status = match row.word(0)? {
+            "done" => Status::Done,
+            "incomplete" => match u32::try_from(row.number(1)?) {
+                Ok(block) => Status::Incomplete(block),
+                Err(_) => return Err(RowFault::BadRow),
+            },
+            _ => return Err(RowFault::BadRow),
+        };
+        let code = self.status.code();
+        Ok(format!(in alloc; "{code}")?)
+    }
+}

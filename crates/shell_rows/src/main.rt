@@ -1,0 +1,44 @@
+//! What the shell's crates answer, row by row: scripts and what is wrong with them, the words of commands, the texts of answers and
+//! refusals, the reports of rehearsals, and whole commands over input, output and folders in memory.
+#![tactic(auto)]
+
+mod commands;
+mod folders;
+mod reports;
+mod scripts;
+mod texts;
+mod weights;
+mod words;
+
+use commands::Commands;
+use std::alloc::Global;
+use std::io;
+use test_rows::{Calls, Row, RowFault, answer_rows};
+
+/// The crates of the shell, and the ends that the next command has.
+#[derive(Drop)]
+struct Shell {
+    commands: Commands,
+}
+
+impl Calls for Shell {
+    fn call(&mut self, alloc: Global, row: &Row<'_>) -> Result<String, RowFault> {
+        if let Some(text) = scripts::call(alloc, row)? {
+            return Ok(text);
+        }
+        if let Some(text) = words::call(alloc, row)? {
+            return Ok(text);
+        }
+        if let Some(text) = reports::call(alloc, row)? {
+            return Ok(text);
+        }
+        self.commands.call(alloc, row)
+    }
+}
+
+fn main(rt: HostRuntime) -> io::Result<()> {
+    let mut shell = Shell {
+        commands: Commands::new(rt.alloc()),
+    };
+    answer_rows(&rt, &mut shell)
+}

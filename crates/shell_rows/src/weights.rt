@@ -1,0 +1,46 @@
+//! Commands under weights: how often each module is sent in a cycle.
+ghost use Rattle.std.specs.Prelude.{◌≡◌, ◌==◌, if◌then◌else◌};
+
+use carousel_shell::{Status, run_plain};
+use cycle_planner::{GREATEST_ID, Weigh};
+use folder_store::MemFolders;
+use oc_bytes::{MemSink, MemSource};
+use std::alloc::{AllocError, Global};
+
+/// The status of a command under which each module is sent once a cycle.
+pub(crate) fn run_once(
+    alloc: Global,
+    words: &[String],
+    source: &mut MemSource,
+    sink: &mut MemSink,
+    folders: &mut MemFolders,
+) -> Result<Status, AllocError> {
+    let call = Box::new(
+        alloc,
+        |_id: u16| -> u8
+            ensures { result ≡ 1 }
+        { 1 },
+    )?;
+    let weigh = Weigh::new([1; GREATEST_ID], call);
+    Ok(run_plain(alloc, words, source, sink, folders, weigh))
+}
+
+/// The status of a command under which module 1 is sent twice a cycle, and each other one once.
+pub(crate) fn run_first_twice(
+    alloc: Global,
+    words: &[String],
+    source: &mut MemSource,
+    sink: &mut MemSink,
+    folders: &mut MemFolders,
+) -> Result<Status, AllocError> {
+    let mut weights = [1; GREATEST_ID];
+    weights[0] = 2;
+    let call = Box::new(
+        alloc,
+        |id: u16| -> u8
+            ensures { result ≡ (if id == 1 then 2 else 1) }
+        { if id == 1 { 2u8 } else { 1u8 } },
+    )?;
+    let weigh = Weigh::new(weights, call);
+    Ok(run_plain(alloc, words, source, sink, folders, weigh))
+}

@@ -1,5 +1,0 @@
-use Rattle.station.specs.Passes.{IsStationPass}
-use Rattle.station.proofs.tests.act.Given as goal
-
-abbrev pub invariant-loop : goal.invariant-loop
-invariant-loop g l = IsStationPass l.station l.pass
