@@ -16,6 +16,7 @@ MOST_BLOCK = 4066
 MOST_MODULE = 16_842_752
 MOST_BLOCKS = 65_536
 MOST_SUM = 268_435_456
+MOST_HELD = 16
 MOST_LINES = 65_536
 
 LOCATION, BINDER, BIOP = 0x49534F50, 0x49534F40, 0x49534F06
@@ -436,7 +437,9 @@ def objects_in(data):
 
 # What is held
 
-Held = namedtuple("Held", "label epoch identification gateway table modules")
+# The DIIs stand in the order in which they were admitted; `modules` has the bytes of each listed module that isn't compressed,
+# or None where it isn't whole.
+Held = namedtuple("Held", "label epoch diis gateway modules")
 
 
 def block_count(size, block_size):
@@ -468,26 +471,62 @@ def line_of(dii, m):
 
 
 def agrees(dii, held, m):
-    """Whether a DII describes the module as the held one does."""
+    """Whether a DII describes the module as the held one of its identification does."""
     return (dii.download, dii.block_size, line_of(dii, m)) == (held.download, held.block_size, line_of(held, m))
 
 
-def turning(messages):
-    """The places of the DIIs that turn."""
-    sound = [k for k, it in enumerate(messages) if isinstance(it, Dii) and it.identification and is_within(it)]
-    admissible = [k for k in sound if messages[k].identification == messages[sound[0]].identification]
-    return [k for n, k in enumerate(admissible) if n == 0 or messages[admissible[n - 1]].version != messages[k].version]
+def is_sound(message):
+    return isinstance(message, Dii) and message.identification != 0 and is_within(message)
 
 
-def stretch(messages, turns, m):
-    """What was heard from the turn on since which the module is described as it is now, and no step was too far."""
-    held, begin = messages[turns[-1]], len(turns) - 1
+def joins(dii, beside):
+    """Whether a DII of the held version is admitted beside those that have been since the last turn."""
+    listed = [line for it in [*beside, dii] for line in it.lines]
+    return (
+        dii.identification not in {it.identification for it in beside}
+        and len(beside) < MOST_HELD
+        and not {line.id for line in dii.lines} & {line.id for it in beside for line in it.lines}
+        and sum(line.size for line in listed) <= MOST_SUM
+    )
+
+
+def spans_of(messages):
+    """The places of the admitted DIIs, span by span: in each the one that turns, and then those that join."""
+    spans = []
+    for place, message in enumerate(messages):
+        if not is_sound(message):
+            continue
+        beside = [messages[k] for k in spans[-1]] if spans else []
+        if not beside or beside[-1].version != message.version:
+            spans.append([place])
+        elif joins(message, beside):
+            spans[-1].append(place)
+    return spans
+
+
+def steps_of(messages, spans):
+    """The distances between turning DIIs that follow each other."""
+    return [distance(messages[one[0]].version, messages[other[0]].version) for one, other in zip(spans, spans[1:])]
+
+
+def agreeing(messages, span, dii, m):
+    """The place in a span of the DII of this one's identification, where it describes the module as this one does, or None."""
+    alike = [k for k in span if messages[k].identification == dii.identification and agrees(messages[k], dii, m)]
+    return alike[0] if alike else None
+
+
+def stretch(messages, spans, dii, m):
+    """What was heard while the module was listed as it is now: in each span since then what comes after the DII that lists it."""
+    steps, ends, begin = steps_of(messages, spans), [span[0] for span in spans[1:]] + [len(messages)], len(spans)
     while begin > 0:
-        earlier, later = messages[turns[begin - 1]], messages[turns[begin]]
-        if not agrees(earlier, held, m) or distance(earlier.version, later.version) >= 256:
+        is_near = begin == len(spans) or steps[begin - 1] < 256
+        if not is_near or agreeing(messages, spans[begin - 1], dii, m) is None:
             break
         begin -= 1
-    return messages[turns[begin]:]
+    heard = []
+    for span, end in zip(spans[begin:], ends[begin:]):
+        heard += messages[agreeing(messages, span, dii, m) + 1:end]
+    return heard
 
 
 def blocks_held(heard, dii, line):
@@ -511,15 +550,15 @@ def module_held(heard, dii, line):
 def look_back(messages):
     """What is held after a list of messages, one for each candidate and None for one that doesn't read."""
     gateway = next((it.gateway for it in reversed(messages) if isinstance(it, Dsi) and it.gateway), None)
-    turns = turning(messages)
-    if not turns:
-        return Held(None, 0, None, gateway, {}, {})
-    steps = [distance(messages[a].version, messages[b].version) for a, b in zip(turns, turns[1:])]
-    held = messages[turns[-1]]
-    table = {line.id: line for line in held.lines}
-    modules = {m: module_held(stretch(messages, turns, m), held, line) for m, line in table.items() if not line.compressed}
-    label = messages[turns[0]].version + sum(steps)
-    return Held(label, sum(step >= 256 for step in steps), held.identification, gateway, table, modules)
+    spans = spans_of(messages)
+    if not spans:
+        return Held(None, 0, [], gateway, {})
+    steps, diis = steps_of(messages, spans), [messages[k] for k in spans[-1]]
+    modules = {
+        line.id: module_held(stretch(messages, spans, dii, line.id), dii, line)
+        for dii in diis for line in dii.lines if not line.compressed
+    }
+    return Held(messages[spans[0][0]].version + sum(steps), sum(step >= 256 for step in steps), diis, gateway, modules)
 
 
 # Answers
@@ -530,14 +569,14 @@ NO_SUCH, NO_CAROUSEL, ELSEWHERE = Answer("no-such"), Answer("no-carousel"), Answ
 
 def object_at(held, location):
     """The object at a location, or the answer where there is none."""
-    m = location.module
-    if location.carousel != held.gateway.carousel:
+    m, by = location.module, None if location.delivery is None else location.delivery >> 1 & 0x7FFF
+    if location.carousel != held.gateway.carousel or by == 0:
         return ELSEWHERE
-    if location.delivery is not None and location.delivery >> 1 & 0x7FFF != held.identification:
-        return ELSEWHERE
-    if m not in held.table:
-        return Answer(f"dangling {m}")
-    if held.table[m].compressed:
+    asked = [dii for dii in held.diis if by is None or dii.identification == by]
+    line = next((line for dii in asked for line in dii.lines if line.id == m), None)
+    if line is None:
+        return Answer(f"not-yet {m}" if by is None or not asked else f"dangling {m}")
+    if line.compressed:
         return Answer(f"compressed {m}")
     if held.modules[m] is None:
         return Answer(f"not-yet {m}")

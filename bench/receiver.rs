@@ -9,6 +9,8 @@ pub const PACKET: usize = 188;
 /// The names on a path. The root has none.
 pub type Path = Vec<Vec<u8>>;
 const MOST_SECTION: usize = 4093;
+const MOST_SUM: u64 = 268_435_456;
+const MOST_HELD: usize = 16;
 const BIOP: u32 = 0x4953_4F06;
 const LOCATION: u32 = 0x4953_4F50;
 const BINDER: u32 = 0x4953_4F40;
@@ -499,18 +501,43 @@ impl Slot {
     }
 }
 
+/// A DII with what has come of its modules.
+struct Part {
+    dii: Dii,
+    slots: HashMap<u16, Slot>,
+}
+
+impl Part {
+    /// The part of a DII that comes, with what it describes as the DII of its identification did before it.
+    fn new(dii: Dii, before: Option<Part>) -> Part {
+        let is_alike = |it: &Part| (it.dii.download, it.dii.block_size) == (dii.download, dii.block_size);
+        let mut old = before.filter(is_alike).map_or(HashMap::new(), |it| it.slots);
+        let mut slots = HashMap::new();
+        for line in &dii.lines {
+            let stays = old.remove(&line.id).filter(|slot| slot.line == *line);
+            slots.insert(line.id, stays.unwrap_or_else(|| Slot::new(line, dii.block_size)));
+        }
+        Part { dii, slots }
+    }
+}
+
+/// The parts of the DIIs of one version, and those of the version before that still wait for their DII.
 #[derive(Default)]
 pub struct Tuner {
     gateway: Option<Location>,
-    dii: Option<Dii>,
-    slots: HashMap<u16, Slot>,
+    held: Vec<Part>,
+    waiting: Vec<Part>,
+}
+
+fn size_of(dii: &Dii) -> u64 {
+    dii.lines.iter().map(|line| u64::from(line.size)).sum()
 }
 
 fn is_within(dii: &Dii) -> bool {
     let ids: HashSet<u16> = dii.lines.iter().map(|line| line.id).collect();
     (1..=4066).contains(&dii.block_size)
         && dii.lines.iter().all(|line| line.size <= 16_842_752 && line.size.div_ceil(dii.block_size.into()) <= 65_536)
-        && dii.lines.iter().map(|line| u64::from(line.size)).sum::<u64>() <= 268_435_456
+        && size_of(dii) <= MOST_SUM
         && ids.len() == dii.lines.len()
 }
 
@@ -523,12 +550,12 @@ impl Tuner {
             Some(Message::Dsi(gateway)) => self.gateway = gateway.or(self.gateway.take()),
             Some(Message::Dii(dii)) => self.hear(dii),
             Some(Message::Ddb { download, module, version, block, bytes }) => {
-                let Some(dii) = &self.dii else { return };
-                if let Some(slot) = self.slots.get_mut(&module)
-                    && dii.download == download
-                    && slot.line.version == version
-                {
-                    slot.offer(dii.block_size, block, bytes);
+                for part in self.held.iter_mut().filter(|it| it.dii.download == download) {
+                    if let Some(slot) = part.slots.get_mut(&module)
+                        && slot.line.version == version
+                    {
+                        slot.offer(part.dii.block_size, block, bytes);
+                    }
                 }
             }
             None => {}
@@ -539,20 +566,29 @@ impl Tuner {
         if dii.identification == 0 || !is_within(&dii) {
             return;
         }
-        let mut keeps = false;
-        if let Some(held) = &self.dii {
-            if held.identification != dii.identification || held.version == dii.version {
+        if let Some(held) = self.held.last() {
+            let step = dii.version.wrapping_sub(held.dii.version) & 0x3FFF;
+            if step == 0 && !self.has_room(&dii) {
                 return;
             }
-            let step = dii.version.wrapping_sub(held.version) & 0x3FFF;
-            keeps = step < 256 && (held.download, held.block_size) == (dii.download, dii.block_size);
+            if step > 0 {
+                let held = std::mem::take(&mut self.held);
+                self.waiting = if step < 256 { held } else { Vec::new() };
+            }
         }
-        let mut old = std::mem::take(&mut self.slots);
-        for line in &dii.lines {
-            let stays = old.remove(&line.id).filter(|slot| keeps && slot.line == *line);
-            self.slots.insert(line.id, stays.unwrap_or_else(|| Slot::new(line, dii.block_size)));
-        }
-        self.dii = Some(dii);
+        let place = self.waiting.iter().position(|it| it.dii.identification == dii.identification);
+        let before = place.map(|place| self.waiting.swap_remove(place));
+        self.held.push(Part::new(dii, before));
+    }
+
+    /// Whether a DII can be held beside those of its version.
+    fn has_room(&self, dii: &Dii) -> bool {
+        let is_apart = |it: &Part| {
+            it.dii.identification != dii.identification && !dii.lines.iter().any(|line| it.slots.contains_key(&line.id))
+        };
+        self.held.len() < MOST_HELD
+            && self.held.iter().all(is_apart)
+            && self.held.iter().map(|it| size_of(&it.dii)).sum::<u64>() + size_of(dii) <= MOST_SUM
     }
 }
 
@@ -579,14 +615,23 @@ impl Answer<'_> {
 }
 
 impl Tuner {
+    /// The gateway's location, where there is a carousel.
+    fn root(&self) -> Option<&Location> {
+        self.gateway.as_ref().filter(|_| !self.held.is_empty())
+    }
+
     fn at(&self, location: &Location) -> Answer<'_> {
-        let (Some(gateway), Some(dii)) = (&self.gateway, &self.dii) else { return Answer::Other("no-carousel".into()) };
+        let Some(gateway) = self.root() else { return Answer::Other("no-carousel".into()) };
         let m = location.module;
-        let is_here = |delivery: u32| (delivery >> 1 & 0x7FFF) as u16 == dii.identification;
-        if location.carousel != gateway.carousel || !location.delivery.is_none_or(is_here) {
+        let by = location.delivery.map(|it| (it >> 1 & 0x7FFF) as u16);
+        if location.carousel != gateway.carousel || by == Some(0) {
             return Answer::Other("elsewhere".into());
         }
-        let Some(slot) = self.slots.get(&m) else { return Answer::Other(format!("dangling {m}")) };
+        let mut asked = self.held.iter().filter(|it| by.is_none_or(|by| it.dii.identification == by)).peekable();
+        let is_known = by.is_some() && asked.peek().is_some();
+        let Some(slot) = asked.find_map(|it| it.slots.get(&m)) else {
+            return Answer::Other(format!("{} {m}", if is_known { "dangling" } else { "not-yet" }));
+        };
         let (bytes, index) = match &slot.state {
             State::Compressed => return Answer::Other(format!("compressed {m}")),
             State::Partial { .. } => return Answer::Other(format!("not-yet {m}")),
@@ -602,7 +647,7 @@ impl Tuner {
     }
 
     pub fn open(&self, path: &[Vec<u8>]) -> Answer<'_> {
-        let (Some(gateway), Some(_)) = (&self.gateway, &self.dii) else { return Answer::Other("no-carousel".into()) };
+        let Some(gateway) = self.root() else { return Answer::Other("no-carousel".into()) };
         let mut answer = self.at(gateway);
         for name in path {
             answer = match answer {

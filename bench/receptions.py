@@ -1,4 +1,4 @@
-"""Random receptions for bench/turns and the models' own tests: what is sent of many generations, and what comes of it.
+"""Random receptions for bench/turns, bench/many-diis and the models' own tests: what is sent of many generations, and what comes of it.
 
 A lawful case is a carousel as it should be: trees, one generation after another, some of which are sent in whole or in part,
 in any order within a generation. A wild case is made of control messages and blocks that fit together only now and then.
@@ -13,13 +13,14 @@ from functools import partial
 
 import receiver
 import streams
-from streams import DII, DSI
+from streams import DSI, FIRST_DII, is_block
 
 PID = 256
 
 # The packets that arrive, the generation that each was sent for, the paths to ask, the trees by generation (None where
-# there is no law), and the generation of which a whole cycle came unhurt at the end, if one did.
-Case = namedtuple("Case", "packets origins paths trees whole")
+# there is no law), the generation of which a whole cycle came unhurt at the end, if one did, and the numbers of packets at which
+# a part of what was sent ends.
+Case = namedtuple("Case", "packets origins paths trees whole ends", defaults=((),))
 
 # The number of the one case that is made by hand.
 LOOPED = 7
@@ -112,7 +113,7 @@ class Air:
 
     def __init__(self, chance):
         self.chance, self.counter = chance, chance.randrange(16)
-        self.packets, self.origins = [], []
+        self.packets, self.origins, self.ends = [], [], []
 
     def send(self, sections, origin, way):
         lay = self.chance.choice([streams.packets, streams.packed])
@@ -121,6 +122,7 @@ class Air:
         for packet, is_ours in travelled(sent, way, self.chance):
             self.packets.append(packet)
             self.origins.append(origin if is_ours else None)
+        self.ends.append(len(self.packets))
 
 
 # Lawful cases
@@ -149,16 +151,19 @@ def edited(files, chance):
     return files
 
 
-class Broadcaster:
-    """Commits on a tree, and the trees of all generations so far."""
+ONE_GROUP = range(1, streams.MOST_LINES + 1)
 
-    def __init__(self, chance):
+
+class Broadcaster:
+    """Commits on a tree, and the trees of all generations so far. Its modules have the ids given, and `by` says which DII lists each."""
+
+    def __init__(self, chance, ids=ONE_GROUP, rooms=(300, 1000, 6000, streams.ROOM), by=streams.group_of):
         self.chance = chance
         start = chance.choice([0, 0, 1, 200, 16_100, 16_383])
-        counts = {m: chance.choice([0, 1, 250, 255, 256, 511]) for m in range(1, 30)}
-        self.now = replace(streams.first_generation(chance.choice([1, 7]), start), counts=counts)
-        rule, room = chance.choice([streams.fresh_placement, streams.kept_placement]), chance.choice([300, 1000, 6000, streams.ROOM])
-        self.place = partial(rule, room=room)
+        counts = {m: chance.choice([0, 1, 250, 255, 256, 511]) for m in ids}
+        self.now = replace(streams.first_generation(chance.choice([1, 7]), start, by), counts=counts)
+        rule, room = chance.choice([streams.fresh_placement, streams.kept_placement]), chance.choice(rooms)
+        self.place = streams.spread(ids, partial(rule, room=room))
         self.trees = {start: {}}
         for _ in range(chance.randrange(1, 8)):
             self.commit(edited(self.now.files, chance))
@@ -184,13 +189,13 @@ class Broadcaster:
     def part(self):
         """Some of a cycle, in some order."""
         items, kind = self.now.cycle(), self.chance.choice(["whole", "any order", "some", "some", "control", "rest", "blocks"])
-        blocks = [it for it in items if it not in (DSI, DII)]
+        blocks = [it for it in items if is_block(it)]
         if kind == "any order":
             self.chance.shuffle(items)
         if kind == "some":
             items = [it for it in items if self.chance.random() < 0.6]
         if kind == "control":
-            items = [self.chance.choice([DSI, DII]), DII][self.chance.randrange(2):]
+            items = [self.chance.choice([DSI, FIRST_DII]), FIRST_DII][self.chance.randrange(2):]
         if kind == "rest":
             items = items[self.chance.randrange(len(items)):]
         if kind == "blocks":
@@ -208,10 +213,15 @@ def lawful(chance):
     if chance.random() < 0.7:
         air.send(streams.cycle(caster.now), caster.now.number, UNHURT)
         whole = caster.now.number
-    files = {path for tree in caster.trees.values() for path in tree}
-    paths = sorted({*files, *streams.folders_of(files), *(path + (b"x",) for path in list(files)[:2]), (b"no", b"such")})
+    return Case(air.packets, air.origins, some_paths(chance, caster.trees), caster.trees, whole)
+
+
+def some_paths(chance, trees):
+    """Paths to ask: of files and folders that are or were there, and some that never were."""
+    files = sorted({path for tree in trees.values() for path in tree})
+    paths = sorted({*files, *streams.folders_of(files), *(path + (b"x",) for path in files[:2]), (b"no", b"such")})
     chance.shuffle(paths)
-    return Case(air.packets, air.origins, paths[:40], caster.trees, whole)
+    return paths[:40]
 
 
 # Wild cases

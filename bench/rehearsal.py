@@ -310,12 +310,45 @@ class Station:
 
 # The way to the receiver
 
+class Part:
+    """A held DII with what has come of its modules: blocks by place, and the bytes of those that are whole."""
+
+    def __init__(self, dii, before=None):
+        self.dii, self.lines = dii, {line.id: line for line in dii.lines}
+        self.blocks, self.whole = {}, {}
+        for m, line in self.lines.items():
+            if line.compressed:
+                continue
+            stays = before is not None and m in before.blocks and receiver.agrees(before.dii, dii, m)
+            self.blocks[m] = before.blocks[m] if stays else {}
+            if stays and m in before.whole:
+                self.whole[m] = before.whole[m]
+            self.complete(m)
+
+    def offer(self, it):
+        line = self.lines[it.module]
+        if line.compressed or it.version != line.version:
+            return
+        size = self.dii.block_size
+        fits = it.block < receiver.block_count(line.size, size) and len(it.data) == receiver.block_span(line.size, size, it.block)
+        if fits and it.block not in self.blocks[it.module]:
+            self.blocks[it.module][it.block] = it.data
+            self.complete(it.module)
+
+    def complete(self, m):
+        """Makes the module's bytes with its last block."""
+        count = receiver.block_count(self.lines[m].size, self.dii.block_size)
+        if len(self.blocks[m]) == count and m not in self.whole:
+            self.whole[m] = b"".join(self.blocks[m][b] for b in range(count))
+
+
 class Tuner:
-    """What is held, taken on from candidate to candidate: a turn keeps the blocks of each module that stays as it was."""
+    """What is held, taken on from candidate to candidate. At a turn the modules of each held DII begin to wait for the next DII of
+    its identification, which takes over those that stay as they were; what still waits at the next turn is given up."""
 
     def __init__(self):
-        self.dii = self.label = self.gateway = None
-        self.epoch, self.blocks, self.whole = 0, {}, {}
+        self.version = self.label = self.gateway = None
+        self.epoch, self.parts, self.waiting = 0, [], {}
 
     def feed(self, candidate):
         heard = receiver.read(candidate)
@@ -323,53 +356,36 @@ class Tuner:
             self.gateway = heard.gateway or self.gateway
         elif isinstance(heard, Dii):
             self.control(heard)
-        elif isinstance(heard, Ddb) and self.dii:
-            self.block(heard)
+        elif isinstance(heard, Ddb):
+            for part in self.parts:
+                if part.dii.download == heard.download and heard.module in part.lines:
+                    part.offer(heard)
 
     def control(self, dii):
         if not dii.identification or not receiver.is_within(dii):
             return
-        if self.dii is None:
-            self.label = dii.version
-            self.turn(dii, {})
+        if self.version != dii.version:
+            self.turn(dii.version)
+        elif not self.has_room(dii):
             return
-        step = receiver.distance(self.dii.version, dii.version)
-        if dii.identification != self.dii.identification or step == 0:
-            return
-        self.label += step
+        self.parts.append(Part(dii, self.waiting.pop(dii.identification, None)))
+
+    def turn(self, version):
+        step = 0 if self.version is None else receiver.distance(self.version, version)
+        self.label = version if self.version is None else self.label + step
         self.epoch += step >= 256
-        stay = {} if step >= 256 else {m: it for m, it in self.blocks.items() if receiver.agrees(self.dii, dii, m)}
-        self.turn(dii, stay)
+        self.waiting = {part.dii.identification: part for part in self.parts} if step < 256 else {}
+        self.version, self.parts = version, []
 
-    def turn(self, dii, stay):
-        self.dii = dii
-        self.lines = {line.id: line for line in dii.lines}
-        self.blocks = {m: stay.get(m, {}) for m, line in self.lines.items() if not line.compressed}
-        self.whole = {m: self.whole[m] for m in stay if m in self.whole and m in self.blocks}
-        for m in self.blocks:
-            self.join(m)
-
-    def block(self, it):
-        line = self.lines.get(it.module)
-        if line is None or line.compressed or (it.download, it.version) != (self.dii.download, line.version):
-            return
-        size = self.dii.block_size
-        fits = it.block < receiver.block_count(line.size, size) and len(it.data) == receiver.block_span(line.size, size, it.block)
-        if fits and it.block not in self.blocks[it.module]:
-            self.blocks[it.module][it.block] = it.data
-            self.join(it.module)
-
-    def join(self, m):
-        """Makes the module's bytes with its last block."""
-        count = receiver.block_count(self.lines[m].size, self.dii.block_size)
-        if len(self.blocks[m]) == count and m not in self.whole:
-            self.whole[m] = b"".join(self.blocks[m][b] for b in range(count))
+    def has_room(self, dii):
+        size = sum(line.size for part in self.parts for line in part.dii.lines) + sum(line.size for line in dii.lines)
+        ids = {line.id for line in dii.lines}
+        is_apart = all(part.dii.identification != dii.identification and not part.lines.keys() & ids for part in self.parts)
+        return is_apart and len(self.parts) < receiver.MOST_HELD and size <= receiver.MOST_SUM
 
     def held(self):
-        if self.dii is None:
-            return receiver.Held(None, 0, None, self.gateway, {}, {})
-        modules = {m: self.whole.get(m) for m in self.blocks}
-        return receiver.Held(self.label, self.epoch, self.dii.identification, self.gateway, self.lines, modules)
+        modules = {m: part.whole.get(m) for part in self.parts for m in part.blocks}
+        return receiver.Held(self.label, self.epoch, [part.dii for part in self.parts], self.gateway, modules)
 
 
 def flipped(packet, bit):

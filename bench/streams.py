@@ -6,6 +6,7 @@ It shares no code with the crates, so that what they read of its streams says so
     streams.py --made MEGABYTES > STREAM     about so many megabytes of made files, one cycle
     streams.py --folder MEGABYTES FOLDER     the same files in a new folder
     streams.py --sections FOLDER > SECTIONS  one cycle as sections back to back
+    streams.py --two-diis FOLDER > STREAM    as another sender may do it: two DIIs, and a second version of one file
 """
 
 import os
@@ -13,12 +14,18 @@ import struct
 import subprocess
 import sys
 import zlib
-from dataclasses import dataclass, field
+from dataclasses import dataclass, field, replace
+from functools import partial
 
 BLOCK = 4066
 ROOM = 65536
-MOST_MODULES = 139
+MOST_LINES = 139
+MOST_GROUPS = 16
+# What the program places objects in: the modules of one DII.
+MOST_MODULES = MOST_LINES
+# The items of a cycle: the DSI, (DII, group) for each DII, and (module, block).
 DSI, DII = "dsi", "dii"
+FIRST_DII = (DII, 1)
 COMPRESSED = b"\x09\x05\x01\0\0\0\0"
 GATEWAY_KEY = 1
 
@@ -126,7 +133,7 @@ def fresh_placement(sizes, old=None, room=ROOM):
     return modules
 
 
-def kept_placement(sizes, old, room=ROOM):
+def kept_placement(sizes, old, room=ROOM, most=MOST_MODULES):
     """The kept rule: what still has room stays in its old module, and the rest takes the least module with room."""
     placed, filled = [None] * len(sizes), {}
 
@@ -146,12 +153,35 @@ def kept_placement(sizes, old, room=ROOM):
             in_use = sorted(filled) if sizes[place] <= room else []
             unused = next(m for m in range(1, len(filled) + 2) if m not in filled)
             put(place, next((m for m in in_use if has_room(place, m)), unused))
-    return fresh_placement(sizes, room=room) if max(placed) > MOST_MODULES else placed
+    return fresh_placement(sizes, room=room) if max(placed) > most else placed
+
+
+def spread(ids, rule):
+    """The rule under other numbers: what it puts in its n-th module goes to the n-th of these, of which the first is 1."""
+    def place(sizes, old):
+        return [ids[n - 1] for n in rule(sizes, [m and ids.index(m) + 1 for m in old])]
+
+    return place
+
+
+def group_of(m):
+    """The identification of the DII that lists a module of this project's own carousels."""
+    return 1 + (m - 1) // MOST_LINES
+
+
+def tap(identification):
+    """The transaction of a tap that names a DII."""
+    return 0x80000000 | identification << 1
+
+
+def is_block(item):
+    return item != DSI and item[0] != DII
 
 
 @dataclass(frozen=True)
 class Generation:
-    """One published tree: files by path, key and module of each object, modules by id, and how often each id has changed."""
+    """One published tree: files by path, key and module of each object, modules by id, and how often each id has changed.
+    `by` gives the identification of the DII that lists a module."""
 
     carousel: int
     number: int
@@ -160,10 +190,15 @@ class Generation:
     places: dict
     modules: dict
     counts: dict
+    by: object = group_of
 
     def lines(self):
         """The number of blocks of each module, by rising id."""
         return [(m, -(-len(data) // BLOCK)) for m, data in self.modules.items()]
+
+    def diis(self):
+        """The items of the DIIs, by rising identification."""
+        return [(DII, it) for it in sorted({*map(self.by, self.modules)})]
 
     def cycle(self, weights=None):
         """The items of a cycle in order. A module weighs 1 where `weights` doesn't say more."""
@@ -171,16 +206,17 @@ class Generation:
         lines = self.lines()
         items = [DSI]
         for turn in range(max(weights.get(m, 1) for m, _ in lines)):
-            items.append(DII)
+            items += self.diis()
             items += [(m, b) for m, blocks in lines if weights.get(m, 1) > turn for b in range(blocks)]
         return items
 
     def section(self, item):
         if item == DSI:
-            return dsi(self.carousel)
-        if item == DII:
-            lines = [(m, len(data), self.counts[m] % 256) for m, data in self.modules.items()]
-            return dii(self.carousel, lines, self.number)
+            return dsi(self.carousel, ior(b"srg\0", self.carousel, 1, key_bytes(GATEWAY_KEY), tap(self.by(1))))
+        if not is_block(item):
+            _, identification = item
+            lines = [(m, len(data), self.counts[m] % 256) for m, data in self.modules.items() if self.by(m) == identification]
+            return dii(self.carousel, lines, self.number, identification)
         m, b = item
         return ddb(self.carousel, m, self.counts[m], b, self.modules[m])
 
@@ -203,7 +239,7 @@ def keys_of(objects, files, before):
     return keys
 
 
-def modules_of(objects, files, children, keys, places, carousel):
+def modules_of(objects, files, children, keys, places, carousel, by):
     modules = {}
     for path in objects:
         if path in files:
@@ -213,33 +249,34 @@ def modules_of(objects, files, children, keys, places, carousel):
             for name in children[path]:
                 child = path + (name,)
                 is_file = child in files
-                reference = ior(b"fil\0" if is_file else b"dir\0", carousel, places[child], key_bytes(keys[child]))
+                m, key = places[child], key_bytes(keys[child])
+                reference = ior(b"fil\0" if is_file else b"dir\0", carousel, m, key, tap(by(m)))
                 bindings.append(binding(name, is_file, reference, len(files[child]) if is_file else 0))
             written = folder_message(key_bytes(keys[path]), bindings, b"dir\0" if path else b"srg\0")
         modules.setdefault(places[path], []).append(written)
     return {m: b"".join(parts) for m, parts in sorted(modules.items())}
 
 
-def first_generation(carousel=1, number=0):
+def first_generation(carousel=1, number=0, by=group_of):
     """The generation of the empty tree, from which all begins."""
     modules = {1: folder_message(key_bytes(GATEWAY_KEY), [], b"srg\0")}
-    return Generation(carousel, number, {}, {(): GATEWAY_KEY}, {(): 1}, modules, {1: 0})
+    return Generation(carousel, number, {}, {(): GATEWAY_KEY}, {(): 1}, modules, {1: 0}, by)
 
 
 def next_generation(before, files, place=fresh_placement):
     """The generation of a tree after another one, its objects placed by the rule `place` of their sizes and old modules."""
     if files == before.files:
-        return Generation(before.carousel, before.number + 1, files, before.keys, before.places, before.modules, before.counts)
+        return replace(before, number=before.number + 1)
     objects, children = objects_of(files), children_of(files)
     keys = keys_of(objects, files, before)
     sizes = [size_of(path, files, children) for path in objects]
     old = [before.places[path] if was_there(path, files, before) else None for path in objects]
     places = dict(zip(objects, place(sizes, old)))
-    modules = modules_of(objects, files, children, keys, places, before.carousel)
+    modules = modules_of(objects, files, children, keys, places, before.carousel, before.by)
     counts = dict(before.counts)
     for m, data in modules.items():
         counts[m] = counts.get(m, 0) + (before.modules.get(m) != data)
-    return Generation(before.carousel, before.number + 1, dict(files), keys, places, modules, counts)
+    return Generation(before.carousel, before.number + 1, dict(files), keys, places, modules, counts, before.by)
 
 
 def generation(files, carousel=1, place=kept_placement):
@@ -349,6 +386,17 @@ def published_in_groups(files, cycles, carousel=1):
     return sent
 
 
+def two_diis(files):
+    """A cycle of a carousel whose modules are listed by the DIIs of identifications 5 and 9; and then, of its next generation, both
+    DIIs and the blocks of the modules that changed: enough for whoever heard the first."""
+    place = partial(kept_placement, room=300)
+    first = next_generation(first_generation(by=lambda m: 5 if m % 2 else 9), files, place)
+    path = max(files)
+    second = next_generation(first, {**files, path: files[path].upper()}, place)
+    changed = [it for it in second.cycle() if is_block(it) and second.counts[it[0]] != first.counts[it[0]]]
+    return packed([*cycle(first), *map(second.section, [*reversed(second.diis()), *changed])])
+
+
 def files_in(folder):
     files = {}
     for at, _, names in os.walk(folder):
@@ -405,6 +453,8 @@ def main(words):
         return
     if words[:1] == ["--made"]:
         parts = published(made(int(words[1])), 1)
+    elif words[:1] == ["--two-diis"]:
+        parts = two_diis(files_in(words[1]))
     elif words[:1] == ["--sections"]:
         parts = cycle(generation(files_in(words[1])), BUILT.weights)
     else:

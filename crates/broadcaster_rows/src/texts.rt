@@ -14,7 +14,7 @@ pub(crate) fn with_word(mut words: String, word: &str) -> Result<String, AllocEr
     Ok(words)
 }
 
-/// Items with a space between: `DSI`, `DII`, and a block as its module and its number.
+/// Items with a space between: `DSI`, a DII as its group, `DII/1`, and a block as its module and its number.
 pub(crate) fn items_text(alloc: Global, items: &[Item]) -> Result<String, AllocError> {
     let mut words = String::new(alloc);
     for item in items {
@@ -27,7 +27,7 @@ pub(crate) fn items_text(alloc: Global, items: &[Item]) -> Result<String, AllocE
 pub(crate) fn item_text(alloc: Global, item: Item) -> Result<String, AllocError> {
     match item {
         Item::Dsi => String::from_str(alloc, "DSI"),
-        Item::Dii => String::from_str(alloc, "DII"),
+        Item::Dii(group) => format!(in alloc; "DII/{group}"),
         Item::Block(module, block) => format!(in alloc; "{module}/{block}"),
     }
 }

@@ -43,7 +43,7 @@ impl Gate for Meeting {
 fn both_workers_are_at_work_at_once(rt: HostRuntime) -> Result<(), Fail> {
     let alloc = rt.alloc();
     let generation = Generation::first(alloc, 1)?;
-    let items = [Item::Dsi, Item::Dii, Item::Block(1, 0)];
+    let items = [Item::Dsi, Item::Dii(1), Item::Block(1, 0)];
     let gate = Meeting {
         first: AtomicBool::new(false),
         second: AtomicBool::new(false),

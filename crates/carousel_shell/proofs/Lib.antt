@@ -1,3 +1,4 @@
+mod Beginning
 mod Joining
 mod Offering
 mod Parts

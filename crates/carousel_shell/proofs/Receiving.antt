@@ -16,7 +16,7 @@ use Rattle.section_stream.proofs.CallerLemmas.{Fits, layout_fits}
 use Rattle.tuner_core.specs.LookBack.{answer_after}
 use Rattle.carousel_world.specs.Broadcasts.{sections}
 use Rattle.carousel_world.specs.Headline.{IsNodeAnswer}
-use Rattle.carousel_world.specs.Receptions.{EveryReceptionMeets}
+use Rattle.carousel_world.specs.Receptions.{EveryReceptionMeets, LabelsNeverFall}
 use Rattle.carousel_world.specs.Publishing.{EveryPublicationMeets, EachCycleOpens, publication, packets_sent, published_bytes}
 use Rattle.shell_streams.specs.Cuts.{Bytes, back_to_back}
 use Rattle.shell_streams.specs.Packets.{AreSized, packets_of, candidates_of}
@@ -25,6 +25,7 @@ use Rattle.shell_streams.specs.declared.carrier.Carrier.TheVariants as carriers
 use Rattle.shell_streams.proofs.CallerLemmas.{packets_before}
 use Rattle.psi_tables.specs.Laws.{IsNowhereElse, IsFoundOnceItCame, EachIsFollowed}
 use Rattle.carousel_shell.specs.Find.{UsuallyFound}
+use Rattle.carousel_shell.proofs.Beginning.{falls_never}
 use Rattle.carousel_shell.specs.Reception.{Reception, SentOpens, CyclesOpen, Receptions, node_answer, answer_in}
 
 same_answer : (a : Answer) (n : Node) → IsNodeAnswer a n → a ≡ node_answer n
@@ -38,22 +39,24 @@ all_same heard t h =
     let each : (p : PathNames) → answer_after heard p ≡ answer_in t p = λ p. same_answer (answer_after heard p) (node_at t p) (h p) in
     λ i p. each p i
 
-received : EveryReceptionMeets → EveryPublicationMeets → (carrier : Carrier) (input : Bytes) → Reception carrier input
-received law one (carriers.Sections most) input = record {
+received : EveryReceptionMeets → LabelsNeverFall → EveryPublicationMeets → (carrier : Carrier) (input : Bytes) → Reception carrier input
+received law falls one (carriers.Sections most) input = record {
   meets = law.sections (back_to_back input);
   whole = λ b from g never heard whole.
       all_same (back_to_back input) (tree_at b.trees g) (λ p. (law.sections (back_to_back input) b from never heard).opens g p whole);
   meets_published = one.sections (back_to_back input);
   whole_published = λ carousel weights cycles t from never small publishable accepted whole.
       all_same (back_to_back input) t (λ p. (one.sections (back_to_back input) carousel weights cycles t from never small publishable accepted).opens p whole);
+  never_falls = falls_never falls (carriers.Sections most) input;
 }
-received law one (carriers.Packets pid) input = record {
+received law falls one (carriers.Packets pid) input = record {
   meets = law.packets pid (packets_of input);
   whole = λ b from g never heard whole.
       all_same (candidates_of pid input) (tree_at b.trees g) (λ p. (law.packets pid (packets_of input) b from never heard).opens g p whole);
   meets_published = one.packets pid (packets_of input);
   whole_published = λ carousel weights cycles t from never small publishable accepted whole.
       all_same (candidates_of pid input) t (λ p. (one.packets pid (packets_of input) carousel weights cycles t from never small publishable accepted).opens p whole);
+  never_falls = falls_never falls (carriers.Packets pid) input;
 }
 
 -- ---- the packets of what was published are those that were sent
@@ -87,5 +90,5 @@ usually nowhere once each carousel packets = record {
   followed = λ p l all line program few. each packets p l all line program few;
 }
 
-pub all_laws : EveryReceptionMeets → EveryPublicationMeets → EachCycleOpens → ((carousel : ℕ) (weights : List ℕ) (cycles : ℕ) → AreWeights weights → CyclesOpen carousel weights cycles) → IsNowhereElse → IsFoundOnceItCame → EachIsFollowed → Receptions
-all_laws law one cycle cycles nowhere once each = record { each = received law one; sent = sent_opens cycle; cycles = cycles; tables = usually nowhere once each }
+pub all_laws : EveryReceptionMeets → LabelsNeverFall → EveryPublicationMeets → EachCycleOpens → ((carousel : ℕ) (weights : List ℕ) (cycles : ℕ) → AreWeights weights → CyclesOpen carousel weights cycles) → IsNowhereElse → IsFoundOnceItCame → EachIsFollowed → Receptions
+all_laws law falls one cycle cycles nowhere once each = record { each = received law falls one; sent = sent_opens cycle; cycles = cycles; tables = usually nowhere once each }

@@ -1,5 +1,5 @@
 -- What holds of all that is heard of an input: the law of receptions. No other file names its words.
-use Rattle.std.specs.Prelude.{◌≡◌, ℕ, ◌+◌, ◌<◌, ◌≤◌, List, Some}
+use Rattle.std.specs.Prelude.{◌≡◌, ℕ, ◌+◌, ◌<◌, ◌≤◌, List, take, Some}
 use Rattle.path_tree.specs.Paths.{PathNames}
 use Rattle.path_tree.specs.Trees.{Tree, Node, File, Folder, NoSuch, node_at}
 use Rattle.path_resolver.specs.declared.answer.Answer.{Answer}
@@ -11,7 +11,7 @@ use Rattle.carousel_world.specs.Broadcasts.{Broadcast, Ascription, NeverBack, Is
 use Rattle.carousel_world.specs.Premises.{AcceptedAreSent, IsHeardOf, IsWhole}
 use Rattle.carousel_world.specs.Headline.{IsNodeAnswer}
 use Rattle.carousel_world.specs.Publishing.{published_bytes, publication, layouts_for, MeetsPublished, MeetsPublishedSections}
-use Rattle.carousel_world.specs.Receptions.{MeetsOnPackets, MeetsOnSections}
+use Rattle.carousel_world.specs.Receptions.{MeetsOnPackets, MeetsOnSections, label_after, GoesOn}
 use Rattle.shell_streams.specs.Cuts.{Bytes}
 use Rattle.carousel_shell.specs.Announced.{published_after}
 use Rattle.carousel_shell.specs.Find.{UsuallyFound}
@@ -62,11 +62,18 @@ OpensWhole carrier input = (carousel : ℕ) (weights : List ℕ) (cycles : ℕ) 
     → AcceptedAreSent (publication carousel weights cycles t) (candidates_in carrier input) (is_from carrier input (publication carousel weights cycles t) from)
     → IsWhole carousel (layouts_for carousel t) 1 (candidates_in carrier input) → answer_after (candidates_in carrier input) ≡ answer_in t
 
+-- The generation that is held never falls, whatever is heard: once there is a label, it isn't lower after more of the input. It holds
+-- after each number of the input's sections, and after each beginning of the input, in bytes, as if it had ended there.
+pub record NeverFalls (carrier : Carrier) (input : Bytes) : Type 0 where
+  pub heard : (m n : ℕ) → m ≤ n → GoesOn (label_after (take m (candidates_in carrier input))) (label_after (take n (candidates_in carrier input)))
+  pub read : (m n : ℕ) → m ≤ n → GoesOn (label_after (candidates_in carrier (take m input))) (label_after (candidates_in carrier (take n input)))
+
 pub record Reception (carrier : Carrier) (input : Bytes) : Type 0 where
   pub meets : MeetsBroadcasts carrier input
   pub whole : OpensGeneration carrier input
   pub meets_published : MeetsTrees carrier input
   pub whole_published : OpensWhole carrier input
+  pub never_falls : NeverFalls carrier input
 
 -- whoever hears all packets of a publication has each path of its tree
 abbrev pub SentOpens : (carousel : ℕ) (weights : List ℕ) (cycles : ℕ) → Type 0

@@ -1,7 +1,8 @@
 ghost use Rattle.carousel_shell.specs.Reception.{Receptions};
 
 use carousel_world::{
-    each_cycle_opens, every_publication_meets, every_reception_meets, publications_can_be_packed,
+    each_cycle_opens, every_publication_meets, every_reception_meets, labels_never_fall,
+    publications_can_be_packed,
 };
 use psi_tables::{
     each_listed_pid_is_followed, it_is_found_once_its_tables_came, it_is_nowhere_else,
@@ -13,6 +14,7 @@ pub fn receptions()
     ensures { Receptions }
 {
     every_reception_meets();
+    labels_never_fall();
     every_publication_meets();
     each_cycle_opens();
     publications_can_be_packed();

@@ -1,7 +1,6 @@
 -- From what a receiver holds of a generation to its answers.
-use Rattle.std.proofs.Common.{◌≡◌, ℕ, suc, Bool, true, false, not, ◌==◌, List, [], ◌∷◌, map, Option, Some, None, refl, sym, ◌∙◌, ap, subst, arith, ◌⊎◌, inl, inr}
+use Rattle.std.proofs.Common.{◌≡◌, ℕ, suc, Bool, true, false, not, List, [], ◌∷◌, map, Option, Some, None, refl, sym, ◌∙◌, ap, subst, arith, ◌⊎◌, inl, inr}
 use Rattle.std.specs.List.{All, Contains, find, list_any}
-use Rattle.std.specs.Option.{is_some}
 use Rattle.std.proofs.lemmas.Option.{same_Some}
 use Rattle.path_tree.specs.Paths.{Bytes, PathNames, same_name}
 use Rattle.path_tree.specs.Trees.{Tree, Node, File, Folder, NoSuch, node_at}
@@ -13,25 +12,26 @@ use Rattle.biop_object.specs.Objects.{IsFolder, BindingFields}
 use Rattle.biop_object.specs.ObjectReading.{objects_of, found_of}
 use Rattle.biop_object.specs.declared.module.Found.{Found}
 use Rattle.generation.specs.Layouts.{gateway_location}
-use Rattle.generation.specs.Lawful.{IsNode, IsInside, identification_for, Carries}
-use Rattle.path_resolver.specs.Resolving.{HeldModule, Held, is_elsewhere, by_binding, in_folder, goes_on, at_target, walk, answer_of, answer_at_end}
+use Rattle.generation.specs.Lawful.{IsNode, IsInside, Carries}
+use Rattle.generation.specs.Groups.{group_of}
+use Rattle.path_resolver.specs.Resolving.{by_binding, in_folder, goes_on, answer_at_end, Held, at_target, walk, answer_of}
 use Rattle.path_resolver.specs.declared.answer.Answer.{Answer}
 use Rattle.path_resolver.specs.declared.answer.Answer.TheVariants as answers
 use Rattle.carousel_world.specs.Headline.{IsNodeAnswer, IsAnswer, modules_on}
-use Rattle.carousel_world.proofs.Holding.{IsTable, HoldsOf, has_bytes, is_held_whole, missing_of, first_not_held}
+use Rattle.carousel_world.proofs.Holding.{HoldsOf, is_held_whole, missing_of, first_not_held, IsThere, IsAwaited, held_or_awaited}
 use Rattle.carousel_world.proofs.Below.{IsClosed, tree_closed, root_there}
-use Rattle.carousel_world.proofs.Finding.{same_test, entry_of, IsThere, IsAwaited, held_or_awaited, Sees, thing_seen, binds, file_ends, folder_goes_on, ends_at}
+use Rattle.carousel_world.proofs.Finding.{thing_seen, Sees, binds, file_ends, folder_goes_on, ends_at}
 
 -- ---- a place on a walk
 
--- The tree as it is seen from a location on: `node` gives what stands at each path from there. The delivery names the DII of identification 1, where
--- it is known.
+-- The tree as it is seen from a location on: `node` gives what stands at each path from there. The delivery names the DII of the module's group,
+-- where it is known.
 pub record IsPlace (carousel : ℕ) (layout : Layout) (node : PathNames → Node) (l : Location) (delivery : Option ℕ) : Type 0 where
   pub paths : (q : PathNames) → IsNode (thing_named layout (Some l) q) (node q)
   pub there : node [] ≡ NoSuch → ⊥
   pub closed : IsClosed node
   pub same_carousel : l.carousel ≡ carousel
-  pub delivered : (t : ℕ) → delivery ≡ Some t → identification_of t ≡ 1
+  pub delivered : (t : ℕ) → delivery ≡ Some t → identification_of t ≡ group_of l.module
 
 -- what stands in the modules at a place
 pub record Standing (layout : Layout) (l : Location) : Type 0 where
@@ -61,11 +61,6 @@ standing layout l thing is = go (module_in layout l.module) refl where
 standing_at : (carousel : ℕ) (layout : Layout) (node : PathNames → Node) (l : Location) (d : Option ℕ) → IsPlace carousel layout node l d → Standing layout l
 standing_at carousel layout node l d place = let s = something (thing_at layout l) (node []) (place.paths []) place.there in standing layout l s.0 s.1
 
-not_elsewhere : (carousel identification : ℕ) (l : Location) (d : Option ℕ) → identification ≡ 1 → l.carousel ≡ carousel → ((t : ℕ) → d ≡ Some t → identification_of t ≡ 1) → is_elsewhere carousel identification (l, d) ≡ false
-not_elsewhere carousel identification l None one same delivered = rw (same_test l.carousel carousel same) refl
-not_elsewhere carousel identification l (Some t) one same delivered =
-    rw (same_test l.carousel carousel same, same_test (identification_of t) identification (delivered t refl ∙ sym one)) refl
-
 -- ---- one answer
 
 -- as `IsAnswer`, and the module that isn't whole is one of the layout
@@ -86,22 +81,19 @@ arrives : (carousel : ℕ) (layout : Layout) (held : Held) → HoldsOf carousel 
     → (s : Standing layout l) (seek : Bytes → Answer) (more : List ℕ) (here : Node) → IsAnswerIn layout (missing_of held more) here (seek s.bytes)
     → IsAnswerIn layout (missing_of held (l.module ∷ more)) here (at_target carousel held seek (l, d))
 arrives carousel layout held holds node l d place s seek more here told =
-    go (held_or_awaited held l.module s.bytes (entry_of layout held.table l.module s.bytes holds.table s.listed)) where
-      near : is_elsewhere carousel held.identification (l, d) ≡ false
-      near = not_elsewhere carousel held.identification l d holds.identification place.same_carousel place.delivered
-
+    go (held_or_awaited carousel held l d s.bytes place.same_carousel place.delivered (holds.table l.module s.bytes s.listed)) where
       Goal : Answer → Type 0
       Goal answer = IsAnswerIn layout (missing_of held (l.module ∷ more)) here answer
 
-      go : IsThere held l.module s.bytes ⊎ IsAwaited held l.module → Goal (at_target carousel held seek (l, d))
-      go (inl whole) = rw near (subst Goal (sym (whole.object seek)) (passed_on layout held l.module more here (seek s.bytes) whole.whole told))
-      go (inr missing) = rw near (awaited layout held l.module more here _ s.bytes missing.missing (missing.object seek) s.listed)
+      go : IsThere carousel held l d s.bytes ⊎ IsAwaited carousel held l d → Goal (at_target carousel held seek (l, d))
+      go (inl whole) = subst Goal (sym (whole.object seek)) (passed_on layout held l.module more here (seek s.bytes) whole.whole told)
+      go (inr missing) = awaited layout held l.module more here _ s.bytes missing.missing (missing.object seek) s.listed
 
 -- ---- along a path
 
 abbrev Inside : ℕ → Layout → Type 0
 Inside carousel layout = (m : ℕ) (bytes : Bytes) (key : Bytes) (bindings : List BindingFields) → module_in layout m ≡ Some bytes
-    → Contains (objects_of bytes) (record { key = key; shape = IsFolder bindings }) → All (IsInside layout carousel identification_for) bindings
+    → Contains (objects_of bytes) (record { key = key; shape = IsFolder bindings }) → All (IsInside layout carousel) bindings
 
 -- the answer from a place on along these names
 abbrev Tells : ℕ → Layout → Held → PathNames → Node → Location → Option ℕ → Type 0
@@ -140,7 +132,7 @@ paths_on carousel layout node l d place n next e q = subst (λ o. IsNode (thing_
 
 -- a folder: its first binding of the name leads on, or nothing of the name is there
 through : (carousel : ℕ) (layout : Layout) (held : Held) (n : Bytes) (ns : PathNames) (node : PathNames → Node) (l : Location) (d : Option ℕ) → IsPlace carousel layout node l d
-    → (bindings : List BindingFields) → thing_at layout l ≡ Some (AFolder bindings) → All (IsInside layout carousel identification_for) bindings
+    → (bindings : List BindingFields) → thing_at layout l ≡ Some (AFolder bindings) → All (IsInside layout carousel) bindings
     → ((onward : Location) (known : Option ℕ) → IsPlace carousel layout (λ q. node (n ∷ q)) onward known → Tells carousel layout held ns (node (n ∷ ns)) onward known)
     → IsAnswerIn layout (missing_of held (modules_on layout (location_of n (Some (AFolder bindings))) ns)) (node (n ∷ ns)) (in_folder (walk carousel held ns) n (Some bindings))
 through carousel layout held n ns node l d place bindings is all next = go (find (λ b. same_name n b.name) bindings) refl where
@@ -153,8 +145,8 @@ through carousel layout held n ns node l d place bindings is all next = go (find
   go : (f : Option BindingFields) → find (λ b. same_name n b.name) bindings ≡ f → Goal f
   go None e = no_way layout held ns (node (n ∷ ns)) (nothing_there (node (n ∷ ns)) (paths_on carousel layout node l d place n None (leads None e) ns))
   go (Some b) e = way (biop_of_profiles b.target.profiles) refl where
-    one : NamedBinding n bindings (IsInside layout carousel identification_for) b
-    one = named_binding n bindings (IsInside layout carousel identification_for) b all e
+    one : NamedBinding n bindings (IsInside layout carousel) b
+    one = named_binding n bindings (IsInside layout carousel) b all e
 
     child : node (n ∷ []) ≡ NoSuch → ⊥
     child none = place.closed [] (map (λ x. x.name) bindings) n (folder_names bindings (node []) (subst (λ x. IsNode x (node [])) is (place.paths []))) one.name none
@@ -227,18 +219,9 @@ answers_told carousel layout t held holds carries p = go (first_not_held carouse
 
 -- ---- where each module is whole
 
--- each entry has its bytes
-abbrev pub AreWhole : List HeldModule → Type 0
-AreWhole [] = Unit {0}
-AreWhole (h ∷ hs) = (is_some h.bytes ≡ true) × AreWhole hs
-
-whole_entry : (layout : Layout) (table : List HeldModule) (m : ℕ) (bytes : Bytes) → IsTable layout table → AreWhole table → module_in layout m ≡ Some bytes → has_bytes (find (λ h. h.line.id == m) table) ≡ true
-whole_entry [] hs m bytes is whole e = absurd cc
-whole_entry (x ∷ xs) [] m bytes is whole e = absurd is
-whole_entry (x ∷ xs) (h ∷ hs) m bytes is whole e = go (x.0 == m) refl (λ f. whole_entry xs hs m bytes is.1 whole.1 f) where
-  go : (t : Bool) → (x.0 == m) ≡ t → (module_in xs m ≡ Some bytes → has_bytes (find (λ h. h.line.id == m) hs) ≡ true) → has_bytes (find (λ h. h.line.id == m) (h ∷ hs)) ≡ true
-  go true f rest = let test : (h.line.id == m) ≡ true = ap (λ k. k == m) is.0.0 ∙ f in rw test whole.0
-  go false f rest = let test : (h.line.id == m) ≡ false = ap (λ k. k == m) is.0.0 ∙ f in rw test (rest (rw f at e))
+-- each module of the layout is held whole
+abbrev pub AreWhole : Layout → Held → Type 0
+AreWhole layout held = (m : ℕ) (bytes : Bytes) → module_in layout m ≡ Some bytes → is_held_whole held m ≡ true
 
 first_passes : (test : ℕ → Bool) (ms : List ℕ) (m : ℕ) → find test ms ≡ Some m → test m ≡ true
 first_passes test [] m e = absurd cc
@@ -251,10 +234,10 @@ not_whole : (b : Bool) → b ≡ true → not b ≡ true → ⊥
 not_whole b e f = let bad : not true ≡ true = subst (λ c. not c ≡ true) e f in cc
 
 -- Each answer is the tree's own lookup.
-pub answers_whole : (carousel : ℕ) (layout : Layout) (t : Tree) (held : Held) → HoldsOf carousel layout held → Carries carousel layout t → AreWhole held.table → (p : PathNames)
+pub answers_whole : (carousel : ℕ) (layout : Layout) (t : Tree) (held : Held) → HoldsOf carousel layout held → Carries carousel layout t → AreWhole layout held → (p : PathNames)
     → IsNodeAnswer (answer_of held p) (node_at t p)
 answers_whole carousel layout t held holds carries whole p = go (first_not_held carousel layout held p) refl (answers_in carousel layout t held holds carries p) where
   go : (first : Option ℕ) → first_not_held carousel layout held p ≡ first → IsAnswerIn layout first (node_at t p) (answer_of held p) → IsNodeAnswer (answer_of held p) (node_at t p)
   go None e told = told
-  go (Some m) e told = absurd (not_whole (is_held_whole held m) (whole_entry layout held.table m told.1 holds.table whole told.2)
+  go (Some m) e told = absurd (not_whole (is_held_whole held m) (whole m told.1 told.2)
       (first_passes (λ k. not (is_held_whole held k)) (modules_on layout (Some (gateway_location carousel)) p) m e))

@@ -3,13 +3,13 @@ use Rattle.std.proofs.Common.{◌≡◌, ℕ, zero, suc, ◌+◌, ◌<◌, ◌�
 use Rattle.std.specs.Prelude.{Result, slice_get, IsTrue, is_ok}
 use Rattle.std.proofs.lemmas.Bool.{eqb-true}
 use Rattle.path_tree.specs.Paths.{Bytes}
-use Rattle.biop_object.specs.Names.{Layout}
 use Rattle.dsi_dii.specs.Controls.{DiiFields}
 use Rattle.dsmcc_section.specs.Sections as sections
 use Rattle.dsmcc_section.specs.declared.Skip.{Skip}
+use Rattle.biop_object.specs.Names.{Layout}
 use Rattle.tuner_core.specs.Heard.{Heard, Skipped, NoControl, NoBlock, ADsi, ADii, ABlock, as_heard, heard_section, is_accepted}
 use Rattle.carousel_world.specs.Premises.{IsDiiAt, IsBlockAt}
-use Rattle.carousel_world.proofs.Generations.{IsSaidIn, IsNearTo, AreHeardOf, OnDii, DiisAre, gens_with, gens_after, newer}
+use Rattle.carousel_world.proofs.Generations.{IsNearTo, OnDii, DiisAre, gens_with, gens_after, newer, IsSaidIn, AreHeardOf}
 
 -- candidate i is of generation g
 abbrev pub OfGeneration : Type 1

@@ -24,7 +24,7 @@ use Rattle.carousel_world.specs.Broadcasts.{Broadcast, IsAscribed}
 use Rattle.carousel_world.specs.Premises.{AcceptedAreSent, IsWhole}
 use Rattle.carousel_world.specs.Instances.{tree_of, seven, cycles_with, Reception, carried_of, same_file, IsPremised, Tells, CarryingIsPremised}
 use Rattle.carousel_world.proofs.Instances.{seven_publishable}
-use Rattle.carousel_world.proofs.Premised.{never_back_by, heard_by, its_blocks}
+use Rattle.carousel_world.proofs.Premised.{never_back_by, heard_by, its_blocks, one_round}
 use Rattle.carousel_world.proofs.Laid.{laid, same_laid}
 
 abbrev pub trees : List Tree
@@ -58,7 +58,7 @@ of_dsi : From 0 0
 of_dsi = record { cut = record { packet = 0; offset = 5; bytes = section 1 Dsi }; is = refl; packet = 0; came = refl; begins = refl }
 
 of_dii : From 1 1
-of_dii = record { cut = record { packet = 0; offset = 120; bytes = section 1 Dii }; is = refl; packet = 0; came = refl; begins = refl }
+of_dii = record { cut = record { packet = 0; offset = 120; bytes = section 1 (Dii 1) }; is = refl; packet = 0; came = refl; begins = refl }
 
 of_first_block : From 2 6
 of_first_block = record { cut = record { packet = 2; offset = 12; bytes = section 2 (Block 1 0) }; is = refl; packet = 25; came = refl; begins = refl }
@@ -70,7 +70,7 @@ of_second_dsi : From 4 8
 of_second_dsi = record { cut = record { packet = 25; offset = 5; bytes = section 2 Dsi }; is = refl; packet = 48; came = refl; begins = refl }
 
 of_second_dii : From 5 9
-of_second_dii = record { cut = record { packet = 25; offset = 120; bytes = section 2 Dii }; is = refl; packet = 48; came = refl; begins = refl }
+of_second_dii = record { cut = record { packet = 25; offset = 120; bytes = section 2 (Dii 1) }; is = refl; packet = 48; came = refl; begins = refl }
 
 of_second_block : From 6 11
 of_second_block = record { cut = record { packet = 27; offset = 61; bytes = section 2 (Block 1 1) }; is = refl; packet = 71; came = refl; begins = refl }
@@ -112,13 +112,13 @@ whole : IsWhole 1 given.layouts 2 all
 whole = record {
   generation = lit< tt;
   gateway = (0, lit< tt, refl);
-  round = record {
+  rounds = one_round 1 given.layouts 2 all module_bytes refl (record {
     before = take 5 all;
     after = later;
     place = refl;
-    blocks = λ m b every item. its_blocks given.layouts 2 module_bytes later 1 2 refl refl each_block m b item;
-  };
-  no_later = λ h above below has. let few : h < 3 = below in absurd (omega (arith, above, few));
+    blocks = λ m b own item. its_blocks given.layouts 2 module_bytes later 1 2 refl refl each_block m b item;
+  });
+  no_later = λ h j above below own has. let few : h < 3 = below in absurd (omega (arith, above, few));
 }
 
 both : ArePublishable 1 (tree_of seven ∷ tree_of seven ∷ [])

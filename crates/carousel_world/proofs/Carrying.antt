@@ -12,10 +12,9 @@ use Rattle.ts_packet.specs.declared.Fate.{Fate}
 use Rattle.ts_packet.specs.Fates.{arrival_of}
 use Rattle.section_stream.specs.Cuts.{candidates}
 use Rattle.section_stream.specs.Kept.{view_bytes}
-use Rattle.section_stream.proofs.CallerLemmas.{packets_of_all-append}
+use Rattle.section_stream.proofs.CallerLemmas.{packets_of_all-append, between_idle, calls_give, few_packets}
 use Rattle.section_stream.specs.Packing.{MuxState, IsSectionLike, after_finish, idle, last_of, packets_of, packets_of_all, past}
 use Rattle.section_stream.specs.Groups.{IsBetween, layout_of, packets_of_group, past_group}
-use Rattle.section_stream.proofs.CallerLemmas.{between_idle, calls_give, few_packets}
 use Rattle.section_stream.specs.Rules as rules
 use Rattle.tuner_core.specs.Stands as tuning
 use Rattle.carousel_world.specs.Fates.{Arrival, fate_of, onto_arrivals, under, received_under}

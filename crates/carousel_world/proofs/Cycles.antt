@@ -1,5 +1,5 @@
 -- The items of whole cycles.
-use Rattle.std.proofs.Common.{◌≡◌, ℕ, zero, suc, ◌-◌, ◌<◌, ◌≤◌, Bool, true, false, eqb, List, [], ◌∷◌, ◌++◌, length, get_or, Some, None, refl, ap, sym, ◌∙◌, subst, append_assoc, arith}
+use Rattle.std.proofs.Common.{◌≡◌, ℕ, zero, suc, ◌-◌, ◌<◌, ◌≤◌, inl, Bool, true, false, eqb, List, [], ◌∷◌, ◌++◌, length, get_or, Some, None, refl, ap, sym, ◌∙◌, subst, append_assoc, arith}
 use Rattle.std.proofs.lemmas.Bool.{eqb-true}
 use Rattle.std.proofs.lemmas.Option.{same_Some}
 use Rattle.std.proofs.lemmas.List.Elements.{All-head, All-tail, All-nil, All-map, All-append, Contains-append_left, Contains-append_right}
@@ -45,7 +45,7 @@ modules_are_items ls g lt (m ∷ ms) all =
 
 pub cycle_items : (carousel : ℕ) (ls : List Layout) (g : ℕ) (weights : List ℕ) → IsSent carousel ls g → g < length ls → All (IsItem ls g) (cycle_of weights (lines_in (layout_at ls g)))
 cycle_items carousel ls g weights sent lt =
-    cycle_all (IsItem ls g) weights (lines_in (layout_at ls g)) lt lt (modules_are_items ls g lt (layout_at ls g) (each_listed (layout_at ls g) sent.rising))
+    cycle_all (IsItem ls g) weights (lines_in (layout_at ls g)) lt (lt, inl refl, omega arith, omega arith) (modules_are_items ls g lt (layout_at ls g) (each_listed (layout_at ls g) sent.rising))
 
 each_repeated : {A : Type 0} (P : A → Type 0) (n : ℕ) (xs : List A) → All P xs → All P (repeat_list n xs)
 each_repeated P zero xs all = All-nil P
@@ -89,9 +89,9 @@ some_lines (m ∷ ms) some = omega arith
 
 pub first_round : (weights : List ℕ) (layout : Layout) (cycles : ℕ) → AreWeights weights → 1 ≤ length layout
     → repeat_list (suc cycles) (cycle_of weights (lines_in layout))
-    ≡ Dsi ∷ Dii ∷ flat_map blocks_of (lines_in layout) ++ (later_rounds weights (lines_in layout) ++ repeat_list cycles (cycle_of weights (lines_in layout)))
+    ≡ Dsi ∷ Dii 1 ∷ flat_map blocks_of (lines_in layout) ++ (later_rounds weights (lines_in layout) ++ repeat_list cycles (cycle_of weights (lines_in layout)))
 first_round weights layout cycles are some =
     let lines = lines_in layout in
     let others = repeat_list cycles (cycle_of weights lines) in
     ap (λ (xs : List Item). xs ++ others) (cycle_begins weights lines are (some_lines layout some))
-    ∙ ap (λ (xs : List Item). Dsi ∷ Dii ∷ xs) (append_assoc (flat_map blocks_of lines) (later_rounds weights lines) others)
+    ∙ ap (λ (xs : List Item). Dsi ∷ Dii 1 ∷ xs) (append_assoc (flat_map blocks_of lines) (later_rounds weights lines) others)

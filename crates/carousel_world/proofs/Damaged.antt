@@ -24,7 +24,7 @@ use Rattle.carousel_world.specs.Broadcasts.{Broadcast, IsAscribed}
 use Rattle.carousel_world.specs.Premises.{AcceptedAreSent, IsWhole}
 use Rattle.carousel_world.specs.Instances.{tree_of, cycles_with, Reception, damaged_of, changed_file, IsPremised, Tells, DamageIsPremised}
 use Rattle.carousel_world.proofs.Instances.{first_content, second_content, first_publishable, second_publishable}
-use Rattle.carousel_world.proofs.Premised.{never_back_by, heard_by, its_blocks}
+use Rattle.carousel_world.proofs.Premised.{never_back_by, heard_by, its_blocks, one_round}
 use Rattle.carousel_world.proofs.Laid.{laid, changed_laid}
 
 abbrev pub trees : List Tree
@@ -58,19 +58,19 @@ first_fails : is_accepted (slice_index_or all 0 []) ≡ false
 first_fails = refl
 
 of_first_dii : From 1 1
-of_first_dii = record { cut = record { packet = 0; offset = 120; bytes = section 1 Dii }; is = refl; packet = 0; came = refl; begins = refl }
+of_first_dii = record { cut = record { packet = 0; offset = 120; bytes = section 1 (Dii 1) }; is = refl; packet = 0; came = refl; begins = refl }
 
 of_dsi : From 2 3
 of_dsi = record { cut = record { packet = 3; offset = 5; bytes = section 2 Dsi }; is = refl; packet = 3; came = refl; begins = refl }
 
 of_dii : From 3 4
-of_dii = record { cut = record { packet = 3; offset = 120; bytes = section 2 Dii }; is = refl; packet = 3; came = refl; begins = refl }
+of_dii = record { cut = record { packet = 3; offset = 120; bytes = section 2 (Dii 1) }; is = refl; packet = 3; came = refl; begins = refl }
 
 of_last_dsi : From 5 6
 of_last_dsi = record { cut = record { packet = 6; offset = 5; bytes = section 2 Dsi }; is = refl; packet = 6; came = refl; begins = refl }
 
 of_last_dii : From 6 7
-of_last_dii = record { cut = record { packet = 6; offset = 120; bytes = section 2 Dii }; is = refl; packet = 6; came = refl; begins = refl }
+of_last_dii = record { cut = record { packet = 6; offset = 120; bytes = section 2 (Dii 1) }; is = refl; packet = 6; came = refl; begins = refl }
 
 of_block : From 7 8
 of_block = record { cut = record { packet = 7; offset = 12; bytes = section 2 (Block 1 0) }; is = refl; packet = 7; came = refl; begins = refl }
@@ -105,13 +105,13 @@ whole : IsWhole 1 given.layouts 2 all
 whole = record {
   generation = lit< tt;
   gateway = (2, lit< tt, refl);
-  round = record {
+  rounds = one_round 1 given.layouts 2 all module_bytes refl (record {
     before = take 6 all;
     after = section 2 (Block 1 0) ∷ [];
     place = refl;
-    blocks = λ m b every item. its_blocks given.layouts 2 module_bytes (section 2 (Block 1 0) ∷ []) 1 1 refl refl the_block m b item;
-  };
-  no_later = λ h above below has. let few : h < 3 = below in absurd (omega (arith, above, few));
+    blocks = λ m b own item. its_blocks given.layouts 2 module_bytes (section 2 (Block 1 0) ∷ []) 1 1 refl refl the_block m b item;
+  });
+  no_later = λ h j above below own has. let few : h < 3 = below in absurd (omega (arith, above, few));
 }
 
 both : ArePublishable 1 (tree_of first_content ∷ tree_of second_content ∷ [])

@@ -1,11 +1,10 @@
 -- What a receiver finds at a location, where it holds the module's bytes.
-use Rattle.std.proofs.Common.{◌≡◌, ℕ, zero, suc, ◌+◌, Bool, true, false, ◌==◌, List, [], ◌∷◌, take, drop, Option, Some, None, refl, sym, ◌∙◌, ap, subst, arith, ◌⊎◌, inl, inr}
-use Rattle.std.specs.List.{Contains, find}
-use Rattle.std.proofs.lemmas.Bool.Decides.{nat_tests}
+use Rattle.std.proofs.Common.{◌≡◌, ℕ, zero, suc, ◌+◌, Bool, true, false, List, [], ◌∷◌, take, drop, Option, Some, refl, sym, ◌∙◌, ap, subst, arith}
+use Rattle.std.specs.List.{Contains}
 use Rattle.std.proofs.lemmas.Option.{same_Some}
 use Rattle.path_tree.specs.Paths.{Bytes, same_name}
 use Rattle.path_tree.specs.Trees.{Node, File, Folder, NoSuch}
-use Rattle.biop_object.specs.Names.{Layout, module_in, Thing, AFile, AFolder, AnOther, thing_of, first_of_key}
+use Rattle.biop_object.specs.Names.{Thing, AFile, AFolder, AnOther, thing_of, first_of_key}
 use Rattle.biop_object.specs.Objects.{Object, Shape, IsFile, IsFolder, IsOther, BindingFields}
 use Rattle.biop_object.specs.ObjectReading.{objects_of, stop_of, found_shape, found_from, found_of, shape_bindings, bindings_in, bindings_of}
 use Rattle.biop_object.specs.declared.module.Found.{Found}
@@ -13,58 +12,10 @@ use Rattle.biop_object.specs.declared.module.Found.TheVariants as found
 use Rattle.biop_object.specs.declared.module.Span.{Span}
 use Rattle.generation.specs.Lawful.{IsNode}
 use Rattle.path_resolver.specs.Names.{names_of}
-use Rattle.path_resolver.specs.Resolving.{HeldModule, Held, Target, answer_at_end, goes_on, in_folder, in_module}
+use Rattle.path_resolver.specs.Resolving.{Target, answer_at_end, goes_on, in_folder}
 use Rattle.path_resolver.specs.declared.answer.Answer.{Answer}
 use Rattle.path_resolver.specs.declared.answer.Answer.TheVariants as answers
 use Rattle.carousel_world.specs.Headline.{IsNodeAnswer}
-use Rattle.carousel_world.proofs.Holding.{IsTable, is_held_whole}
-
-pub same_test : (a b : ℕ) → a ≡ b → (a == b) ≡ true
-same_test a b e = grind (arith, nat_tests, e)
-
--- ---- the table
-
--- the entry of a module of the layout
-pub record Entry (table : List HeldModule) (m : ℕ) (bytes : Bytes) : Type 0 where
-  pub held : HeldModule
-  pub first : find (λ h. h.line.id == m) table ≡ Some held
-  pub plain : held.line.compressed ≡ false
-  pub content : (held.bytes ≡ Some bytes) ⊎ (held.bytes ≡ None)
-
-pub entry_of : (layout : Layout) (table : List HeldModule) (m : ℕ) (bytes : Bytes) → IsTable layout table → module_in layout m ≡ Some bytes → Entry table m bytes
-entry_of [] hs m bytes is e = absurd cc
-entry_of (x ∷ xs) [] m bytes is e = absurd is
-entry_of (x ∷ xs) (h ∷ hs) m bytes is e = go (x.0 == m) refl (λ f. entry_of xs hs m bytes is.1 f) where
-  go : (t : Bool) → (x.0 == m) ≡ t → (module_in xs m ≡ Some bytes → Entry hs m bytes) → Entry (h ∷ hs) m bytes
-  go true f rest =
-      let same : x.1 ≡ bytes = same_Some x.1 bytes (rw f at e) in
-      let test : (h.line.id == m) ≡ true = ap (λ k. k == m) is.0.0 ∙ f in
-      record {
-        held = h;
-        first = rw test refl;
-        plain = is.0.1;
-        content = subst (λ b. (h.bytes ≡ Some b) ⊎ (h.bytes ≡ None)) same is.0.2;
-      }
-  go false f rest =
-      let one = rest (rw f at e) in
-      let test : (h.line.id == m) ≡ false = ap (λ k. k == m) is.0.0 ∙ f in
-      record { held = one.held; first = rw test one.first; plain = one.plain; content = one.content }
-
--- what is sought in a module is sought in the layout's bytes
-pub record IsThere (held : Held) (m : ℕ) (bytes : Bytes) : Type 0 where
-  pub whole : is_held_whole held m ≡ true
-  pub object : (seek : Bytes → Answer) → in_module seek m (find (λ h. h.line.id == m) held.table) ≡ seek bytes
-
--- or isn't there yet
-pub record IsAwaited (held : Held) (m : ℕ) : Type 0 where
-  pub missing : is_held_whole held m ≡ false
-  pub object : (seek : Bytes → Answer) → in_module seek m (find (λ h. h.line.id == m) held.table) ≡ answers.NotYet m
-
-pub held_or_awaited : (held : Held) (m : ℕ) (bytes : Bytes) → Entry held.table m bytes → IsThere held m bytes ⊎ IsAwaited held m
-held_or_awaited held m bytes entry = go entry.content where
-  go : (entry.held.bytes ≡ Some bytes) ⊎ (entry.held.bytes ≡ None) → IsThere held m bytes ⊎ IsAwaited held m
-  go (inl is) = inl (record { whole = rw (entry.first, is) refl; object = λ seek. rw (entry.first, entry.plain, is) refl })
-  go (inr is) = inr (record { missing = rw (entry.first, is) refl; object = λ seek. rw (entry.first, entry.plain, is) refl })
 
 -- ---- an object of the bytes
 

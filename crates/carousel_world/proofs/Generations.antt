@@ -1,26 +1,29 @@
 -- All that is held over turns is of one generation.
-use Rattle.std.proofs.Common.{◌≡◌, ℕ, ◌+◌, ◌-◌, ◌<◌, ◌≤◌, inl, inr, Bool, true, false, cond, not, ◌&&◌, eqb, ltb, List, [], ◌∷◌, ◌++◌, map, length, get_or, Some, None, refl, ap, sym, ◌∙◌, subst, arith, lit<}
+use Rattle.std.proofs.Common.{◌≡◌, ℕ, ◌+◌, ◌-◌, ◌<◌, ◌≤◌, inl, inr, Bool, true, false, cond, not, ◌&&◌, eqb, ltb, List, [], ◌∷◌, ◌++◌, map, length, get_or, Some, None, refl, ap, sym, ◌∙◌, subst, arith, lit<, Option}
 use Rattle.std.specs.List.{All, fold, find}
-use Rattle.oc_bytes.specs.Outcome.{cap_at_u64}
-use Rattle.std.proofs.lemmas.Bool.{and_parts, cond-true, cond-false, eqb-true, ltb-true}
+use Rattle.std.proofs.lemmas.Bool.{and_parts, eqb-true, ltb-true}
 use Rattle.std.proofs.lemmas.Option.{same_Some}
-use Rattle.std.proofs.lemmas.List.Elements.{All-head, All-tail, All-cons, All-nil, All-append}
+use Rattle.std.proofs.lemmas.List.Elements.{All-cons, All-nil, All-append}
+use Rattle.oc_bytes.specs.Outcome.{cap_at_u64}
 use Rattle.path_tree.specs.Paths.{Bytes}
-use Rattle.biop_object.specs.Names.{Layout, module_in}
 use Rattle.ddb_block.specs.Blocks as ddb
-use Rattle.dsi_dii.specs.Controls.{DiiFields, version_of, identification_of, dii_transaction, distance_of}
+use Rattle.dsi_dii.specs.Controls.{DiiFields, distance_of}
 use Rattle.dsi_dii.specs.declared.ModuleLine.{ModuleLine}
+use Rattle.biop_object.specs.Names.{Layout, module_in}
 use Rattle.generation.specs.Lawful.{layout_at, version_in, dii_in, EqualVersionsMeanEqualBytes}
+use Rattle.generation.specs.Groups.{group_in}
+use Rattle.module_cache.specs.Turns.{admitted, heard_by, continued, with_turning, with_joined, onto_chain, chain}
 use Rattle.tuner_core.specs.Heard.{Heard, Skipped, NoControl, NoBlock, ADsi, ADii, ABlock}
 use Rattle.tuner_core.specs.LookBack.{is_sound, fits, bytes_if_fits, block_among, module_among}
-use Rattle.tuner_core.specs.Spans.{Span, span_after, within, turns, earlier, stretch, is_near, agrees, same_line, same_line_in, label_in, held_module, table_in, version, identification}
-use Rattle.carousel_world.specs.Headline.{block_of_line, block_in}
-use Rattle.carousel_world.proofs.Holding.{IsTable}
+use Rattle.tuner_core.specs.Spans.{Span, earlier, stretch, is_near, agrees, same_line, same_line_in, label_in, version, identification}
+use Rattle.tuner_core.specs.Turns.{Turn, turnings, turns, joins, turn_after, label_of}
+use Rattle.tuner_core.proofs.CallerLemmas.{by_admission}
+use Rattle.carousel_world.specs.Receptions.{IsDiiOf}
 use Rattle.carousel_world.proofs.Lists.{MaybeIs, first_maybe, joined_maybe}
-use Rattle.carousel_world.proofs.Modules.{IsSent, each_listed, line_of, is_taken}
+use Rattle.carousel_world.proofs.Modules.{IsSent, line_of, is_taken, number_is, generation_is, in_layout}
 use Rattle.carousel_world.proofs.Saying.{dsi_of}
 
--- ---- what is heard, generation by generation
+-- ---- blocks that are heard
 
 -- a block of a generation, under the version of its module there
 pub record IsBlockSaid (ls : List Layout) (k : ℕ) (x : ddb.Block) : Type 0 where
@@ -28,15 +31,6 @@ pub record IsBlockSaid (ls : List Layout) (k : ℕ) (x : ddb.Block) : Type 0 whe
   pub listed : module_in (layout_at ls k) x.module_id ≡ Some bytes
   pub part : x.bytes ≡ ddb.block_of bytes 4066 x.number
   pub versioned : x.version ≡ version_in ls k x.module_id
-
--- one of the generation's sections says this, or it is no section
-abbrev pub IsSaidIn : ℕ → List Layout → ℕ → Heard → Type 0
-IsSaidIn carousel ls k (Skipped skip) = Unit {0}
-IsSaidIn carousel ls k (NoControl place) = ⊥
-IsSaidIn carousel ls k (NoBlock place) = ⊥
-IsSaidIn carousel ls k (ADsi d) = d ≡ dsi_of carousel
-IsSaidIn carousel ls k (ADii d) = d ≡ dii_in carousel ls k
-IsSaidIn carousel ls k (ABlock x) = IsBlockSaid ls k x
 
 -- a block of a generation from g on, fewer than 256 on, and no later than the last that was heard
 pub record IsHeardIn (ls : List Layout) (g top : ℕ) (x : ddb.Block) : Type 0 where
@@ -55,30 +49,6 @@ abbrev pub IsKeptNear : List ℕ → ℕ → Bool → Type 0
 IsKeptNear [] g kept = Unit {0}
 IsKeptNear (h ∷ hs) g kept = kept ≡ true → g < h + 256
 
-pub record IsSpanOf (carousel : ℕ) (ls : List Layout) (g top : ℕ) (before : List ℕ) (s : Span) : Type 0 where
-  pub generation : g ≤ top
-  pub near : IsKeptNear before g s.kept
-  pub dii : s.dii ≡ dii_in carousel ls g
-  pub since : All (HeardIn ls g top) s.since
-
--- the spans are of these generations, the newest first, each no later than the next
-abbrev pub AreOf : ℕ → List Layout → ℕ → List ℕ → List Span → Type 0
-AreOf carousel ls top [] [] = Unit {0}
-AreOf carousel ls top (g ∷ gs) (s ∷ ss) = IsSpanOf carousel ls g top gs s × AreOf carousel ls g gs ss
-AreOf carousel ls top _ _ = ⊥
-
--- ---- distances
-
-distance_is : (g h : ℕ) → g ≤ h → h < 16384 → distance_of (version_of (dii_transaction g)) (version_of (dii_transaction h)) ≡ h - g
-distance_is g h le lt = omega (arith, le, lt)
-
-near_means : (carousel : ℕ) (ls : List Layout) (g h : ℕ) (s : Span) (ss : List Span) (next : DiiFields) → s.dii ≡ dii_in carousel ls g → next ≡ dii_in carousel ls h → g ≤ h → h < 16384
-    → is_near (s ∷ ss) next ≡ true → h < g + 256
-near_means carousel ls g h s ss next e f le lt n =
-    let far : distance_of (version s.dii) (version next) ≡ h - g = ap (λ d. distance_of (version d) (version next)) e ∙ ap (λ d. distance_of (version (dii_in carousel ls g)) (version d)) f ∙ distance_is g h le lt in
-    let small : distance_of (version s.dii) (version next) < 256 = ltb-true _ _ n in
-    omega (arith, far, small, le)
-
 -- ---- a line of a generation's DII
 
 pub record IsListed (ls : List Layout) (g : ℕ) (ms : Layout) (l : ModuleLine) : Type 0 where
@@ -86,7 +56,7 @@ pub record IsListed (ls : List Layout) (g : ℕ) (ms : Layout) (l : ModuleLine) 
   pub listed : module_in ms l.id ≡ Some bytes
   pub versioned : version_in ls g l.id ≡ l.version
 
-found_line : (ls : List Layout) (g : ℕ) (l : ModuleLine) (ms : Layout) → same_line_in (find (λ k. eqb k.id l.id) (map (line_of (version_in ls g)) ms)) l ≡ true → IsListed ls g ms l
+pub found_line : (ls : List Layout) (g : ℕ) (l : ModuleLine) (ms : Layout) → same_line_in (find (λ k. eqb k.id l.id) (map (line_of (version_in ls g)) ms)) l ≡ true → IsListed ls g ms l
 found_line ls g l [] e = cc
 found_line ls g l (n ∷ ns) e = go (eqb n.0 l.id) refl (found_line ls g l ns) where
   go : (t : Bool) → eqb n.0 l.id ≡ t → (same_line_in (find (λ k. eqb k.id l.id) (map (line_of (version_in ls g)) ns)) l ≡ true → IsListed ls g ns l) → IsListed ls g (n ∷ ns) l
@@ -122,7 +92,7 @@ fit_right ls law held versions m b g top lt listed versioned x of = by (fits hel
       let same : m.1 ≡ of.said.bytes = law g of.generation m.0 m.1 of.said.bytes of.from (omega (arith, of.from, of.near)) (omega (arith, of.upto, lt)) listed there (versioned ∙ sym version_is) in
       inl (ap (λ (y : Bytes). Some y) (of.said.part ∙ ap (λ n. ddb.block_of of.said.bytes 4066 n) (eqb-true _ _ parts.1.1) ∙ ap (λ y. ddb.block_of y 4066 b) (sym same)))
 
-heard_right : (ls : List Layout) → EqualVersionsMeanEqualBytes ls → (held : DiiFields) (versions : ℕ → ℕ) (m : ℕ × Bytes) (b g top : ℕ) → top < length ls
+pub heard_right : (ls : List Layout) → EqualVersionsMeanEqualBytes ls → (held : DiiFields) (versions : ℕ → ℕ) (m : ℕ × Bytes) (b g top : ℕ) → top < length ls
     → module_in (layout_at ls g) m.0 ≡ Some m.1 → version_in ls g m.0 ≡ versions m.0
     → (h : Heard) → HeardIn ls g top h → MaybeIs (bytes_if_fits held (line_of versions m) b h) (ddb.block_of m.1 4066 b)
 heard_right ls law held versions m b g top lt listed versioned (ABlock x) of = fit_right ls law held versions m b g top lt listed versioned x of
@@ -135,60 +105,8 @@ heard_right ls law held versions m b g top lt listed versioned (ADii c) of = inr
 abbrev pub IsRight : DiiFields → (ℕ → ℕ) → ℕ × Bytes → ℕ → Heard → Type 0
 IsRight held versions m b h = MaybeIs (bytes_if_fits held (line_of versions m) b h) (ddb.block_of m.1 4066 b)
 
--- in the spans before, as far as the stretch goes
-earlier_right : (carousel : ℕ) (ls : List Layout) → EqualVersionsMeanEqualBytes ls → (held : DiiFields) (versions : ℕ → ℕ) (m : ℕ × Bytes) (b : ℕ)
-    → (h : ℕ) (kept : Bool) → h < length ls → module_in (layout_at ls h) m.0 ≡ Some m.1 → version_in ls h m.0 ≡ versions m.0
-    → (gs : List ℕ) (ss : List Span) → IsKeptNear gs h kept → AreOf carousel ls h gs ss → All (IsRight held versions m b) (earlier held (line_of versions m) kept ss)
-earlier_right carousel ls law held versions m b h kept lt listed versioned [] [] near of = All-nil (IsRight held versions m b)
-earlier_right carousel ls law held versions m b h kept lt listed versioned [] (s ∷ ss) near of = absurd of
-earlier_right carousel ls law held versions m b h kept lt listed versioned (g ∷ gs) [] near of = absurd of
-earlier_right carousel ls law held versions m b h kept lt listed versioned (g ∷ gs) (s ∷ ss) near of =
-    go (kept && agrees s.dii held (line_of versions m)) refl
-    (λ here kept_version. earlier_right carousel ls law held versions m b g s.kept (omega (arith, of.0.generation, lt)) here kept_version gs ss of.0.near of.1) where
-      go : (t : Bool) → (kept && agrees s.dii held (line_of versions m)) ≡ t
-          → (module_in (layout_at ls g) m.0 ≡ Some m.1 → version_in ls g m.0 ≡ versions m.0 → All (IsRight held versions m b) (earlier held (line_of versions m) s.kept ss))
-          → All (IsRight held versions m b) (cond t (earlier held (line_of versions m) s.kept ss ++ s.since) [])
-      go false t rest = All-nil (IsRight held versions m b)
-      go true t rest =
-          let both = and_parts _ _ t in
-          let close : h < g + 256 = near both.0 in
-          let apart : h - g < 256 = omega (arith, close, of.0.generation) in
-          let agreed : agrees (dii_in carousel ls g) held (line_of versions m) ≡ true = subst (λ d. agrees d held (line_of versions m) ≡ true) of.0.dii both.1 in
-          let line : IsListed ls g (layout_at ls g) (line_of versions m) = found_line ls g (line_of versions m) (layout_at ls g) (and_parts _ _ agreed).1 in
-          let same : line.bytes ≡ m.1 = law g h m.0 line.bytes m.1 of.0.generation apart lt line.listed listed (line.versioned ∙ sym versioned) in
-          let here : module_in (layout_at ls g) m.0 ≡ Some m.1 = line.listed ∙ ap (λ (y : Bytes). Some y) same in
-          All-append (IsRight held versions m b) (earlier held (line_of versions m) s.kept ss) s.since (rest here line.versioned)
-          (λ k d inside. heard_right ls law held versions m b g h lt here line.versioned (get_or s.since k d) (of.0.since k d inside))
-
--- ---- the table
-
--- the newest span begins with the DII of its generation
-abbrev pub newest : ℕ → List Layout → ℕ → Bool → List Heard → Span
-newest carousel ls g kept since = record { dii = dii_in carousel ls g; kept = kept; since = since }
-
-pub stretch_right : (carousel : ℕ) (ls : List Layout) → EqualVersionsMeanEqualBytes ls → (g top : ℕ) → top < length ls → g ≤ top → (kept : Bool) (since : List Heard) → All (HeardIn ls g top) since
-    → (gs : List ℕ) (ss : List Span) → IsKeptNear gs g kept → AreOf carousel ls g gs ss → (m : ℕ × Bytes) → module_in (layout_at ls g) m.0 ≡ Some m.1 → (b : ℕ)
-    → All (IsRight (dii_in carousel ls g) (version_in ls g) m b) (stretch (newest carousel ls g kept since) ss (line_of (version_in ls g) m))
-stretch_right carousel ls law g top lt le kept since heard gs ss near of m listed b =
-    All-append (IsRight (dii_in carousel ls g) (version_in ls g) m b) (earlier (dii_in carousel ls g) (line_of (version_in ls g) m) kept ss) since
-    (earlier_right carousel ls law (dii_in carousel ls g) (version_in ls g) m b g kept (omega (arith, le, lt)) listed refl gs ss near of)
-    (λ k d inside. heard_right ls law (dii_in carousel ls g) (version_in ls g) m b g top lt listed refl (get_or since k d) (heard k d inside))
-
-module_right : (carousel : ℕ) (ls : List Layout) → EqualVersionsMeanEqualBytes ls → (g top : ℕ) → top < length ls → g ≤ top → (kept : Bool) (since : List Heard) → All (HeardIn ls g top) since
-    → (gs : List ℕ) (ss : List Span) → IsKeptNear gs g kept → AreOf carousel ls g gs ss → (m : ℕ × Bytes) → module_in (layout_at ls g) m.0 ≡ Some m.1
-    → MaybeIs (module_among (stretch (newest carousel ls g kept since) ss (line_of (version_in ls g) m)) (dii_in carousel ls g) (line_of (version_in ls g) m)) m.1
-module_right carousel ls law g top lt le kept since heard gs ss near of m listed =
-    let held = dii_in carousel ls g in
-    let line = line_of (version_in ls g) m in
-    let all = stretch (newest carousel ls g kept since) ss line in
-    joined_maybe (block_among all held line) m.1 4066 (lit< tt)
-    (λ b. first_maybe (bytes_if_fits held line b) (ddb.block_of m.1 4066 b) all (stretch_right carousel ls law g top lt le kept since heard gs ss near of m listed b))
-
-pub as_newest : (s : Span) (d : DiiFields) → s.dii ≡ d → s ≡ record { dii = d; kept = s.kept; since = s.since }
-as_newest s d e = ap (λ x. record { dii = x; kept = s.kept; since = s.since }) e
-
 -- the line of a listed module
-line_found : (versions : ℕ → ℕ) (ms : Layout) (id : ℕ) (bytes : Bytes) → module_in ms id ≡ Some bytes → find (λ l. eqb l.id id) (map (line_of versions) ms) ≡ Some (line_of versions (id, bytes))
+pub line_found : (versions : ℕ → ℕ) (ms : Layout) (id : ℕ) (bytes : Bytes) → module_in ms id ≡ Some bytes → find (λ l. eqb l.id id) (map (line_of versions) ms) ≡ Some (line_of versions (id, bytes))
 line_found versions [] id bytes e = cc
 line_found versions (m ∷ ms) id bytes e = go (eqb m.0 id) refl (line_found versions ms id bytes) where
   go : (t : Bool) → eqb m.0 id ≡ t → (module_in ms id ≡ Some bytes → find (λ l. eqb l.id id) (map (line_of versions) ms) ≡ Some (line_of versions (id, bytes)))
@@ -199,56 +117,9 @@ line_found versions (m ∷ ms) id bytes e = go (eqb m.0 id) refl (line_found ver
       rw t (ap (λ k. Some (line_of versions (k, m.1))) own ∙ ap (λ b. Some (line_of versions (id, b))) same)
   go false t rest = rw t (rest (rw t at e))
 
--- a block that is there is the module's
-pub block_right : (carousel : ℕ) (ls : List Layout) → EqualVersionsMeanEqualBytes ls → (g top : ℕ) (gs : List ℕ) (s : Span) (ss : List Span) → top < length ls
-    → AreOf carousel ls top (g ∷ gs) (s ∷ ss) → (m b : ℕ) (bytes : Bytes) → module_in (layout_at ls g) m ≡ Some bytes → MaybeIs (block_in (s ∷ ss) m b) (ddb.block_of bytes 4066 b)
-block_right carousel ls law g top gs s ss lt of m b bytes listed =
-    let held = dii_in carousel ls g in
-    let line = line_of (version_in ls g) (m, bytes) in
-    let all = stretch (newest carousel ls g s.kept s.since) ss line in
-    subst (λ x. MaybeIs (block_in (x ∷ ss) m b) (ddb.block_of bytes 4066 b)) (sym (as_newest s held of.0.dii))
-    (subst (λ o. MaybeIs (block_of_line (newest carousel ls g s.kept s.since) ss o b) (ddb.block_of bytes 4066 b)) (sym (line_found (version_in ls g) (layout_at ls g) m bytes listed))
-    (first_maybe (bytes_if_fits held line b) (ddb.block_of bytes 4066 b) all
-    (stretch_right carousel ls law g top lt of.0.generation s.kept s.since of.0.since gs ss of.0.near of.1 (m, bytes) listed b)))
+-- ---- with a later candidate
 
-rows_right : (s : Span) (ss : List Span) (versions : ℕ → ℕ) (ms : Layout)
-    → All (λ m. MaybeIs (module_among (stretch s ss (line_of versions m)) s.dii (line_of versions m)) m.1) ms → IsTable ms (map (held_module s ss) (map (line_of versions) ms))
-rows_right s ss versions [] all = tt
-rows_right s ss versions (m ∷ ms) all = (
-  (refl, refl, All-head (λ m. MaybeIs (module_among (stretch s ss (line_of versions m)) s.dii (line_of versions m)) m.1) m ms all),
-  rows_right s ss versions ms (All-tail (λ m. MaybeIs (module_among (stretch s ss (line_of versions m)) s.dii (line_of versions m)) m.1) m ms all),
-)
-
--- the held modules are those of the newest span's generation, each with its bytes or none
-pub table_right : (carousel : ℕ) (ls : List Layout) → EqualVersionsMeanEqualBytes ls → (g top : ℕ) (gs : List ℕ) (s : Span) (ss : List Span) → top < length ls
-    → IsSent carousel ls g → AreOf carousel ls top (g ∷ gs) (s ∷ ss) → IsTable (layout_at ls g) (table_in (s ∷ ss))
-table_right carousel ls law g top gs s ss lt sent of =
-    subst (λ x. IsTable (layout_at ls g) (table_in (x ∷ ss))) (sym (as_newest s (dii_in carousel ls g) of.0.dii))
-    (rows_right (newest carousel ls g s.kept s.since) ss (version_in ls g) (layout_at ls g)
-    (λ k d inside. module_right carousel ls law g top lt of.0.generation s.kept s.since of.0.since gs ss of.0.near of.1 (get_or (layout_at ls g) k d) (each_listed (layout_at ls g) sent.rising k d inside)))
-
--- ---- the label
-
-pub label_right : (carousel : ℕ) (ls : List Layout) → length ls ≤ 16384 → (top : ℕ) → top < length ls → (gs : List ℕ) (g : ℕ) (s : Span) (ss : List Span) → AreOf carousel ls top (g ∷ gs) (s ∷ ss)
-    → label_in (s ∷ ss) ≡ Some g
-label_right carousel ls few top lt [] g s [] of =
-    ap (λ d. Some (version d)) of.0.dii ∙ ap (λ (n : ℕ). Some n) (version_is g (omega (arith, of.0.generation, lt, few))) where
-      version_is : (g : ℕ) → g < 16384 → version_of (dii_transaction g) ≡ g
-      version_is g lt = omega (arith, lt)
-label_right carousel ls few top lt [] g s (u ∷ us) of = absurd of.1
-label_right carousel ls few top lt (h ∷ hs) g s [] of = absurd of.1
-label_right carousel ls few top lt (h ∷ hs) g s (u ∷ us) of =
-    let before : label_in (u ∷ us) ≡ Some h = label_right carousel ls few g (omega (arith, of.0.generation, lt)) hs h u us of.1 in
-    let apart : distance_of (version u.dii) (version s.dii) ≡ g - h =
-    ap (λ d. distance_of (version d) (version s.dii)) of.1.0.dii ∙ ap (λ d. distance_of (version (dii_in carousel ls h)) (version d)) of.0.dii
-    ∙ distance_is h g of.1.0.generation (omega (arith, of.0.generation, lt, few)) in
-    rw (before, apart) (ap (λ (n : ℕ). Some n) (sums h g of.1.0.generation (omega (arith, of.0.generation, lt, few)))) where
-      sums : (h g : ℕ) → h ≤ g → g < 16384 → cap_at_u64 (h + (g - h)) ≡ g
-      sums h g le lt = omega (arith, le, lt)
-
--- ---- one candidate more
-
-more_heard : (ls : List Layout) (g top k : ℕ) → top ≤ k → (h : Heard) → HeardIn ls g top h → HeardIn ls g k h
+pub more_heard : (ls : List Layout) (g top k : ℕ) → top ≤ k → (h : Heard) → HeardIn ls g top h → HeardIn ls g k h
 more_heard ls g top k le (ABlock x) of = record { generation = of.generation; from = of.from; near = of.near; upto = omega (arith, of.upto, le); said = of.said }
 more_heard ls g top k le (Skipped c) of = tt
 more_heard ls g top k le (NoControl c) of = tt
@@ -261,119 +132,27 @@ abbrev pub IsNearTo : List ℕ → ℕ → Heard → Type 0
 IsNearTo (g ∷ gs) k (ABlock x) = k < g + 256
 IsNearTo _ k h = Unit {0}
 
-heard_of : (carousel : ℕ) (ls : List Layout) (g k : ℕ) (gs : List ℕ) → g ≤ k → (h : Heard) → IsSaidIn carousel ls k h → IsNearTo (g ∷ gs) k h → HeardIn ls g k h
-heard_of carousel ls g k gs le (ABlock x) said near = record { generation = k; from = le; near = near; upto = omega arith; said = said }
-heard_of carousel ls g k gs le (Skipped c) said near = tt
-heard_of carousel ls g k gs le (NoControl c) said near = tt
-heard_of carousel ls g k gs le (NoBlock c) said near = tt
-heard_of carousel ls g k gs le (ADsi c) said near = tt
-heard_of carousel ls g k gs le (ADii c) said near = tt
+-- ---- the generations of the turns
 
-within_of : (carousel : ℕ) (ls : List Layout) (top k : ℕ) → top ≤ k → (h : Heard) → IsSaidIn carousel ls k h → (gs : List ℕ) (ss : List Span) → IsNearTo gs k h → AreOf carousel ls top gs ss
-    → AreOf carousel ls k gs (within ss h)
-within_of carousel ls top k le h said [] [] near of = tt
-within_of carousel ls top k le h said [] (s ∷ ss) near of = absurd of
-within_of carousel ls top k le h said (g ∷ gs) [] near of = absurd of
-within_of carousel ls top k le h said (g ∷ gs) (s ∷ ss) near of = (
-  record {
-    generation = omega (arith, of.0.generation, le);
-    near = of.0.near;
-    dii = of.0.dii;
-    since = All-append (HeardIn ls g k) s.since (h ∷ []) (λ i d inside. more_heard ls g top k le (get_or s.since i d) (of.0.since i d inside))
-        (All-cons (HeardIn ls g k) h [] (heard_of carousel ls g k gs (omega (arith, of.0.generation, le)) h said near) (All-nil (HeardIn ls g k)));
-  },
-  of.1,
-)
-
--- the generations of the spans, with that of a DII that turns first
+-- with that of a DII that turns first
 abbrev pub gens_after : List ℕ → ℕ → Bool → List ℕ
 gens_after gs k true = k ∷ gs
 gens_after gs k false = gs
-
-below_top : (carousel : ℕ) (ls : List Layout) (top k : ℕ) → top ≤ k → (gs : List ℕ) (ss : List Span) → AreOf carousel ls top gs ss → AreOf carousel ls k gs ss
-below_top carousel ls top k le [] [] of = tt
-below_top carousel ls top k le [] (s ∷ ss) of = absurd of
-below_top carousel ls top k le (g ∷ gs) [] of = absurd of
-below_top carousel ls top k le (g ∷ gs) (s ∷ ss) of = (
-  record { generation = omega (arith, of.0.generation, le); near = of.0.near; dii = of.0.dii; since = λ i d inside. more_heard ls g top k le (get_or s.since i d) (of.0.since i d inside) },
-  of.1,
-)
-
-kept_near : (carousel : ℕ) (ls : List Layout) (k : ℕ) (d : DiiFields) → d ≡ dii_in carousel ls k → k < 16384 → (gs : List ℕ) (ss : List Span) → AreOf carousel ls k gs ss → IsKeptNear gs k (is_near ss d)
-kept_near carousel ls k d e lt [] [] of = tt
-kept_near carousel ls k d e lt [] (s ∷ ss) of = absurd of
-kept_near carousel ls k d e lt (g ∷ gs) [] of = absurd of
-kept_near carousel ls k d e lt (g ∷ gs) (s ∷ ss) of = near_means carousel ls g k s ss d of.0.dii e of.0.generation lt
-
-turned_of : (carousel : ℕ) (ls : List Layout) (k : ℕ) (d : DiiFields) → d ≡ dii_in carousel ls k → k < 16384 → (gs : List ℕ) (ss : List Span) → AreOf carousel ls k gs ss
-    → AreOf carousel ls k (k ∷ gs) (record { dii = d; kept = is_near ss d; since = [] } ∷ ss)
-turned_of carousel ls k d e lt gs ss of = (record { generation = omega arith; near = kept_near carousel ls k d e lt gs ss of; dii = e; since = All-nil (HeardIn ls k k) }, of)
 
 -- whether the DII of a generation turns, after those of others
 abbrev pub newer : List ℕ → ℕ → Bool
 newer [] k = true
 newer (g ∷ gs) k = not (eqb k g)
 
-same_version : (g k : ℕ) → g < 16384 → k < 16384 → eqb (version_of (dii_transaction k)) (version_of (dii_transaction g)) ≡ eqb k g
-same_version g k lt kt =
-    let a : version_of (dii_transaction g) ≡ g = omega (arith, lt) in
-    let b : version_of (dii_transaction k) ≡ k = omega (arith, kt) in
-    rw (a, b) refl
-
-pub one_identified : (g : ℕ) → identification_of (dii_transaction g) ≡ 1
-one_identified g = omega arith
-
-turns_is : (carousel : ℕ) (ls : List Layout) (top k : ℕ) → top ≤ k → k < length ls → length ls ≤ 16384 → IsSent carousel ls k → (gs : List ℕ) (ss : List Span) → AreOf carousel ls top gs ss
-    → turns ss (dii_in carousel ls k) ≡ newer gs k
-turns_is carousel ls top k le lt few sent [] [] of = is_taken carousel ls k sent
-turns_is carousel ls top k le lt few sent [] (s ∷ ss) of = absurd of
-turns_is carousel ls top k le lt few sent (g ∷ gs) [] of = absurd of
-turns_is carousel ls top k le lt few sent (g ∷ gs) (s ∷ ss) of =
-    ap (λ d. is_sound (dii_in carousel ls k) && eqb (identification (dii_in carousel ls k)) (identification d) && not (eqb (version (dii_in carousel ls k)) (version d))) of.0.dii
-    ∙ rw (is_taken carousel ls k sent, one_identified k, one_identified g, same_version g k (omega (arith, of.0.generation, le, lt, few)) (omega (arith, lt, few))) refl
-
-dii_step : (carousel : ℕ) (ls : List Layout) (top k : ℕ) → top ≤ k → k < length ls → length ls ≤ 16384 → IsSent carousel ls k → (d : DiiFields) → d ≡ dii_in carousel ls k
-    → (gs : List ℕ) (ss : List Span) → AreOf carousel ls top gs ss → AreOf carousel ls k (gens_after gs k (newer gs k)) (span_after ss (ADii d))
-dii_step carousel ls top k le lt few sent d e gs ss of = go (newer gs k) (ap (turns ss) e ∙ turns_is carousel ls top k le lt few sent gs ss of) where
-  go : (b : Bool) → turns ss d ≡ b → AreOf carousel ls k (gens_after gs k b) (span_after ss (ADii d))
-  go true f = subst (AreOf carousel ls k (k ∷ gs)) (sym (cond-true (turns ss d) (record { dii = d; kept = is_near ss d; since = [] } ∷ ss) (within ss (ADii d)) f)) (turned_of carousel ls k d e (omega (arith, lt, few)) gs ss (below_top carousel ls top k le gs ss of))
-  go false f = subst (AreOf carousel ls k gs) (sym (cond-false (turns ss d) (record { dii = d; kept = is_near ss d; since = [] } ∷ ss) (within ss (ADii d)) f)) (within_of carousel ls top k le (ADii d) e gs ss (not_block gs) of) where
-    not_block : (gs : List ℕ) → IsNearTo gs k (ADii d)
-    not_block [] = tt
-    not_block (g ∷ gs) = tt
-
--- ---- all candidates
-
 -- the generations after a candidate of generation k
 abbrev pub gens_with : List ℕ → ℕ → Heard → List ℕ
 gens_with gs k (ADii d) = gens_after gs k (newer gs k)
 gens_with gs k _ = gs
 
-pub step_of : (carousel : ℕ) (ls : List Layout) (top k : ℕ) → top ≤ k → k < length ls → length ls ≤ 16384 → IsSent carousel ls k → (h : Heard) → IsSaidIn carousel ls k h
-    → (gs : List ℕ) (ss : List Span) → IsNearTo gs k h → AreOf carousel ls top gs ss → AreOf carousel ls k (gens_with gs k h) (span_after ss h)
-step_of carousel ls top k le lt few sent (ADii d) said gs ss near of = dii_step carousel ls top k le lt few sent d said gs ss of
-step_of carousel ls top k le lt few sent (ABlock x) said gs ss near of = within_of carousel ls top k le (ABlock x) said gs ss near of
-step_of carousel ls top k le lt few sent (ADsi d) said gs ss near of = within_of carousel ls top k le (ADsi d) said gs ss near of
-step_of carousel ls top k le lt few sent (Skipped c) said gs ss near of = within_of carousel ls top k le (Skipped c) said gs ss near of
-step_of carousel ls top k le lt few sent (NoControl c) said gs ss near of = absurd said
-step_of carousel ls top k le lt few sent (NoBlock c) said gs ss near of = absurd said
-
--- candidates with the generations of which they are: none goes back, none is 256 or more after the DII heard before it
-abbrev pub AreHeardOf : ℕ → List Layout → ℕ → List ℕ → List (ℕ × Heard) → Type 0
-AreHeardOf carousel ls top gs [] = Unit {0}
-AreHeardOf carousel ls top gs (x ∷ xs) =
-    (top ≤ x.0) × ((x.0 < length ls) × (IsSaidIn carousel ls x.0 x.1 × (IsNearTo gs x.0 x.1 × AreHeardOf carousel ls x.0 (gens_with gs x.0 x.1) xs)))
-
 -- the generations after these candidates
 abbrev pub gens_of : List ℕ → List (ℕ × Heard) → List ℕ
 gens_of gs [] = gs
 gens_of gs (x ∷ xs) = gens_of (gens_with gs x.0 x.1) xs
-
--- the spans of these generations, none of them later than one that is published
-pub record HasGenerations (carousel : ℕ) (ls : List Layout) (gens : List ℕ) (ss : List Span) : Type 0 where
-  pub top : ℕ
-  pub published : top < length ls
-  pub are : AreOf carousel ls top gens ss
 
 -- a fact of each DII's generation
 abbrev pub OnDii : (ℕ → Type 0) → ℕ → Heard → Type 0
@@ -404,10 +183,358 @@ pub gens_are : (P : ℕ → Type 0) (gs : List ℕ) (xs : List (ℕ × Heard)) �
 gens_are P gs [] all diis = all
 gens_are P gs (x ∷ xs) all diis = gens_are P (gens_with gs x.0 x.1) xs (gens_step P gs x.0 x.1 all diis.0) diis.1
 
+-- ---- what is heard, generation by generation
+
+-- one of the generation's sections says this, or it is no section
+abbrev pub IsSaidIn : ℕ → List Layout → ℕ → Heard → Type 0
+IsSaidIn carousel ls k (Skipped skip) = Unit {0}
+IsSaidIn carousel ls k (NoControl place) = ⊥
+IsSaidIn carousel ls k (NoBlock place) = ⊥
+IsSaidIn carousel ls k (ADsi d) = d ≡ dsi_of carousel
+IsSaidIn carousel ls k (ADii d) = IsDiiOf carousel ls k d
+IsSaidIn carousel ls k (ABlock x) = IsBlockSaid ls k x
+
+pub number_of : (carousel : ℕ) (ls : List Layout) (g : ℕ) (d : DiiFields) (of : IsDiiOf carousel ls g d) → identification d ≡ of.number
+number_of carousel ls g d of = ap identification of.is ∙ number_is g of.number of.few
+
+version_is : (carousel : ℕ) (ls : List Layout) (g : ℕ) (d : DiiFields) → g < 16384 → IsDiiOf carousel ls g d → version d ≡ g
+version_is carousel ls g d lt of = ap version of.is ∙ generation_is g of.number lt of.few
+
+-- ---- the DIIs of one identification, from generation to generation
+
+-- a span that begins with DII i of generation g
+pub record IsSpanIn (carousel : ℕ) (ls : List Layout) (i g top : ℕ) (gs : List ℕ) (s : Span) : Type 0 where
+  pub generation : g ≤ top
+  pub near : IsKeptNear gs g s.kept
+  pub dii : s.dii ≡ dii_in carousel ls g i
+  pub since : All (HeardIn ls g top) s.since
+
+abbrev pub AreChain : ℕ → List Layout → ℕ → ℕ → List ℕ → List Span → Type 0
+AreChain carousel ls i top [] [] = Unit {0}
+AreChain carousel ls i top (g ∷ gs) (s ∷ ss) = IsSpanIn carousel ls i g top gs s × AreChain carousel ls i g gs ss
+AreChain carousel ls i top _ _ = ⊥
+
+-- in the spans before, as far as the stretch goes
+earlier_right : (carousel : ℕ) (ls : List Layout) → EqualVersionsMeanEqualBytes ls → (i : ℕ) (held : DiiFields) (versions : ℕ → ℕ) (m : ℕ × Bytes) (b : ℕ)
+    → (h : ℕ) (kept : Bool) → h < length ls → module_in (layout_at ls h) m.0 ≡ Some m.1 → version_in ls h m.0 ≡ versions m.0
+    → (gs : List ℕ) (ss : List Span) → IsKeptNear gs h kept → AreChain carousel ls i h gs ss → All (IsRight held versions m b) (earlier held (line_of versions m) kept ss)
+earlier_right carousel ls law i held versions m b h kept lt listed versioned [] [] near of = All-nil (IsRight held versions m b)
+earlier_right carousel ls law i held versions m b h kept lt listed versioned [] (s ∷ ss) near of = absurd of
+earlier_right carousel ls law i held versions m b h kept lt listed versioned (g ∷ gs) [] near of = absurd of
+earlier_right carousel ls law i held versions m b h kept lt listed versioned (g ∷ gs) (s ∷ ss) near of =
+    go (kept && agrees s.dii held (line_of versions m)) refl
+    (λ here kept_version. earlier_right carousel ls law i held versions m b g s.kept (omega (arith, of.0.generation, lt)) here kept_version gs ss of.0.near of.1) where
+      go : (t : Bool) → (kept && agrees s.dii held (line_of versions m)) ≡ t
+          → (module_in (layout_at ls g) m.0 ≡ Some m.1 → version_in ls g m.0 ≡ versions m.0 → All (IsRight held versions m b) (earlier held (line_of versions m) s.kept ss))
+          → All (IsRight held versions m b) (cond t (earlier held (line_of versions m) s.kept ss ++ s.since) [])
+      go false t rest = All-nil (IsRight held versions m b)
+      go true t rest =
+          let both = and_parts _ _ t in
+          let close : h < g + 256 = near both.0 in
+          let apart : h - g < 256 = omega (arith, close, of.0.generation) in
+          let agreed : agrees (dii_in carousel ls g i) held (line_of versions m) ≡ true = subst (λ d. agrees d held (line_of versions m) ≡ true) of.0.dii both.1 in
+          let line : IsListed ls g (group_in (layout_at ls g) i) (line_of versions m) = found_line ls g (line_of versions m) (group_in (layout_at ls g) i) (and_parts _ _ agreed).1 in
+          let there : module_in (layout_at ls g) m.0 ≡ Some line.bytes = in_layout i (layout_at ls g) m.0 line.bytes line.listed in
+          let same : line.bytes ≡ m.1 = law g h m.0 line.bytes m.1 of.0.generation apart lt there listed (line.versioned ∙ sym versioned) in
+          let here : module_in (layout_at ls g) m.0 ≡ Some m.1 = there ∙ ap (λ (y : Bytes). Some y) same in
+          All-append (IsRight held versions m b) (earlier held (line_of versions m) s.kept ss) s.since (rest here line.versioned)
+          (λ k d inside. heard_right ls law held versions m b g h lt here line.versioned (get_or s.since k d) (of.0.since k d inside))
+
+-- ---- a module of a DII
+
+-- what was heard in a module's stretch is the module's
+pub stretch_right : (carousel : ℕ) (ls : List Layout) → EqualVersionsMeanEqualBytes ls → (i g top : ℕ) → top < length ls → (s : Span) (gs : List ℕ) (ss : List Span) → AreChain carousel ls i top (g ∷ gs) (s ∷ ss)
+    → (held : DiiFields) (m : ℕ × Bytes) → module_in (layout_at ls g) m.0 ≡ Some m.1 → (b : ℕ) → All (IsRight held (version_in ls g) m b) (earlier held (line_of (version_in ls g) m) s.kept ss ++ s.since)
+stretch_right carousel ls law i g top lt s gs ss of held m listed b =
+    All-append (IsRight held (version_in ls g) m b) (earlier held (line_of (version_in ls g) m) s.kept ss) s.since
+    (earlier_right carousel ls law i held (version_in ls g) m b g s.kept (omega (arith, of.0.generation, lt)) listed refl gs ss of.0.near of.1)
+    (λ k d inside. heard_right ls law held (version_in ls g) m b g top lt listed refl (get_or s.since k d) (of.0.since k d inside))
+
+pub module_right : (carousel : ℕ) (ls : List Layout) → EqualVersionsMeanEqualBytes ls → (i g top : ℕ) → top < length ls → (s : Span) (gs : List ℕ) (ss : List Span) → AreChain carousel ls i top (g ∷ gs) (s ∷ ss)
+    → (m : ℕ × Bytes) → module_in (layout_at ls g) m.0 ≡ Some m.1
+    → MaybeIs (module_among (stretch s ss (line_of (version_in ls g) m)) (dii_in carousel ls g i) (line_of (version_in ls g) m)) m.1
+module_right carousel ls law i g top lt s gs ss of m listed =
+    let held = dii_in carousel ls g i in
+    let line = line_of (version_in ls g) m in
+    let all = earlier held line s.kept ss ++ s.since in
+    subst (λ d. MaybeIs (module_among (earlier d line s.kept ss ++ s.since) held line) m.1) (sym of.0.dii)
+    (joined_maybe (block_among all held line) m.1 4066 (lit< tt)
+    (λ b. first_maybe (bytes_if_fits held line b) (ddb.block_of m.1 4066 b) all (stretch_right carousel ls law i g top lt s gs ss of held m listed b)))
+
+-- ---- the turns are of generations
+
+abbrev pub Each : (Span → Type 0) → List Span → Type 0
+Each P [] = Unit {0}
+Each P (s ∷ ss) = P s × Each P ss
+
+pub each_like : (P Q : Span → Type 0) (f : Span → Span) → ((s : Span) → P s → Q (f s)) → (ss : List Span) → Each P ss → Each Q (map f ss)
+each_like P Q f h [] e = tt
+each_like P Q f h (s ∷ ss) e = (h s e.0, each_like P Q f h ss e.1)
+
+pub each_same : (P Q : Span → Type 0) → ((s : Span) → P s → Q s) → (ss : List Span) → Each P ss → Each Q ss
+each_same P Q h [] e = tt
+each_same P Q h (s ∷ ss) e = (h s e.0, each_same P Q h ss e.1)
+
+pub each_more : (P : Span → Type 0) (s : Span) (ss : List Span) → Each P ss → P s → Each P (ss ++ s ∷ [])
+each_more P s [] e p = (p, tt)
+each_more P s (u ∷ ss) e p = (e.0, each_more P s ss e.1 p)
+
+pub each_found : (P : Span → Type 0) (p : Span → Bool) (s : Span) (ss : List Span) → Each P ss → find p ss ≡ Some s → P s × (p s ≡ true)
+each_found P p s [] e f = cc
+each_found P p s (u ∷ ss) e f = go (p u) refl (each_found P p s ss e.1) where
+  go : (t : Bool) → p u ≡ t → (find p ss ≡ Some s → P s × (p s ≡ true)) → P s × (p s ≡ true)
+  go true g rest = let same : u ≡ s = same_Some u s (rw g at f) in (subst P same e.0, ap p (sym same) ∙ g)
+  go false g rest = rest (rw g at f)
+
+-- a DII of generation g, admitted in a turn that kept what was there before, or didn't
+pub record IsAdmitted (carousel : ℕ) (ls : List Layout) (g top : ℕ) (kept : Bool) (s : Span) : Type 0 where
+  pub dii : IsDiiOf carousel ls g s.dii
+  pub same : s.kept ≡ kept
+  pub since : All (HeardIn ls g top) s.since
+
+pub record IsTurnOf (carousel : ℕ) (ls : List Layout) (g top : ℕ) (gs : List ℕ) (t : Turn) : Type 0 where
+  pub generation : g ≤ top
+  pub near : IsKeptNear gs g t.turning.kept
+  pub each : Each (IsAdmitted carousel ls g top t.turning.kept) (admitted t)
+
+-- the turns are of these generations, the newest first, each no later than the next
+abbrev pub AreOf : ℕ → List Layout → ℕ → List ℕ → List Turn → Type 0
+AreOf carousel ls top [] [] = Unit {0}
+AreOf carousel ls top (g ∷ gs) (t ∷ ts) = IsTurnOf carousel ls g top gs t × AreOf carousel ls g gs ts
+AreOf carousel ls top _ _ = ⊥
+
+-- ---- from turns to the DIIs of one identification
+
+abbrev gens_onto : ℕ → Option Span → List ℕ → List ℕ
+gens_onto g (Some s) gs = g ∷ gs
+gens_onto g None gs = []
+
+abbrev pub chain_gens : ℕ → List ℕ → List Turn → List ℕ
+chain_gens i gs [] = []
+chain_gens i [] (t ∷ ts) = []
+chain_gens i (g ∷ gs) (t ∷ ts) = gens_onto g (find (λ s. eqb (identification s.dii) i) (admitted t)) (chain_gens i gs ts)
+
+pub chain_near : (i : ℕ) (gs : List ℕ) (ts : List Turn) (g : ℕ) (kept : Bool) → IsKeptNear gs g kept → IsKeptNear (chain_gens i gs ts) g kept
+chain_near i gs [] g kept near = tt
+chain_near i [] (t ∷ ts) g kept near = tt
+chain_near i (h ∷ gs) (t ∷ ts) g kept near = go (find (λ s. eqb (identification s.dii) i) (admitted t)) where
+  go : (o : Option Span) → IsKeptNear (gens_onto h o (chain_gens i gs ts)) g kept
+  go (Some s) = near
+  go None = tt
+
+-- a span of the turn, where it is of DII i
+as_span : (carousel : ℕ) (ls : List Layout) (i g top : ℕ) (gs : List ℕ) (t : Turn) (ts : List Turn) (s : Span) → g ≤ top → IsKeptNear gs g t.turning.kept → IsAdmitted carousel ls g top t.turning.kept s → identification s.dii ≡ i
+    → IsSpanIn carousel ls i g top (chain_gens i gs ts) s
+as_span carousel ls i g top gs t ts s le near a e = record {
+  generation = le;
+  near = subst (IsKeptNear (chain_gens i gs ts) g) (sym a.same) (chain_near i gs ts g t.turning.kept near);
+  dii = a.dii.is ∙ ap (dii_in carousel ls g) (sym (number_of carousel ls g s.dii a.dii) ∙ e);
+  since = a.since;
+}
+
+pub chain_are : (carousel : ℕ) (ls : List Layout) (i top : ℕ) (gs : List ℕ) (ts : List Turn) → AreOf carousel ls top gs ts → AreChain carousel ls i top (chain_gens i gs ts) (chain i ts)
+chain_are carousel ls i top [] [] of = tt
+chain_are carousel ls i top [] (t ∷ ts) of = absurd of
+chain_are carousel ls i top (g ∷ gs) [] of = absurd of
+chain_are carousel ls i top (g ∷ gs) (t ∷ ts) of = go (find (λ s. eqb (identification s.dii) i) (admitted t)) refl (chain_are carousel ls i g gs ts of.1) where
+  go : (o : Option Span) → find (λ s. eqb (identification s.dii) i) (admitted t) ≡ o → AreChain carousel ls i g (chain_gens i gs ts) (chain i ts)
+      → AreChain carousel ls i top (gens_onto g o (chain_gens i gs ts)) (onto_chain o (chain i ts))
+  go None e rest = tt
+  go (Some s) e rest =
+      let found = each_found (IsAdmitted carousel ls g top t.turning.kept) (λ s. eqb (identification s.dii) i) s (admitted t) of.0.each e in
+      (as_span carousel ls i g top gs t ts s of.0.generation of.0.near found.0 (eqb-true _ _ found.1), rest)
+
+-- an admitted DII of the newest turn, with those of its identification before
+pub newest_are : (carousel : ℕ) (ls : List Layout) (g top : ℕ) (gs : List ℕ) (t : Turn) (ts : List Turn) → AreOf carousel ls top (g ∷ gs) (t ∷ ts) → (s : Span) → IsAdmitted carousel ls g top t.turning.kept s
+    → AreChain carousel ls (identification s.dii) top (g ∷ chain_gens (identification s.dii) gs ts) (s ∷ chain (identification s.dii) ts)
+newest_are carousel ls g top gs t ts of s a =
+    (as_span carousel ls (identification s.dii) g top gs t ts s of.0.generation of.0.near a refl, chain_are carousel ls (identification s.dii) g gs ts of.1)
+
+-- ---- the label
+
+first_of : (carousel : ℕ) (ls : List Layout) (g top : ℕ) (gs : List ℕ) (t : Turn) → IsTurnOf carousel ls g top gs t → IsDiiOf carousel ls g t.turning.dii
+first_of carousel ls g top gs t of = of.each.0.dii
+
+apart_is : (carousel : ℕ) (ls : List Layout) (h g : ℕ) (d e : DiiFields) → h ≤ g → g < 16384 → IsDiiOf carousel ls h d → IsDiiOf carousel ls g e → distance_of (version d) (version e) ≡ g - h
+apart_is carousel ls h g d e le lt a b =
+    let one : version d ≡ h = version_is carousel ls h d (omega (arith, le, lt)) a in
+    let two : version e ≡ g = version_is carousel ls g e lt b in
+    rw (one, two) (between h g le lt)
+  where
+    between : (h g : ℕ) → h ≤ g → g < 16384 → distance_of h g ≡ g - h
+    between h g le lt = omega (arith, le, lt)
+
+pub label_right : (carousel : ℕ) (ls : List Layout) → length ls ≤ 16384 → (top : ℕ) → top < length ls → (gs : List ℕ) (g : ℕ) (t : Turn) (ts : List Turn) → AreOf carousel ls top (g ∷ gs) (t ∷ ts) → label_of (t ∷ ts) ≡ Some g
+label_right carousel ls few top lt [] g t [] of = ap (λ (n : ℕ). Some n) (version_is carousel ls g t.turning.dii (omega (arith, of.0.generation, lt, few)) (first_of carousel ls g top [] t of.0))
+label_right carousel ls few top lt [] g t (u ∷ us) of = absurd of.1
+label_right carousel ls few top lt (h ∷ hs) g t [] of = absurd of.1
+label_right carousel ls few top lt (h ∷ hs) g t (u ∷ us) of =
+    let was : label_in (u.turning ∷ turnings us) ≡ Some h = label_right carousel ls few g (omega (arith, of.0.generation, lt)) hs h u us of.1 in
+    let apart : distance_of (version u.turning.dii) (version t.turning.dii) ≡ g - h =
+    apart_is carousel ls h g u.turning.dii t.turning.dii of.1.0.generation (omega (arith, of.0.generation, lt, few)) (first_of carousel ls h g hs u of.1.0) (first_of carousel ls g top (h ∷ hs) t of.0) in
+    rw (was, apart) (ap (λ (n : ℕ). Some n) (sums h g of.1.0.generation (omega (arith, of.0.generation, lt, few)))) where
+      sums : (h g : ℕ) → h ≤ g → g < 16384 → cap_at_u64 (h + (g - h)) ≡ g
+      sums h g le lt = omega (arith, le, lt)
+
+-- ---- one candidate more
+
+later_top : (carousel : ℕ) (ls : List Layout) (g top k : ℕ) (kept : Bool) → top ≤ k → (s : Span) → IsAdmitted carousel ls g top kept s → IsAdmitted carousel ls g k kept s
+later_top carousel ls g top k kept le s a = record { dii = a.dii; same = a.same; since = λ i d inside. more_heard ls g top k le (get_or s.since i d) (a.since i d inside) }
+
+heard_more : (carousel : ℕ) (ls : List Layout) (g top k : ℕ) (kept : Bool) (h : Heard) → top ≤ k → HeardIn ls g k h → (s : Span) → IsAdmitted carousel ls g top kept s → IsAdmitted carousel ls g k kept (heard_by h s)
+heard_more carousel ls g top k kept h le of s a = record {
+  dii = a.dii;
+  same = a.same;
+  since = All-append (HeardIn ls g k) s.since (h ∷ []) (λ i d inside. more_heard ls g top k le (get_or s.since i d) (a.since i d inside)) (All-cons (HeardIn ls g k) h [] of (All-nil (HeardIn ls g k)));
+}
+
+heard_in : (carousel : ℕ) (ls : List Layout) (g k : ℕ) (gs : List ℕ) → g ≤ k → (h : Heard) → IsSaidIn carousel ls k h → IsNearTo (g ∷ gs) k h → HeardIn ls g k h
+heard_in carousel ls g k gs le (ABlock x) said near = record { generation = k; from = le; near = near; upto = omega arith; said = said }
+heard_in carousel ls g k gs le (Skipped c) said near = tt
+heard_in carousel ls g k gs le (NoControl c) said near = tt
+heard_in carousel ls g k gs le (NoBlock c) said near = tt
+heard_in carousel ls g k gs le (ADsi c) said near = tt
+heard_in carousel ls g k gs le (ADii c) said near = tt
+
+pub continued_of : (carousel : ℕ) (ls : List Layout) (top k : ℕ) → top ≤ k → (h : Heard) → IsSaidIn carousel ls k h → (gs : List ℕ) (ts : List Turn) → IsNearTo gs k h → AreOf carousel ls top gs ts
+    → AreOf carousel ls k gs (continued ts h)
+continued_of carousel ls top k le h said [] [] near of = tt
+continued_of carousel ls top k le h said [] (t ∷ ts) near of = absurd of
+continued_of carousel ls top k le h said (g ∷ gs) [] near of = absurd of
+continued_of carousel ls top k le h said (g ∷ gs) (t ∷ ts) near of =
+    let le_too : g ≤ k = omega (arith, of.0.generation, le) in (
+      record {
+        generation = le_too;
+        near = of.0.near;
+        each =
+            each_like (IsAdmitted carousel ls g top t.turning.kept) (IsAdmitted carousel ls g k t.turning.kept) (heard_by h)
+            (λ s a. heard_more carousel ls g top k t.turning.kept h le (heard_in carousel ls g k gs le_too h said near) s a) (admitted t) of.0.each;
+      },
+      of.1,
+    )
+
+below_top : (carousel : ℕ) (ls : List Layout) (top k : ℕ) → top ≤ k → (gs : List ℕ) (ts : List Turn) → AreOf carousel ls top gs ts → AreOf carousel ls k gs ts
+below_top carousel ls top k le [] [] of = tt
+below_top carousel ls top k le [] (t ∷ ts) of = absurd of
+below_top carousel ls top k le (g ∷ gs) [] of = absurd of
+below_top carousel ls top k le (g ∷ gs) (t ∷ ts) of = (
+  record {
+    generation = omega (arith, of.0.generation, le);
+    near = of.0.near;
+    each = each_same (IsAdmitted carousel ls g top t.turning.kept) (IsAdmitted carousel ls g k t.turning.kept) (λ s a. later_top carousel ls g top k t.turning.kept le s a) (admitted t) of.0.each;
+  },
+  of.1,
+)
+
+kept_near : (carousel : ℕ) (ls : List Layout) (k : ℕ) (d : DiiFields) → IsDiiOf carousel ls k d → k < 16384 → (gs : List ℕ) (ts : List Turn) → AreOf carousel ls k gs ts → IsKeptNear gs k (is_near (turnings ts) d)
+kept_near carousel ls k d e lt [] [] of = tt
+kept_near carousel ls k d e lt [] (t ∷ ts) of = absurd of
+kept_near carousel ls k d e lt (g ∷ gs) [] of = absurd of
+kept_near carousel ls k d e lt (g ∷ gs) (t ∷ ts) of = λ n.
+    let far : distance_of (version t.turning.dii) (version d) ≡ k - g = apart_is carousel ls g k t.turning.dii d of.0.generation lt (first_of carousel ls g k gs t of.0) e in
+    let small : distance_of (version t.turning.dii) (version d) < 256 = ltb-true _ _ n in
+    near_by g k (subst (λ n. n < 256) far small) of.0.generation
+  where
+    near_by : (g k : ℕ) → k - g < 256 → g ≤ k → k < g + 256
+    near_by g k lt le = omega (arith, lt, le)
+
+turning_of : (carousel : ℕ) (ls : List Layout) (k : ℕ) (d : DiiFields) → IsDiiOf carousel ls k d → k < 16384 → (gs : List ℕ) (ts : List Turn) → AreOf carousel ls k gs ts
+    → AreOf carousel ls k (k ∷ gs) (with_turning ts d (is_near (turnings ts) d))
+turning_of carousel ls k d e lt gs ts of = (
+  record {
+    generation = omega arith;
+    near = kept_near carousel ls k d e lt gs ts of;
+    each = (record { dii = e; same = refl; since = All-nil (HeardIn ls k k) }, tt);
+  },
+  of,
+)
+
+-- a DII of the newest turn's generation joins
+joined_of : (carousel : ℕ) (ls : List Layout) (k : ℕ) (d : DiiFields) → IsDiiOf carousel ls k d → (g : ℕ) (gs : List ℕ) (t : Turn) (ts : List Turn) → g ≡ k → AreOf carousel ls k (g ∷ gs) (t ∷ ts)
+    → AreOf carousel ls k (g ∷ gs) (with_joined (t ∷ ts) d)
+joined_of carousel ls k d e g gs t ts same of = (
+  record {
+    generation = of.0.generation;
+    near = of.0.near;
+    each = (
+      of.0.each.0,
+      each_more (IsAdmitted carousel ls g k t.turning.kept) (record { dii = d; kept = t.turning.kept; since = [] }) t.joined of.0.each.1
+          (record { dii = subst (λ n. IsDiiOf carousel ls n d) (sym same) e; same = refl; since = All-nil (HeardIn ls g k) }),
+    );
+  },
+  of.1,
+)
+
+pub sound_of : (carousel : ℕ) (ls : List Layout) (k : ℕ) (d : DiiFields) → IsSent carousel ls k → IsDiiOf carousel ls k d → is_sound d ≡ true
+sound_of carousel ls k d sent e = ap is_sound e.is ∙ is_taken carousel ls k e.number sent e.some e.few
+
+-- a DII turns exactly where it is of another generation than the newest turn
+pub turns_is : (carousel : ℕ) (ls : List Layout) (top k : ℕ) → top ≤ k → k < length ls → length ls ≤ 16384 → IsSent carousel ls k → (d : DiiFields) → IsDiiOf carousel ls k d
+    → (gs : List ℕ) (ts : List Turn) → AreOf carousel ls top gs ts → turns ts d ≡ newer gs k
+turns_is carousel ls top k le lt few sent d e [] [] of = sound_of carousel ls k d sent e
+turns_is carousel ls top k le lt few sent d e [] (t ∷ ts) of = absurd of
+turns_is carousel ls top k le lt few sent d e (g ∷ gs) [] of = absurd of
+turns_is carousel ls top k le lt few sent d e (g ∷ gs) (t ∷ ts) of =
+    let one : version d ≡ k = version_is carousel ls k d (omega (arith, lt, few)) e in
+    let two : version t.turning.dii ≡ g = version_is carousel ls g t.turning.dii (omega (arith, of.0.generation, le, lt, few)) (first_of carousel ls g top gs t of.0) in
+    rw (sound_of carousel ls k d sent e, one, two) refl
+
+same_gen : (k g : ℕ) (gs : List ℕ) → newer (g ∷ gs) k ≡ false → g ≡ k
+same_gen k g gs e = go (eqb k g) refl where
+  go : (t : Bool) → eqb k g ≡ t → g ≡ k
+  go true f = sym (eqb-true k g f)
+  go false f = let bad : not false ≡ false = subst (λ x. not x ≡ false) f e in cc
+
+dii_step : (carousel : ℕ) (ls : List Layout) (top k : ℕ) → top ≤ k → k < length ls → length ls ≤ 16384 → IsSent carousel ls k → (d : DiiFields) → IsDiiOf carousel ls k d
+    → (gs : List ℕ) (ts : List Turn) → AreOf carousel ls top gs ts → AreOf carousel ls k (gens_after gs k (newer gs k)) (turn_after ts (ADii d))
+dii_step carousel ls top k le lt few sent d e gs ts of =
+    by_admission (AreOf carousel ls k (gens_after gs k (newer gs k))) ts d
+    (λ f. subst (λ b. AreOf carousel ls k (gens_after gs k b) (with_turning ts d (is_near (turnings ts) d))) (sym f ∙ is) (turning_of carousel ls k d e (omega (arith, lt, few)) gs ts (below_top carousel ls top k le gs ts of)))
+    (λ f j. subst (λ b. AreOf carousel ls k (gens_after gs k b) (with_joined (continued ts (ADii d)) d)) (sym f ∙ is) (joins_in gs ts of (sym is ∙ f) j))
+    (λ f j. subst (λ b. AreOf carousel ls k (gens_after gs k b) (continued ts (ADii d))) (sym f ∙ is) (continued_of carousel ls top k le (ADii d) e gs ts (not_block gs) of))
+  where
+    is : turns ts d ≡ newer gs k
+    is = turns_is carousel ls top k le lt few sent d e gs ts of
+
+    not_block : (gs : List ℕ) → IsNearTo gs k (ADii d)
+    not_block [] = tt
+    not_block (g ∷ gs) = tt
+
+    joins_in : (gs : List ℕ) (ts : List Turn) → AreOf carousel ls top gs ts → newer gs k ≡ false → joins ts d ≡ true → AreOf carousel ls k gs (with_joined (continued ts (ADii d)) d)
+    joins_in [] [] of f j = cc
+    joins_in [] (t ∷ ts) of f j = absurd of
+    joins_in (g ∷ gs) [] of f j = absurd of
+    joins_in (g ∷ gs) (t ∷ ts) of f j =
+        joined_of carousel ls k d e g gs (record { turning = heard_by (ADii d) t.turning; joined = map (heard_by (ADii d)) t.joined }) ts (same_gen k g gs f)
+        (continued_of carousel ls top k le (ADii d) e (g ∷ gs) (t ∷ ts) tt of)
+
+-- ---- all candidates
+
+pub step_of : (carousel : ℕ) (ls : List Layout) (top k : ℕ) → top ≤ k → k < length ls → length ls ≤ 16384 → IsSent carousel ls k → (h : Heard) → IsSaidIn carousel ls k h
+    → (gs : List ℕ) (ts : List Turn) → IsNearTo gs k h → AreOf carousel ls top gs ts → AreOf carousel ls k (gens_with gs k h) (turn_after ts h)
+step_of carousel ls top k le lt few sent (ADii d) said gs ts near of = dii_step carousel ls top k le lt few sent d said gs ts of
+step_of carousel ls top k le lt few sent (ABlock x) said gs ts near of = continued_of carousel ls top k le (ABlock x) said gs ts near of
+step_of carousel ls top k le lt few sent (ADsi d) said gs ts near of = continued_of carousel ls top k le (ADsi d) said gs ts near of
+step_of carousel ls top k le lt few sent (Skipped c) said gs ts near of = continued_of carousel ls top k le (Skipped c) said gs ts near of
+step_of carousel ls top k le lt few sent (NoControl c) said gs ts near of = absurd said
+step_of carousel ls top k le lt few sent (NoBlock c) said gs ts near of = absurd said
+
+-- candidates with the generations of which they are: none goes back, none is 256 or more after the DII heard before it
+abbrev pub AreHeardOf : ℕ → List Layout → ℕ → List ℕ → List (ℕ × Heard) → Type 0
+AreHeardOf carousel ls top gs [] = Unit {0}
+AreHeardOf carousel ls top gs (x ∷ xs) =
+    (top ≤ x.0) × ((x.0 < length ls) × (IsSaidIn carousel ls x.0 x.1 × (IsNearTo gs x.0 x.1 × AreHeardOf carousel ls x.0 (gens_with gs x.0 x.1) xs)))
+
+-- the turns of these generations, none of them later than one that is published
+pub record HasGenerations (carousel : ℕ) (ls : List Layout) (gens : List ℕ) (ts : List Turn) : Type 0 where
+  pub top : ℕ
+  pub published : top < length ls
+  pub are : AreOf carousel ls top gens ts
+
 pub all_of : (carousel : ℕ) (ls : List Layout) → length ls ≤ 16384 → ((k : ℕ) → k < length ls → IsSent carousel ls k) → (top : ℕ) → top < length ls
-    → (gs : List ℕ) (ss : List Span) → AreOf carousel ls top gs ss → (xs : List (ℕ × Heard)) → AreHeardOf carousel ls top gs xs
-    → HasGenerations carousel ls (gens_of gs xs) (fold span_after ss (map (λ x. x.1) xs))
-all_of carousel ls few sent top lt gs ss of [] heard = record { top = top; published = lt; are = of }
-all_of carousel ls few sent top lt gs ss of (x ∷ xs) heard =
-    all_of carousel ls few sent x.0 heard.1.0 (gens_with gs x.0 x.1) (span_after ss x.1)
-    (step_of carousel ls top x.0 heard.0 heard.1.0 few (sent x.0 heard.1.0) x.1 heard.1.1.0 gs ss heard.1.1.1.0 of) xs heard.1.1.1.1
+    → (gs : List ℕ) (ts : List Turn) → AreOf carousel ls top gs ts → (xs : List (ℕ × Heard)) → AreHeardOf carousel ls top gs xs
+    → HasGenerations carousel ls (gens_of gs xs) (fold turn_after ts (map (λ x. x.1) xs))
+all_of carousel ls few sent top lt gs ts of [] heard = record { top = top; published = lt; are = of }
+all_of carousel ls few sent top lt gs ts of (x ∷ xs) heard =
+    all_of carousel ls few sent x.0 heard.1.0 (gens_with gs x.0 x.1) (turn_after ts x.1)
+    (step_of carousel ls top x.0 heard.0 heard.1.0 few (sent x.0 heard.1.0) x.1 heard.1.1.0 gs ts heard.1.1.1.0 of) xs heard.1.1.1.1

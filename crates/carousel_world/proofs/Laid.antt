@@ -8,7 +8,7 @@ use Rattle.module_packer.specs.Kept.{kept_modules, least_with}
 use Rattle.generation.specs.Publication.{gateway_spot}
 use Rattle.generation.specs.Layouts.{GenerationState, Placed, object_bytes, gateway_before, first_of, next_of}
 use Rattle.generation.specs.Kept.{layouts_of, states_from}
-use Rattle.carousel_world.specs.Instances.{tree_of, seven}
+use Rattle.carousel_world.specs.Instances.{tree_of, seven, empty_gateway}
 use Rattle.carousel_world.proofs.Instances.{letter, first_content, second_content}
 
 -- the gateway and the file, both in module 1
@@ -37,6 +37,10 @@ laid a b = layout_with gateway_before ∷ layout_with (objects_with a) ∷ layou
 is_empty : first_of 1 ≡ empty
 unfolding kept_modules
 is_empty = refl
+
+-- the layout of generation 0 alone
+pub empty_laid : layouts_of 1 [] ≡ empty_gateway ∷ []
+empty_laid = ap (λ (g : GenerationState). g.layout ∷ []) is_empty
 
 -- ---- from one to the next
 

@@ -34,3 +34,6 @@ mod Happening
 mod Lossy
 mod WholeDraws
 mod Settling
+mod Tables
+mod Room
+mod TwoDiis

@@ -35,7 +35,7 @@ use Rattle.carousel_world.specs.declared.event.Reply.TheVariants as replies
 use Rattle.carousel_world.specs.Promises.{broadcast_of, group_of, from_of, IsUndamaged}
 use Rattle.carousel_world.specs.Runs.{ones, the_path, puts, lossy_run, RunIsPremised}
 use Rattle.carousel_world.proofs.Instances.{first_content, second_content, first_publishable, second_publishable}
-use Rattle.carousel_world.proofs.Premised.{heard_by, its_blocks}
+use Rattle.carousel_world.proofs.Premised.{heard_by, its_blocks, one_round}
 use Rattle.carousel_world.proofs.Laid.{generation_with, laid, changed_laid}
 use Rattle.module_packer.specs.Kept.{kept_modules, least_with}
 
@@ -52,7 +52,7 @@ abbrev pub whole_draw : ℕ → Entry
 whole_draw generation = entries.Draw 1048576 generation 0 3
 
 abbrev pub cycle_drawn : GenerationState → List Fate → Drawing
-cycle_drawn g fates = record { generation = g; items = Dsi ∷ Dii ∷ Block 1 0 ∷ []; fates = fates }
+cycle_drawn g fates = record { generation = g; items = Dsi ∷ Dii 1 ∷ Block 1 0 ∷ []; fates = fates }
 
 abbrev pub first_drawing : Drawing
 first_drawing = cycle_drawn (generation_with 1 first_content 1) (Flip 800 ∷ Keep ∷ Lose ∷ [])
@@ -123,19 +123,19 @@ first_fails : is_accepted (slice_index_or all 0 []) ≡ false
 first_fails = refl
 
 of_first_dii : From 1 1
-of_first_dii = record { cut = record { packet = 0; offset = 120; bytes = section 1 Dii }; is = refl; packet = 0; came = refl; begins = refl }
+of_first_dii = record { cut = record { packet = 0; offset = 120; bytes = section 1 (Dii 1) }; is = refl; packet = 0; came = refl; begins = refl }
 
 of_dsi : From 2 3
 of_dsi = record { cut = record { packet = 2; offset = 5; bytes = section 2 Dsi }; is = refl; packet = 3; came = refl; begins = refl }
 
 of_dii : From 3 4
-of_dii = record { cut = record { packet = 2; offset = 120; bytes = section 2 Dii }; is = refl; packet = 3; came = refl; begins = refl }
+of_dii = record { cut = record { packet = 2; offset = 120; bytes = section 2 (Dii 1) }; is = refl; packet = 3; came = refl; begins = refl }
 
 of_last_dsi : From 5 6
 of_last_dsi = record { cut = record { packet = 5; offset = 5; bytes = section 2 Dsi }; is = refl; packet = 6; came = refl; begins = refl }
 
 of_last_dii : From 6 7
-of_last_dii = record { cut = record { packet = 5; offset = 120; bytes = section 2 Dii }; is = refl; packet = 6; came = refl; begins = refl }
+of_last_dii = record { cut = record { packet = 5; offset = 120; bytes = section 2 (Dii 1) }; is = refl; packet = 6; came = refl; begins = refl }
 
 of_block : From 7 8
 of_block = record { cut = record { packet = 6; offset = 12; bytes = section 2 (Block 1 0) }; is = refl; packet = 7; came = refl; begins = refl }
@@ -170,13 +170,13 @@ whole : IsWhole 1 sent.layouts 2 all
 whole = record {
   generation = lit< tt;
   gateway = (2, lit< tt, refl);
-  round = record {
+  rounds = one_round 1 sent.layouts 2 all module_bytes refl (record {
     before = take 6 all;
     after = section 2 (Block 1 0) ∷ [];
     place = refl;
-    blocks = λ m b every item. its_blocks sent.layouts 2 module_bytes (section 2 (Block 1 0) ∷ []) 1 1 refl refl the_block m b item;
-  };
-  no_later = λ h above below has. let few : h < 3 = below in absurd (omega (arith, above, few));
+    blocks = λ m b own item. its_blocks sent.layouts 2 module_bytes (section 2 (Block 1 0) ∷ []) 1 1 refl refl the_block m b item;
+  });
+  no_later = λ h j above below own has. let few : h < 3 = below in absurd (omega (arith, above, few));
 }
 
 both : ArePublishable 1 (tree_of first_content ∷ tree_of second_content ∷ [])

@@ -1,35 +1,33 @@
--- What follows from the limits of a layout: its DII is one that every receiver takes.
-use Rattle.std.proofs.Common.{◌≡◌, ℕ, zero, suc, ◌+◌, ◌<◌, ◌≤◌, Bool, true, false, not, eqb, leb, List, [], ◌∷◌, map, length, get_or, Some, refl, ap, sym, ◌∙◌, subst, arith}
+-- What follows from the limits of a layout: each of its DIIs is one that every receiver takes.
+use Rattle.std.proofs.Common.{◌≡◌, ◌≢◌, ℕ, zero, suc, ◌+◌, ◌<◌, ◌≤◌, Bool, true, false, not, eqb, leb, List, [], ◌∷◌, map, length, get_or, Some, None, refl, ap, sym, ◌∙◌, subst, arith, ◌-◌, cond, ◌*◌}
 use Rattle.std.proofs.lemmas.Bool.{eqb-true, eq-eqb, ne_eqb, le-leb, and_from, or_from, not_from_false}
-use Rattle.std.proofs.lemmas.List.Elements.{All-head, All-tail, All-cons, All-nil, All-map}
+use Rattle.std.proofs.lemmas.List.Elements.{All-head, All-tail, All-cons, All-nil, All-map, All-filter}
 use Rattle.std.proofs.lemmas.List.Sums.{sum_by-cons}
-use Rattle.std.specs.List.{All, AllPairs, list_all, list_any, sum_by}
+use Rattle.std.specs.List.{All, AllPairs, list_all, list_any, sum_by, filter}
+use Rattle.std.proofs.lemmas.List.Kept.{AllPairs-filter}
 use Rattle.path_tree.specs.Paths.{Bytes}
 use Rattle.path_tree.specs.Trees.{Tree}
-use Rattle.biop_object.specs.Names.{Layout, module_in}
 use Rattle.ddb_block.specs.Blocks.{block_count_of}
-use Rattle.dsi_dii.specs.Controls.{identification_of, dii_transaction}
+use Rattle.dsi_dii.specs.Controls.{identification_of, version_of}
 use Rattle.dsi_dii.specs.declared.ModuleLine.{ModuleLine}
+use Rattle.biop_object.specs.Names.{Layout, module_in}
 use Rattle.generation.specs.Lawful.{Lawful, IsLayout, layout_at, version_in, dii_in}
+use Rattle.generation.specs.Groups.{group_of, is_in_group, group_in, transaction_of}
 use Rattle.tuner_core.specs.Limits.{no_id_twice, is_small}
 use Rattle.tuner_core.specs.LookBack.{is_sound}
-use Rattle.dsi_dii.specs.declared.TheConstants.{MOST_MODULES}
+use Rattle.tuner_core.specs.Spans.{version}
+use Rattle.generation.proofs.CallerLemmas.{at_layout}
 
 -- a generation whose layout keeps the limits
 pub record IsSent (carousel : ℕ) (ls : List Layout) (g : ℕ) : Type 0 where
   pub carousel_id : carousel < 4294967296
   pub generation : g < 16384
-  pub rising : AllPairs (λ m n. m.0 < n.0) (layout_at ls g)
-  pub ids : All (λ m. m.0 < 65536) (layout_at ls g)
   pub some : 1 ≤ length (layout_at ls g)
-  pub few : length (layout_at ls g) ≤ 139
+  pub rising : AllPairs (λ m n. m.0 < n.0) (layout_at ls g)
+  pub from_one : All (λ m. 1 ≤ m.0) (layout_at ls g)
+  pub ids : All (λ m. m.0 ≤ 2224) (layout_at ls g)
   pub total : sum_by (λ m. length m.1) (layout_at ls g) ≤ 268435456
   pub sizes : All (λ m. length m.1 ≤ 16842752) (layout_at ls g)
-
-at_layout : (P : Layout → Type 0) (ls : List Layout) (g : ℕ) → All P ls → g < length ls → P (layout_at ls g)
-at_layout P [] g all lt = absurd (omega (arith, lt))
-at_layout P (l ∷ ls) zero all lt = All-head P l ls all
-at_layout P (l ∷ ls) (suc g) all lt = at_layout P ls g (All-tail P l ls all) (omega (arith, lt))
 
 pub is_sent : (carousel : ℕ) (ls : List Layout) (ts : List Tree) (g : ℕ) → Lawful carousel ls ts → g < length ls → IsSent carousel ls g
 is_sent carousel ls ts g lawful lt =
@@ -37,13 +35,16 @@ is_sent carousel ls ts g lawful lt =
     record {
       carousel_id = lawful.carousel_id;
       generation = omega (arith, lawful.few);
+      some = some_module (layout_at ls g) maps.first;
       rising = maps.rising;
+      from_one = maps.from_one;
       ids = maps.ids;
-      some = (at_layout (λ l. (1 ≤ length l) × (length l ≤ MOST_MODULES)) ls g lawful.modules lt).0;
-      few = (at_layout (λ l. (1 ≤ length l) × (length l ≤ MOST_MODULES)) ls g lawful.modules lt).1;
       total = at_layout (λ l. sum_by (λ m. length m.1) l ≤ 268435456) ls g lawful.total lt;
       sizes = at_layout (λ l. All (λ m. length m.1 ≤ 16842752) l) ls g lawful.sizes lt;
-    }
+    } where
+      some_module : (layout : Layout) → module_in layout 1 ≢ None → 1 ≤ length layout
+      some_module [] first = absurd (first refl)
+      some_module (m ∷ ms) first = omega arith
 
 -- ---- ids that rise
 
@@ -84,22 +85,116 @@ listed_holds P (n ∷ ns) m b all e = by (eqb n.0 m) refl (listed_holds P ns m b
       subst (λ x. P (x, b)) (eqb-true n.0 m t) (subst (λ y. P (n.0, y)) bytes (All-head P n ns all))
   by false t rest = rest (rw t at e)
 
--- ---- the DII
+-- ---- the numbers of a DII
+
+pub number_is : (g j : ℕ) → j ≤ 16 → identification_of (transaction_of g j) ≡ j
+number_is g j le = omega (arith, le)
+
+pub generation_is : (g j : ℕ) → g < 16384 → j ≤ 16 → version_of (transaction_of g j) ≡ g
+generation_is g j lt le = omega (arith, lt, le)
+
+pub group_some : (m : ℕ) → 1 ≤ group_of m
+group_some m = omega arith
+
+pub group_few : (m : ℕ) → m ≤ 2224 → group_of m ≤ 16
+group_few m le = omega (arith, le)
+
+-- ---- the modules of a group
+
+-- what is found in a group is of the group
+pub of_group : (j : ℕ) (ms : Layout) (m : ℕ) (b : Bytes) → module_in (filter (is_in_group j) ms) m ≡ Some b → eqb (group_of m) j ≡ true
+of_group j [] m b e = cc
+of_group j (n ∷ ns) m b e = go (eqb (group_of n.0) j) refl (eqb n.0 m) refl (of_group j ns m b) where
+  go : (t : Bool) → eqb (group_of n.0) j ≡ t → (u : Bool) → eqb n.0 m ≡ u → (module_in (filter (is_in_group j) ns) m ≡ Some b → eqb (group_of m) j ≡ true) → eqb (group_of m) j ≡ true
+  go false f u g rest = rest (rw f at e)
+  go true f true g rest = subst (λ k. eqb (group_of k) j ≡ true) (eqb-true _ _ g) f
+  go true f false g rest = rest (rw (f, g) at e)
+
+-- a module of a group is one of the layout
+pub in_layout : (j : ℕ) (ms : Layout) (m : ℕ) (b : Bytes) → module_in (filter (is_in_group j) ms) m ≡ Some b → module_in ms m ≡ Some b
+in_layout j [] m b e = cc
+in_layout j (n ∷ ns) m b e = go (eqb (group_of n.0) j) refl (eqb n.0 m) refl (in_layout j ns m b) (of_group j ns m b) where
+  go : (t : Bool) → eqb (group_of n.0) j ≡ t → (u : Bool) → eqb n.0 m ≡ u → (module_in (filter (is_in_group j) ns) m ≡ Some b → module_in ns m ≡ Some b)
+      → (module_in (filter (is_in_group j) ns) m ≡ Some b → eqb (group_of m) j ≡ true) → module_in (n ∷ ns) m ≡ Some b
+  go false f false g rest own = rw g (rest (rw f at e))
+  go false f true g rest own = let mine : eqb (group_of n.0) j ≡ true = subst (λ k. eqb (group_of k) j ≡ true) (sym (eqb-true _ _ g)) (own (rw f at e)) in cc
+  go true f true g rest own = rw g (rw (f, g) at e)
+  go true f false g rest own = rw g (rest (rw (f, g) at e))
+
+-- and a module of the layout is one of its group
+pub in_its_group : (j : ℕ) (ms : Layout) (m : ℕ) (b : Bytes) → eqb (group_of m) j ≡ true → module_in ms m ≡ Some b → module_in (filter (is_in_group j) ms) m ≡ Some b
+in_its_group j [] m b own e = cc
+in_its_group j (n ∷ ns) m b own e = go (eqb (group_of n.0) j) refl (eqb n.0 m) refl (in_its_group j ns m b own) where
+  go : (t : Bool) → eqb (group_of n.0) j ≡ t → (u : Bool) → eqb n.0 m ≡ u → (module_in ns m ≡ Some b → module_in (filter (is_in_group j) ns) m ≡ Some b) → module_in (filter (is_in_group j) (n ∷ ns)) m ≡ Some b
+  go false f false g rest = rw f (rest (rw g at e))
+  go false f true g rest = let mine : eqb (group_of n.0) j ≡ true = subst (λ k. eqb (group_of k) j ≡ true) (sym (eqb-true _ _ g)) own in cc
+  go true f true g rest = rw (f, g) (rw g at e)
+  go true f false g rest = rw (f, g) (rest (rw g at e))
+
+-- ids that rise between two bounds are few
+rising_few : (ms : Layout) (a u : ℕ) → a ≤ u → AllPairs (λ m n. m.0 < n.0) ms → All (λ m. a ≤ m.0) ms → All (λ m. m.0 < u) ms → length ms + a ≤ u
+rising_few [] a u le rising low high = omega (arith, le)
+rising_few (m ∷ ms) a u le rising low high =
+    let here : a ≤ m.0 = All-head (λ m. a ≤ m.0) m ms low in
+    let below : m.0 < u = All-head (λ m. m.0 < u) m ms high in
+    let above : All (λ n. m.0 + 1 ≤ n.0) ms = λ k d inside. let gt : m.0 < (get_or ms k d).0 = rising zero (suc k) d (omega arith) (omega (arith, inside)) in omega (arith, gt) in
+    let rest : length ms + (m.0 + 1) ≤ u = rising_few ms (m.0 + 1) u (omega (arith, below)) (λ i j d lt inside. rising (suc i) (suc j) d (omega (arith, lt)) (omega (arith, inside))) above (All-tail (λ m. m.0 < u) m ms high) in
+    omega (arith, rest, here)
+
+all_of_group : (j : ℕ) (ms : Layout) → All (λ m. group_of m.0 ≡ j) (filter (is_in_group j) ms)
+all_of_group j [] = All-nil (λ m. group_of m.0 ≡ j)
+all_of_group j (m ∷ ms) = go (eqb (group_of m.0) j) refl (all_of_group j ms) where
+  go : (t : Bool) → eqb (group_of m.0) j ≡ t → All (λ m. group_of m.0 ≡ j) (filter (is_in_group j) ms) → All (λ m. group_of m.0 ≡ j) (cond t (m ∷ filter (is_in_group j) ms) (filter (is_in_group j) ms))
+  go true e rest = All-cons (λ m. group_of m.0 ≡ j) m (filter (is_in_group j) ms) (eqb-true _ _ e) rest
+  go false e rest = rest
+
+group_low : (m j : ℕ) → 1 ≤ m → group_of m ≡ j → (j - 1) * 139 + 1 ≤ m
+group_low m j some e = omega (arith, some, e)
+
+group_high : (m j : ℕ) → group_of m ≡ j → m < j * 139 + 1
+group_high m j e = omega (arith, e)
+
+pub few_in_group : (carousel : ℕ) (ls : List Layout) (g j : ℕ) → IsSent carousel ls g → 1 ≤ j → length (group_in (layout_at ls g) j) ≤ 139
+few_in_group carousel ls g j sent some =
+    let ms = group_in (layout_at ls g) j in
+    let of = all_of_group j (layout_at ls g) in
+    let ones = All-filter (is_in_group j) (λ m. 1 ≤ m.0) (layout_at ls g) sent.from_one in
+    let count : length ms + ((j - 1) * 139 + 1) ≤ j * 139 + 1 =
+    rising_few ms ((j - 1) * 139 + 1) (j * 139 + 1) (bounds j some) (AllPairs-filter (λ m n. m.0 < n.0) (is_in_group j) (layout_at ls g) sent.rising)
+    (λ k d inside. group_low (get_or ms k d).0 j (ones k d inside) (of k d inside)) (λ k d inside. group_high (get_or ms k d).0 j (of k d inside)) in
+    at_most (length ms) j some count
+  where
+    bounds : (j : ℕ) → 1 ≤ j → (j - 1) * 139 + 1 ≤ j * 139 + 1
+    bounds j some = omega (arith, some)
+
+    at_most : (n j : ℕ) → 1 ≤ j → n + ((j - 1) * 139 + 1) ≤ j * 139 + 1 → n ≤ 139
+    at_most n j some le = omega (arith, some, le)
+
+pub few_modules : (carousel : ℕ) (ls : List Layout) (g : ℕ) → IsSent carousel ls g → length (layout_at ls g) ≤ 2224
+few_modules carousel ls g sent =
+    let below : All (λ m. m.0 < 2225) (layout_at ls g) = λ k d lt. under (get_or (layout_at ls g) k d).0 (sent.ids k d lt) in
+    let count : length (layout_at ls g) + 1 ≤ 2225 = rising_few (layout_at ls g) 1 2225 (omega arith) sent.rising sent.from_one below in
+    omega (arith, count)
+  where
+    under : (m : ℕ) → m ≤ 2224 → m < 2225
+    under m le = omega (arith, le)
+
+-- ---- the lines of a DII
 
 abbrev pub line_of : (ℕ → ℕ) → ℕ × Bytes → ModuleLine
 line_of version m = record { id = m.0; size = length m.1; version = version m.0; compressed = false }
 
-none_any : {X : Type 0} (test : X → Bool) (xs : List X) → All (λ x. test x ≡ false) xs → list_any test xs ≡ false
+pub none_any : {X : Type 0} (test : X → Bool) (xs : List X) → All (λ x. test x ≡ false) xs → list_any test xs ≡ false
 none_any test [] all = refl
 none_any test (x ∷ xs) all =
     or_from (test x) (list_any test xs) (All-head (λ y. test y ≡ false) x xs all) (none_any test xs (All-tail (λ y. test y ≡ false) x xs all))
 
-each_all : {X : Type 0} (test : X → Bool) (xs : List X) → All (λ x. test x ≡ true) xs → list_all test xs ≡ true
+pub each_all : {X : Type 0} (test : X → Bool) (xs : List X) → All (λ x. test x ≡ true) xs → list_all test xs ≡ true
 each_all test [] all = refl
 each_all test (x ∷ xs) all =
     and_from (test x) (list_all test xs) (All-head (λ y. test y ≡ true) x xs all) (each_all test xs (All-tail (λ y. test y ≡ true) x xs all))
 
-no_twice : (version : ℕ → ℕ) (layout : Layout) → Rising layout → no_id_twice (map (line_of version) layout) ≡ true
+pub no_twice : (version : ℕ → ℕ) (layout : Layout) → Rising layout → no_id_twice (map (line_of version) layout) ≡ true
 no_twice version [] rising = refl
 no_twice version (n ∷ ns) rising =
     and_from (not (list_any (λ k. eqb k.id n.0) (map (line_of version) ns))) (no_id_twice (map (line_of version) ns))
@@ -112,30 +207,41 @@ no_twice version (n ∷ ns) rising =
 pub few_blocks : (size : ℕ) → size ≤ 16842752 → block_count_of size 4066 ≤ 65536
 few_blocks size le = omega arith
 
-small_line : (version : ℕ → ℕ) (m : ℕ × Bytes) → length m.1 ≤ 16842752 → is_small 4066 (line_of version m) ≡ true
+pub small_line : (version : ℕ → ℕ) (m : ℕ × Bytes) → length m.1 ≤ 16842752 → is_small 4066 (line_of version m) ≡ true
 small_line version m le =
     and_from (leb (length m.1) 16842752) (leb (block_count_of (length m.1) 4066) 65536)
     (le-leb (length m.1) 16842752 le) (le-leb (block_count_of (length m.1) 4066) 65536 (few_blocks (length m.1) le))
 
-same_total : (version : ℕ → ℕ) (layout : Layout) → sum_by (λ (l : ModuleLine). l.size) (map (line_of version) layout) ≡ sum_by (λ m. length m.1) layout
+pub same_total : (version : ℕ → ℕ) (layout : Layout) → sum_by (λ (l : ModuleLine). l.size) (map (line_of version) layout) ≡ sum_by (λ m. length m.1) layout
 same_total version [] = refl
 same_total version (n ∷ ns) =
     sum_by-cons (λ (l : ModuleLine). l.size) (line_of version n) (map (line_of version) ns)
     ∙ ap (λ s. length n.1 + s) (same_total version ns)
     ∙ sym (sum_by-cons (λ (m : ℕ × Bytes). length m.1) n ns)
 
-identified : (g : ℕ) → identification_of (dii_transaction g) ≡ 1
-identified g = omega arith
+-- ---- the DII is sound
 
--- every receiver takes the DII of a generation that is sent
-pub is_taken : (carousel : ℕ) (ls : List Layout) (g : ℕ) → IsSent carousel ls g → is_sound (dii_in carousel ls g) ≡ true
-is_taken carousel ls g sent =
-    let lines = map (line_of (version_in ls g)) (layout_at ls g) in
-    let total : sum_by (λ (l : ModuleLine). l.size) lines ≤ 268435456 = omega (arith, same_total (version_in ls g) (layout_at ls g), sent.total) in
-    let named : not (eqb (identification_of (dii_transaction g)) 0) ≡ true = rw (identified g) refl in
+part_of_sum : (j : ℕ) (ms : Layout) → sum_by (λ m. length m.1) (filter (is_in_group j) ms) ≤ sum_by (λ m. length m.1) ms
+part_of_sum j [] = omega arith
+part_of_sum j (n ∷ ns) = go (eqb (group_of n.0) j) refl (part_of_sum j ns) where
+  go : (t : Bool) → eqb (group_of n.0) j ≡ t → sum_by (λ m. length m.1) (filter (is_in_group j) ns) ≤ sum_by (λ m. length m.1) ns → sum_by (λ m. length m.1) (filter (is_in_group j) (n ∷ ns)) ≤ sum_by (λ m. length m.1) (n ∷ ns)
+  go true f rest = rw f (omega (arith, rest, sum_by-cons (λ (m : ℕ × Bytes). length m.1) n ns, sum_by-cons (λ (m : ℕ × Bytes). length m.1) n (filter (is_in_group j) ns)))
+  go false f rest = rw f (omega (arith, rest, sum_by-cons (λ (m : ℕ × Bytes). length m.1) n ns))
+
+-- every receiver takes each DII of a generation that is sent
+pub is_taken : (carousel : ℕ) (ls : List Layout) (g j : ℕ) → IsSent carousel ls g → 1 ≤ j → j ≤ 16 → is_sound (dii_in carousel ls g j) ≡ true
+is_taken carousel ls g j sent some few =
+    let ms = group_in (layout_at ls g) j in
+    let lines = map (line_of (version_in ls g)) ms in
+    let total : sum_by (λ (l : ModuleLine). l.size) lines ≤ 268435456 = omega (arith, same_total (version_in ls g) ms, part_of_sum j (layout_at ls g), sent.total) in
+    let other : eqb (identification_of (transaction_of g j)) 0 ≡ false = ne_eqb _ _ (λ e. zero_not (identification_of (transaction_of g j)) j (number_is g j few) e some) in
+    let named : not (eqb (identification_of (transaction_of g j)) 0) ≡ true = ap not other in
     let small : list_all (is_small 4066) lines ≡ true = each_all (is_small 4066) lines
-    (All-map (λ l. is_small 4066 l ≡ true) (line_of (version_in ls g)) (layout_at ls g)
-    (λ k d lt. small_line (version_in ls g) (get_or (layout_at ls g) k d) (sent.sizes k d lt))) in
-    let few : leb (sum_by (λ (l : ModuleLine). l.size) lines) 268435456 ≡ true = le-leb (sum_by (λ (l : ModuleLine). l.size) lines) 268435456 total in
-    let once : no_id_twice lines ≡ true = no_twice (version_in ls g) (layout_at ls g) sent.rising in
-    rw (named, small, few, once) refl
+    (All-map (λ l. is_small 4066 l ≡ true) (line_of (version_in ls g)) ms
+    (λ k d lt. small_line (version_in ls g) (get_or ms k d) (All-filter (is_in_group j) (λ m. length m.1 ≤ 16842752) (layout_at ls g) sent.sizes k d lt))) in
+    let little : leb (sum_by (λ (l : ModuleLine). l.size) lines) 268435456 ≡ true = le-leb (sum_by (λ (l : ModuleLine). l.size) lines) 268435456 total in
+    let once : no_id_twice lines ≡ true = no_twice (version_in ls g) ms (AllPairs-filter (λ m n. m.0 < n.0) (is_in_group j) (layout_at ls g) sent.rising) in
+    rw (named, small, little, once) refl
+  where
+    zero_not : (i j : ℕ) → i ≡ j → i ≡ 0 → 1 ≤ j → ⊥
+    zero_not i j e f le = omega (arith, e, f, le)

@@ -3,7 +3,7 @@ use Rattle.std.proofs.Common.{◌≡◌, ℕ, zero, suc, ◌<◌, ◌≤◌, Boo
 use Rattle.std.specs.Prelude.{slice_get}
 use Rattle.std.specs.List.{All, AllPairs, Contains, list_all}
 use Rattle.std.proofs.lemmas.Bool.{and_parts, eqb-true, ltb-true, leb-true}
-use Rattle.std.proofs.lemmas.List.Elements.{All-nil, All-append, All-map, All-head, All-tail}
+use Rattle.std.proofs.lemmas.List.Elements.{All-nil, All-cons, All-append, All-map, All-head, All-tail}
 use Rattle.std.proofs.lemmas.List.Sums.{AllPass-from_list_all}
 use Rattle.std.proofs.lemmas.List.{get_or-map, length-map}
 use Rattle.std.proofs.lemmas.Option.{same_Some, slice_get-get_or}
@@ -16,9 +16,10 @@ use Rattle.cycle_planner.specs.declared.Item.TheVariants.{Block}
 use Rattle.ddb_block.specs.Blocks.{block_count_of}
 use Rattle.generation.specs.Layouts.{lines_in}
 use Rattle.generation.specs.Kept.{LayoutsAreLawful, layouts_of}
-use Rattle.generation.specs.Lawful.{Lawful, ArePublishable, IsItem, layout_at, section_in}
-use Rattle.carousel_world.specs.Broadcasts.{Sending, sendings_of, sendings, NeverBack}
-use Rattle.carousel_world.specs.Premises.{Ascribed, AcceptedAreSent, IsHeardOf}
+use Rattle.generation.specs.Lawful.{Lawful, ArePublishable, HasDii, IsItem, layout_at, section_in}
+use Rattle.carousel_world.specs.Broadcasts.{Broadcast, Sending, sendings_of, sendings, NeverBack}
+use Rattle.generation.proofs.CallerLemmas.{has_one}
+use Rattle.carousel_world.specs.Premises.{Ascribed, AcceptedAreSent, BlocksAreNear, HasRound, IsHeardOf}
 use Rattle.carousel_world.specs.Instances.{cycles_with}
 use Rattle.carousel_world.specs.Runs.{ones}
 use Rattle.carousel_world.proofs.Climbing.{Climbs, climbs_at}
@@ -38,7 +39,7 @@ climbs_by lo (n ∷ ns) e = let p = and_parts (nat_le lo n) (is_climbing n ns) e
 pub never_back_by : (ns : List ℕ) → is_climbing 0 ns ≡ true → NeverBack (slice_get ns)
 never_back_by ns e i j a b lt p q = climbs_at 0 ns (climbs_by 0 ns e) i j a b lt p q
 
-pairs_by : (xs : List Sending) → is_climbing 0 (map (λ s. s.0) xs) ≡ true → AllPairs (λ s t. s.0 ≤ t.0) xs
+pub pairs_by : (xs : List Sending) → is_climbing 0 (map (λ s. s.0) xs) ≡ true → AllPairs (λ s t. s.0 ≤ t.0) xs
 pairs_by xs e i j d lt inside =
     climbs_at 0 (map (λ (s : Sending). s.0) xs) (climbs_by 0 (map (λ (s : Sending). s.0) xs) e) i j (get_or xs i d).0 (get_or xs j d).0 lt (at i (omega (arith, lt, inside))) (at j inside) where
       at : (k : ℕ) → k < length xs → slice_get (map (λ (s : Sending). s.0) xs) k ≡ Some (get_or xs k d).0
@@ -69,6 +70,13 @@ each_at test (x ∷ xs) all (suc k) s e = each_at test xs (and_parts (test x) (l
 abbrev pub is_early : Sending → Bool
 is_early s = nat_lt s.0 256
 
+-- what is heard of them is near
+pub near_by : (b : Broadcast) (cs : List Bytes) (is_from : Ascribed) → list_all is_early (sendings b) ≡ true → BlocksAreNear b cs is_from
+near_by b cs is_from early i j g h block last p q =
+    let few : q.1.0 < 256 = ltb-true q.1.0 256 (each_at is_early (sendings b) early q.0 q.1 q.3) in
+    let same : q.1.0 ≡ h = q.4 in
+    omega (arith, few, same)
+
 -- where these are the layouts that the rules make
 pub heard_by : LayoutsAreLawful → (ls : List Layout) (trees : List Tree) (gs : List ℕ) (cs : List Bytes) (is_from : Ascribed) → layouts_of 1 trees ≡ ls → ArePublishable 1 trees
     → list_all (λ g. nat_lt g (length ls)) gs ≡ true → is_climbing 0 (map (λ s. s.0) (sendings (cycles_with ls trees gs))) ≡ true
@@ -83,10 +91,7 @@ heard_by lawful ls trees gs cs is_from laid publishable below climbing early acc
         order = pairs_by (sendings (cycles_with ls trees gs)) climbing;
       };
       accepted = accepted;
-      near = λ i j g h block last p q.
-          let few : q.1.0 < 256 = ltb-true q.1.0 256 (each_at is_early (sendings (cycles_with ls trees gs)) early q.0 q.1 q.3) in
-          let same : q.1.0 ≡ h = q.4 in
-          omega (arith, few, same);
+      near = near_by (cycles_with ls trees gs) cs is_from early;
     }
 
 -- ---- a generation of one module
@@ -103,3 +108,9 @@ its_blocks ls g bytes after carousel count layout is has m b item =
         go : (t : Bool) → (1 == m) ≡ t → cond t (Some bytes) None ≡ Some x → (1 ≡ m) × (x ≡ bytes)
         go true h e = (eqb-true 1 m h, sym (same_Some bytes x e))
         go false h e = cc
+
+-- DII 1 is its one DII
+pub one_round : (carousel : ℕ) (ls : List Layout) (g : ℕ) (cs : List Bytes) (bytes : Bytes) → layout_at ls g ≡ (1, bytes) ∷ [] → HasRound carousel ls g 1 cs → (j : ℕ) → HasDii ls g j → HasRound carousel ls g j cs
+one_round carousel ls g cs bytes layout round j has =
+    let few : All (λ m. m.0 ≤ 139) (layout_at ls g) = subst (All (λ m. m.0 ≤ 139)) (sym layout) (All-cons (λ (m : ℕ × Bytes). m.0 ≤ 139) (1, bytes) [] (omega arith) (All-nil (λ (m : ℕ × Bytes). m.0 ≤ 139))) in
+    subst (λ i. HasRound carousel ls g i cs) (sym (has_one ls g j few has)) round

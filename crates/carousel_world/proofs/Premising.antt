@@ -22,9 +22,9 @@ use Rattle.section_stream.proofs.CallerLemmas.{places_count, places_within, star
 use Rattle.tuner_core.specs.Heard.{as_heard}
 use Rattle.carousel_world.specs.Broadcasts.{Broadcast, Group, Sending, SendsInOrder, Ascription, NeverBack, IsAscribed, sendings, sendings_of}
 use Rattle.carousel_world.specs.Premises.{Ascribed, IsFromGeneration, IsHeardOf}
-use Rattle.carousel_world.specs.Receptions.{IsSentIn, EveryReceptionMeets}
+use Rattle.carousel_world.specs.Receptions.{IsSentIn, Meets, EveryReceptionMeets}
 use Rattle.carousel_world.proofs.Saying.{Spelled, says, hears_item, item_framed}
-use Rattle.carousel_world.proofs.Modules.{is_sent}
+use Rattle.carousel_world.proofs.Modules.{IsSent, is_sent}
 use Rattle.carousel_world.proofs.Generations.{IsSaidIn}
 use Rattle.carousel_world.proofs.Ascribing.{AreAscribed}
 use Rattle.carousel_world.proofs.Receiving.{meets_ascribed}
@@ -45,12 +45,12 @@ get_map f (x ∷ xs) (suc k) y e = get_map f xs k y e
 
 below : (ls : List Layout) (g : ℕ) (item : Item) → IsItem ls g item → g < length ls
 below ls g Dsi is = is
-below ls g Dii is = is
+below ls g (Dii j) is = is.0
 below ls g (Block m b) is = is.0
 
-said : (carousel : ℕ) (ls : List Layout) (g : ℕ) (item : Item) → IsItem ls g item → IsSaidIn carousel ls g (says carousel ls g item)
+pub said : (carousel : ℕ) (ls : List Layout) (g : ℕ) (item : Item) → IsItem ls g item → IsSaidIn carousel ls g (says carousel ls g item)
 said carousel ls g Dsi item = refl
-said carousel ls g Dii item = refl
+said carousel ls g (Dii j) item = record { number = j; there = item.1; some = item.2; few = item.3; is = refl }
 said carousel ls g (Block m b) item = record {
   bytes = item.1.0;
   listed = item.1.1;
@@ -62,7 +62,7 @@ said carousel ls g (Block m b) item = record {
 abbrev pub InOrder : Broadcast → Ascribed → Type 0
 InOrder b is_from = (i j k l : ℕ) (s t : Sending) → i < j → is_from i k → is_from j l → slice_get (sendings b) k ≡ Some s → slice_get (sendings b) l ≡ Some t → s.0 ≤ t.0
 
-in_order : (xs : List Sending) → AllPairs (λ s t. s.0 ≤ t.0) xs → (k l : ℕ) (s t : Sending) → k ≤ l → slice_get xs k ≡ Some s → slice_get xs l ≡ Some t → s.0 ≤ t.0
+pub in_order : (xs : List Sending) → AllPairs (λ s t. s.0 ≤ t.0) xs → (k l : ℕ) (s t : Sending) → k ≤ l → slice_get xs k ≡ Some s → slice_get xs l ≡ Some t → s.0 ≤ t.0
 in_order xs pairs k l s t le e f = by (ltb k l) refl where
   by : (b : Bool) → ltb k l ≡ b → s.0 ≤ t.0
   by true b =
@@ -100,7 +100,7 @@ ascribed b cs is_from spelled h ordered = record {
   near = λ i j g k lt dii block none p q. h.near i j g k block (record { before = lt; there = dii; last = none }) p q;
 }
 
-sent_from : (b : Broadcast) (is_from : Ascribed) (i g : ℕ) → IsFromGeneration b is_from i g → IsSentIn b g
+pub sent_from : (b : Broadcast) (is_from : Ascribed) (i g : ℕ) → IsFromGeneration b is_from i g → IsSentIn b g
 sent_from b is_from i g p = (p.0, p.1, p.3, p.4)
 
 -- ---- over packets
@@ -212,7 +212,7 @@ no_fall law pid packets i j c d lt e f =
     let y = at (cuts pid packets) j d c f in
     subst (λ z. z.packet ≤ d.packet) x.is (subst (λ z. (get_or (cuts pid packets) i c).packet ≤ z.packet) y.is (law.packets_rise pid packets i j c lt y.inside))
 
-packets_in_order : Framed → Spelled → CutsComeInOrder → (b : Broadcast) (pid : ℕ) (packets : List Bytes) (from : Ascription) → Lawful b.carousel b.layouts b.trees → SendsInOrder b → NeverBack from
+pub packets_in_order : Framed → Spelled → CutsComeInOrder → (b : Broadcast) (pid : ℕ) (packets : List Bytes) (from : Ascription) → Lawful b.carousel b.layouts b.trees → SendsInOrder b → NeverBack from
     → InOrder b (IsAscribed b pid packets from)
 packets_in_order framed spelled cut b pid packets from lawful sends never i j k l s t lt p q e f =
     let rises : p.cut.packet ≤ q.cut.packet = no_fall cut pid packets i j p.cut q.cut lt p.is q.is in
@@ -229,14 +229,19 @@ packets_in_order framed spelled cut b pid packets from lawful sends never i j k 
       ordered (inl le) = in_order (sendings b) sends.order k l s t le e f
       ordered (inr same) = omega (arith, same)
 
+-- what is heard in order meets all that a receiver owes
+meets_heard : (b : Broadcast) (cs : List Bytes) (is_from : Ascribed) → Spelled → EqualVersionsMeanEqualBytes b.layouts → IsHeardOf b cs is_from → InOrder b is_from → Meets b cs
+meets_heard b cs is_from spelled same h ordered =
+    let sent : (g : ℕ) → g < length b.layouts → IsSent b.carousel b.layouts g = λ g lt. is_sent b.carousel b.layouts b.trees g h.lawful lt in
+    meets_ascribed b cs (IsFromGeneration b is_from) h.first (λ g item is. hears_item b.carousel b.layouts g spelled (sent g (below b.layouts g item is)) item is) h.lawful sent same
+    (ascribed b cs is_from spelled h ordered) (sent_from b is_from)
+
 pub every_reception : Framed → Spelled → ((ls : List Layout) → EqualVersionsMeanEqualBytes ls) → CutsComeInOrder → EveryReceptionMeets
 every_reception framed spelled law cut = record {
   packets = λ pid packets b from never h.
-      meets_ascribed b (candidates pid packets) (IsFromGeneration b (IsAscribed b pid packets from)) h.first spelled h.lawful (law b.layouts)
-      (ascribed b (candidates pid packets) (IsAscribed b pid packets from) spelled h (packets_in_order framed spelled cut b pid packets from h.lawful h.in_order never))
-      (sent_from b (IsAscribed b pid packets from));
+      meets_heard b (candidates pid packets) (IsAscribed b pid packets from) spelled (law b.layouts) h
+      (packets_in_order framed spelled cut b pid packets from h.lawful h.in_order never);
   sections = λ cs b from never h.
-      meets_ascribed b cs (IsFromGeneration b (λ i k. from i ≡ Some k)) h.first spelled h.lawful (law b.layouts)
-      (ascribed b cs (λ i k. from i ≡ Some k) spelled h (λ i j k l s t lt p q e f. in_order (sendings b) h.in_order.order k l s t (never i j k l lt p q) e f))
-      (sent_from b (λ i k. from i ≡ Some k));
+      meets_heard b cs (λ i k. from i ≡ Some k) spelled (law b.layouts) h
+      (λ i j k l s t lt p q e f. in_order (sendings b) h.in_order.order k l s t (never i j k l lt p q) e f);
 }

@@ -4,13 +4,13 @@ use Rattle.std.specs.List.{All}
 use Rattle.std.proofs.lemmas.List.{append-nil, map-append, length-append}
 use Rattle.std.proofs.lemmas.List.Elements.{All-head, All-tail, All-nil, All-cons}
 use Rattle.path_tree.specs.Trees.{Tree}
-use Rattle.generation.specs.Kept.{LayoutsAreLawful, GenerationsAreOfTheLists}
 use Rattle.generation.specs.Lawful.{ArePublishable, IsPublishable}
+use Rattle.generation.specs.Kept.{LayoutsAreLawful, GenerationsAreOfTheLists}
 use Rattle.generation_catalogue.specs.History.{CatalogueState, IsHistory, trees_of, draws_of, with_draw, outcome_of, is_entered, with_entry}
 use Rattle.generation_catalogue.specs.Laws.{HistoriesGrow}
 use Rattle.generation_catalogue.specs.declared.entry.Entry.{Entry}
 use Rattle.generation_catalogue.specs.declared.entry.Entry.TheVariants as entries
-use Rattle.carousel_world.specs.Receptions.{EveryReceptionMeets, LabelsNeverFall, GoesOn, Meets, label_after}
+use Rattle.carousel_world.specs.Receptions.{GoesOn, EveryReceptionMeets, LabelsNeverFall, Meets, label_after}
 use Rattle.section_stream.specs.Cuts.{candidates}
 use Rattle.carousel_world.specs.Fates.{Arrival}
 use Rattle.carousel_world.specs.Events.{Step, Commit, Draw, Open}

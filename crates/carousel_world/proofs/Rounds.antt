@@ -1,19 +1,14 @@
 -- What is heard of a section is in what is heard of all, and a block fits where its own module is listed.
-use Rattle.std.proofs.Common.{◌≡◌, ℕ, zero, suc, ◌*◌, ◌<◌, Bool, true, min, eqb, ltb, List, [], ◌∷◌, map, length, drop, get_or, Some, None, refl, ap, sym, ◌∙◌, arith, length-drop}
-use Rattle.std.proofs.lemmas.Bool.{eq-eqb, lt-ltb, and_from, or_left, or_right, cond-true}
+use Rattle.std.proofs.Common.{◌≡◌, ℕ, zero, suc, ◌*◌, ◌<◌, Bool, true, min, eqb, ltb, List, [], ◌∷◌, map, length, drop, get_or, refl, ap, sym, ◌∙◌, arith, length-drop}
+use Rattle.std.proofs.lemmas.Bool.{eq-eqb, lt-ltb, and_from, or_left, or_right}
 use Rattle.std.proofs.lemmas.List.{length-take, length-map, get_or-map}
 use Rattle.std.specs.List.{Contains, list_any}
-use Rattle.std.specs.Option.{unwrap_or}
 use Rattle.path_tree.specs.Paths.{Bytes}
-use Rattle.biop_object.specs.Names.{Layout, module_in}
-use Rattle.cycle_planner.specs.declared.Item.TheVariants.{Block}
 use Rattle.ddb_block.specs.Blocks as ddb
 use Rattle.dsi_dii.specs.Controls.{DiiFields}
-use Rattle.generation.specs.Lawful.{layout_at, version_in, dii_in}
-use Rattle.tuner_core.specs.Heard.{Heard, ABlock, as_heard}
-use Rattle.tuner_core.specs.LookBack.{fits, bytes_if_fits}
+use Rattle.tuner_core.specs.Heard.{Heard, as_heard}
+use Rattle.tuner_core.specs.LookBack.{fits}
 use Rattle.carousel_world.proofs.Modules.{line_of}
-use Rattle.carousel_world.proofs.Saying.{says, module_of}
 
 -- ---- a test that holds of an element
 
@@ -35,7 +30,7 @@ contains_map f xs x has = (has.0, omega (arith, length-map xs f, has.1), get_or-
 span_is : (bytes : Bytes) (b : ℕ) → length (ddb.block_of bytes 4066 b) ≡ ddb.block_span_of (length bytes) 4066 b
 span_is bytes b = length-take 4066 (drop (b * 4066) bytes) ∙ ap (λ n. min 4066 n) (length-drop (b * 4066) bytes)
 
-fits_itself : (carousel : ℕ) (held : DiiFields) (version : ℕ → ℕ) (m : ℕ × Bytes) (b : ℕ) → held.download ≡ carousel → held.block_size ≡ 4066 → b < ddb.block_count_of (length m.1) 4066
+pub fits_itself : (carousel : ℕ) (held : DiiFields) (version : ℕ → ℕ) (m : ℕ × Bytes) (b : ℕ) → held.download ≡ carousel → held.block_size ≡ 4066 → b < ddb.block_count_of (length m.1) 4066
     → fits held (line_of version m) b (record { download = carousel; module_id = m.0; version = version m.0; number = b; bytes = ddb.block_of m.1 4066 b }) ≡ true
 fits_itself carousel held version m b own size lt =
     let count : ltb b (ddb.block_count_of (length m.1) held.block_size) ≡ true = ap (λ n. ltb b (ddb.block_count_of (length m.1) n)) size ∙ lt-ltb b (ddb.block_count_of (length m.1) 4066) lt in
@@ -43,12 +38,3 @@ fits_itself carousel held version m b own size lt =
     eq-eqb (length (ddb.block_of m.1 4066 b)) (ddb.block_span_of (length m.1) held.block_size b) (span_is m.1 b ∙ ap (λ n. ddb.block_span_of (length m.1) n b) (sym size)) in
     and_from _ _ (and_from _ _ (and_from _ _ (and_from _ _ (and_from _ _
     (eq-eqb carousel held.download (sym own)) (eq-eqb m.0 m.0 refl)) (eq-eqb (version m.0) (version m.0) refl)) (eq-eqb b b refl)) count) span
-
-pub fitting_itself : (carousel : ℕ) (ls : List Layout) (g : ℕ) (m : ℕ × Bytes) (b : ℕ) → module_in (layout_at ls g) m.0 ≡ Some m.1 → b < ddb.block_count_of (length m.1) 4066
-    → bytes_if_fits (dii_in carousel ls g) (line_of (version_in ls g) m) b (says carousel ls g (Block m.0 b)) ≡ Some (ddb.block_of m.1 4066 b)
-fitting_itself carousel ls g m b listed lt =
-    let bytes : module_of ls g m.0 ≡ m.1 = ap (λ o. unwrap_or o []) listed in
-    let held = dii_in carousel ls g in
-    let x : ddb.Block = record { download = carousel; module_id = m.0; version = version_in ls g m.0; number = b; bytes = ddb.block_of m.1 4066 b } in
-    ap (λ y. bytes_if_fits held (line_of (version_in ls g) m) b (ABlock (record { download = carousel; module_id = m.0; version = version_in ls g m.0; number = b; bytes = ddb.block_of y 4066 b }))) bytes
-    ∙ cond-true (fits held (line_of (version_in ls g) m) b x) (Some (ddb.block_of m.1 4066 b)) None (fits_itself carousel held (version_in ls g) m b refl refl lt)

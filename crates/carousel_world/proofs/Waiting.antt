@@ -1,5 +1,5 @@
 -- A receiver that has heard no block waits for the first module.
-use Rattle.std.proofs.Common.{◌≡◌, ℕ, zero, suc, ◌<◌, ◌≤◌, Bool, true, false, cond, ◌&&◌, eqb, List, [], ◌∷◌, ◌++◌, map, length, Some, None, refl, ap, sym, ◌∙◌, subst, arith}
+use Rattle.std.proofs.Common.{◌≡◌, ℕ, zero, suc, ◌<◌, ◌≤◌, Bool, true, false, cond, ◌&&◌, eqb, List, [], ◌∷◌, ◌++◌, map, length, Some, None, refl, ap, sym, ◌∙◌, subst, arith, inl}
 use Rattle.std.proofs.lemmas.Bool.{and_from, or_left, or_right}
 use Rattle.std.specs.Prelude.{slice_get}
 use Rattle.std.specs.List.{find, list_all, flat_map, range_with_len}
@@ -14,11 +14,15 @@ use Rattle.ddb_block.specs.Blocks as ddb
 use Rattle.dsi_dii.specs.Controls.{DiiFields}
 use Rattle.generation.specs.Kept.{LayoutsAreLawful}
 use Rattle.generation.specs.Layouts.{gateway_location, lines_in}
+use Rattle.generation.specs.Groups.{group_in}
 use Rattle.generation.specs.Lawful.{Carries, IsNode, IsPublishable, layout_at, version_in, dii_in, section_in}
 use Rattle.path_resolver.specs.declared.answer.Answer.TheVariants as answers
 use Rattle.tuner_core.specs.Heard.{ADsi, as_heard}
-use Rattle.tuner_core.specs.Spans.{Span, turns, spans, answer_after}
-use Rattle.carousel_world.specs.Headline.{is_dsi, is_dii, has_carousel, is_line_whole, is_whole_in, is_whole, first_missing, IsAnswer}
+use Rattle.module_cache.specs.Joining.{outline, lists}
+use Rattle.module_cache.specs.Turns.{with_turning}
+use Rattle.tuner_core.specs.Spans.{Span}
+use Rattle.tuner_core.specs.Turns.{turns, turns_of, answer_after}
+use Rattle.carousel_world.specs.Headline.{is_dsi, is_dii, has_carousel, is_line_whole, IsAnswer, whole_by, is_whole_in, is_whole, first_missing}
 use Rattle.carousel_world.specs.Premises.{AcceptedAreSent}
 use Rattle.carousel_world.specs.Publishing.{layouts_for, layout_for, publication, EveryPublicationMeets}
 use Rattle.carousel_world.specs.Broadcasts.{sections}
@@ -27,7 +31,7 @@ use Rattle.carousel_world.specs.Runs.{ones}
 use Rattle.carousel_world.proofs.CallerLemmas.{published_sections}
 use Rattle.carousel_world.proofs.Cycles.{first_round, later_rounds}
 use Rattle.carousel_world.proofs.Below.{root_there}
-use Rattle.carousel_world.proofs.Modules.{IsSent, line_of}
+use Rattle.carousel_world.proofs.Modules.{IsSent, line_of, in_layout}
 use Rattle.carousel_world.proofs.Saying.{Spelled, dsi_of, hears_item}
 use Rattle.carousel_world.proofs.Opening.{never_back}
 use Rattle.carousel_world.proofs.Single.{IsSecond, second_of}
@@ -76,13 +80,16 @@ first_has_bytes carousel layout t carries [] e =
 
 -- ---- the control sections alone
 
-first_awaited : (carousel : ℕ) (ls : List Layout) (t : Tree) → Spelled → IsSecond carousel ls t → is_whole (section_in carousel ls 1 Dsi ∷ section_in carousel ls 1 Dii ∷ []) 1 ≡ false
+first_awaited : (carousel : ℕ) (ls : List Layout) (t : Tree) → Spelled → IsSecond carousel ls t → is_whole (section_in carousel ls 1 Dsi ∷ section_in carousel ls 1 (Dii 1) ∷ []) 1 ≡ false
 first_awaited carousel ls t spelled is =
-    ap (λ h. is_whole_in (spans (h ∷ as_heard (section_in carousel ls 1 Dii) ∷ [])) 1) (hears_item carousel ls 1 spelled is.sent Dsi is.listed)
-    ∙ ap (λ h. is_whole_in (spans (ADsi (dsi_of carousel) ∷ h ∷ [])) 1) (hears_item carousel ls 1 spelled is.sent Dii is.listed)
-    ∙ go (turns [] (dii_in carousel ls 1)) where
-      go : (t : Bool) → is_whole_in (cond t (alone (dii_in carousel ls 1) ∷ []) []) 1 ≡ false
-      go true = line_awaited (dii_in carousel ls 1) (version_in ls 1) 1 (layout_at ls 1) refl (first_has_bytes carousel (layout_at ls 1) t is.carries)
+    ap (λ h. is_whole_in (turns_of (h ∷ as_heard (section_in carousel ls 1 (Dii 1)) ∷ [])) 1) (hears_item carousel ls 1 spelled is.sent Dsi is.listed)
+    ∙ ap (λ h. is_whole_in (turns_of (ADsi (dsi_of carousel) ∷ h ∷ [])) 1) (hears_item carousel ls 1 spelled is.sent (Dii 1) (is.listed, inl refl, omega arith, omega arith))
+    ∙ go (turns [] (dii_in carousel ls 1 1)) where
+      go : (t : Bool) → is_whole_in (cond t (with_turning [] (dii_in carousel ls 1 1) false) []) 1 ≡ false
+      go true = listed (lists (outline (dii_in carousel ls 1 1)) 1) where
+        listed : (b : Bool) → whole_by [] 1 (cond b (Some (alone (dii_in carousel ls 1 1))) None) ≡ false
+        listed true = line_awaited (dii_in carousel ls 1 1) (version_in ls 1) 1 (group_in (layout_at ls 1) 1) refl (λ b e. first_has_bytes carousel (layout_at ls 1) t is.carries b (in_layout 1 (layout_at ls 1) 1 b e))
+        listed false = refl
       go false = refl
 
 first_is_one : (carousel : ℕ) (layout : Layout) (cs : List Bytes) → is_whole cs 1 ≡ false → (p : PathNames) → first_missing carousel layout cs p ≡ Some 1
@@ -90,13 +97,13 @@ first_is_one carousel layout cs missing [] = rw missing refl
 first_is_one carousel layout cs missing (n ∷ ns) = rw missing refl
 
 control_tells : (carousel : ℕ) (ls : List Layout) (g : ℕ) → Spelled → IsSent carousel ls g → g < length ls
-    → has_carousel (section_in carousel ls g Dsi ∷ section_in carousel ls g Dii ∷ []) ≡ true
+    → has_carousel (section_in carousel ls g Dsi ∷ section_in carousel ls g (Dii 1) ∷ []) ≡ true
 control_tells carousel ls g spelled sent lt = and_from _ _
     (or_left _ _ (ap is_dsi (hears_item carousel ls g spelled sent Dsi lt)))
-    (or_right _ _ (or_left _ _ (ap is_dii (hears_item carousel ls g spelled sent Dii lt))))
+    (or_right _ _ (or_left _ _ (ap is_dii (hears_item carousel ls g spelled sent (Dii 1) (lt, inl refl, omega arith, omega arith)))))
 
 -- they are the first two sections of a cycle
-cycle_sections : (carousel : ℕ) (t : Tree) → 1 ≤ length (layout_for carousel t) → (later : List Item) × (sections (publication carousel ones 1 t) ≡ map (section_in carousel (layouts_for carousel t) 1) (Dsi ∷ Dii ∷ later))
+cycle_sections : (carousel : ℕ) (t : Tree) → 1 ≤ length (layout_for carousel t) → (later : List Item) × (sections (publication carousel ones 1 t) ≡ map (section_in carousel (layouts_for carousel t) 1) (Dsi ∷ Dii 1 ∷ later))
 cycle_sections carousel t some = (
   flat_map blocks_of (lines_in (layout_for carousel t)) ++ (later_rounds ones (lines_in (layout_for carousel t)) ++ []),
   published_sections carousel ones 1 t ∙ ap (map (section_in carousel (layouts_for carousel t) 1)) (first_round ones (layout_for carousel t) 0 are_ones some),

@@ -24,7 +24,7 @@ use Rattle.generation_catalogue.specs.declared.entry.Entry.{Entry}
 use Rattle.generation_catalogue.specs.declared.entry.Entry.TheVariants as entries
 use Rattle.carousel_world.proofs.Cycles.{cycle_has, later_rounds, some_lines}
 use Rattle.carousel_world.proofs.Drawn.{alike}
-use Rattle.carousel_world.proofs.Modules.{IsSent}
+use Rattle.carousel_world.proofs.Modules.{IsSent, few_modules}
 
 -- ---- a cycle is short
 
@@ -40,23 +40,23 @@ blocks_fit (m ∷ ms) =
     let fits = blocks_fit ms in
     omega (arith, here, total, fit, fits)
 
--- 268,435,456 bytes in 139 modules have at most 66,158 blocks, each of which is sent up to eight times
-pub short_cycle : (carousel : ℕ) (ls : List Layout) (g : ℕ) (weights : List ℕ) → AreWeights weights → IsSent carousel ls g → length (cycle_of weights (lines_in (layout_at ls g))) ≤ 529273
+-- 268,435,456 bytes in 2,224 modules have at most 68,242 blocks, each of which is sent up to eight times
+pub short_cycle : (carousel : ℕ) (ls : List Layout) (g : ℕ) (weights : List ℕ) → AreWeights weights → IsSent carousel ls g → length (cycle_of weights (lines_in (layout_at ls g))) ≤ 545945
 short_cycle carousel ls g weights are sent =
     let fit = blocks_fit (layout_at ls g) in
     let size = cycle_at_most weights (lines_in (layout_at ls g)) are in
-    let few = sent.few in
+    let few = few_modules carousel ls g sent in
     let total = sent.total in
     omega (arith, fit, size, few, total)
 
 -- ---- and a whole round
 
--- the DSI is among these items, and at some place the DII with every block after it
+-- the DSI is among these items, and at some place the DII of group 1 with every block after it
 pub record IsRound (ls : List Layout) (g : ℕ) (items : List Item) : Type 0 where
   pub gateway : Contains items Dsi
   pub before : List Item
   pub after : List Item
-  pub place : items ≡ before ++ Dii ∷ after
+  pub place : items ≡ before ++ Dii 1 ∷ after
   pub blocks : (m b : ℕ) → IsItem ls g (Block m b) → Contains after (Block m b)
 
 pub cycle_is_round : (ls : List Layout) (g : ℕ) (weights : List ℕ) → AreWeights weights → 1 ≤ length (layout_at ls g) → IsRound ls g (cycle_of weights (lines_in (layout_at ls g)))

@@ -8,11 +8,14 @@ use Rattle.ddb_block.specs.Blocks.{block_count_of}
 use Rattle.dsi_dii.specs.declared.ModuleLine.{ModuleLine}
 use Rattle.biop_object.specs.Names.{Layout, thing_at, location_of}
 use Rattle.generation.specs.Layouts.{gateway_location}
+use Rattle.module_cache.specs.Joining.{outline, lists}
+use Rattle.module_cache.specs.Turns.{admitted, has_admitted, before}
 use Rattle.path_resolver.specs.declared.answer.Answer.{Answer}
 use Rattle.path_resolver.specs.declared.answer.Answer.TheVariants as answers
 use Rattle.tuner_core.specs.Heard.{Heard, ADsi, ADii, as_heard}
 use Rattle.tuner_core.specs.LookBack.{block_among}
-use Rattle.tuner_core.specs.Spans.{Span, spans, stretch}
+use Rattle.tuner_core.specs.Spans.{Span, identification, stretch}
+use Rattle.tuner_core.specs.Turns.{Turn, turns_of}
 
 -- a file's bytes and a folder's names are those of the tree
 abbrev pub IsNodeAnswer : Answer → Node → Type 0
@@ -23,19 +26,12 @@ IsNodeAnswer _ _ = ⊥
 
 -- ---- what is there of a module
 
--- Of a module that the last DII that turned lists, what was heard in its stretch is there: since the DIIs that turned describe it as
--- the last of them does, with fewer than 256 commits from each to the next. Of a compressed module nothing is.
+-- Of a module that a held DII lists, what was heard in its stretch is there: since the DIIs of that identification describe it as the
+-- held one does, from turn to turn, with fewer than 256 commits from each turn to the next. `ss` are those DIIs before it. Of a
+-- compressed module nothing is there.
 abbrev pub block_of_line : Span → List Span → Option ModuleLine → ℕ → Option Bytes
 block_of_line s ss (Some l) b = if l.compressed then None else block_among (stretch s ss l) s.dii l b
 block_of_line s ss None b = None
-
-abbrev pub block_in : List Span → ℕ → ℕ → Option Bytes
-block_in [] m b = None
-block_in (s ∷ ss) m b = block_of_line s ss (find (λ l. l.id == m) s.dii.modules) b
-
--- block b of module m, after these candidates: the first that fits in the module's stretch
-abbrev pub block_there : List Bytes → ℕ → ℕ → Option Bytes
-block_there candidates m b = block_in (spans (map as_heard candidates)) m b
 
 -- each block is there
 abbrev pub has_each_block : Span → List Span → ModuleLine → Bool
@@ -45,13 +41,54 @@ abbrev pub is_line_whole : Span → List Span → Option ModuleLine → Bool
 is_line_whole s ss (Some l) = not l.compressed && has_each_block s ss l
 is_line_whole s ss None = false
 
-abbrev pub is_whole_in : List Span → ℕ → Bool
-is_whole_in [] m = false
-is_whole_in (s ∷ ss) m = is_line_whole s ss (find (λ l. l.id == m) s.dii.modules)
+-- the module's line in the DII
+abbrev pub line_in : Span → ℕ → Option ModuleLine
+line_in s m = find (λ l. l.id == m) s.dii.modules
 
--- the last DII that turned lists the module, and each block of it was heard
+-- the first of these DIIs that lists the module
+abbrev pub listing : ℕ → List Span → Option Span
+listing m ss = find (λ s. lists (outline s.dii) m) ss
+
+abbrev pub block_by : List Turn → ℕ → ℕ → Option Span → Option Bytes
+block_by ts m b (Some s) = block_of_line s (before s ts) (line_in s m) b
+block_by ts m b None = None
+
+-- by the DIIs that were admitted in the newest turn
+abbrev pub block_in : List Turn → ℕ → ℕ → Option Bytes
+block_in [] m b = None
+block_in (t ∷ ts) m b = block_by ts m b (listing m (admitted t))
+
+-- block b of module m, after these candidates: the first that fits in the module's stretch
+abbrev pub block_there : List Bytes → ℕ → ℕ → Option Bytes
+block_there candidates m b = block_in (turns_of (map as_heard candidates)) m b
+
+abbrev pub whole_by : List Turn → ℕ → Option Span → Bool
+whole_by ts m (Some s) = is_line_whole s (before s ts) (line_in s m)
+whole_by ts m None = false
+
+abbrev pub is_whole_in : List Turn → ℕ → Bool
+is_whole_in [] m = false
+is_whole_in (t ∷ ts) m = whole_by ts m (listing m (admitted t))
+
+-- a held DII lists the module, and each block of it was heard; a module whose DII isn't held isn't whole
 abbrev pub is_whole : List Bytes → ℕ → Bool
-is_whole candidates m = is_whole_in (spans (map as_heard candidates)) m
+is_whole candidates m = is_whole_in (turns_of (map as_heard candidates)) m
+
+-- ---- what waits
+
+-- a DII that lists the module, and of whose identification none was admitted in this turn
+abbrev pub is_awaited : Turn → ℕ → Span → Bool
+is_awaited t m s = not (has_admitted t (identification s.dii)) && lists (outline s.dii) m
+
+abbrev pub waits_by : List Turn → Turn → ℕ → ℕ → List Turn → Option Bytes
+waits_by ts t m b [] = None
+waits_by ts t m b (u ∷ us) = if t.turning.kept then block_by us m b (find (is_awaited t m) (admitted u)) else None
+
+-- a block of a module that waits for its DII: it was held before the last turn, which kept it, and no DII of its identification was
+-- admitted since
+abbrev pub waiting_in : List Turn → ℕ → ℕ → Option Bytes
+waiting_in [] m b = None
+waiting_in (t ∷ ts) m b = waits_by ts t m b ts
 
 -- ---- the walk in a generation
 

@@ -6,8 +6,8 @@ use Rattle.path_tree.specs.Trees.{Tree, File, node_at}
 use Rattle.biop_object.specs.Names.{Layout}
 use Rattle.cycle_planner.specs.Cycle.{cycle_of}
 use Rattle.cycle_planner.specs.Weights.{AreWeights}
-use Rattle.cycle_planner.specs.declared.Item.TheVariants.{Dsi, Dii}
-use Rattle.generation.specs.Layouts.{lines_in}
+use Rattle.cycle_planner.specs.declared.Item.TheVariants.{Dsi, Dii, Block}
+use Rattle.generation.specs.Layouts.{lines_in, key_bytes}
 use Rattle.generation.specs.Kept.{layouts_of}
 use Rattle.generation.specs.Lawful.{IsPublishable, layout_at, section_in}
 use Rattle.path_resolver.specs.declared.answer.Answer.{Answer}
@@ -15,8 +15,15 @@ use Rattle.path_resolver.specs.declared.answer.Answer.TheVariants as answers
 use Rattle.section_stream.specs.Cuts.{candidates}
 use Rattle.section_stream.specs.Packing.{idle}
 use Rattle.section_stream.specs.Groups.{packets_of_groups}
-use Rattle.tuner_core.specs.Spans.{answer_after}
-use Rattle.carousel_world.specs.Broadcasts.{Broadcast, SendsInOrder, section_groups, sections, NeverBack, IsAscribed}
+use Rattle.tuner_core.specs.LookBack.{answer_after}
+use Rattle.biop_object.specs.Objects.{file_spelling, folder_spelling}
+use Rattle.biop_object.specs.declared.written.Bound.TheVariants as bounds
+use Rattle.biop_object.specs.declared.written.FolderKind.TheVariants.{Gateway}
+use Rattle.cycle_planner.specs.declared.Item.{Item}
+use Rattle.tuner_core.specs.Heard.{as_heard}
+use Rattle.tuner_core.specs.Turns.{turns_of}
+use Rattle.carousel_world.specs.Headline.{waiting_in}
+use Rattle.carousel_world.specs.Broadcasts.{Broadcast, SendsInOrder, section_groups, sections, NeverBack, IsAscribed, Group}
 use Rattle.carousel_world.specs.Premises.{AcceptedAreSent, IsHeardOf, IsWhole}
 use Rattle.carousel_world.specs.Receptions.{label_after}
 use Rattle.carousel_world.specs.Publishing.{layouts_for, publication}
@@ -31,7 +38,7 @@ pub record HasFile (t : Tree) : Type 0 where
 
 -- the control sections of generation 1 and no block
 abbrev pub control_alone : ℕ → Tree → List Bytes
-control_alone carousel t = section_in carousel (layouts_for carousel t) 1 Dsi ∷ section_in carousel (layouts_for carousel t) 1 Dii ∷ []
+control_alone carousel t = section_in carousel (layouts_for carousel t) 1 Dsi ∷ section_in carousel (layouts_for carousel t) 1 (Dii 1) ∷ []
 
 -- ---- two generations, heard with losses and damage
 
@@ -130,6 +137,64 @@ pub record CarryingIsPremised : Type 0 where
   -- of the two blocks only the second was heard since
   pub carried : Tells carried_over 28 (Some 2) (answers.File seven)
 
+-- ---- two generations that two DIIs describe each
+
+-- The gateway, whose one binding leads to a file of three bytes in module 140. The transactionId in its tap, which ends at byte 102, is
+-- changed to that of DII 2, since module 140 is of group 2.
+abbrev pub gateway_to_file : Bytes
+gateway_to_file =
+    slice_set (folder_spelling Gateway (key_bytes 1) (record { name = 97 ∷ []; bound = bounds.File 3; location = record { carousel = 1; «module» = 140; key = key_bytes 2 } } ∷ [])) 102 4
+
+-- that file
+abbrev pub file_alone : Bytes
+file_alone = file_spelling (key_bytes 2) (1 ∷ 2 ∷ 3 ∷ [])
+
+-- one module in each of two groups
+abbrev pub two_groups : Layout
+two_groups = (1, gateway_to_file) ∷ (140, file_alone) ∷ []
+
+-- a gateway of no bindings
+abbrev pub empty_gateway : Layout
+empty_gateway = (1, folder_spelling Gateway (key_bytes 1) []) ∷ []
+
+abbrev pub one_file : Tree
+one_file = tree_of (1 ∷ 2 ∷ 3 ∷ [])
+
+-- each item in a group of its own
+abbrev pub one_by_one : ℕ → List Item → List Group
+one_by_one g items = map (λ item. record { generation = g; items = item ∷ [] }) items
+
+-- The same file is published twice. Of each generation both DIIs and both blocks are sent; each section begins in a packet of its own, and
+-- ends in it.
+abbrev pub two_diis : Broadcast
+two_diis = record {
+  carousel = 1;
+  trees = [] ∷ one_file ∷ one_file ∷ [];
+  layouts = empty_gateway ∷ two_groups ∷ two_groups ∷ [];
+  groups = one_by_one 1 (Dsi ∷ Dii 1 ∷ Dii 2 ∷ Block 1 0 ∷ Block 140 0 ∷ []) ++ one_by_one 2 (Dii 1 ∷ Block 1 0 ∷ Dii 2 ∷ Block 140 0 ∷ []);
+}
+
+-- all packets come, but a byte of generation 1's block of module 1 is changed
+abbrev pub two_diis_received : Reception
+two_diis_received = record {
+  broadcast = two_diis;
+  packets = map (packet_of two_diis) (0 ∷ 1 ∷ 2 ∷ []) ++ slice_set (packet_of two_diis 3) 100 7 ∷ map (packet_of two_diis) (range_with_len 4 5);
+  numbers = range_with_len 0 9;
+}
+
+pub record JoiningIsPremised : Type 0 where
+  pub premised : IsPremised two_diis_received 2
+  -- module 140 is there, and module 1's block is damaged
+  pub before : Tells two_diis_received 5 (Some 1) (answers.NotYet 1)
+  -- generation 2's DII 1 turned and its module came; module 140 isn't whole while DII 2 isn't held
+  pub awaited : Tells two_diis_received 7 (Some 2) (answers.NotYet 140)
+  -- its block waits
+  pub waiting : waiting_in (turns_of (map as_heard (candidates 256 (take 7 two_diis_received.packets)))) 140 0 ≡ Some file_alone
+  -- DII 2 joined, and the module is kept: no block of it was heard since
+  pub kept : Tells two_diis_received 8 (Some 2) (answers.File (1 ∷ 2 ∷ 3 ∷ []))
+  -- the block came once more
+  pub after : Tells two_diis_received 9 (Some 2) (answers.File (1 ∷ 2 ∷ 3 ∷ []))
+
 pub record PremisesCanBeMet : Type 0 where
   -- the weights of the instances here are weights
   pub weights : AreWeights ones
@@ -148,5 +213,7 @@ pub record PremisesCanBeMet : Type 0 where
   pub damage : DamageIsPremised
   -- a block that is carried over a turn
   pub carrying : CarryingIsPremised
+  -- a module of a second DII, which waits over a turn until that DII joins
+  pub joining : JoiningIsPremised
   -- a list of events of a world, with losses and damage
   pub run : RunIsPremised

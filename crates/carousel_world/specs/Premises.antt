@@ -5,9 +5,9 @@ use Rattle.path_tree.specs.Paths.{Bytes}
 use Rattle.biop_object.specs.Names.{Layout}
 use Rattle.dsi_dii.specs.Controls.{DiiFields}
 use Rattle.ddb_block.specs.Blocks as ddb
-use Rattle.cycle_planner.specs.declared.Item.{Item}
 use Rattle.cycle_planner.specs.declared.Item.TheVariants.{Dsi, Dii, Block}
-use Rattle.generation.specs.Lawful.{Lawful, dii_in, section_in, IsItem}
+use Rattle.generation.specs.Groups.{group_of}
+use Rattle.generation.specs.Lawful.{Lawful, HasDii, dii_in, section_in, IsItem}
 use Rattle.tuner_core.specs.Heard.{ADii, ABlock, as_heard, is_accepted}
 use Rattle.carousel_world.specs.Broadcasts.{Broadcast, Sending, sections, sendings, SendsInOrder}
 
@@ -53,21 +53,17 @@ pub record IsHeardOf (b : Broadcast) (candidates : List Bytes) (is_from : Ascrib
 
 -- ---- a whole cycle
 
--- at some place this DII of generation g is heard, and after it every block of the modules that it lists
-pub record HasRound (carousel : ℕ) (ls : List Layout) (g : ℕ) (candidates : List Bytes) (dii : Item) (lists : ℕ → Type 0) : Type 0 where
+-- at some place DII j of generation g is heard, and after it every block of the modules that it lists
+pub record HasRound (carousel : ℕ) (ls : List Layout) (g j : ℕ) (candidates : List Bytes) : Type 0 where
   pub before : List Bytes
   pub after : List Bytes
-  pub place : candidates ≡ before ++ section_in carousel ls g dii ∷ after
-  pub blocks : (m b : ℕ) → lists m → IsItem ls g (Block m b) → Contains after (section_in carousel ls g (Block m b))
+  pub place : candidates ≡ before ++ section_in carousel ls g (Dii j) ∷ after
+  pub blocks : (m b : ℕ) → group_of m ≡ j → IsItem ls g (Block m b) → Contains after (section_in carousel ls g (Block m b))
 
--- the one DII of a generation lists each of its modules
-abbrev pub every_module : ℕ → Type 0
-every_module m = Unit {0}
-
--- A whole undamaged cycle of generation g was heard, in any order and over any time: the carousel's DSI, the generation's DII, and
--- after it each block. No DII of a later generation was accepted.
+-- A whole undamaged cycle of generation g was heard, in any order and over any time: the carousel's DSI, each of the generation's
+-- DIIs, and after it each block of its modules. No DII of a later generation was accepted.
 pub record IsWhole (carousel : ℕ) (ls : List Layout) (g : ℕ) (candidates : List Bytes) : Type 0 where
   pub generation : g < length ls
   pub gateway : Contains candidates (section_in carousel ls g Dsi)
-  pub round : HasRound carousel ls g candidates Dii every_module
-  pub no_later : (h : ℕ) → g < h → h < length ls → Contains (map as_heard candidates) (ADii (dii_in carousel ls h)) → ⊥
+  pub rounds : (j : ℕ) → HasDii ls g j → HasRound carousel ls g j candidates
+  pub no_later : (h j : ℕ) → g < h → h < length ls → HasDii ls h j → Contains (map as_heard candidates) (ADii (dii_in carousel ls h j)) → ⊥

@@ -7,7 +7,7 @@ use Rattle.generation.specs.Lawful.{Lawful, ArePublishable}
 use Rattle.generation_catalogue.specs.History.{trees_of}
 use Rattle.carousel_world.specs.Broadcasts.{Broadcast, Group, sections, SendsInOrder, NeverBack, Ascription, IsAscribed}
 use Rattle.carousel_world.specs.Premises.{AcceptedAreSent, BlocksAreNear}
-use Rattle.carousel_world.specs.Receptions.{TellsOne, Meets, label_after, GoesOn}
+use Rattle.carousel_world.specs.Receptions.{GoesOn, TellsOne, Meets, label_after}
 use Rattle.carousel_world.specs.Fates.{Arrival}
 use Rattle.carousel_world.specs.Events.{Step, Open}
 use Rattle.carousel_world.specs.World.{WorldState, Drawing, sections_sent, arrivals, received_in, candidates_in, reply_to, initial_world, after_all}

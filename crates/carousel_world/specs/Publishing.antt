@@ -14,7 +14,7 @@ use Rattle.section_stream.specs.Cuts.{candidates}
 use Rattle.section_stream.specs.Packing.{IsSectionLike, idle}
 use Rattle.section_stream.specs.Groups.{packets_of_group}
 use Rattle.path_resolver.specs.declared.answer.Answer.TheVariants as answers
-use Rattle.tuner_core.specs.Spans.{answer_after}
+use Rattle.tuner_core.specs.LookBack.{answer_after}
 use Rattle.carousel_world.specs.Broadcasts.{Broadcast, sections, Ascription, NeverBack, IsAscribed}
 use Rattle.carousel_world.specs.Premises.{Ascribed, AcceptedAreSent, IsWhole}
 use Rattle.carousel_world.specs.Headline.{IsAnswer, IsNodeAnswer, has_carousel, first_missing}

@@ -1,45 +1,72 @@
 -- What a receiver owes of whatever it hears, over many generations.
-use Rattle.std.specs.Prelude.{◌≡◌, ℕ, ◌<◌, ◌≤◌, true, false, List, [], ◌∷◌, ◌++◌, length, map, Option, Some, None, slice_get}
-use Rattle.std.specs.List.{Contains, list_any}
+use Rattle.std.specs.Prelude.{◌≡◌, ℕ, ◌+◌, ◌<◌, ◌≤◌, true, false, List, [], ◌∷◌, ◌++◌, length, map, Option, Some, None, slice_get}
+use Rattle.std.specs.List.{All, Contains, list_any}
 use Rattle.path_tree.specs.Paths.{Bytes, PathNames}
 use Rattle.path_tree.specs.Trees.{node_at}
-use Rattle.biop_object.specs.Names.{module_in}
+use Rattle.biop_object.specs.Names.{Layout, module_in}
 use Rattle.ddb_block.specs.Blocks.{block_of}
 use Rattle.dsi_dii.specs.Controls.{DiiFields}
-use Rattle.generation.specs.Lawful.{layout_at, tree_at, dii_in}
+use Rattle.generation.specs.Lawful.{layout_at, tree_at, HasDii, dii_in}
+use Rattle.module_cache.specs.Turns.{newest}
 use Rattle.path_resolver.specs.declared.answer.Answer.{Answer}
 use Rattle.path_resolver.specs.declared.answer.Answer.TheVariants as answers
 use Rattle.section_stream.specs.Cuts.{candidates}
 use Rattle.tuner_core.specs.Heard.{ADii, as_heard}
-use Rattle.tuner_core.specs.Spans.{Span, spans, label_in, answer_after}
+use Rattle.tuner_core.specs.Spans.{Span}
+use Rattle.tuner_core.specs.Turns.{Turn, turns_of, label_of, answer_after}
 use Rattle.carousel_world.specs.Broadcasts.{Broadcast, Sending, sendings, Ascription, NeverBack, IsAscribed}
-use Rattle.carousel_world.specs.Headline.{IsAnswer, IsNodeAnswer, is_dii, has_carousel, first_missing, block_there}
+use Rattle.carousel_world.specs.Headline.{IsAnswer, IsNodeAnswer, is_dii, has_carousel, first_missing, block_there, waiting_in}
 use Rattle.carousel_world.specs.Premises.{IsHeardOf, IsWhole}
 use Rattle.dsi_dii.specs.declared.TheConstants.{BLOCK_SIZE}
 
 -- the number of the generation that a receiver takes what it holds for
 abbrev pub label_after : List Bytes → Option ℕ
-label_after candidates = label_in (spans (map as_heard candidates))
+label_after candidates = label_of (turns_of (map as_heard candidates))
 
--- the last DII that turned
-abbrev pub newest_dii : List Span → Option DiiFields
-newest_dii [] = None
-newest_dii (s ∷ ss) = Some s.dii
+-- the number before the last turn
+abbrev pub label_before : List Turn → Option ℕ
+label_before [] = None
+label_before (t ∷ ts) = label_of ts
 
 -- something of this generation was sent
 abbrev pub IsSentIn : Broadcast → ℕ → Type 0
 IsSentIn b g = (k : ℕ) × (s : Sending) × (slice_get (sendings b) k ≡ Some s) × (s.0 ≡ g)
 
--- All that is held is of one generation, whose number the label is. It was published, something of it was sent, and its DII was heard
--- and is the last that turned. Each block that is there is the one of its modules, whole or not.
+-- one of the DIIs of generation g
+pub record IsDiiOf (carousel : ℕ) (ls : List Layout) (g : ℕ) (d : DiiFields) : Type 0 where
+  pub number : ℕ
+  pub there : HasDii ls g number
+  pub some : 1 ≤ number
+  pub few : number ≤ 16
+  pub is : d ≡ dii_in carousel ls g number
+
+-- a held DII is one of that generation's, and was heard
+pub record IsHeldOf (b : Broadcast) (candidates : List Bytes) (generation : ℕ) (s : Span) : Type 0 where
+  pub dii : IsDiiOf b.carousel b.layouts generation s.dii
+  pub heard : Contains (map as_heard candidates) (ADii s.dii)
+
+-- block n of module m, which generation g has
+abbrev pub IsBlockOf : List Layout → ℕ → ℕ → ℕ → Bytes → Type 0
+IsBlockOf ls g m n block = (bytes : Bytes) × (module_in (layout_at ls g) m ≡ Some bytes) × (block ≡ block_of bytes BLOCK_SIZE n)
+
+-- a block that waits is of the generation before the last turn, fewer than 256 before the one that is held
+pub record IsWaiting (b : Broadcast) (candidates : List Bytes) (generation m n : ℕ) (block : Bytes) : Type 0 where
+  pub from : ℕ
+  pub labelled : label_before (turns_of (map as_heard candidates)) ≡ Some from
+  pub earlier : from ≤ generation
+  pub near : generation < from + 256
+  pub is : IsBlockOf b.layouts from m n block
+
+-- All that is held is of one generation, whose number the label is. It was published, something of it was sent, and each held DII is
+-- one of its own and was heard. Each block that is there is the one of its modules, whole or not; each that waits is the one of an
+-- earlier generation's.
 pub record HoldsOne (b : Broadcast) (candidates : List Bytes) (generation : ℕ) : Type 0 where
   pub labelled : label_after candidates ≡ Some generation
   pub published : generation < length b.layouts
   pub sent : IsSentIn b generation
-  pub dii_heard : Contains (map as_heard candidates) (ADii (dii_in b.carousel b.layouts generation))
-  pub turned : newest_dii (spans (map as_heard candidates)) ≡ Some (dii_in b.carousel b.layouts generation)
-  pub blocks : (m n : ℕ) (bytes block : Bytes) → module_in (layout_at b.layouts generation) m ≡ Some bytes → block_there candidates m n ≡ Some block
-      → block ≡ block_of bytes BLOCK_SIZE n
+  pub diis : All (IsHeldOf b candidates generation) (newest (turns_of (map as_heard candidates)))
+  pub blocks : (m n : ℕ) (block : Bytes) → block_there candidates m n ≡ Some block → IsBlockOf b.layouts generation m n block
+  pub waiting : (m n : ℕ) (block : Bytes) → waiting_in (turns_of (map as_heard candidates)) m n ≡ Some block → IsWaiting b candidates generation m n block
 
 -- The label is that generation's number. The answer is the path's lookup in its tree, or the first module on the walk in its layout
 -- that isn't whole.

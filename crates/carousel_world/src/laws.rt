@@ -8,11 +8,14 @@ ghost use Rattle.carousel_world.specs.Settling.{EverySettledRunIsWhole, EverySet
 /// Whatever a receiver hears of a carousel whose tree changes from generation to generation, lost, damaged, repeated or interleaved
 /// with other packets: while each section that is accepted is one that was sent, in the order of sending, and while fewer than 256
 /// commits separate a block from the DII heard before it, each answer tells of one generation. It is the path's lookup in that
-/// generation's tree, byte for byte, and the label is the generation's number: one that was published and sent, and whose DII was
-/// heard. The answer is `NotYet` exactly where a module on the path's walk isn't whole, and names the first, and `NoCarousel`
-/// exactly where no DSI or no DII was heard. After a whole cycle of a generation, with no DII of a later one, every path of it opens.
+/// generation's tree, byte for byte, and the label is the generation's number: one that was published and sent. Up to 16 DIIs describe
+/// a generation; each that is held is one of that generation's, and was heard. The answer is `NotYet` exactly where a module on the
+/// path's walk isn't whole, and names the first, and `NoCarousel` exactly where no DSI or no DII was heard. A module whose DII isn't
+/// held isn't whole. A block that waits for its DII is one of the generation that was held before the last turn, fewer than 256 earlier.
+/// After a whole cycle of a generation, with no DII of a later one, every path of it opens.
 ///
-/// It holds of the candidates of any list of packets, whatever their PIDs, and of any list of sections.
+/// It holds of the candidates of any list of packets, whatever their PIDs, and of any list of sections, for all layouts whose modules
+/// up to 16 DIIs list.
 pub fn every_reception_meets()
     ensures { EveryReceptionMeets }
 {
@@ -102,9 +105,11 @@ pub fn settling_is_whole()
 /// are items of its generation, in order; its sections, as they were sent, are ascribed to themselves, and from one cycle on they
 /// are a whole one. Who has heard the control sections alone waits for module 1, in which the gateway lies, whatever the path.
 ///
-/// All premises hold together of two receptions of packets, of a whole cycle of the later of two generations each. In one a byte of
-/// a DSI is changed, a packet comes twice and the next is lost, and a byte of a block is changed; in the other a block is heard
-/// before the DII of its generation and carried over that DII. Both answer that a module isn't whole before they answer the file.
+/// All premises hold together of three receptions of packets, of a whole cycle of the later of two generations each. In one a byte of
+/// a DSI is changed, a packet comes twice and the next is lost, and a byte of a block is changed; in another a block is heard
+/// before the DII of its generation and carried over that DII. In the third two DIIs describe each generation and a byte of a block is
+/// changed; a module of the second DII waits over the turn until that DII joins, and is there then with no further block of it. All
+/// three answer that a module isn't whole before they answer the file.
 ///
 /// They hold too after a list of events of a world: two editors' commits, and draws of which a packet is lost and bits are inverted.
 /// Its opens are answered that there is no carousel, that a module isn't whole, and then the file.

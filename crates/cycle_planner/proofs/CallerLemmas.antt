@@ -15,23 +15,23 @@ use Rattle.cycle_planner.proofs.Order as order
 -- ---- the items of a cycle
 
 -- what holds of the DSI, of the DII and of all blocks holds of each item
-pub cycle_all : (P : Item → Type 0) (ws : List ℕ) (lines : List Line) → P Dsi → P Dii → All P (flat_map blocks_of lines) → All P (cycle_of ws lines)
+pub cycle_all : (P : Item → Type 0) (ws : List ℕ) (lines : List Line) → P Dsi → P (Dii 1) → All P (flat_map blocks_of lines) → All P (cycle_of ws lines)
 cycle_all = order.cycle_all
 
 later : (x y z : Item) (xs : List Item) → Contains xs z → Contains (x ∷ y ∷ xs) z
 later x y z xs c = (suc (suc c.0), omega (arith, c.1), c.2)
 
 -- each item is the DSI, the DII or one of all blocks
-pub cycle_only : (ws : List ℕ) (lines : List Line) → All (Contains (Dsi ∷ Dii ∷ flat_map blocks_of lines)) (cycle_of ws lines)
+pub cycle_only : (ws : List ℕ) (lines : List Line) → All (Contains (Dsi ∷ Dii 1 ∷ flat_map blocks_of lines)) (cycle_of ws lines)
 cycle_only ws lines =
     let blocks = flat_map blocks_of lines in
-    let Own : Item → Type 0 = Contains (Dsi ∷ Dii ∷ blocks) in
+    let Own : Item → Type 0 = Contains (Dsi ∷ Dii 1 ∷ blocks) in
     cycle_all Own ws lines (0, omega arith, refl) (1, omega arith, refl)
-    (All-weaker (Contains blocks) Own (λ item inside. later Dsi Dii item blocks inside) blocks (All-contains_itself blocks))
+    (All-weaker (Contains blocks) Own (λ item inside. later Dsi (Dii 1) item blocks inside) blocks (All-contains_itself blocks))
 
 -- the first round is whole
 pub cycle_begins : (ws : List ℕ) (lines : List Line) → AreWeights ws → 0 < length lines
-    → cycle_of ws lines ≡ Dsi ∷ Dii ∷ flat_map blocks_of lines ++ flat_map (round ws lines) (range_with_len 1 (greatest_weight ws lines - 1))
+    → cycle_of ws lines ≡ Dsi ∷ Dii 1 ∷ flat_map blocks_of lines ++ flat_map (round ws lines) (range_with_len 1 (greatest_weight ws lines - 1))
 cycle_begins = order.cycle_begins
 
 few_rounds : (ws : List ℕ) (a : ℕ) (lines : List Line) → AreWeights ws → a ≤ 8 → fold (λ r line. max r (weight ws line.0)) a lines ≤ 8

@@ -64,8 +64,8 @@ walk ws r [] = refl
 walk ws r (line ∷ lines) =
     by_test (nat_lt r (weight ws line.0)) line (filter (λ l. nat_lt r (weight ws l.0)) lines) (flat_map (blocks_in_round ws r) lines) (walk ws r lines)
 
-pub round_is : (ws : List ℕ) (lines : List Line) (r : ℕ) → round ws lines r ≡ Dii ∷ flat_map (blocks_in_round ws r) lines
-round_is ws lines r = ap (λ xs. Dii ∷ xs) (walk ws r lines)
+pub round_is : (ws : List ℕ) (lines : List Line) (r : ℕ) → round ws lines r ≡ Dii 1 ∷ flat_map (blocks_in_round ws r) lines
+round_is ws lines r = ap (λ xs. Dii 1 ∷ xs) (walk ws r lines)
 
 -- ---- the place that is left to go among the lines from i on
 
@@ -386,7 +386,7 @@ in_round ws r (first ∷ lines) line (suc k) b rising h e l =
       in_round ws r lines line k b (λ i j d p q. rising (suc i) (suc j) d (omega arith) (omega arith)) (omega arith) e l,
     )
 
-count_round : (p : Item → Bool) (ws : List ℕ) (lines : List Line) (r : ℕ) → count_by p (round ws lines r) ≡ count_by p (Dii ∷ flat_map (blocks_in_round ws r) lines)
+count_round : (p : Item → Bool) (ws : List ℕ) (lines : List Line) (r : ℕ) → count_by p (round ws lines r) ≡ count_by p (Dii 1 ∷ flat_map (blocks_in_round ws r) lines)
 count_round p ws lines r = ap (count_by p) (round_is ws lines r)
 
 no_dsi : (ws : List ℕ) (lines : List Line) (r n : ℕ) → count_by is_dsi (flat_map (round ws lines) (range_with_len r n)) ≡ 0
@@ -396,7 +396,7 @@ no_dsi ws lines r (suc n) =
       arith,
       count_blocks is_dsi (round ws lines r) (flat_map (round ws lines) (range_with_len (r + 1) n)),
       count_round is_dsi ws lines r,
-      count_none is_dsi Dii (flat_map (blocks_in_round ws r) lines) refl,
+      count_none is_dsi (Dii 1) (flat_map (blocks_in_round ws r) lines) refl,
       no_blocks is_dsi (λ m b. refl) ws r lines,
       no_dsi ws lines (r + 1) n,
     )
@@ -408,7 +408,7 @@ each_dii ws lines r (suc n) =
       arith,
       count_blocks is_dii (round ws lines r) (flat_map (round ws lines) (range_with_len (r + 1) n)),
       count_round is_dii ws lines r,
-      count_one is_dii Dii (flat_map (blocks_in_round ws r) lines) refl,
+      count_one is_dii (Dii 1) (flat_map (blocks_in_round ws r) lines) refl,
       no_blocks is_dii (λ m b. refl) ws r lines,
       each_dii ws lines (r + 1) n,
     )
@@ -419,7 +419,7 @@ in_rounds ws lines line k b r zero rising h e l = refl
 in_rounds ws lines line k b r (suc n) rising h e l =
     count_blocks (is_block line.0 b) (round ws lines r) (flat_map (round ws lines) (range_with_len (r + 1) n))
     ∙ ap (λ x. x + count_by (is_block line.0 b) (flat_map (round ws lines) (range_with_len (r + 1) n)))
-    (count_round (is_block line.0 b) ws lines r ∙ count_none (is_block line.0 b) Dii (flat_map (blocks_in_round ws r) lines) refl ∙ in_round ws r lines line k b rising h e l)
+    (count_round (is_block line.0 b) ws lines r ∙ count_none (is_block line.0 b) (Dii 1) (flat_map (blocks_in_round ws r) lines) refl ∙ in_round ws r lines line k b rising h e l)
     ∙ ap (λ x. cond (nat_lt r (weight ws line.0)) 1 0 + x) (in_rounds ws lines line k b (r + 1) n rising h e l)
 
 -- ---- nothing else
@@ -456,19 +456,19 @@ all_sent P ws r (line ∷ lines) all =
     (where_sent P (nat_lt r (weight ws line.0)) (blocks_of line) (all_left P (blocks_of line) (flat_map blocks_of lines) all))
     (all_sent P ws r lines (all_right P (blocks_of line) (flat_map blocks_of lines) all))
 
-all_rounds : (P : Item → Type 0) (ws : List ℕ) (lines : List Line) (r n : ℕ) → P Dii → All P (flat_map blocks_of lines) → All P (flat_map (round ws lines) (range_with_len r n))
+all_rounds : (P : Item → Type 0) (ws : List ℕ) (lines : List Line) (r n : ℕ) → P (Dii 1) → All P (flat_map blocks_of lines) → All P (flat_map (round ws lines) (range_with_len r n))
 all_rounds P ws lines r zero dii all = All-nil P
 all_rounds P ws lines r (suc n) dii all =
     All-append P (round ws lines r) (flat_map (round ws lines) (range_with_len (r + 1) n))
-    (subst (All P) (sym (round_is ws lines r)) (All-cons P Dii (flat_map (blocks_in_round ws r) lines) dii (all_sent P ws r lines all)))
+    (subst (All P) (sym (round_is ws lines r)) (All-cons P (Dii 1) (flat_map (blocks_in_round ws r) lines) dii (all_sent P ws r lines all)))
     (all_rounds P ws lines (r + 1) n dii all)
 
-pub cycle_all : (P : Item → Type 0) (ws : List ℕ) (lines : List Line) → P Dsi → P Dii → All P (flat_map blocks_of lines) → All P (cycle_of ws lines)
+pub cycle_all : (P : Item → Type 0) (ws : List ℕ) (lines : List Line) → P Dsi → P (Dii 1) → All P (flat_map blocks_of lines) → All P (cycle_of ws lines)
 cycle_all P ws lines dsi dii all =
     All-cons P Dsi (flat_map (round ws lines) (range_with_len 0 (greatest_weight ws lines))) dsi (all_rounds P ws lines 0 (greatest_weight ws lines) dii all)
 
 each_of_lines : (ws : List ℕ) (lines : List Line) → All (IsOfLines lines) (cycle_of ws lines)
-each_of_lines ws lines = cycle_all (IsOfLines lines) ws lines tt tt (all_blocks_of (IsOfLines lines) lines (λ line b here l. (line, here, refl, l)))
+each_of_lines ws lines = cycle_all (IsOfLines lines) ws lines tt refl (all_blocks_of (IsOfLines lines) lines (λ line b here l. (line, here, refl, l)))
 
 -- ---- the first round is whole
 
@@ -485,11 +485,11 @@ pub some_round : (ws : List ℕ) (lines : List Line) → AreWeights ws → 0 < l
 some_round ws lines w some = omega (arith, at_least_one ws lines w 0 (0, 0) some, each_at_most ws 0 lines 0 (0, 0) some)
 
 pub cycle_begins : (ws : List ℕ) (lines : List Line) → AreWeights ws → 0 < length lines
-    → cycle_of ws lines ≡ Dsi ∷ Dii ∷ flat_map blocks_of lines ++ flat_map (round ws lines) (range_with_len 1 (greatest_weight ws lines - 1))
+    → cycle_of ws lines ≡ Dsi ∷ Dii 1 ∷ flat_map blocks_of lines ++ flat_map (round ws lines) (range_with_len 1 (greatest_weight ws lines - 1))
 cycle_begins ws lines w some =
     let later = flat_map (round ws lines) (range_with_len 1 (greatest_weight ws lines - 1)) in
     ap (λ (xs : List Item). Dsi ∷ xs) (rounds_from ws lines 0 (greatest_weight ws lines) (greatest_weight ws lines - 1) (omega (arith, some_round ws lines w some)))
-    ∙ ap (λ (xs : List Item). Dsi ∷ xs ++ later) (round_is ws lines 0 ∙ ap (λ (xs : List Item). Dii ∷ xs) (heavy_enough ws lines (at_least_one ws lines w)))
+    ∙ ap (λ (xs : List Item). Dsi ∷ xs ++ later) (round_is ws lines 0 ∙ ap (λ (xs : List Item). Dii 1 ∷ xs) (heavy_enough ws lines (at_least_one ws lines w)))
 
 pub sends_each : (ws : List ℕ) (lines : List Line) → AreLines lines → SendsEach ws lines
 sends_each ws lines are =

@@ -11,7 +11,7 @@ begins ws lines =
     let all : greatest_weight ws lines ≡ greatest_weight ws lines - 0 = omega arith in
     ap (λ n. Dsi ∷ flat_map (round ws lines) (range_with_len 0 n)) all
 
-pub round_begins : (ws : List ℕ) (lines : List Line) (r : ℕ) → r < greatest_weight ws lines → rounds_from ws lines r ≡ Dii ∷ lines_from ws lines r 0
+pub round_begins : (ws : List ℕ) (lines : List Line) (r : ℕ) → r < greatest_weight ws lines → rounds_from ws lines r ≡ Dii 1 ∷ lines_from ws lines r 0
 round_begins ws lines r h = first_round ws lines r h ∙ ap (λ xs. xs ++ rounds_from ws lines (r + 1)) (round_is ws lines r)
 
 blocks_left : (line : Line) (b n m : ℕ) → n ≡ suc m → map (λ k. Block line.0 k) (range_with_len b n) ≡ Block line.0 b ∷ map (λ k. Block line.0 k) (range_with_len (b + 1) m)

@@ -18,9 +18,9 @@ blocks_of line = map (λ b. Block line.0 b) (range_with_len 0 line.1)
 abbrev pub greatest_weight : List ℕ → List Line → ℕ
 greatest_weight weights lines = fold (λ r line. max r (weight weights line.0)) 0 lines
 
--- round r: the DII and the blocks of the modules whose weight is above r
+-- round r: the DII of group 1 and the blocks of the modules whose weight is above r
 abbrev pub round : List ℕ → List Line → ℕ → List Item
-round weights lines r = Dii ∷ flat_map blocks_of (filter (λ line. nat_lt r (weight weights line.0)) lines)
+round weights lines r = Dii 1 ∷ flat_map blocks_of (filter (λ line. nat_lt r (weight weights line.0)) lines)
 
 -- the DSI, and then the rounds
 abbrev pub cycle_of : List ℕ → List Line → List Item
@@ -38,17 +38,17 @@ is_dsi Dsi = true
 is_dsi _ = false
 
 abbrev pub is_dii : Item → Bool
-is_dii Dii = true
+is_dii (Dii j) = true
 is_dii _ = false
 
 abbrev pub is_block : (module_id block : ℕ) → Item → Bool
 is_block m b (Block n c) = (m == n) && (b == c)
 is_block m b _ = false
 
--- the item is the DSI, the DII, or a block of one of the lines
+-- the item is the DSI, the DII of group 1, or a block of one of the lines
 abbrev pub IsOfLines : List Line → Item → Type 0
 IsOfLines lines Dsi = ⊤
-IsOfLines lines Dii = ⊤
+IsOfLines lines (Dii j) = j ≡ 1
 IsOfLines lines (Block m b) = (line : Line) × Contains lines line × (line.0 ≡ m) × (b < line.1)
 
 -- the DSI once, the DII once a round, each block of a module as often as the module weighs, and nothing else

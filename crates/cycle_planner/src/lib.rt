@@ -1,7 +1,7 @@
 //! The order of the items of a cycle: what a broadcaster sends, section by section, before it begins again.
 //!
 //! Each module has a weight, 1 to [`GREATEST_WEIGHT`]. A cycle begins with the DSI and goes in rounds, as many as the greatest weight among
-//! its modules. A round is the DII and then the blocks, by rising module id and block number, of each module that weighs more than
+//! its modules. A round is the DII of group 1 and then the blocks, by rising module id and block number, of each module that weighs more than
 //! rounds went before. So the DII is sent in each round, and each block as often as its module weighs. ISO/IEC 13818-6 leaves the
 //! order and the repetition of a carousel's messages to the broadcaster; the order and the weights here are this project's own. A
 //! module is given as a line: its id, 1 to [`GREATEST_ID`], and the number of its blocks, at most [`ddb_block::MOST_BLOCKS`].
@@ -35,8 +35,9 @@ pub use weigh::{Call, GREATEST_ID, GREATEST_WEIGHT, Weigh};
 pub enum Item {
     /// The DownloadServerInitiate, which names the service gateway.
     Dsi,
-    /// The DownloadInfoIndication, which lists the modules.
-    Dii,
+    /// A DownloadInfoIndication, which lists modules: the number of their group, 1 to 16. One DII lists 139 modules at most, so the
+    /// first 139 module ids are of group 1, the next 139 of group 2, and so on. Cycles have the DII of group 1 alone.
+    Dii(u16),
     /// A block of a module: the module's id and the block's number, counted from 0.
     Block(u16, u16),
 }
@@ -120,7 +121,7 @@ fn item_of_round(lines: &[(u16, u32)], weigh: &Weigh, number: u8, at: u64) -> It
     ensures { slice_get (round weigh.now.weights lines.now number) at ≡ Some result }
 {
     if at == 0 {
-        Item::Dii
+        Item::Dii(1)
     } else {
         block_at(lines, weigh, number, at - 1)
     }

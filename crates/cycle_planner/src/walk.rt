@@ -75,7 +75,7 @@ fn step(lines: &[(u16, u32)], weigh: &Weigh, rounds: u8, place: Place) -> Option
 {
     match place {
         Place::Start => Some((Item::Dsi, Place::Round(0))),
-        Place::Round(round) => Some((Item::Dii, place_from(lines, weigh, rounds, round, 0))),
+        Place::Round(round) => Some((Item::Dii(1), place_from(lines, weigh, rounds, round, 0))),
         Place::Block { round, line, block } => {
             let (id, blocks) = lines[line];
             let next = if u32::from(block) + 1 < blocks {

@@ -1,11 +1,10 @@
 -- The layouts of a list of trees are lawful.
-use Rattle.std.proofs.Common.{◌≡◌, ℕ, zero, suc, ◌+◌, ◌<◌, ◌≤◌, Bool, true, false, List, [], ◌∷◌, length, map, Some, cond, refl, sym, ◌∙◌, ap, subst, arith, get_or, length-append, nat_le, lit<, lit≤}
+use Rattle.std.proofs.Common.{◌≡◌, ◌≢◌, ℕ, zero, suc, ◌+◌, ◌<◌, ◌≤◌, Bool, true, false, List, [], ◌∷◌, length, map, Option, Some, None, cond, refl, sym, ◌∙◌, ap, subst, arith, get_or, length-append, nat_le, lit<, lit≤}
 use Rattle.std.specs.List.{All, list_any, range_with_len, filter, filter_map, flat_map, sum_by}
 use Rattle.std.proofs.lemmas.Bool.Decides.{nat_tests}
 use Rattle.std.proofs.lemmas.List.Elements.{All-cons}
 use Rattle.std.proofs.lemmas.Option.{same_Some}
 use Rattle.std.proofs.lemmas.List.Sums.{sum_by-cons}
-use Rattle.std.proofs.lemmas.List.FromFn.{length-range_with_len}
 use Rattle.oc_bytes.specs.Numbers.{IsBytes}
 use Rattle.path_tree.specs.Paths.{Bytes}
 use Rattle.path_tree.specs.Trees.{Tree, IsTree}
@@ -15,9 +14,9 @@ use Rattle.module_packer.specs.Kept.{KeptIsAPlacement}
 use Rattle.generation.specs.Publication.{gateway_spot}
 use Rattle.generation.specs.Layouts.{GenerationState, Placed, object_bytes, is_in, module_bytes, module_if_used, layout_of, greatest, first_of, next_of, gateway_before}
 use Rattle.generation.specs.Lawful.{IsLayout, Carries, IsPublishable, layout_at, tree_at}
-use Rattle.generation.specs.Kept.{states_from, layouts_of, LayoutsAreLawful}
-use Rattle.generation.proofs.Placing.{total_length, listed_length, greatest_most, all_unmap}
-use Rattle.generation.proofs.Lists.{state_at, state_tree, state_layout, length_states}
+use Rattle.generation.specs.Kept.{states_from, layouts_of, LayoutsAreLawful, LayoutsAreInOneGroup}
+use Rattle.generation.proofs.Placing.{total_length, greatest_most, all_unmap}
+use Rattle.generation.proofs.Lists.{ids_from, state_at, state_tree, state_layout, length_states}
 use Rattle.generation.proofs.Carrying.{module_found}
 use Rattle.generation.proofs.Inside.{carries}
 use Rattle.generation.proofs.Soundness.{Made, Before, made_of}
@@ -69,7 +68,7 @@ total_high c objects a (suc n) = go (list_any (is_in a) objects) refl (total_hig
 
 pub record IsFine (layout : Layout) : Type 0 where
   pub form : IsLayout layout
-  pub number : (1 ≤ length layout) × (length layout ≤ 139)
+  pub one : All (λ m. m.0 ≤ 139) layout
   pub total : sum_by (λ m. length m.1) layout ≤ 268435456
   pub sizes : All (λ m. length m.1 ≤ 16842752) layout
 
@@ -88,24 +87,22 @@ fine c t objects made =
     let top = greatest (map (λ o. o.module_id) objects) in
     let most : top ≤ 139 = greatest_most (map (λ o. o.module_id) objects) 139 made.placement.numbers in
     let octets = byte_spots c t objects made in
-    let first : module_in (layout_of c objects) sound.gateway.module_id ≡ Some (module_bytes c objects sound.gateway.module_id) = module_found c objects sound.gateway sound.has_gateway (omega (arith, sound.is_gateway.2)) in
+    let gateway : module_in (layout_of c objects) sound.gateway.module_id ≡ Some (module_bytes c objects sound.gateway.module_id) = module_found c objects sound.gateway sound.has_gateway (omega (arith, sound.is_gateway.2)) in
     let sum : sum_by (λ o. length (object_bytes c objects o)) objects ≤ 268435456 = rw (total_length c objects objects, sound.spots) made.within.total in
     record {
       form = record {
         rising = rising c objects 1 top;
-        ids = each_listed (λ m. m.0 < 65536) c objects 1 top (λ m lt used. omega (arith, lt, most));
+        from_one = ids_from c objects 1 top;
+        ids = each_listed (λ m. m.0 ≤ 2224) c objects 1 top (λ m lt used. omega (arith, lt, most));
         bytes = each_listed (λ m. IsBytes m.1) c objects 1 top (λ m lt used. module_octets c objects octets m);
+        first = there (module_in (layout_of c objects) 1) (module_bytes c objects sound.gateway.module_id) (ap (module_in (layout_of c objects)) (sym sound.is_gateway.2) ∙ gateway);
       };
-      number = (
-        some (layout_of c objects) sound.gateway.module_id (module_bytes c objects sound.gateway.module_id) first,
-        omega (arith, listed_length c objects (range_with_len 1 top), length-range_with_len 1 top, most),
-      );
+      one = each_listed (λ m. m.0 ≤ 139) c objects 1 top (λ m lt used. omega (arith, lt, most));
       total = omega (arith, total_high c objects 1 top, high_all (λ o. length (object_bytes c objects o)) 1 objects, sum);
       sizes = each_listed (λ m. length m.1 ≤ 16842752) c objects 1 top (λ m lt used. module_size c t objects (filled_of c t objects made) m);
     } where
-      some : (layout : Layout) (m : ℕ) (b : Bytes) → module_in layout m ≡ Some b → 1 ≤ length layout
-      some [] m b e = cc
-      some (x ∷ xs) m b e = omega arith
+      there : (o : Option Bytes) (b : Bytes) → o ≡ Some b → o ≢ None
+      there o b e = λ f. cc
 
 -- ---- the generations
 
@@ -139,7 +136,7 @@ before_first = record {
   in_one zero d lt = (lit≤ tt, lit≤ tt)
   in_one (suc i) d lt = absurd (omega (arith, lt))
 
-first_state : KeptIsAPlacement → (c : ℕ) → c < 4294967296 → State c (first_of c)
+pub first_state : KeptIsAPlacement → (c : ℕ) → c < 4294967296 → State c (first_of c)
 first_state places c small = record {
   carousel = refl;
   layout = refl;
@@ -153,19 +150,19 @@ next_state places c small s t state publishable = record {
   made = made_of places c t s.objects small publishable.tree publishable.within state.made.before;
 }
 
-each_state : KeptIsAPlacement → (c : ℕ) → c < 4294967296 → (P : Layout → Type 0) → ((s : GenerationState) → State c s → P s.layout)
+pub each_state : KeptIsAPlacement → (c : ℕ) → c < 4294967296 → (P : Layout → Type 0) → ((s : GenerationState) → State c s → P s.layout)
     → (s : GenerationState) → State c s → (ts : List Tree) → All IsPublishable ts → All P (map (λ x. x.layout) (states_from s ts))
 each_state places c small P h s state [] all = All-cons P s.layout [] (h s state) (λ i d lt. absurd (omega (arith, lt)))
 each_state places c small P h s state (t ∷ ts) all = All-cons P s.layout (map (λ x. x.layout) (states_from (next_of s t) ts)) (h s state)
     (each_state places c small P h (next_of s t) (next_state places c small s t state (all 0 t (omega arith))) ts (λ i d lt. all (suc i) d (omega (arith, lt))))
 
-state_of : KeptIsAPlacement → (c : ℕ) → c < 4294967296 → (s : GenerationState) → State c s → (ts : List Tree) → All IsPublishable ts → (g : ℕ) → State c (state_at s ts g)
+pub state_of : KeptIsAPlacement → (c : ℕ) → c < 4294967296 → (s : GenerationState) → State c s → (ts : List Tree) → All IsPublishable ts → (g : ℕ) → State c (state_at s ts g)
 unfolding state_at
 state_of places c small s state ts all zero = state
 state_of places c small s state [] all (suc g) = state
 state_of places c small s state (t ∷ ts) all (suc g) = state_of places c small (next_of s t) (next_state places c small s t state (all 0 t (omega arith))) ts (λ i d lt. all (suc i) d (omega (arith, lt))) g
 
-fine_state : (c : ℕ) (s : GenerationState) → State c s → IsFine s.layout
+pub fine_state : (c : ℕ) (s : GenerationState) → State c s → IsFine s.layout
 fine_state c s state = subst IsFine (sym state.layout) (fine c s.tree s.objects state.made)
 
 pub lawful : SpellingsReadBack → KeptIsAPlacement → LayoutsAreLawful
@@ -185,7 +182,10 @@ lawful spells places c trees publishable =
           let state = state_of places c small (first_of c) first trees each g in
           let layout : layout_of c s.objects ≡ layout_at (layouts_of c trees) g = sym state.layout ∙ state_layout (first_of c) trees g le in
           subst (λ l. Carries c l (tree_at ([] ∷ trees) g)) layout (subst (Carries c (layout_of c s.objects)) (state_tree (first_of c) trees g le) (carries spells c s.tree s.objects state.made.sound));
-      modules = each_state places c small (λ l. (1 ≤ length l) × (length l ≤ 139)) (λ s state. (fine_state c s state).number) (first_of c) first trees each;
       total = each_state places c small (λ l. sum_by (λ m. length m.1) l ≤ 268435456) (λ s state. (fine_state c s state).total) (first_of c) first trees each;
       sizes = each_state places c small (λ l. All (λ m. length m.1 ≤ 16842752) l) (λ s state. (fine_state c s state).sizes) (first_of c) first trees each;
     }
+
+pub in_one_group : KeptIsAPlacement → LayoutsAreInOneGroup
+in_one_group places c trees publishable =
+    each_state places c publishable.carousel_id (λ l. All (λ m. m.0 ≤ 139) l) (λ s state. (fine_state c s state).one) (first_of c) (first_state places c publishable.carousel_id) trees publishable.each

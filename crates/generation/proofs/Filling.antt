@@ -47,6 +47,12 @@ each_listed P c objects a (suc n) h = go (list_any (is_in a) objects) refl (each
   go true e rest = rw e (All-cons P (a, module_bytes c objects a) (filter_map (module_if_used c objects) (range_with_len (a + 1) n)) (h a (omega arith) e) rest)
   go false e rest = rw e rest
 
+-- where each object lies in a module of the first group, only such modules are listed
+pub few_listed : (c : ℕ) (objects : List Placed) → All (λ o. (1 ≤ o.module_id) × (o.module_id ≤ 139)) objects → All (λ m. m.0 ≤ 139) (layout_of c objects)
+few_listed c objects ids =
+    let most : greatest (map (λ o. o.module_id) objects) ≤ 139 = greatest_most (map (λ o. o.module_id) objects) 139 (All-map (λ m. (1 ≤ m) × (m ≤ 139)) (λ o. o.module_id) objects ids) in
+    each_listed (λ m. m.0 ≤ 139) c objects 1 (greatest (map (λ o. o.module_id) objects)) (λ m lt used. omega (arith, lt, most))
+
 -- ---- sizes
 
 -- what lies in a module, against its sum

@@ -17,7 +17,8 @@ use Rattle.biop_object.specs.ObjectReading.{objects_of, reads_to_end}
 use Rattle.biop_object.specs.Spelled.{spelled_object, spelled_objects, SpellingsReadBack}
 use Rattle.generation.specs.Publication.{child_name}
 use Rattle.generation.specs.Layouts.{Placed, location_of, bound_of, entries_of, is_in, module_bytes, module_if_used, layout_of, greatest}
-use Rattle.generation.specs.Lawful.{IsInside, identification_for, Carries}
+use Rattle.generation.specs.Groups.{group_of}
+use Rattle.generation.specs.Lawful.{IsInside, Carries}
 use Rattle.generation.proofs.Carrying.{spelled, In, Sound, module_found, module_index, in_all}
 use Rattle.generation.proofs.Walking.{paths_named}
 
@@ -47,53 +48,64 @@ all_in P (x ∷ xs) h = All-cons P x xs (h x (inl refl)) (all_in P xs (λ o has.
 target_is : (x y : Location × List iors.TapFields) → Some x ≡ Some y → x ≡ y
 target_is x y e = same_Some x y e
 
-binding_inside : (c : ℕ) (layout : Layout) (k : Bytes) (o : Placed) → module_in layout o.module_id ≢ None
-    → IsInside layout c identification_for (binding_of (record { name = k; bound = bound_of o.spot.content; location = location_of c o }))
+-- an object's module is listed, in the first group
+abbrev pub IsListed : Layout → Placed → Type 0
+IsListed layout o = (module_in layout o.module_id ≢ None) × (o.module_id ≤ 139)
+
+first_group : (m : ℕ) → m ≤ 139 → 1 ≡ group_of m
+first_group m le = omega (arith, le)
+
+binding_inside : (c : ℕ) (layout : Layout) (k : Bytes) (o : Placed) → IsListed layout o
+    → IsInside layout c (binding_of (record { name = k; bound = bound_of o.spot.content; location = location_of c o }))
 binding_inside c layout k o there = record {
   inside = λ l taps e.
       let h = target_is (location_of c o, iors.written_tap ∷ []) (l, taps) e in
       let is : location_of c o ≡ l = ap (λ x. x.0) h in
-      (ap (λ z. z.carousel) (sym is), subst (λ z. module_in layout z.module ≢ None) is there);
+      (ap (λ z. z.carousel) (sym is), subst (λ z. module_in layout z.module ≢ None) is there.0);
   delivered = λ l taps t e d.
       let h = target_is (location_of c o, iors.written_tap ∷ []) (l, taps) e in
       let is : iors.written_tap ∷ [] ≡ taps = ap (λ x. x.1) h in
       let one : iors.delivery_of_taps (iors.written_tap ∷ []) ≡ Some t = ap iors.delivery_of_taps is ∙ d in
       let number : 0x80000002 ≡ t = same_Some 0x80000002 t one in
-      ap identification_of (sym number);
+      let place : location_of c o ≡ l = ap (λ x. x.0) h in
+      ap identification_of (sym number) ∙ subst (λ (z : Location). 1 ≡ group_of z.module) place (first_group o.module_id there.1);
 }
 
-entries_inside : (c : ℕ) (layout : Layout) (os : List Placed) → All (λ q. module_in layout q.module_id ≢ None) os → (p : PathNames)
-    → All (IsInside layout c identification_for) (map binding_of (entries_of c os p))
+entries_inside : (c : ℕ) (layout : Layout) (os : List Placed) → All (IsListed layout) os → (p : PathNames)
+    → All (IsInside layout c) (map binding_of (entries_of c os p))
 entries_inside c layout [] there p = λ k d lt. absurd (omega (arith, lt))
 entries_inside c layout (o ∷ os) there p = go (child_name p o.spot.path) refl (entries_inside c layout os (λ i d lt. there (suc i) d (omega (arith, lt))) p) where
-  go : (k : Option Bytes) → child_name p o.spot.path ≡ k → All (IsInside layout c identification_for) (map binding_of (entries_of c os p)) → All (IsInside layout c identification_for) (map binding_of (entries_of c (o ∷ os) p))
+  go : (k : Option Bytes) → child_name p o.spot.path ≡ k → All (IsInside layout c) (map binding_of (entries_of c os p)) → All (IsInside layout c) (map binding_of (entries_of c (o ∷ os) p))
   go None e rest = rw e rest
-  go (Some k) e rest = rw e (All-cons (IsInside layout c identification_for) (binding_of (record { name = k; bound = bound_of o.spot.content; location = location_of c o })) (map binding_of (entries_of c os p))
+  go (Some k) e rest = rw e (All-cons (IsInside layout c) (binding_of (record { name = k; bound = bound_of o.spot.content; location = location_of c o })) (map binding_of (entries_of c os p))
       (binding_inside c layout k o (there 0 o (omega arith))) rest)
 
 -- what an object's bindings say
 abbrev pub BindsInside : Layout → ℕ → Object → Type 0
-BindsInside layout c x = (key : Bytes) (bindings : List BindingFields) → x ≡ record { key = key; shape = IsFolder bindings } → All (IsInside layout c identification_for) bindings
+BindsInside layout c x = (key : Bytes) (bindings : List BindingFields) → x ≡ record { key = key; shape = IsFolder bindings } → All (IsInside layout c) bindings
 
-object_inside : (c : ℕ) (layout : Layout) (objects : List Placed) → All (λ q. module_in layout q.module_id ≢ None) objects → (o : Placed) (at : ℕ) → BindsInside layout c (spelled_object at (spelled c objects o))
+object_inside : (c : ℕ) (layout : Layout) (objects : List Placed) → All (IsListed layout) objects → (o : Placed) (at : ℕ) → BindsInside layout c (spelled_object at (spelled c objects o))
 object_inside c layout objects there o at = go o.spot.content refl where
   go : (b : Option Bytes) → o.spot.content ≡ b → BindsInside layout c (spelled_object at (spelled c objects o))
   go (Some b) h = rw h (λ key bindings e. let s : IsFile (at + 44) (length b) ≡ IsFolder bindings = ap (λ x. x.shape) e in cc)
   go None h = rw h (λ key bindings e.
       let s : IsFolder (map binding_of (entries_of c objects o.spot.path)) ≡ IsFolder bindings = ap (λ x. x.shape) e in
-      subst (All (IsInside layout c identification_for)) (same (map binding_of (entries_of c objects o.spot.path)) bindings s) (entries_inside c layout objects there o.spot.path)) where
+      subst (All (IsInside layout c)) (same (map binding_of (entries_of c objects o.spot.path)) bindings s) (entries_inside c layout objects there o.spot.path)) where
         same : (a b : List BindingFields) → IsFolder a ≡ IsFolder b → a ≡ b
         same a b e = cc
 
-objects_inside : (c : ℕ) (layout : Layout) (objects os : List Placed) → All (λ q. module_in layout q.module_id ≢ None) objects → (at : ℕ) → All (BindsInside layout c) (spelled_objects at (map (spelled c objects) os))
+objects_inside : (c : ℕ) (layout : Layout) (objects os : List Placed) → All (IsListed layout) objects → (at : ℕ) → All (BindsInside layout c) (spelled_objects at (map (spelled c objects) os))
 objects_inside c layout objects [] there at = λ k d lt. absurd (omega (arith, lt))
 objects_inside c layout objects (o ∷ os) there at = All-cons (BindsInside layout c) (spelled_object at (spelled c objects o)) (spelled_objects _ (map (spelled c objects) os))
     (object_inside c layout objects there o at) (objects_inside c layout objects os there _)
 
-all_listed : (c : ℕ) (t : Tree) (objects : List Placed) → Sound c t objects → All (λ q. module_in (layout_of c objects) q.module_id ≢ None) objects
-all_listed c t objects sound = all_in (λ q. module_in (layout_of c objects) q.module_id ≢ None) objects (λ o has h.
-    let f = module_found c objects o has (in_all (λ q. (1 ≤ q.module_id) × (q.module_id ≤ 139)) objects o sound.modules has).0 in
-    let bad : None ≡ Some (module_bytes c objects o.module_id) = sym h ∙ f in cc)
+all_listed : (c : ℕ) (t : Tree) (objects : List Placed) → Sound c t objects → All (IsListed (layout_of c objects)) objects
+all_listed c t objects sound = all_in (IsListed (layout_of c objects)) objects (λ o has.
+    let range = in_all (λ q. (1 ≤ q.module_id) × (q.module_id ≤ 139)) objects o sound.modules has in
+    ((λ h. none (module_in (layout_of c objects) o.module_id) (module_bytes c objects o.module_id) (module_found c objects o has range.0) h), range.1))
+  where
+    none : (found : Option Bytes) (bytes : Bytes) → found ≡ Some bytes → found ≡ None → ⊥
+    none found bytes e f = cc
 
 pub carries : SpellingsReadBack → (c : ℕ) (t : Tree) (objects : List Placed) → Sound c t objects → Carries c (layout_of c objects) t
 carries law c t objects sound = record {

@@ -6,6 +6,7 @@ pub mod Limiting
 pub mod Writing
 pub mod Placing
 pub mod Making
+pub mod Grouping
 pub mod Lists
 pub mod Treeing
 pub mod Children
@@ -21,3 +22,4 @@ pub mod Filling
 pub mod Octets
 pub mod Assembly
 pub mod Sharing
+pub mod CallerLemmas

@@ -18,11 +18,13 @@ use Rattle.cycle_planner.specs.Cycle.{Line}
 use Rattle.cycle_planner.specs.declared.Item.{Item}
 use Rattle.cycle_planner.specs.declared.Item.TheVariants.{Dsi, Dii, Block}
 use Rattle.ddb_block.specs.Blocks.{block_count_of}
-use Rattle.dsi_dii.specs.Controls.{DiiFields, dii_spelling, dsi_spelling, dii_transaction}
+use Rattle.dsi_dii.specs.Controls.{DiiFields, dii_spelling, dsi_spelling}
 use Rattle.dsmcc_section.specs.Sections.{spelling}
+use Rattle.generation.specs.Groups.{group_in, transaction_of}
 use Rattle.generation.specs.Layouts.{GenerationState, Placed, first_of, next_of, counts_after, count_after, count_in, same_module, module_if_used, layout_of, is_in, module_bytes, items_of, lines_in, lines_of, section_of, dii_of, dii_lines, control_section, block_section, greatest, gateway_location}
-use Rattle.generation.specs.Lawful.{layout_at, tree_at, one_if_changed, count_of, version_in, dii_in, section_in, IsItem}
+use Rattle.generation.specs.Lawful.{layout_at, tree_at, one_if_changed, count_of, version_in, dii_in, section_in, IsItem, AreInOneGroup}
 use Rattle.generation.specs.Kept.{states_from, layouts_of, IsGenerationOf, GenerationsAreOfTheLists}
+use Rattle.generation.proofs.Grouping.{at_layout, has_one}
 
 -- ---- counts
 
@@ -214,10 +216,35 @@ block_in (l ∷ ls) k m b lt e = elim (cases_lt k l.1) [
       (suc r.0, omega (arith, r.1), r.2, r.3)
 ]
 
+-- no block is a DII
+blocks_of_line : (j : ℕ) (l : Line) (a n k : ℕ) → k < n → get_or (map (λ b. Block l.0 b) (range_with_len a n)) k (Dii j) ≡ Dii j → ⊥
+blocks_of_line j l a zero k lt e = omega (arith, lt)
+blocks_of_line j l a (suc n) zero lt e = cc
+blocks_of_line j l a (suc n) (suc k) lt e = blocks_of_line j l (a + 1) n k (omega (arith, lt)) e
+
+no_dii : (lines : List Line) (k j : ℕ) → k < length (flat_map blocks_in lines) → get_or (flat_map blocks_in lines) k (Dii j) ≡ Dii j → ⊥
+no_dii [] k j lt e = omega (arith, lt)
+no_dii (l ∷ ls) k j lt e = elim (cases_lt k l.1) [
+  | inl here ↦ let n = length-blocks_in l in blocks_of_line j l 0 l.1 k here (sym (get_left (blocks_in l) (flat_map blocks_in ls) k (Dii j) (omega (arith, n, here))) ∙ e)
+  | inr later ↦
+      let n = length-blocks_in l in
+      no_dii ls (k - length (blocks_in l)) j (omega (arith, n, later, lt, length-append (blocks_in l) (flat_map blocks_in ls)))
+      (sym (get_right (blocks_in l) (flat_map blocks_in ls) k (Dii j) (omega (arith, n, later))) ∙ e)
+]
+
+same_dii : (i j : ℕ) → Dii i ≡ Dii j → j ≡ i
+same_dii i j e = cc
+
+-- among a generation's items is DII 1 alone
+pub only_one : (s : GenerationState) (j : ℕ) → Contains (items_of s) (Dii j) → j ≡ 1
+only_one s j (zero, lt, e) = cc
+only_one s j (suc zero, lt, e) = same_dii 1 j e
+only_one s j (suc (suc k), lt, e) = absurd (no_dii (lines_of s) k j (omega (arith, lt)) e)
+
 item_is : (ls : List Layout) (g : ℕ) (s : GenerationState) → g < length ls → s.layout ≡ layout_at ls g → s.layout ≡ layout_of s.carousel s.objects
     → (item : Item) → Contains (items_of s) item → IsItem ls g item
 item_is ls g s within el made Dsi has = within
-item_is ls g s within el made Dii has = within
+item_is ls g s within el made (Dii j) has = let e = only_one s j has in (within, inl e, omega (arith, e), omega (arith, e))
 item_is ls g s within el made (Block m b) (zero, lt, e) = cc
 item_is ls g s within el made (Block m b) (suc zero, lt, e) = cc
 item_is ls g s within el made (Block m b) (suc (suc k), lt, e) =
@@ -262,10 +289,13 @@ block_listed (l ∷ ls) m b bytes e lt = go (l.0 == m) refl (block_listed ls m b
         get_right (blocks_in line) later (n + r.0) (Block m b) (omega arith) ∙ (ap (λ k. get_or later k (Block m b)) (omega arith) ∙ r.2),
       )
 
-item_listed : (ls : List Layout) (g : ℕ) (s : GenerationState) → s.layout ≡ layout_at ls g → (item : Item) → IsItem ls g item → Contains (items_of s) item
-item_listed ls g s el Dsi is = (0, omega arith, refl)
-item_listed ls g s el Dii is = (1, omega arith, refl)
-item_listed ls g s el (Block m b) is =
+pub item_one : (s : GenerationState) (item : Item) (j : ℕ) → Contains (items_of s) item → item ≡ Dii j → item ≡ Dii 1
+item_one s item j has e = e ∙ ap Dii (only_one s j (subst (Contains (items_of s)) e has))
+
+item_listed : (ls : List Layout) (g : ℕ) (s : GenerationState) → s.layout ≡ layout_at ls g → AreInOneGroup ls → (item : Item) → IsItem ls g item → Contains (items_of s) item
+item_listed ls g s el few Dsi is = (0, omega arith, refl)
+item_listed ls g s el few (Dii j) is = subst (λ i. Contains (items_of s) (Dii i)) (sym (has_one ls g j (at_layout (λ l. All (λ m. m.0 ≤ 139) l) ls g few is.0) is.1)) (1, omega arith, refl)
+item_listed ls g s el few (Block m b) is =
     let r = block_listed s.layout m b is.1.0 (ap (λ l. module_in l m) el ∙ is.1.1) is.1.2 in
     (suc (suc r.0), omega (arith, r.1), r.2)
 
@@ -277,21 +307,21 @@ layout_made s e (t ∷ ts) (suc g) = layout_made (next_of s t) refl ts g
 
 -- ---- sections
 
-dii_same : (c g : ℕ) (ls : List Layout) (s : GenerationState) → s.carousel ≡ c → s.number ≡ g → s.layout ≡ layout_at ls g → ((m : ℕ) → count_in s.counts m ≡ count_of ls g m) → dii_of s ≡ dii_in c ls g
-dii_same c g ls s ec en el ek =
-    ap (λ k. let d : DiiFields = record { download = k; block_size = 4066; transaction = dii_transaction s.number; modules = dii_lines s.counts s.layout } in d) ec
-    ∙ (ap (λ n. let d : DiiFields = record { download = c; block_size = 4066; transaction = dii_transaction n; modules = dii_lines s.counts s.layout } in d) en
-    ∙ ap (λ ms. let d : DiiFields = record { download = c; block_size = 4066; transaction = dii_transaction g; modules = ms } in d)
+dii_same : (c g : ℕ) (ls : List Layout) (s : GenerationState) → s.carousel ≡ c → s.number ≡ g → s.layout ≡ layout_at ls g → ((m : ℕ) → count_in s.counts m ≡ count_of ls g m) → (j : ℕ) → dii_of s j ≡ dii_in c ls g j
+dii_same c g ls s ec en el ek j =
+    ap (λ k. let d : DiiFields = record { download = k; block_size = 4066; transaction = transaction_of s.number j; modules = dii_lines s.counts (group_in s.layout j) } in d) ec
+    ∙ (ap (λ n. let d : DiiFields = record { download = c; block_size = 4066; transaction = transaction_of n j; modules = dii_lines s.counts (group_in s.layout j) } in d) en
+    ∙ ap (λ ms. let d : DiiFields = record { download = c; block_size = 4066; transaction = transaction_of g j; modules = ms } in d)
     (map_ext (λ m. record { id = m.0; size = length m.1; version = count_in s.counts m.0 % 256; compressed = false }) (λ m. record { id = m.0; size = length m.1; version = version_in ls g m.0; compressed = false })
-    (λ m. ap (λ k. let l : ModuleLine = record { id = m.0; size = length m.1; version = k % 256; compressed = false } in l) (ek m.0)) s.layout
-    ∙ ap (λ l. map (λ m. let x : ModuleLine = record { id = m.0; size = length m.1; version = version_in ls g m.0; compressed = false } in x) l) el))
+    (λ m. ap (λ k. let l : ModuleLine = record { id = m.0; size = length m.1; version = k % 256; compressed = false } in l) (ek m.0)) (group_in s.layout j)
+    ∙ ap (λ l. map (λ m. let x : ModuleLine = record { id = m.0; size = length m.1; version = version_in ls g m.0; compressed = false } in x) (group_in l j)) el))
 
 section_same : (c g : ℕ) (ls : List Layout) (s : GenerationState) → s.carousel ≡ c → s.number ≡ g → s.layout ≡ layout_at ls g → ((m : ℕ) → count_in s.counts m ≡ count_of ls g m)
     → (item : Item) → section_of s item ≡ section_in c ls g item
 section_same c g ls s ec en el ek Dsi = ap (λ k. spelling (control_section 0 (dsi_spelling 0x80000000 gateway_kind (gateway_location k)))) ec
-section_same c g ls s ec en el ek Dii =
-    ap (λ n. spelling (control_section (dii_transaction n % 65536) (dii_spelling (dii_of s)))) en
-    ∙ ap (λ d. spelling (control_section (dii_transaction g % 65536) (dii_spelling d))) (dii_same c g ls s ec en el ek)
+section_same c g ls s ec en el ek (Dii j) =
+    ap (λ n. spelling (control_section (transaction_of n j % 65536) (dii_spelling (dii_of s j)))) en
+    ∙ ap (λ d. spelling (control_section (transaction_of g j % 65536) (dii_spelling d))) (dii_same c g ls s ec en el ek j)
 section_same c g ls s ec en el ek (Block m b) =
     ap (λ k. spelling (block_section k m (count_in s.counts m % 256) b (unwrap_or (module_in s.layout m) []))) ec
     ∙ (ap (λ n. spelling (block_section c m (n % 256) b (unwrap_or (module_in s.layout m) []))) (ek m)

@@ -20,8 +20,11 @@ use Rattle.generation.specs.Layouts.{Placed, key_in, placed_at, old_keys, taken_
 use Rattle.biop_object.specs.Names.{module_in}
 use Rattle.std.specs.Option.{unwrap_or}
 use Rattle.cycle_planner.specs.declared.Item.{Item}
+use Rattle.cycle_planner.specs.declared.Item.TheVariants.{Dii}
+use Rattle.generation.specs.Groups.{transaction_of}
 use Rattle.generation.specs.View.{view_listed}
 use Rattle.generation.proofs.Limiting.{len_map}
+use Rattle.generation.proofs.Grouping.{all_in_group}
 
 pub keys_are : (old : List Placed) (spots : List SpotFields) (keys : List (Option ℕ)) → keys ≡ old_keys old spots → fill_keys keys (free_keys (taken_in keys) (length keys)) ≡ keys_of old spots
 keys_are old spots keys e =
@@ -158,6 +161,23 @@ DiiSection r c g counts modules = IfOk r (λ v. v.items ≡ sections.spelling (c
 pub dii_arm : {E : Type 0} (r : Result (Vec ℕ Global) E) (c g : ℕ) (counts counts' : List (ℕ × ℕ)) (modules modules' : List Listed) → counts' ≡ counts → modules' ≡ modules
     → DiiSection r c g counts' modules' → DiiSection r c g counts modules
 dii_arm r c g counts counts' modules modules' ec em is = subst (λ k. DiiSection r c g k modules) ec (subst (λ m. DiiSection r c g counts' m) em is)
+
+-- DII 1 lists all modules, where each is of the first group
+pub one_section : (s : GenerationState) → All (λ m. m.0 ≤ 139) s.layout
+    → sections.spelling (control_section (dii_transaction s.number % 65536) (dii_spelling (record { download = s.carousel; block_size = 4066; transaction = dii_transaction s.number; modules = dii_lines s.counts s.layout })))
+    ≡ section_of s (Dii 1)
+one_section s few =
+    ap (λ t. sections.spelling (control_section (t % 65536) (dii_spelling (record { download = s.carousel; block_size = 4066; transaction = t; modules = dii_lines s.counts s.layout })))) (same s.number)
+    ∙ ap (λ l. sections.spelling (control_section (transaction_of s.number 1 % 65536) (dii_spelling (record { download = s.carousel; block_size = 4066; transaction = transaction_of s.number 1; modules = dii_lines s.counts l }))))
+    (sym (all_in_group s.layout few))
+  where
+    same : (g : ℕ) → dii_transaction g ≡ transaction_of g 1
+    same g = omega arith
+
+pub one_arm : {E : Type 0} (r : Result (Vec ℕ Global) E) (s : GenerationState) → All (λ m. m.0 ≤ 139) s.layout
+    → IfOk r (λ v. v.items ≡ sections.spelling (control_section (dii_transaction s.number % 65536) (dii_spelling (record { download = s.carousel; block_size = 4066; transaction = dii_transaction s.number; modules = dii_lines s.counts s.layout }))))
+    → IfOk r (λ v. v.items ≡ section_of s (Dii 1))
+one_arm r s few is = subst (λ b. IfOk r (λ v. v.items ≡ b)) (one_section s few) is
 
 abbrev pub BlockSection : {E : Type 0} → Result (Vec ℕ Global) E → (carousel id block : ℕ) → List (ℕ × ℕ) → List Listed → Type 0
 BlockSection r c id block counts modules = IfOk r (λ v. v.items ≡ sections.spelling (block_section c id (count_in counts id % 256) block (unwrap_or (module_in (map view_listed modules) id) [])))

@@ -22,6 +22,7 @@ use Rattle.module_packer.specs.Kept.{kept_modules}
 use Rattle.cycle_planner.specs.Cycle.{Line}
 use Rattle.cycle_planner.specs.declared.Item.{Item}
 use Rattle.cycle_planner.specs.declared.Item.TheVariants.{Dsi, Dii, Block}
+use Rattle.generation.specs.Groups.{group_in, transaction_of}
 use Rattle.generation.specs.Publication.{Spot, gateway_spot, spots_of, sizes_of, child_name}
 use Rattle.dsi_dii.specs.declared.TheConstants.{BLOCK_SIZE, MOST_MODULES}
 
@@ -188,12 +189,13 @@ lines_in layout = map (λ m. (m.0, blocks.block_count_of (length m.1) BLOCK_SIZE
 abbrev pub lines_of : GenerationState → List Line
 lines_of g = lines_in g.layout
 
--- the modules as the DII lists them
+-- modules as a DII lists them
 abbrev pub dii_lines : List (ℕ × ℕ) → Layout → List ModuleLine
 dii_lines counts layout = map (λ m. record { id = m.0; size = length m.1; version = count_in counts m.0 % 256; compressed = false }) layout
 
-abbrev pub dii_of : GenerationState → controls.DiiFields
-dii_of g = record { download = g.carousel; block_size = BLOCK_SIZE; transaction = controls.dii_transaction g.number; modules = dii_lines g.counts g.layout }
+-- DII j lists the modules of group j
+abbrev pub dii_of : GenerationState → ℕ → controls.DiiFields
+dii_of g j = record { download = g.carousel; block_size = BLOCK_SIZE; transaction = transaction_of g.number j; modules = dii_lines g.counts (group_in g.layout j) }
 
 abbrev pub gateway_location : ℕ → Location
 gateway_location carousel = record { carousel = carousel; «module» = 1; key = key_bytes 1 }
@@ -214,8 +216,9 @@ block_section carousel m version b bytes = record {
 -- the section of an item
 abbrev pub section_of : GenerationState → Item → Bytes
 section_of g Dsi = sections.spelling (control_section 0 (controls.dsi_spelling 0x80000000 gateway_kind (gateway_location g.carousel)))
-section_of g Dii = sections.spelling (control_section (controls.dii_transaction g.number % 65536) (controls.dii_spelling (dii_of g)))
+section_of g (Dii j) = sections.spelling (control_section (transaction_of g.number j % 65536) (controls.dii_spelling (dii_of g j)))
 section_of g (Block m b) = sections.spelling (block_section g.carousel m (count_in g.counts m % 256) b (unwrap_or (module_in g.layout m) []))
 
+-- one DII alone is sent, and the rules above place each object in a module that it lists
 abbrev pub items_of : GenerationState → List Item
-items_of g = Dsi ∷ Dii ∷ flat_map (λ l. map (λ b. Block l.0 b) (range_with_len 0 l.1)) (lines_of g)
+items_of g = Dsi ∷ Dii 1 ∷ flat_map (λ l. map (λ b. Block l.0 b) (range_with_len 0 l.1)) (lines_of g)

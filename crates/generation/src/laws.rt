@@ -1,22 +1,28 @@
 //! What holds of every list of trees and layouts, as functions that do nothing.
 ghost use Rattle.std.specs.Prelude.{List};
 ghost use Rattle.biop_object.specs.Names.{Layout};
-ghost use Rattle.generation.specs.Kept.{GenerationsAreOfTheLists, LayoutsAreLawful};
+ghost use Rattle.generation.specs.Kept.{GenerationsAreOfTheLists, LayoutsAreInOneGroup, LayoutsAreLawful};
 ghost use Rattle.generation.specs.Lawful.{EqualVersionsMeanEqualBytes};
 
 /// The layouts of a list of trees that can be published are lawful for these trees, generation 0 having the empty tree:
 /// in each of them every path names, from the gateway on, just what stands there in the tree, each module reads to its
-/// end, every binding leads into a listed module, and the limits of this project hold. It stands on two laws of the
-/// crates below: spellings are read back as their objects, and a placement that leaves objects where they were is a placement.
+/// end, every binding leads into a listed module and says, where it says it, by which DII that module is listed, and the
+/// limits of this project hold. Lawful are layouts whose modules up to 16 DIIs list, 139 ids each; in these layouts every
+/// module has an id from 1 to 139, so that DII 1 lists them all.
+///
+/// It stands on two laws of the crates below: spellings are read back as their objects, and a placement that leaves
+/// objects where they were is a placement.
 pub fn layouts_are_lawful()
-    ensures { LayoutsAreLawful }
+    ensures lawful { LayoutsAreLawful }
+    ensures one { LayoutsAreInOneGroup }
 {
     biop_object::spellings_read_back();
     module_packer::kept_is_a_placement();
 }
 
 /// A generation has the number, the tree, the layout, the counts and the sections that the lists of trees and layouts give,
-/// and its items are just the DSI, the DII and each block of each of its modules.
+/// and each of its items is the DSI, one of its DIIs or a block of one of its modules. Where DII 1 lists all modules, its
+/// items are just the DSI, that DII and each block of each module.
 pub fn generations_are_of_the_lists()
     ensures { GenerationsAreOfTheLists }
 {}

@@ -210,7 +210,7 @@ impl Generation {
         count_in(&self.counts, id)
     }
 
-    /// The section of one of the generation's items: the DSI, the DII, or a block of a listed module whose number is
+    /// The section of one of the generation's items: the DSI, the DII of group 1, or a block of a listed module whose number is
     /// below the module's number of blocks. A stream of sections can be cut by it. The only refusal is out of memory.
     pub fn section(&self, item: Item) -> Result<Vec<u8>, NoMemory>
         requires { Contains (items_of self.now) item }
@@ -219,7 +219,7 @@ impl Generation {
     {
         match item {
             Item::Dsi => dsi_section(self.alloc, self.carousel),
-            Item::Dii => dii_section(
+            Item::Dii(_) => dii_section(
                 self.alloc,
                 self.carousel,
                 self.number,

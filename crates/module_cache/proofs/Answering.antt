@@ -1,23 +1,27 @@
--- What is answered, looking back over spans.
-use Rattle.std.proofs.Common.{ℕ, ◌≡◌, ◌<◌, Bool, true, false, cond, not, eqb, ltb, List, [], ◌∷◌, length, get_or, Option, Some, None, refl, sym, ap, subst, ◌∙◌}
-use Rattle.std.specs.List.{find}
+-- What is answered, looking back.
+use Rattle.std.proofs.Common.{ℕ, ◌≡◌, ◌<◌, Bool, true, false, cond, not, eqb, ltb, ◌&&◌, List, [], ◌∷◌, map, length, get_or, Option, Some, None, refl, sym, ap, subst, ◌∙◌}
+use Rattle.std.specs.List.{find, list_any, flat_map}
 use Rattle.std.specs.Option.{option_map, is_some}
-use Rattle.std.proofs.lemmas.Bool.{ltb-true}
+use Rattle.std.proofs.lemmas.Bool.{cond-true, cond-false, ltb-true}
 use Rattle.ddb_block.specs.Blocks as ddb
 use Rattle.block_assembler.specs.Blocks.{Bytes, join_all}
 use Rattle.block_assembler.specs.declared.Offer.TheVariants as offers
 use Rattle.dsi_dii.specs.Controls.{DiiFields}
 use Rattle.dsi_dii.specs.declared.ModuleLine.{ModuleLine}
-use Rattle.module_cache.specs.Calls.{taken_listed, taken_among, slot_listed, slot_among}
+use Rattle.module_cache.specs.Chains as chains
+use Rattle.module_cache.specs.Chains.{taken_listed, slot_listed}
 use Rattle.module_cache.specs.Contents.{whole_or, by_offer, taken_at, bytes_of}
-use Rattle.module_cache.specs.Held.{line_among, content_among, taken_line, taken_of, slot_in_line, slot_at, tuned_in}
+use Rattle.module_cache.specs.Held.{line_among, content_among, taken_line, taken_tuned, slot_in_line}
+use Rattle.module_cache.specs.Joining.{outline, lists, has_line, taken_from, taken_of, slot_at, tuned_of, held_in, state_in, taken_by, taken_among, slot_by, slot_among}
 use Rattle.module_cache.specs.LookBack.{block_among, blocks_among, module_among}
 use Rattle.module_cache.specs.Slots.{Compressed, slot_of, whole_or_part}
 use Rattle.module_cache.specs.Spans.{Span, stretch}
+use Rattle.module_cache.specs.Turns.{Turn, admitted, before}
+use Rattle.module_cache.specs.declared.stored.Line.{Line}
 use Rattle.module_cache.specs.declared.taken.Taken.{Taken}
 use Rattle.module_cache.specs.declared.taken.Taken.TheVariants as taken
-use Rattle.module_cache.proofs.Lists.{range_at, range_length, all_there}
-use Rattle.module_cache.proofs.Same.{find_map}
+use Rattle.module_cache.proofs.Lists.{range_at, range_length, all_there, find_like, any_map, find_map, found_there, found_later}
+use Rattle.module_cache.proofs.Turning.{outline_is}
 
 -- ---- a block of a module
 
@@ -72,9 +76,8 @@ taken_in_line says s ss b (Some l) =
     ap (λ x. cond (eqb l.version b.version) x taken.OtherVersion) (taken_content says (stretch s ss l) s.dii l b l.compressed)
     ∙ other_version (eqb l.version b.version) _ taken.OtherVersion
 
-pub taken_is : {H : Type 0} (says : H → Option ddb.Block) (ss : List (Span H)) (b : ddb.Block) → taken_of (tuned_in says ss) b ≡ taken_among says ss b
-taken_is says [] b = refl
-taken_is says (s ∷ ss) b =
+taken_is : {H : Type 0} (says : H → Option ddb.Block) (s : Span H) (ss : List (Span H)) (b : ddb.Block) → taken_tuned (tuned_of says s ss) b ≡ chains.taken_among says s ss b
+taken_is says s ss b =
     ap (λ x. cond (eqb s.dii.download b.download) x taken.OtherDownload)
     (ap (taken_line b) (find_map (λ l. line_among says (stretch s ss l) s.dii l) (λ x. eqb x.line.id b.module_id) s.dii.modules) ∙ taken_in_line says s ss b (find (λ l. eqb l.id b.module_id) s.dii.modules))
 
@@ -94,9 +97,8 @@ slot_line : {H : Type 0} (says : H → Option ddb.Block) (s : Span H) (ss : List
 slot_line says s ss None = refl
 slot_line says s ss (Some l) = slot_content says (stretch s ss l) s.dii l l.compressed
 
-pub slot_is : {H : Type 0} (says : H → Option ddb.Block) (ss : List (Span H)) (id : ℕ) → slot_at (tuned_in says ss) id ≡ slot_among says ss id
-slot_is says [] id = refl
-slot_is says (s ∷ ss) id =
+slot_is : {H : Type 0} (says : H → Option ddb.Block) (s : Span H) (ss : List (Span H)) (id : ℕ) → slot_in_line (find (λ x. eqb x.line.id id) (tuned_of says s ss).lines) ≡ chains.slot_among says s ss id
+slot_is says s ss id =
     ap slot_in_line (find_map (λ l. line_among says (stretch s ss l) s.dii l) (λ x. eqb x.line.id id) s.dii.modules) ∙ slot_line says s ss (find (λ l. eqb l.id id) s.dii.modules)
 
 -- ---- the bytes of a line
@@ -110,3 +112,52 @@ bytes_among says since d l = go l.compressed where
   go : (c : Bool) → bytes_of (content_among says since d l c) ≡ cond c None (join_all (blocks_among says since d l))
   go true = refl
   go false = bytes_are (blocks_among says since d l) (join_all (blocks_among says since d l))
+
+-- ---- by the first held DII that has a line for the block
+
+line_for : {H : Type 0} (says : H → Option ddb.Block) (ts : List (Turn H)) (b : ddb.Block) (s : Span H)
+    → has_line b (tuned_of says s (before s ts)) ≡ (eqb s.dii.download b.download && lists (outline s.dii) b.module_id)
+line_for says ts b s = ap (λ o. eqb s.dii.download b.download && lists o b.module_id) (outline_is says s (before s ts))
+
+taken_so : {H : Type 0} (says : H → Option ddb.Block) (ts : List (Turn H)) (b : ddb.Block) (download : Bool) (o : Option (Span H))
+    → taken_from b true download (option_map (λ s. tuned_of says s (before s ts)) o) ≡ taken_by says ts b download o
+taken_so says ts b download None = refl
+taken_so says ts b download (Some s) = taken_is says s (before s ts) b
+
+pub taken_all_is : {H : Type 0} (says : H → Option ddb.Block) (ts : List (Turn H)) (b : ddb.Block) → taken_of (state_in says ts) b ≡ taken_among says ts b
+taken_all_is says [] b = refl
+taken_all_is says (t ∷ ts) b =
+    ap (λ c. taken_from b true c (find (has_line b) (held_in says (t ∷ ts)))) (any_map (λ s. tuned_of says s (before s ts)) (λ u. eqb u.download b.download) (admitted t))
+    ∙ ap (taken_from b true (list_any (λ s. eqb s.dii.download b.download) (admitted t)))
+    (find_map (λ s. tuned_of says s (before s ts)) (has_line b) (admitted t)
+    ∙ ap (option_map (λ s. tuned_of says s (before s ts))) (find_like _ _ (admitted t) (line_for says ts b)))
+    ∙ taken_so says ts b (list_any (λ s. eqb s.dii.download b.download) (admitted t)) (find (λ s. eqb s.dii.download b.download && lists (outline s.dii) b.module_id) (admitted t))
+
+-- ---- by the first held DII that lists the module
+
+-- the lines of one DII have an id exactly where the DII lists it
+lines_list : {H : Type 0} (says : H → Option ddb.Block) (s : Span H) (ss : List (Span H)) (id : ℕ) → list_any (λ x. eqb x.line.id id) (tuned_of says s ss).lines ≡ lists (outline s.dii) id
+lines_list says s ss id = sym (any_map (λ x. x.line) (λ l. eqb l.id id) (tuned_of says s ss).lines) ∙ ap (λ o. lists o id) (outline_is says s ss)
+
+slot_row : {H : Type 0} (says : H → Option ddb.Block) (ts : List (Turn H)) (id : ℕ) (ss : List (Span H))
+    → slot_in_line (find (λ x. eqb x.line.id id) (flat_map (λ t. t.lines) (map (λ s. tuned_of says s (before s ts)) ss))) ≡ slot_by says ts id (find (λ s. lists (outline s.dii) id) ss)
+slot_row says ts id [] = refl
+slot_row says ts id (s ∷ ss) = go (lists (outline s.dii) id) refl (slot_row says ts id ss) where
+  own : List Line
+  own = (tuned_of says s (before s ts)).lines
+
+  go : (t : Bool) → lists (outline s.dii) id ≡ t
+      → slot_in_line (find (λ x. eqb x.line.id id) (flat_map (λ t. t.lines) (map (λ s. tuned_of says s (before s ts)) ss))) ≡ slot_by says ts id (find (λ s. lists (outline s.dii) id) ss)
+      → slot_in_line (find (λ x. eqb x.line.id id) (flat_map (λ t. t.lines) (map (λ s. tuned_of says s (before s ts)) (s ∷ ss)))) ≡ slot_by says ts id (find (λ s. lists (outline s.dii) id) (s ∷ ss))
+  go true e rest =
+      ap slot_in_line (found_there (λ x. eqb x.line.id id) (tuned_of says s (before s ts)).lines (flat_map (λ t. t.lines) (map (λ s. tuned_of says s (before s ts)) ss)) (lines_list says s (before s ts) id ∙ e))
+      ∙ slot_is says s (before s ts) id
+      ∙ ap (slot_by says ts id) (sym (cond-true _ _ _ e))
+  go false e rest =
+      ap slot_in_line (found_later (λ x. eqb x.line.id id) (tuned_of says s (before s ts)).lines (flat_map (λ t. t.lines) (map (λ s. tuned_of says s (before s ts)) ss)) (lines_list says s (before s ts) id ∙ e))
+      ∙ rest
+      ∙ ap (slot_by says ts id) (sym (cond-false _ _ _ e))
+
+pub slot_all_is : {H : Type 0} (says : H → Option ddb.Block) (ts : List (Turn H)) (id : ℕ) → slot_at (state_in says ts) id ≡ slot_among says ts id
+slot_all_is says [] id = refl
+slot_all_is says (t ∷ ts) id = slot_row says ts id (admitted t)

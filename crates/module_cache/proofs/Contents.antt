@@ -16,7 +16,7 @@ use Rattle.module_cache.specs.LookBack.{fits, bytes_if_fits, block_among, blocks
 use Rattle.module_cache.specs.Contents.{Content, Blocks, Whole, content_of, whole_or, content_after, by_offer, is_new, fresh_content}
 use Rattle.module_cache.specs.Held.{content_among, line_among, line_after, lines_after, line_fresh}
 use Rattle.module_cache.specs.Limits.{no_id_twice}
-use Rattle.module_cache.proofs.Lists.{map_same, range_set, range_at, range_length, range_replicate, or_else, or_none, first_more, all_there}
+use Rattle.module_cache.proofs.Lists.{map_like, range_set, range_at, range_length, range_replicate, or_else, or_none, first_more, all_there}
 
 -- ---- what one block makes of the content
 
@@ -67,7 +67,7 @@ content_moves size block_size n bytes bl after m None e =
 -- ---- the blocks before and after what is heard
 
 no_fit : {H : Type 0} (says : H → Option ddb.Block) (since : List H) (d : DiiFields) (l : ModuleLine) (h : H) → ((b : ℕ) → bytes_if_fits d l b (says h) ≡ None) → blocks_among says (since ++ h ∷ []) d l ≡ blocks_among says since d l
-no_fit says since d l h f = map_same _ _ _ (λ b. first_more (λ x. bytes_if_fits d l b (says x)) since h ∙ ap (or_else (block_among says since d l b)) (f b) ∙ or_none (block_among says since d l b))
+no_fit says since d l h f = map_like _ _ _ (λ b. first_more (λ x. bytes_if_fits d l b (says x)) since h ∙ ap (or_else (block_among says since d l b)) (f b) ∙ or_none (block_among says since d l b))
 
 -- of a block of the module's line and version
 pub record OfLine (d : DiiFields) (l : ModuleLine) (x : ddb.Block) : Type 0 where
@@ -114,7 +114,7 @@ blocks_move says since d l h x is o = record {
   unfit = λ f. no_fit says since d l h (λ b. said b ∙ unfit_number d l x o f b (eqb b x.number) refl);
   there = λ f y e.
       let was : block_among says since d l x.number ≡ Some y = sym (range_at (block_among says since d l) None x.number (ddb.block_count_of l.size d.block_size) (inside f)) ∙ e in
-      map_same _ _ _ (λ b. more b ∙ stays b y was (eqb b x.number) refl);
+      map_like _ _ _ (λ b. more b ∙ stays b y was (eqb b x.number) refl);
   new = λ f e.
       let was : block_among says since d l x.number ≡ None = sym (range_at (block_among says since d l) None x.number (ddb.block_count_of l.size d.block_size) (inside f)) ∙ e in
       range_set (block_among says since d l) (block_among says (since ++ h ∷ []) d l) (Some x.bytes) x.number (ddb.block_count_of l.size d.block_size) (inside f)

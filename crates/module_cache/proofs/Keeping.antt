@@ -6,17 +6,17 @@ use Rattle.dsi_dii.specs.Controls.{DiiFields, version_of}
 use Rattle.dsi_dii.specs.declared.ModuleLine.{ModuleLine}
 use Rattle.ddb_block.specs.Blocks as ddb
 use Rattle.module_cache.specs.Contents.{StoredState, fresh_content, stored_after}
-use Rattle.module_cache.specs.Held.{TunedState, with_first, kept_line, line_fresh, line_after, lines_after, fresh_tuned, tuned_with, after_turn}
+use Rattle.module_cache.specs.Held.{TunedState, with_first, kept_line, line_fresh, line_after, lines_after, fresh_tuned, tuned_with, tuned_from}
 use Rattle.module_cache.specs.Keeping.{line_keeping, lines_keeping, tuned_keeping}
 use Rattle.module_cache.specs.Limits.{no_id_twice, is_within}
 use Rattle.module_cache.specs.Spans.{same_line}
 use Rattle.module_cache.specs.declared.stored.Line.{Line}
 use Rattle.module_cache.proofs.Contents.{turned_round}
-use Rattle.module_cache.proofs.Lists.{map_same}
+use Rattle.module_cache.proofs.Lists.{map_like, map_back}
 
 -- ---- a change of a line leaves what the line says
 
-same_says : (p : Line → Bool) (f : Line → Line) → ((x : Line) → (f x).line ≡ x.line) → (xs : List Line) → map (λ x. x.line) (with_first p f xs) ≡ map (λ x. x.line) xs
+pub same_says : (p : Line → Bool) (f : Line → Line) → ((x : Line) → (f x).line ≡ x.line) → (xs : List Line) → map (λ x. x.line) (with_first p f xs) ≡ map (λ x. x.line) xs
 same_says p f same [] = refl
 same_says p f same (x ∷ xs) = go (p x) refl (same_says p f same xs) where
   go : (t : Bool) → p x ≡ t → map (λ x. x.line) (with_first p f xs) ≡ map (λ x. x.line) xs → map (λ x. x.line) (with_first p f (x ∷ xs)) ≡ x.line ∷ map (λ x. x.line) xs
@@ -29,7 +29,7 @@ keeping_says old x = go (same_line old.line x.line) where
   go true = refl
   go false = refl
 
-after_says : (b : ddb.Block) (x : Line) → (line_after b x).line ≡ x.line
+pub after_says : (b : ddb.Block) (x : Line) → (line_after b x).line ≡ x.line
 after_says b x = go (eqb x.line.version b.version) where
   go : (t : Bool) → (cond t (record { line = x.line; stored = stored_after x.stored b.number b.bytes }) x).line ≡ x.line
   go true = refl
@@ -44,8 +44,7 @@ once_keeping xs (x ∷ old) e = once_keeping (lines_keeping xs x) old (ap no_id_
 
 -- the lines of modules say the modules' own lines
 pub fresh_says : (block_size : ℕ) (ms : List ModuleLine) → map (λ x. x.line) (map (line_fresh block_size) ms) ≡ ms
-fresh_says block_size [] = refl
-fresh_says block_size (m ∷ ms) = ap (λ ls. m ∷ ls) (fresh_says block_size ms)
+fresh_says block_size ms = map_back (line_fresh block_size) (λ x. x.line) (λ l. refl) ms
 
 -- ---- each new line has what is there of the old line of its id
 
@@ -108,7 +107,7 @@ all_kept st ms once [] o = refl
 all_kept st ms once (x ∷ xs) o =
     ap (λ ys. fold lines_keeping ys xs) (one_kept st x ms once)
     ∙ all_kept (λ l. stored_or (st l) l (find (of_id l) (x ∷ []))) ms once xs (and_parts _ _ o).1
-    ∙ map_same _ _ ms each
+    ∙ map_like _ _ ms each
   where
     by_id : (l : ModuleLine) (t : Bool) → eqb x.line.id l.id ≡ t
         → stored_or (stored_or (st l) l (cond t (Some x) None)) l (find (of_id l) xs) ≡ stored_or (st l) l (cond t (Some x) (find (of_id l) xs))
@@ -126,15 +125,15 @@ unfolding line_of stored_or fresh_stored
 is_kept_line block_size l None = refl
 is_kept_line block_size l (Some x) = sym (inside l (same_line x.line l) x.stored (fresh_stored block_size l))
 
--- ---- a turn that keeps
+-- ---- an old DII put into a new one
 
-pub keeping_turns : (t : TunedState) (d : DiiFields) → no_id_twice d.modules ≡ true → no_id_twice (map (λ x. x.line) t.lines) ≡ true → tuned_keeping (fresh_tuned d) t ≡ after_turn (Some t) d true
+pub keeping_is : (t : TunedState) (d : DiiFields) → no_id_twice d.modules ≡ true → no_id_twice (map (λ x. x.line) t.lines) ≡ true → tuned_keeping (fresh_tuned d) t ≡ tuned_from (Some t) d
 unfolding line_of stored_or fresh_stored of_id
-keeping_turns t d once o = go (eqb t.download d.download && eqb t.block_size d.block_size) refl where
+keeping_is t d once o = go (eqb t.download d.download && eqb t.block_size d.block_size) refl where
   go : (c : Bool) → (eqb t.download d.download && eqb t.block_size d.block_size) ≡ c
       → cond c (tuned_with d (fold lines_keeping (map (line_fresh d.block_size) d.modules) t.lines)) (fresh_tuned d)
       ≡ tuned_with d (map (λ l. cond c (kept_line d.block_size l (find (of_id l) t.lines)) (line_fresh d.block_size l)) d.modules)
-  go true e = ap (tuned_with d) (all_kept (fresh_stored d.block_size) d.modules once t.lines o ∙ map_same _ _ d.modules (λ l. is_kept_line d.block_size l (find (of_id l) t.lines)))
+  go true e = ap (tuned_with d) (all_kept (fresh_stored d.block_size) d.modules once t.lines o ∙ map_like _ _ d.modules (λ l. is_kept_line d.block_size l (find (of_id l) t.lines)))
   go false e = refl
 
 pub version_below : (n : ℕ) → version_of n < 16384

@@ -1,11 +1,14 @@
+pub mod Lists
 pub mod Offers
 pub mod Places
-pub mod Lists
 pub mod Contents
 pub mod Keeping
 pub mod Same
 pub mod Spanning
+pub mod Turning
 pub mod Answering
 pub mod Offering
 pub mod Calling
+pub mod Apart
+pub mod Handling
 pub mod CallerLemmas

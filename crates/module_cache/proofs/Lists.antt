@@ -1,12 +1,103 @@
--- Lists with one element more, and lists made of a range.
-use Rattle.std.proofs.Common.{ℕ, zero, suc, ◌≡◌, ◌≢◌, ◌+◌, ◌<◌, ◌≤◌, List, [], ◌∷◌, ◌++◌, length, get_or, map, replicate, Option, Some, None, refl, sym, ap, subst, ◌∙◌, arith, add-zero}
+-- Lists that are mapped, filtered and sought in, lists made of a range, and lists with one element more.
+use Rattle.std.proofs.Common.{ℕ, zero, suc, ◌≡◌, ◌≢◌, ◌+◌, ◌<◌, ◌≤◌, Bool, true, false, cond, ◌&&◌, ◌||◌, List, [], ◌∷◌, ◌++◌, length, get_or, map, replicate, Option, Some, None, refl, sym, ap, subst, ◌∙◌, arith, add-zero}
 use Rattle.std.proofs.Math.ListN.{set}
-use Rattle.std.specs.List.{filter_map, range_with_len, cons_option}
+use Rattle.std.proofs.lemmas.Bool.{cond-true, cond-false, or_parts}
+use Rattle.std.proofs.lemmas.Option.{same_Some}
+use Rattle.std.specs.List.{filter, filter_map, find, list_any, range_with_len, cons_option}
+use Rattle.std.specs.Option.{option_map}
 use Rattle.block_assembler.specs.Blocks.{Bytes, first_of, join_all, onto_all}
 
-pub map_same : {X Y : Type 0} (f g : X → Y) (xs : List X) → ((x : X) → f x ≡ g x) → map f xs ≡ map g xs
-map_same f g [] h = refl
-map_same f g (x ∷ xs) h = ap (λ y. y ∷ map f xs) (h x) ∙ ap (λ ys. g x ∷ ys) (map_same f g xs h)
+-- ---- functions that are alike
+
+pub map_like : {X Y : Type 0} (f g : X → Y) (xs : List X) → ((x : X) → f x ≡ g x) → map f xs ≡ map g xs
+map_like f g xs h = λ i. map (λ x. h x i) xs
+
+pub filter_like : {X : Type 0} (p q : X → Bool) (xs : List X) → ((x : X) → p x ≡ q x) → filter p xs ≡ filter q xs
+filter_like p q xs h = λ i. filter (λ x. h x i) xs
+
+pub filter_map_like : {X Y : Type 0} (f g : X → Option Y) (xs : List X) → ((x : X) → f x ≡ g x) → filter_map f xs ≡ filter_map g xs
+filter_map_like f g xs h = λ i. filter_map (λ x. h x i) xs
+
+pub find_like : {X : Type 0} (p q : X → Bool) (xs : List X) → ((x : X) → p x ≡ q x) → find p xs ≡ find q xs
+find_like p q xs h = λ i. find (λ x. h x i) xs
+
+pub any_like : {X : Type 0} (p q : X → Bool) (xs : List X) → ((x : X) → p x ≡ q x) → list_any p xs ≡ list_any q xs
+any_like p q xs h = λ i. list_any (λ x. h x i) xs
+
+-- ---- lists that are mapped
+
+pub any_map : {X Y : Type 0} (f : X → Y) (p : Y → Bool) (xs : List X) → list_any p (map f xs) ≡ list_any (λ x. p (f x)) xs
+any_map f p [] = refl
+any_map f p (x ∷ xs) = ap (λ t. p (f x) || t) (any_map f p xs)
+
+pub map_map : {X Y Z : Type 0} (f : X → Y) (g : Y → Z) (xs : List X) → map g (map f xs) ≡ map (λ x. g (f x)) xs
+map_map f g [] = refl
+map_map f g (x ∷ xs) = ap (λ ys. g (f x) ∷ ys) (map_map f g xs)
+
+-- each element is got back
+pub map_back : {X Y : Type 0} (f : X → Y) (g : Y → X) → ((x : X) → g (f x) ≡ x) → (xs : List X) → map g (map f xs) ≡ xs
+map_back f g same [] = refl
+map_back f g same (x ∷ xs) = ap (λ y. y ∷ map g (map f xs)) (same x) ∙ ap (λ ys. x ∷ ys) (map_back f g same xs)
+
+pub find_map : {X Y : Type 0} (f : X → Y) (p : Y → Bool) (xs : List X) → find p (map f xs) ≡ option_map f (find (λ x. p (f x)) xs)
+find_map f p [] = refl
+find_map f p (x ∷ xs) = go (p (f x)) (find_map f p xs) where
+  go : (b : Bool) → find p (map f xs) ≡ option_map f (find (λ x. p (f x)) xs) → cond b (Some (f x)) (find p (map f xs)) ≡ option_map f (cond b (Some x) (find (λ x. p (f x)) xs))
+  go true rest = refl
+  go false rest = rest
+
+-- ---- what is found
+
+-- what is found passes the test
+pub found_passes : {X : Type 0} (p : X → Bool) (xs : List X) (x : X) → find p xs ≡ Some x → p x ≡ true
+found_passes p [] x e = cc
+found_passes p (y ∷ ys) x e = go (p y) refl (found_passes p ys x) where
+  go : (b : Bool) → p y ≡ b → (find p ys ≡ Some x → p x ≡ true) → p x ≡ true
+  go true t rest = let is : Some y ≡ Some x = sym (cond-true (p y) (Some y) (find p ys) t) ∙ e in sym (ap p (same_Some y x is)) ∙ t
+  go false t rest = rest (sym (cond-false (p y) (Some y) (find p ys) t) ∙ e)
+
+pub found_there : {X : Type 0} (p : X → Bool) (xs ys : List X) → list_any p xs ≡ true → find p (xs ++ ys) ≡ find p xs
+found_there p [] ys e = cc
+found_there p (x ∷ xs) ys e = go (p x) refl (found_there p xs ys) where
+  go : (t : Bool) → p x ≡ t → (list_any p xs ≡ true → find p (xs ++ ys) ≡ find p xs) → find p (x ∷ (xs ++ ys)) ≡ find p (x ∷ xs)
+  go true f rest = cond-true _ _ _ f ∙ sym (cond-true _ _ _ f)
+  go false f rest = cond-false _ _ _ f ∙ rest (rw f at e) ∙ sym (cond-false _ _ _ f)
+
+pub found_later : {X : Type 0} (p : X → Bool) (xs ys : List X) → list_any p xs ≡ false → find p (xs ++ ys) ≡ find p ys
+found_later p [] ys e = refl
+found_later p (x ∷ xs) ys e = let q = or_parts _ _ e in cond-false _ _ _ q.0 ∙ found_later p xs ys q.1
+
+pub find_past : {X : Type 0} (p : X → Bool) (xs ys : List X) → find p xs ≡ None → find p (xs ++ ys) ≡ find p ys
+find_past p [] ys e = refl
+find_past p (x ∷ xs) ys e = go (p x) refl (find_past p xs ys) where
+  go : (b : Bool) → p x ≡ b → (find p xs ≡ None → find p (xs ++ ys) ≡ find p ys) → find p (x ∷ (xs ++ ys)) ≡ find p ys
+  go true f rest = let bad : Some x ≡ None = sym (cond-true _ _ _ f) ∙ e in cc
+  go false f rest = cond-false _ _ _ f ∙ rest (sym (cond-false _ _ _ f) ∙ e)
+
+pub find_front : {X : Type 0} (p : X → Bool) (xs ys : List X) (x : X) → find p xs ≡ Some x → find p (xs ++ ys) ≡ Some x
+find_front p [] ys x e = cc
+find_front p (y ∷ xs) ys x e = go (p y) refl (find_front p xs ys x) where
+  go : (b : Bool) → p y ≡ b → (find p xs ≡ Some x → find p (xs ++ ys) ≡ Some x) → find p (y ∷ (xs ++ ys)) ≡ Some x
+  go true f rest = cond-true _ _ _ f ∙ sym (cond-true _ _ _ f) ∙ e
+  go false f rest = cond-false _ _ _ f ∙ rest (sym (cond-false _ _ _ f) ∙ e)
+
+-- ---- lists that are filtered
+
+pub filter_both : {X : Type 0} (p q : X → Bool) (xs : List X) → filter q (filter p xs) ≡ filter (λ x. p x && q x) xs
+filter_both p q [] = refl
+filter_both p q (x ∷ xs) = go (p x) (filter_both p q xs) where
+  go : (t : Bool) → filter q (filter p xs) ≡ filter (λ x. p x && q x) xs → filter q (cond t (x ∷ filter p xs) (filter p xs)) ≡ cond (t && q x) (x ∷ filter (λ x. p x && q x) xs) (filter (λ x. p x && q x) xs)
+  go true rest = ap (λ ys. cond (q x) (x ∷ ys) ys) rest
+  go false rest = rest
+
+-- what is sought isn't filtered out
+pub find_filter : {X : Type 0} (p q : X → Bool) (xs : List X) → ((x : X) → p x ≡ true → q x ≡ true) → find p (filter q xs) ≡ find p xs
+find_filter p q [] h = refl
+find_filter p q (x ∷ xs) h = go (p x) (q x) refl refl (find_filter p q xs h) where
+  go : (s t : Bool) → p x ≡ s → q x ≡ t → find p (filter q xs) ≡ find p xs → find p (cond (q x) (x ∷ filter q xs) (filter q xs)) ≡ cond (p x) (Some x) (find p xs)
+  go true t e f rest = ap (find p) (cond-true _ _ _ (h x e)) ∙ cond-true _ _ _ e ∙ sym (cond-true _ _ _ e)
+  go false true e f rest = ap (find p) (cond-true _ _ _ f) ∙ cond-false _ _ _ e ∙ rest ∙ sym (cond-false _ _ _ e)
+  go false false e f rest = ap (find p) (cond-false _ _ _ f) ∙ rest ∙ sym (cond-false _ _ _ e)
 
 -- ---- ranges
 

@@ -1,4 +1,4 @@
--- What is held, looking back over spans: with something more heard in the newest, and with one span more.
+-- One held DII, looking back over spans: with something more heard in the newest, and with one span more.
 use Rattle.std.proofs.Common.{ℕ, ◌≡◌, Bool, true, false, cond, eqb, ◌&&◌, inl, List, [], ◌∷◌, ◌++◌, map, Option, Some, None, refl, sym, ap, ◌∙◌, append_assoc, append-nil}
 use Rattle.std.specs.List.{find}
 use Rattle.std.specs.Option.{option_map}
@@ -7,65 +7,49 @@ use Rattle.ddb_block.specs.Blocks as ddb
 use Rattle.dsi_dii.specs.Controls.{DiiFields}
 use Rattle.dsi_dii.specs.declared.ModuleLine.{ModuleLine}
 use Rattle.module_cache.specs.Contents.{Content}
-use Rattle.module_cache.specs.Held.{TunedState, HasOnce, line_among, line_fresh, tuned_with, tuned_after, offered_to, fresh_tuned, kept_line, turned_line, after_turn, tuned_in, content_among}
+use Rattle.module_cache.specs.Held.{TunedState, line_among, line_fresh, tuned_with, tuned_after, fresh_tuned, kept_line, line_from, tuned_from, content_among}
+use Rattle.module_cache.specs.Joining.{tuned_of}
 use Rattle.module_cache.specs.Limits.{no_id_twice}
 use Rattle.module_cache.specs.LookBack.{bytes_if_fits}
-use Rattle.module_cache.specs.Spans.{Span, within, earlier, stretch, same_line, same_line_in}
+use Rattle.module_cache.specs.Spans.{Span, earlier, stretch, same_line, same_line_in}
+use Rattle.module_cache.specs.Turns.{heard_by}
 use Rattle.module_cache.specs.declared.stored.Line.{Line}
 use Rattle.module_cache.proofs.Contents.{lines_move, unfit_line, passed_line, fresh_line, turned_round}
-use Rattle.module_cache.proofs.Lists.{map_same}
-use Rattle.module_cache.proofs.Same.{SameLine, same_line_is, content_same, earlier_same, find_map, found_passes}
-
--- the newest span's DII lists no module twice
-abbrev pub IsOnce : {H : Type 0} → List (Span H) → Type 0
-IsOnce [] = Unit {0}
-IsOnce (s ∷ ss) = no_id_twice s.dii.modules ≡ true
-
-lines_say : (f : ModuleLine → Line) → ((l : ModuleLine) → (f l).line ≡ l) → (ms : List ModuleLine) → map (λ x. x.line) (map f ms) ≡ ms
-lines_say f same [] = refl
-lines_say f same (m ∷ ms) = ap (λ l. l ∷ map (λ x. x.line) (map f ms)) (same m) ∙ ap (λ ls. m ∷ ls) (lines_say f same ms)
-
-pub once_held : {H : Type 0} (says : H → Option ddb.Block) (ss : List (Span H)) → HasOnce (tuned_in says ss) → IsOnce ss
-once_held says [] o = tt
-once_held says (s ∷ ss) o = ap no_id_twice (sym (lines_say (λ l. line_among says (stretch s ss l) s.dii l) (λ l. refl) s.dii.modules)) ∙ o
+use Rattle.module_cache.proofs.Lists.{map_like, find_map, found_passes}
+use Rattle.module_cache.proofs.Same.{SameLine, same_line_is, content_same, earlier_same}
 
 -- ---- something more
 
-heard_in : {H : Type 0} → Span H → H → Span H
-heard_in s h = record { dii = s.dii; kept = s.kept; since = s.since ++ h ∷ [] }
-
-stretch_more : {H : Type 0} (s : Span H) (ss : List (Span H)) (h : H) (l : ModuleLine) → stretch (heard_in s h) ss l ≡ stretch s ss l ++ h ∷ []
-unfolding heard_in
+stretch_more : {H : Type 0} (s : Span H) (ss : List (Span H)) (h : H) (l : ModuleLine) → stretch (heard_by h s) ss l ≡ stretch s ss l ++ h ∷ []
 stretch_more s ss h l = sym (append_assoc (earlier s.dii l s.kept ss) s.since (h ∷ []))
 
 line_in : {H : Type 0} → (H → Option ddb.Block) → Span H → List (Span H) → ModuleLine → Line
 line_in says s ss l = line_among says (stretch s ss l) s.dii l
 
 lines_more : {H : Type 0} (says : H → Option ddb.Block) (s : Span H) (ss : List (Span H)) (h : H)
-    → map (line_in says (heard_in s h) ss) s.dii.modules ≡ map (λ l. line_among says (stretch s ss l ++ h ∷ []) s.dii l) s.dii.modules
-unfolding line_in heard_in
-lines_more says s ss h = map_same _ _ s.dii.modules (λ l. ap (λ hs. line_among says hs s.dii l) (stretch_more s ss h l))
+    → map (line_in says (heard_by h s) ss) s.dii.modules ≡ map (λ l. line_among says (stretch s ss l ++ h ∷ []) s.dii l) s.dii.modules
+unfolding line_in
+lines_more says s ss h = map_like _ _ s.dii.modules (λ l. ap (λ hs. line_among says hs s.dii l) (stretch_more s ss h l))
 
 -- something that is no block for any module
-pub tuned_stays : {H : Type 0} (says : H → Option ddb.Block) (ss : List (Span H)) (h : H) → says h ≡ None → tuned_in says (within ss h) ≡ tuned_in says ss
-unfolding line_in heard_in
-tuned_stays says [] h e = refl
-tuned_stays says (s ∷ ss) h e =
-    ap (λ ls. Some (tuned_with s.dii ls)) (lines_more says s ss h ∙ map_same _ _ s.dii.modules (λ l. unfit_line says (stretch s ss l) s.dii l h (λ b. ap (bytes_if_fits s.dii l b) e)))
+pub tuned_stays : {H : Type 0} (says : H → Option ddb.Block) (s : Span H) (ss : List (Span H)) (h : H) → says h ≡ None → tuned_of says (heard_by h s) ss ≡ tuned_of says s ss
+unfolding line_in
+tuned_stays says s ss h e =
+    ap (tuned_with s.dii) (lines_more says s ss h ∙ map_like _ _ s.dii.modules (λ l. unfit_line says (stretch s ss l) s.dii l h (λ b. ap (bytes_if_fits s.dii l b) e)))
 
--- a block
-pub tuned_moves : {H : Type 0} (says : H → Option ddb.Block) (ss : List (Span H)) (h : H) (b : ddb.Block) → says h ≡ Some b → IsOnce ss → tuned_in says (within ss h) ≡ offered_to (tuned_in says ss) b
-unfolding line_in heard_in
-tuned_moves says [] h b is once = refl
-tuned_moves says (s ∷ ss) h b is once = ap Some (go (eqb s.dii.download b.download) refl) where
+-- a block, where the DII lists no module twice
+pub tuned_moves : {H : Type 0} (says : H → Option ddb.Block) (s : Span H) (ss : List (Span H)) (h : H) (b : ddb.Block) → says h ≡ Some b → no_id_twice s.dii.modules ≡ true
+    → tuned_of says (heard_by h s) ss ≡ tuned_after (tuned_of says s ss) b
+unfolding line_in
+tuned_moves says s ss h b is once = go (eqb s.dii.download b.download) refl where
   go : (t : Bool) → eqb s.dii.download b.download ≡ t
-      → tuned_with s.dii (map (line_in says (heard_in s h) ss) s.dii.modules) ≡ tuned_after (tuned_with s.dii (map (line_in says s ss) s.dii.modules)) b
+      → tuned_with s.dii (map (line_in says (heard_by h s) ss) s.dii.modules) ≡ tuned_after (tuned_with s.dii (map (line_in says s ss) s.dii.modules)) b
   go true e =
       ap (tuned_with s.dii) (lines_more says s ss h ∙ sym (lines_move says (stretch s ss) s.dii h b is s.dii.modules (turned_round s.dii.download b.download true e) once))
       ∙ sym (cond-true _ _ _ e)
   go false e =
       ap (tuned_with s.dii) (lines_more says s ss h
-      ∙ map_same _ _ s.dii.modules (λ l. sym (passed_line says (stretch s ss l) s.dii l h b is (inl (turned_round s.dii.download b.download false e)))))
+      ∙ map_like _ _ s.dii.modules (λ l. sym (passed_line says (stretch s ss l) s.dii l h b is (inl (turned_round s.dii.download b.download false e)))))
       ∙ sym (cond-false _ _ _ e)
 
 -- ---- one span more
@@ -87,15 +71,14 @@ with_nothing_more : {H : Type 0} (says : H → Option ddb.Block) (hs : List H) (
 with_nothing_more says hs d l = ap (λ xs. line_among says xs d l) (sym (append-nil hs))
 
 -- a module of the new DII: what it was for the one before, or nothing yet
-turned_lines : {H : Type 0} (says : H → Option ddb.Block) (s : Span H) (ss : List (Span H)) (d : DiiFields) (l : ModuleLine) (keep messages : Bool) (o : Option ModuleLine)
+kept_lines : {H : Type 0} (says : H → Option ddb.Block) (s : Span H) (ss : List (Span H)) (d : DiiFields) (l : ModuleLine) (messages : Bool) (o : Option ModuleLine)
     → find (λ k. eqb k.id l.id) s.dii.modules ≡ o → (eqb s.dii.download d.download && eqb s.dii.block_size d.block_size) ≡ messages
-    → cond (keep && messages) (kept_line d.block_size l (option_map (line_in says s ss) o)) (line_fresh d.block_size l)
-    ≡ line_among says (cond (keep && (messages && same_line_in o l)) (earlier d l s.kept ss ++ s.since) [] ++ []) d l
+    → cond messages (kept_line d.block_size l (option_map (line_in says s ss) o)) (line_fresh d.block_size l)
+    ≡ line_among says (cond (messages && same_line_in o l) (earlier d l s.kept ss ++ s.since) [] ++ []) d l
 unfolding line_in slot_line
-turned_lines says s ss d l false messages o e f = fresh_line says d l
-turned_lines says s ss d l true false o e f = fresh_line says d l
-turned_lines says s ss d l true true None e f = fresh_line says d l
-turned_lines says s ss d l true true (Some k) e f = go (same_line k l) refl where
+kept_lines says s ss d l false o e f = fresh_line says d l
+kept_lines says s ss d l true None e f = fresh_line says d l
+kept_lines says s ss d l true (Some k) e f = go (same_line k l) refl where
   go : (t : Bool) → same_line k l ≡ t
       → cond t (slot_line l (line_in says s ss k)) (line_fresh d.block_size l) ≡ line_among says (cond t (earlier d l s.kept ss ++ s.since) [] ++ []) d l
   go false g = fresh_line says d l
@@ -110,21 +93,25 @@ find_line : {H : Type 0} (says : H → Option ddb.Block) (s : Span H) (ss : List
 unfolding line_in
 find_line says s ss l = find_map (line_in says s ss) (λ x. eqb x.line.id l.id) s.dii.modules
 
-tuned_of : {H : Type 0} → (H → Option ddb.Block) → Span H → List (Span H) → TunedState
-tuned_of says s ss = tuned_with s.dii (map (line_in says s ss) s.dii.modules)
-
-opened : {H : Type 0} → DiiFields → Bool → Span H
+abbrev pub opened : {H : Type 0} → DiiFields → Bool → Span H
 opened d keep = record { dii = d; kept = keep; since = [] }
 
-fresh_dii : {H : Type 0} (says : H → Option ddb.Block) (d : DiiFields) (keep : Bool) → tuned_in says (opened d keep ∷ []) ≡ Some (fresh_tuned d)
-unfolding opened
-fresh_dii says d keep = ap (λ ls. Some (tuned_with d ls)) (map_same _ _ d.modules (λ l. sym (fresh_line says d l)))
+-- the newest of these spans' DII
+abbrev pub tuned_in : {H : Type 0} → (H → Option ddb.Block) → List (Span H) → Option TunedState
+tuned_in says [] = None
+tuned_in says (s ∷ ss) = Some (tuned_of says s ss)
 
-pub tuned_turns : {H : Type 0} (says : H → Option ddb.Block) (ss : List (Span H)) (d : DiiFields) (keep : Bool) → tuned_in says (record { dii = d; kept = keep; since = [] } ∷ ss) ≡ Some (after_turn (tuned_in says ss) d keep)
-unfolding line_in tuned_of opened
-tuned_turns says [] d keep = fresh_dii says d keep
-tuned_turns says (s ∷ ss) d keep = ap (λ ls. Some (tuned_with d ls)) (map_same _ _ d.modules each) where
-  each : (l : ModuleLine) → line_among says (stretch (opened d keep) (s ∷ ss) l) d l ≡ turned_line (tuned_of says s ss) d keep l
+-- where nothing is kept
+pub tuned_begins : {H : Type 0} (says : H → Option ddb.Block) (ss : List (Span H)) (d : DiiFields) → tuned_of says (opened d false) ss ≡ fresh_tuned d
+tuned_begins says [] d = ap (tuned_with d) (map_like _ _ d.modules (λ l. sym (fresh_line says d l)))
+tuned_begins says (s ∷ ss) d = ap (tuned_with d) (map_like _ _ d.modules (λ l. sym (fresh_line says d l)))
+
+-- where what is there is kept
+pub tuned_turns : {H : Type 0} (says : H → Option ddb.Block) (ss : List (Span H)) (d : DiiFields) → tuned_of says (opened d true) ss ≡ tuned_from (tuned_in says ss) d
+unfolding line_in
+tuned_turns says [] d = ap (tuned_with d) (map_like _ _ d.modules (λ l. sym (fresh_line says d l)))
+tuned_turns says (s ∷ ss) d = ap (tuned_with d) (map_like _ _ d.modules each) where
+  each : (l : ModuleLine) → line_among says (stretch (opened d true) (s ∷ ss) l) d l ≡ line_from (tuned_of says s ss) d l
   each l =
-      sym (ap (λ o. cond (keep && (eqb s.dii.download d.download && eqb s.dii.block_size d.block_size)) (kept_line d.block_size l o) (line_fresh d.block_size l)) (find_line says s ss l)
-      ∙ turned_lines says s ss d l keep (eqb s.dii.download d.download && eqb s.dii.block_size d.block_size) (find (λ k. eqb k.id l.id) s.dii.modules) refl refl)
+      sym (ap (λ o. cond (eqb s.dii.download d.download && eqb s.dii.block_size d.block_size) (kept_line d.block_size l o) (line_fresh d.block_size l)) (find_line says s ss l)
+      ∙ kept_lines says s ss d l (eqb s.dii.download d.download && eqb s.dii.block_size d.block_size) (find (λ k. eqb k.id l.id) s.dii.modules) refl refl)

@@ -1,4 +1,4 @@
--- What is there of one module of the held DII.
+-- What is there of one module of a held DII.
 use Rattle.std.specs.Prelude.{ℕ, Bool, true, false, not, List, length, Option, Some, None, nat_lt, ◌==◌, slice_set, replicate, if◌then◌else◌}
 use Rattle.path_tree.specs.Paths.{Bytes}
 use Rattle.ddb_block.specs.Blocks as ddb

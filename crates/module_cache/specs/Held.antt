@@ -1,14 +1,14 @@
--- The held DII with what is there of its modules: what one block and one DII make of it, and what it is looking back.
-use Rattle.std.specs.Prelude.{◌≡◌, ℕ, Bool, true, false, ◌&&◌, List, [], ◌∷◌, map, Option, Some, None, ◌==◌, if◌then◌else◌}
+-- One held DII with what is there of its modules: what one block makes of it, what it takes over from another DII, and what it is
+-- looking back.
+use Rattle.std.specs.Prelude.{ℕ, Bool, true, false, ◌&&◌, List, [], ◌∷◌, map, Option, Some, None, ◌==◌, if◌then◌else◌}
 use Rattle.std.specs.List.{find}
 use Rattle.ddb_block.specs.Blocks as ddb
 use Rattle.dsi_dii.specs.Controls.{DiiFields, version_of, identification_of}
 use Rattle.dsi_dii.specs.declared.ModuleLine.{ModuleLine}
 use Rattle.module_cache.specs.Contents.{Content, Packed, content_of, taken_in, stored_after, fresh_content}
-use Rattle.module_cache.specs.Limits.{no_id_twice}
 use Rattle.module_cache.specs.LookBack.{blocks_among}
 use Rattle.module_cache.specs.Slots.{SlotState, Unlisted, slot_of}
-use Rattle.module_cache.specs.Spans.{Span, stretch, same_line}
+use Rattle.module_cache.specs.Spans.{same_line}
 use Rattle.module_cache.specs.declared.stored.Line.{Line}
 use Rattle.module_cache.specs.declared.taken.Taken.{Taken}
 use Rattle.module_cache.specs.declared.taken.Taken.TheVariants as taken
@@ -30,11 +30,6 @@ tuned_with d lines = record {
   lines = lines;
 }
 
--- no module has two lines
-abbrev pub HasOnce : Option TunedState → Type 0
-HasOnce None = Unit {0}
-HasOnce (Some t) = no_id_twice (map (λ x. x.line) t.lines) ≡ true
-
 -- ---- one block
 
 -- the line of a block's module, where it has the block's version
@@ -52,10 +47,6 @@ lines_after b xs = with_first (λ x. x.line.id == b.module_id) (line_after b) xs
 abbrev pub tuned_after : TunedState → ddb.Block → TunedState
 tuned_after t b = if t.download == b.download then record t { lines = lines_after b t.lines } else t
 
-abbrev pub offered_to : Option TunedState → ddb.Block → Option TunedState
-offered_to None b = None
-offered_to (Some t) b = Some (tuned_after t b)
-
 abbrev pub taken_line : ddb.Block → Option Line → Taken
 taken_line b None = taken.Unlisted
 taken_line b (Some x) = if x.line.version == b.version then taken_in x.stored b.number b.bytes else taken.OtherVersion
@@ -63,19 +54,11 @@ taken_line b (Some x) = if x.line.version == b.version then taken_in x.stored b.
 abbrev pub taken_tuned : TunedState → ddb.Block → Taken
 taken_tuned t b = if t.download == b.download then taken_line b (find (λ x. x.line.id == b.module_id) t.lines) else taken.OtherDownload
 
-abbrev pub taken_of : Option TunedState → ddb.Block → Taken
-taken_of None b = taken.NoDii
-taken_of (Some t) b = taken_tuned t b
-
 -- ---- one module
 
 abbrev pub slot_in_line : Option Line → SlotState
 slot_in_line None = Unlisted
 slot_in_line (Some x) = slot_of x.stored.content
-
-abbrev pub slot_at : Option TunedState → ℕ → SlotState
-slot_at None id = Unlisted
-slot_at (Some t) id = slot_in_line (find (λ x. x.line.id == id) t.lines)
 
 -- ---- one DII
 
@@ -91,15 +74,15 @@ abbrev pub kept_line : ℕ → ModuleLine → Option Line → Line
 kept_line block_size l (Some x) = if same_line x.line l then record { line = l; stored = x.stored } else line_fresh block_size l
 kept_line block_size l None = line_fresh block_size l
 
-abbrev pub turned_line : TunedState → DiiFields → Bool → ModuleLine → Line
-turned_line t d keep l =
-    if keep && ((t.download == d.download) && (t.block_size == d.block_size))
+abbrev pub line_from : TunedState → DiiFields → ModuleLine → Line
+line_from t d l =
+    if (t.download == d.download) && (t.block_size == d.block_size)
     then kept_line d.block_size l (find (λ x. x.line.id == l.id) t.lines) else line_fresh d.block_size l
 
--- What is there of a module stays, whole or in part, exactly where it is kept and both DIIs describe the module in the same way.
-abbrev pub after_turn : Option TunedState → DiiFields → Bool → TunedState
-after_turn None d keep = fresh_tuned d
-after_turn (Some t) d keep = tuned_with d (map (turned_line t d keep) d.modules)
+-- What is there of a module by another DII stays, whole or in part, exactly where both DIIs describe the module in the same way.
+abbrev pub tuned_from : Option TunedState → DiiFields → TunedState
+tuned_from None d = fresh_tuned d
+tuned_from (Some t) d = tuned_with d (map (line_from t d) d.modules)
 
 -- ---- looking back
 
@@ -109,8 +92,3 @@ content_among says since d l false = content_of (blocks_among says since d l)
 
 abbrev pub line_among : {H : Type 0} → (H → Option ddb.Block) → List H → DiiFields → ModuleLine → Line
 line_among says since d l = record { line = l; stored = record { size = l.size; block_size = d.block_size; content = content_among says since d l l.compressed } }
-
--- the newest span's DII, and of each module that it lists the blocks that were heard in its stretch
-abbrev pub tuned_in : {H : Type 0} → (H → Option ddb.Block) → List (Span H) → Option TunedState
-tuned_in says [] = None
-tuned_in says (s ∷ ss) = Some (tuned_with s.dii (map (λ l. line_among says (stretch s ss l) s.dii l) s.dii.modules))

@@ -1,14 +1,14 @@
--- DIIs that take each other's place, and what was heard after each.
+-- DIIs of one identification that take each other's place, and what was heard after each.
 --
--- A DII that is held from now on opens a span, which goes on up to the next. What is there of a module was heard in its stretch: in
--- the newest span, and in the spans right before it in which the module was described in the same way, as long as each DII kept
--- what was there. `H` is what is heard.
+-- A DII that is held from now on opens a span, which goes on up to the turn in which another takes its place. What is there of a
+-- module was heard in its stretch: in the newest span, and in the spans right before it in which the module was described in the
+-- same way, as long as each turn kept what was there. Newer spans stand first. `H` is what is heard.
 use Rattle.std.specs.Prelude.{ℕ, Bool, true, false, not, ◌&&◌, List, [], ◌∷◌, ◌++◌, Option, Some, None, ◌==◌, if◌then◌else◌}
 use Rattle.std.specs.List.{find}
 use Rattle.dsi_dii.specs.Controls.{DiiFields, version_of, identification_of}
 use Rattle.dsi_dii.specs.declared.ModuleLine.{ModuleLine}
 
--- a DII that took the place of the one before, whether what was there before was kept, and what was heard after it up to the next
+-- a DII that was held, whether the turn that it belongs to kept what was there before, and what was heard after it up to the next turn
 pub record Span (H : Type 0) : Type 0 where
   pub dii : DiiFields
   pub kept : Bool
@@ -19,11 +19,6 @@ version d = version_of d.transaction
 
 abbrev pub identification : DiiFields → ℕ
 identification d = identification_of d.transaction
-
--- heard in the newest span; the newest span stands first
-abbrev pub within : {H : Type 0} → List (Span H) → H → List (Span H)
-within [] h = []
-within (s ∷ ss) h = record { dii = s.dii; kept = s.kept; since = s.since ++ h ∷ [] } ∷ ss
 
 -- ---- a module's stretch
 
@@ -43,7 +38,7 @@ same_line_in None b = false
 abbrev pub agrees : DiiFields → DiiFields → ModuleLine → Bool
 agrees d held l = (d.download == held.download) && (d.block_size == held.block_size) && same_line_in (find (λ k. k.id == l.id) d.modules) l
 
--- what was heard in the earlier spans of the stretch, where the next one kept what was there
+-- what was heard in the earlier spans of the stretch; `kept` says whether the next one kept what was there
 abbrev pub earlier : {H : Type 0} → DiiFields → ModuleLine → Bool → List (Span H) → List H
 earlier held l kept [] = []
 earlier held l kept (s ∷ ss) = if kept && agrees s.dii held l then earlier held l s.kept ss ++ s.since else []

@@ -1,4 +1,4 @@
--- The held DII as the code keeps it, as a state.
+-- A held DII as the code keeps it, as a state.
 use Rattle.std.specs.Prelude.{◌≡◌, ◌<◌, true, map}
 use Rattle.module_cache.specs.Held.{TunedState}
 use Rattle.module_cache.specs.Limits.{no_id_twice}

@@ -1,11 +1,12 @@
-ghost use Rattle.std.specs.Prelude.{◌≡◌, ◌≢◌, ◌++◌, ◌∷◌, [], List, true, IsTrue, Some, None, IfOk, OnOk, OnErr};
-ghost use Rattle.std.specs.Option.{option_map};
+ghost use Rattle.std.specs.Prelude.{◌≡◌, ◌≢◌, ◌++◌, ◌∷◌, ◌==◌, if◌then◌else◌, [], List, map, true, IsTrue, IfOk, OnOk, OnErr};
+ghost use Rattle.std.specs.List.{position, list_any};
 ghost use Rattle.ddb_block.specs.Blocks.{parts_view, view};
 ghost use Rattle.dsi_dii.specs.Controls.{DiiFields, view_dii};
 ghost use Rattle.module_cache.specs.Limits as limits;
 ghost use Rattle.module_cache.specs.Limits.{no_id_twice};
-ghost use Rattle.module_cache.specs.Held.{fresh_tuned, after_turn, taken_of, offered_to, slot_at, HasOnce};
-ghost use Rattle.module_cache.specs.Calls.{Call, Turned, Offered, StandsFor, spans_of, taken_among, slot_among};
+ghost use Rattle.module_cache.specs.Held.{fresh_tuned};
+ghost use Rattle.module_cache.specs.Joining.{empty, joining, joined, turned, without, may_join, outline_held, has_line, taken_held, taken_of, taken_among, offered_held, offered, slot_from, slot_at, slot_among};
+ghost use Rattle.module_cache.specs.Calls.{Call, Turned, Joined, Offered, StandsFor, turns_of, itself};
 ghost use Rattle.module_cache.specs.Slots.{view_slot};
 
 use crate::taken::{Slot, Taken};
@@ -15,106 +16,176 @@ use dsi_dii::Dii;
 use oc_bytes::NoMemory;
 use std::alloc::Global;
 use std::marker::Model;
+use std::mem;
 
-/// The modules of the DII that is held, whole or in part.
+/// The modules of the DIIs that are held, whole or in part, and what waits for a DII of its identification.
 ///
-/// Contracts see the held DII's fields that blocks are compared with, and line by line what is there of each module. The relation
-/// `StandsFor` says of which calls that is what looking back over all of them gives: for each module the blocks that were offered
-/// since the DIIs began to describe it as the held one does, while each kept what was there.
+/// Several DIIs may describe one generation, each of an identification of its own. One of them turns, and takes the place of all
+/// that were held; the others join it.
+///
+/// Contracts see the held DIIs in the order in which they came, each with what is there of its modules line by line, and those
+/// whose modules wait. The relation `StandsFor` says of which calls that is what looking back over all of them gives.
 #[derive(Drop)]
 pub struct Cache {
     alloc: Global,
-    held: Option<Tuned>,
+    held: Vec<Tuned>,
+    waiting: Vec<Tuned>,
 }
 
 impl Model for Cache {
-    ghost use Rattle.std.specs.Prelude.{Option};
-    ghost use Rattle.module_cache.specs.Held.{TunedState};
+    ghost use Rattle.module_cache.specs.Joining.{CacheState};
 
-    ghost Value = { Option TunedState };
+    ghost Value = { CacheState };
 
-    ghost view = { λ c. c.held };
+    ghost use Rattle.module_cache.specs.CacheView.{view_cache, IsCache};
+
+    ghost view = { view_cache };
+
+    ghost invariant = { IsCache };
 }
 
-/// A new DII in the place of the old one.
-fn next_of(old: Option<Tuned>, fresh: Tuned, keep: bool) -> Tuned
-    ensures { (d : DiiFields) → fresh ≡ fresh_tuned d → no_id_twice d.modules ≡ true → result ≡ after_turn old d keep }
+/// The place of the first DII of an identification.
+fn place_of(tuned: &[Tuned], identification: u16) -> Option<usize>
+    ensures { result ≡ position (λ t. t.identification == identification) tuned.now }
 {
-    if !keep {
-        return fresh;
-    }
-    let mut tuned = fresh;
-    match old {
-        Some(old) => {
-            tuned.keep(old);
-            tuned
-        }
-        None => tuned,
+    tuned
+        .iter()
+        .position(|t| t.identification() == identification)
+}
+
+/// Moves what waits of the DII's identification into it.
+fn take_over(tuned: &mut Tuned, waiting: &mut Vec<Tuned>)
+    ensures tuned { (d : DiiFields) → tuned.old ≡ fresh_tuned d → no_id_twice d.modules ≡ true → tuned.new ≡ joining waiting.old.items d }
+    ensures waiting { waiting.new.items ≡ without tuned.old.identification waiting.old.items }
+{
+    match place_of(waiting, tuned.identification()) {
+        Some(place) => tuned.keep(waiting.remove(place)),
+        None => {}
     }
 }
 
-/// Offers a block to the held DII.
-fn offer_to(held: &mut Option<Tuned>, alloc: Global, parts: &Parts<'_>) -> Result<Taken, NoMemory>
-    ensures answer { IfOk result (λ t. t ≡ taken_of held.old (parts_view parts.now)) }
-    ensures ok { OnOk result (held.new ≡ offered_to held.old (parts_view parts.now)) }
+/// What waits from now on.
+fn kept_or_none(alloc: Global, before: Vec<Tuned>, keep: bool) -> Vec<Tuned>
+    ensures { result.items ≡ (if keep then before.items else []) }
+{
+    if keep { before } else { Vec::new(alloc) }
+}
+
+/// The place of the held DII of the block's download that lists its module.
+fn place_for(held: &[Tuned], parts: &Parts<'_>) -> Option<usize>
+    ensures { result ≡ position (has_line (parts_view parts.now)) held.now }
+{
+    held.iter().position(|t| t.has_line_for(parts))
+}
+
+/// A held DII has this download.
+fn has_download(held: &[Tuned], download: u32) -> bool
+    ensures { result ≡ list_any (λ t. t.download == download) held.now }
+{
+    held.iter().any(|t| t.download() == download)
+}
+
+/// Offers a block to the held DIIs.
+fn offer_to(held: &mut [Tuned], alloc: Global, parts: &Parts<'_>) -> Result<Taken, NoMemory>
+    ensures answer { IfOk result (λ t. t ≡ taken_held held.old (parts_view parts.now)) }
+    ensures ok { OnOk result (held.new ≡ offered_held held.old (parts_view parts.now)) }
     ensures changed { IfOk result (λ t. t ≡ Taken.New → held.new ≢ held.old) }
     ensures err { OnErr result (held.new ≡ held.old) }
-    ensures memory { OnErr result (taken_of held.old (parts_view parts.now) ≡ Taken.New) }
-    ensures once { HasOnce held.old }
+    ensures memory { OnErr result (taken_held held.old (parts_view parts.now) ≡ Taken.New) }
 {
-    match held {
-        Some(tuned) => tuned.offer(alloc, parts),
-        None => Ok(Taken::NoDii),
+    match place_for(held, parts) {
+        Some(place) => held[place].offer(alloc, parts),
+        None => {
+            if held.is_empty() {
+                return Ok(Taken::NoDii);
+            }
+            if has_download(held, parts.download) {
+                return Ok(Taken::Unlisted);
+            }
+            Ok(Taken::OtherDownload)
+        }
     }
 }
 
-/// What is there of a module of the held DII.
-fn slot_in(held: &Option<Tuned>, id: u16) -> Slot<'_>
-    ensures { view_slot result ≡ slot_at held.now id }
+/// What is there of a module by the first of these DIIs that lists it.
+fn slot_in(held: &[Tuned], id: u16) -> Slot<'_>
+    ensures { view_slot result ≡ slot_from id held.now }
 {
-    match held.as_ref().and_then(|tuned| tuned.line(id)) {
-        Some(line) => line.stored.slot(),
-        None => Slot::Unlisted,
+    for tuned in held {
+        if let Some(line) = tuned.line(id) {
+            return line.stored.slot();
+        }
     }
+    Slot::Unlisted
 }
 
 impl Cache {
     /// A cache that holds no DII.
     pub fn new(alloc: Global) -> Cache
-        ensures empty { result ≡ None }
+        ensures empty { result ≡ empty }
         ensures stands { StandsFor result [] }
     {
-        Cache { alloc, held: None }
+        Cache {
+            alloc,
+            held: Vec::new(alloc),
+            waiting: Vec::new(alloc),
+        }
     }
 
-    /// Holds this DII from now on, which has to be within the receiver's limits: `is_within` is the test.
+    /// Holds this DII alone from now on, which has to be within the receiver's limits: `is_within` is the test.
     ///
-    /// With `keep`, what is there of a module stays, whole or in part, exactly where the new DII has the same downloadId and block
-    /// size and lists the module's id with the same version, size and compression. All else is dropped, and every other module
-    /// begins empty; one of 0 bytes that isn't compressed is whole at once. Nothing that stays is copied.
+    /// What waited before is dropped. With `keep`, what is there of the modules of each DII that was held waits from now on under
+    /// that DII's identification, and without it that is dropped too. Then the DII is held as by `join`: it takes over what waits
+    /// under its own identification. So nothing waits over two turns.
     ///
-    /// Memory is asked for only for the new lines, before anything changes: a DII without modules asks for none, and out of memory
-    /// leaves the cache as it was. (What stays, and the limits, are this project's own rules.)
+    /// Memory is asked for before anything changes: for the DII's lines, and for the list of the held DIIs, so also of a DII without
+    /// modules. Out of memory leaves the cache as it was. (What stays, and the limits, are this project's own rules.)
     pub fn turn(&mut self, dii: &Dii, keep: bool) -> Result<(), NoMemory>
         requires { IsTrue (limits.is_within (view_dii dii.now)) }
-        ensures ok { OnOk result (self.new ≡ Some (after_turn self.old (view_dii dii.now) keep)) }
+        ensures ok { OnOk result (self.new ≡ turned self.old (view_dii dii.now) keep) }
         ensures stands { OnOk result ((calls : List Call) → StandsFor self.old calls → StandsFor self.new (calls ++ Turned (view_dii dii.now) keep ∷ [])) }
         ensures err { OnErr result (self.new ≡ self.old) }
-        ensures memory { OnErr result ((view_dii dii.now).modules ≢ []) }
     {
         let tuned = Tuned::new(self.alloc, dii)?;
-        let old = self.held.take();
-        self.held = Some(next_of(old, tuned, keep));
+        let mut held = Vec::with_capacity(self.alloc, 1)?;
+        held.push(tuned)?;
+        let before = mem::replace(&mut self.held, held);
+        self.waiting = kept_or_none(self.alloc, before, keep);
+        take_over(&mut self.held[0], &mut self.waiting);
+        Ok(())
+    }
+
+    /// Holds this DII beside those that are held. It has to be within the receiver's limits; none of its identification may be
+    /// held, and no held one may list a module of it: `is_within`, `is_identification_held` and `is_apart` are the tests.
+    ///
+    /// What waits of a module under the DII's identification stays, whole or in part, exactly where both have the same downloadId
+    /// and block size and list the module's id with the same version, size and compression. Every other module begins empty; one
+    /// of 0 bytes that isn't compressed is whole at once. Nothing waits under the identification any more; what waits under others
+    /// goes on waiting. Nothing that stays is copied.
+    ///
+    /// Memory is asked for before anything changes: for the DII's lines, and for one place more among the held DIIs. Out of memory
+    /// leaves the cache as it was. (What stays is this project's own rule.)
+    pub fn join(&mut self, dii: &Dii) -> Result<(), NoMemory>
+        requires within { IsTrue (limits.is_within (view_dii dii.now)) }
+        requires may_join { IsTrue (may_join (map outline_held self.now.held) (view_dii dii.now)) }
+        ensures ok { OnOk result (self.new ≡ joined self.old (view_dii dii.now)) }
+        ensures stands { OnOk result ((calls : List Call) → StandsFor self.old calls → StandsFor self.new (calls ++ Joined (view_dii dii.now) ∷ [])) }
+        ensures err { OnErr result (self.new ≡ self.old) }
+    {
+        let tuned = Tuned::new(self.alloc, dii)?;
+        self.held.push(tuned)?;
+        let last = self.held.len() - 1;
+        take_over(&mut self.held[last], &mut self.waiting);
         Ok(())
     }
 
     /// Offers a block message: `offer_parts` of its parts.
     pub fn offer(&mut self, ddb: &Ddb) -> Result<Taken, NoMemory>
         ensures answer { IfOk result (λ t. t ≡ taken_of self.old (view ddb.now)) }
-        ensures ok { OnOk result (self.new ≡ offered_to self.old (view ddb.now)) }
+        ensures ok { OnOk result (self.new ≡ offered self.old (view ddb.now)) }
         ensures kept { IfOk result (λ t. t ≢ Taken.New → self.new ≡ self.old) }
         ensures changed { IfOk result (λ t. t ≡ Taken.New → self.new ≢ self.old) }
-        ensures looks_back { IfOk result (λ t. (calls : List Call) → StandsFor self.old calls → t ≡ taken_among Some (spans_of calls) (view ddb.now)) }
+        ensures looks_back { IfOk result (λ t. (calls : List Call) → StandsFor self.old calls → t ≡ taken_among itself (turns_of calls) (view ddb.now)) }
         ensures stands { OnOk result ((calls : List Call) → StandsFor self.old calls → StandsFor self.new (calls ++ Offered (view ddb.now) ∷ [])) }
         ensures err { OnErr result (self.new ≡ self.old) }
         ensures memory { OnErr result (taken_of self.old (view ddb.now) ≡ Taken.New) }
@@ -136,10 +207,10 @@ impl Cache {
     /// its last. Out of memory leaves the cache as it was.
     pub fn offer_parts(&mut self, parts: &Parts<'_>) -> Result<Taken, NoMemory>
         ensures answer { IfOk result (λ t. t ≡ taken_of self.old (parts_view parts.now)) }
-        ensures ok { OnOk result (self.new ≡ offered_to self.old (parts_view parts.now)) }
+        ensures ok { OnOk result (self.new ≡ offered self.old (parts_view parts.now)) }
         ensures kept { IfOk result (λ t. t ≢ Taken.New → self.new ≡ self.old) }
         ensures changed { IfOk result (λ t. t ≡ Taken.New → self.new ≢ self.old) }
-        ensures looks_back { IfOk result (λ t. (calls : List Call) → StandsFor self.old calls → t ≡ taken_among Some (spans_of calls) (parts_view parts.now)) }
+        ensures looks_back { IfOk result (λ t. (calls : List Call) → StandsFor self.old calls → t ≡ taken_among itself (turns_of calls) (parts_view parts.now)) }
         ensures stands { OnOk result ((calls : List Call) → StandsFor self.old calls → StandsFor self.new (calls ++ Offered (parts_view parts.now) ∷ [])) }
         ensures err { OnErr result (self.new ≡ self.old) }
         ensures memory { OnErr result (taken_of self.old (parts_view parts.now) ≡ Taken.New) }
@@ -147,18 +218,18 @@ impl Cache {
         offer_to(&mut self.held, self.alloc, parts)
     }
 
-    /// What is there of the module with this id, 0 to 65,535. Takes no memory.
+    /// What is there of the module with this id, 0 to 65,535, by the held DII that lists it. Takes no memory.
     pub fn module(&self, id: u16) -> Slot<'_>
         ensures slot { view_slot result ≡ slot_at self.now id }
-        ensures looks_back { (calls : List Call) → StandsFor self.now calls → view_slot result ≡ slot_among Some (spans_of calls) id }
+        ensures looks_back { (calls : List Call) → StandsFor self.now calls → view_slot result ≡ slot_among itself (turns_of calls) id }
     {
         slot_in(&self.held, id)
     }
 
-    /// The held DII, if one is held, with what is there of its modules.
-    pub fn held(&self) -> Option<&Tuned>
-        ensures { option_map (λ t. t.now) result ≡ self.now }
+    /// The held DIIs in the order in which they came, each with what is there of its modules. Takes no memory.
+    pub fn held(&self) -> &[Tuned]
+        ensures { result.now ≡ self.now.held }
     {
-        self.held.as_ref()
+        &self.held
     }
 }

@@ -1,5 +1,5 @@
-//! What a receiver of an object carousel holds of modules: the modules that one DII (ISO/IEC 13818-6, DownloadInfoIndication)
-//! lists, whole or in part, and what of them stays when another DII takes its place.
+//! What a receiver of an object carousel holds of modules: the modules that the DIIs of a generation (ISO/IEC 13818-6,
+//! DownloadInfoIndication) list, whole or in part, and what of them stays when the DIIs of another take their place.
 //!
 //! ```
 //! use ddb_block::Parts;
@@ -18,13 +18,17 @@
 //! ```
 #![tactic(auto)]
 
+mod beside;
 mod cache;
+mod laws;
 mod limits;
 mod stored;
 mod taken;
 mod tuned;
 
+pub use beside::{fits_beside, is_apart, is_identification_held};
 pub use cache::Cache;
+pub use laws::calls_look_back;
 pub use limits::is_within;
 pub use stored::{Line, Stored};
 pub use taken::{Slot, Taken};

@@ -44,11 +44,11 @@ fn each_once(lines: &[ModuleLine]) -> bool
     true
 }
 
-/// The modules have at most [`MOST_TOTAL_SIZE`] bytes together.
-fn fit_together(lines: &[ModuleLine]) -> bool
-    ensures { result ≡ nat_le (sum_by (λ l. l.size) lines.now) MOST_TOTAL_SIZE }
+/// The modules have at most so many bytes together.
+pub(crate) fn fit_into(most: u32, lines: &[ModuleLine]) -> bool
+    ensures { result ≡ nat_le (sum_by (λ l. l.size) lines.now) most }
 {
-    let mut left = MOST_TOTAL_SIZE;
+    let mut left = most;
     for line in lines {
         if line.size > left {
             return false;
@@ -66,6 +66,6 @@ pub fn is_within(dii: &Dii) -> bool
     dii.block_size >= 1
         && dii.block_size <= MOST_BLOCK_SIZE
         && are_small(dii.block_size, &dii.modules)
-        && fit_together(&dii.modules)
+        && fit_into(MOST_TOTAL_SIZE, &dii.modules)
         && each_once(&dii.modules)
 }

@@ -1,4 +1,4 @@
-//! What is there of one module of the held DII.
+//! What is there of one module of a held DII.
 
 ghost use Rattle.std.specs.Prelude.{◌≡◌, ◌≢◌, ◌≤◌, ◌<◌, ℕ, IfOk, IfErr, OnOk, OnErr};
 ghost use Rattle.std.specs.Arc.{arc_value};
@@ -50,7 +50,7 @@ impl Model for Stored {
     ghost invariant = { IsStored };
 }
 
-/// A line of the held DII, and what is there of its module.
+/// A line of a held DII, and what is there of its module.
 #[derive(Drop)]
 pub struct Line {
     pub line: ModuleLine,

@@ -7,11 +7,11 @@ use std::sync::Arc;
 pub enum Taken {
     /// No DII is held.
     NoDii,
-    /// Its downloadId isn't the held DII's.
+    /// No held DII has its downloadId.
     OtherDownload,
-    /// The held DII doesn't list its module.
+    /// No held DII of its downloadId lists its module.
     Unlisted,
-    /// The held DII lists another version of the module.
+    /// That DII lists another version of the module.
     OtherVersion,
     /// The module is compressed; nothing of it is taken.
     Compressed,
@@ -44,7 +44,7 @@ impl fmt::Display for Taken {
 /// What is there of a module.
 #[derive(Drop)]
 pub enum Slot<'a> {
-    /// No DII is held, or the held DII doesn't list the module.
+    /// No held DII lists the module.
     Unlisted,
     /// The module is sent compressed; nothing of it is taken.
     Compressed,

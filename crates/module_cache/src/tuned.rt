@@ -1,7 +1,8 @@
-//! The held DII, and what is there of the modules that it lists.
+//! One held DII, and what is there of the modules that it lists.
 
 ghost use Rattle.std.specs.Prelude.{◌≡◌, ◌≢◌, ◌≤◌, ◌<◌, ◌==◌, [], map, true, IsTrue, Some, IfOk, OnOk, OnErr};
-ghost use Rattle.std.specs.List.{find, fold, position, list_all};
+ghost use Rattle.std.specs.List.{find, fold, position, list_all, list_any};
+ghost use Rattle.module_cache.specs.Joining.{has_line};
 ghost use Rattle.std.specs.Option.{option_map};
 ghost use Rattle.block_assembler.specs.Blocks.{IsAssembled};
 ghost use Rattle.ddb_block.specs.Blocks.{parts_view};
@@ -21,7 +22,7 @@ use oc_bytes::NoMemory;
 use std::alloc::Global;
 use std::marker::Model;
 
-/// The held DII.
+/// A DII that is held, and what is there of the modules that it lists.
 #[derive(Drop)]
 pub struct Tuned {
     download: u32,
@@ -48,6 +49,13 @@ fn place_of(lines: &[Line], id: u16) -> Option<usize>
     ensures { result ≡ position (λ x. x.line.id == id) lines.now }
 {
     lines.iter().position(|x| x.line.id == id)
+}
+
+/// A line is of this module.
+fn lists_module(lines: &[Line], id: u16) -> bool
+    ensures { result ≡ list_any (λ x. x.line.id == id) lines.now }
+{
+    lines.iter().any(|x| x.line.id == id)
 }
 
 /// Offers a block to the line of its module.
@@ -163,14 +171,35 @@ impl Tuned {
         }
     }
 
-    /// The identification of the held DII: 0 to 32,767.
+    /// The DII's downloadId.
+    pub(crate) fn download(&self) -> u32
+        ensures { result ≡ self.now.download }
+    {
+        self.download
+    }
+
+    /// The DII has the block's downloadId and lists its module.
+    pub(crate) fn has_line_for(&self, parts: &Parts<'_>) -> bool
+        ensures { result ≡ has_line (parts_view parts.now) self.now }
+    {
+        self.download == parts.download && lists_module(&self.lines, parts.module)
+    }
+
+    /// The DII lists this module.
+    pub(crate) fn lists(&self, id: u16) -> bool
+        ensures { result ≡ list_any (λ x. x.line.id == id) self.now.lines }
+    {
+        lists_module(&self.lines, id)
+    }
+
+    /// The DII's identification: 0 to 32,767.
     pub fn identification(&self) -> u16
         ensures { result ≡ self.now.identification }
     {
         self.identification
     }
 
-    /// The version of the held DII: 0 to 16,383.
+    /// The DII's version: 0 to 16,383.
     pub fn version(&self) -> u16
         ensures version { result ≡ self.now.version }
         ensures range { result < 16384 }
@@ -178,7 +207,7 @@ impl Tuned {
         self.version
     }
 
-    /// The lines of the held DII, in its order.
+    /// The DII's lines, in its order.
     pub fn lines(&self) -> &[Line]
         ensures { result.now ≡ self.now.lines }
     {

@@ -12,7 +12,7 @@
 //!
 //! let path = Path::parse(alloc, b"/news.txt")?;
 //! let (label, gateway, table) = (None, None, Vec::new(alloc));
-//! let shot = Shot { number: 0, draws: 0, mark: 0, epoch: 0, label, identification: 0, gateway, table };
+//! let shot = Shot { number: 0, draws: 0, mark: 0, epoch: 0, label, held: Vec::new(alloc), gateway, table };
 //! let (shower, mut viewers) = board(&rt, alloc, Arc::new(alloc, shot)?, 1, 0)?;
 //! let Some(viewer) = viewers.pop() else { panic!("no viewer") };
 //! let Ok(mut pass) = ReaderPass::new(alloc, 7, viewer, 1) else { panic!("out of memory") };

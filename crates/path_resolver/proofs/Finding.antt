@@ -4,7 +4,7 @@ use Rattle.std.proofs.lemmas.Option.{same_Some}
 use Rattle.std.specs.Prelude.{slice_get}
 use Rattle.path_tree.specs.Paths.{Bytes, PathNames}
 use Rattle.path_resolver.specs.declared.answer.Answer.{Answer}
-use Rattle.path_resolver.specs.Resolving.{Held, Target, walk, turn, goes_on, in_folder, by_binding}
+use Rattle.path_resolver.specs.Resolving.{Held, Target, goes_on, in_folder, by_binding, walk, turn}
 use Rattle.path_resolver.specs.Targets.{BindingGoes, ObjectGoes}
 use Rattle.path_resolver.specs.declared.walking.Step.{Step}
 use Rattle.path_resolver.specs.declared.walking.Step.TheVariants as steps

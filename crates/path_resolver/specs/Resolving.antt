@@ -1,6 +1,6 @@
 -- The answer to a path on what a receiver holds.
-use Rattle.std.specs.Prelude.{ℕ, Bool, true, false, not, ◌||◌, List, [], ◌∷◌, take, drop, Option, Some, None, ◌==◌, if◌then◌else◌}
-use Rattle.std.specs.List.{find}
+use Rattle.std.specs.Prelude.{ℕ, Bool, true, false, not, ◌&&◌, ◌||◌, List, [], ◌∷◌, take, drop, Option, Some, None, ◌==◌, if◌then◌else◌}
+use Rattle.std.specs.List.{find, list_any}
 use Rattle.path_tree.specs.Paths.{Bytes, PathNames, same_name}
 use Rattle.ior_tap.specs.Iors.{TapFields, biop_of_profiles, delivery_of_taps}
 use Rattle.ior_tap.specs.declared.Location.{Location}
@@ -14,7 +14,9 @@ use Rattle.path_resolver.specs.Names.{names_of}
 use Rattle.path_resolver.specs.declared.answer.Answer.{Answer}
 use Rattle.path_resolver.specs.declared.answer.Answer.TheVariants as answers
 
+-- a module, with the identification of the held DII that lists it
 pub record HeldModule : Type 0 where
+  pub identification : ℕ
   pub line : ModuleLine
   pub bytes : Option Bytes
 
@@ -22,10 +24,10 @@ pub record Root : Type 0 where
   pub location : Location
   pub delivery : Option ℕ
 
--- what an answer depends on
+-- what an answer depends on: the DIIs that are held are given by their identifications, in the order in which they were heard
 pub record Held : Type 0 where
   pub label : Option ℕ
-  pub identification : ℕ
+  pub held : List ℕ
   pub gateway : Option Root
   pub table : List HeldModule
 
@@ -33,9 +35,20 @@ pub record Held : Type 0 where
 abbrev pub Target : Type 0
 Target = Location × Option ℕ
 
-abbrev pub is_elsewhere : ℕ → ℕ → Target → Bool
-is_elsewhere carousel identification (l, None) = not (l.carousel == carousel)
-is_elsewhere carousel identification (l, Some t) = not (l.carousel == carousel) || not (identification_of t == identification)
+-- of another carousel, or delivered by a DII that never describes modules
+abbrev pub is_elsewhere : ℕ → Target → Bool
+is_elsewhere carousel (l, None) = not (l.carousel == carousel)
+is_elsewhere carousel (l, Some t) = not (l.carousel == carousel) || (identification_of t == 0)
+
+-- The module of a location: where its delivery is known, as that DII lists it, and else as any held DII does.
+abbrev pub module_of : Held → Target → Option HeldModule
+module_of held (l, None) = find (λ h. h.line.id == l.module) held.table
+module_of held (l, Some t) = find (λ h. (h.identification == identification_of t) && (h.line.id == l.module)) held.table
+
+-- where it isn't listed: a DII that may list it has still to come, unless the one that delivers it is held
+abbrev pub unlisted : Held → Target → Answer
+unlisted held (l, None) = answers.NotYet l.module
+unlisted held (l, Some t) = if list_any (λ i. i == identification_of t) held.held then answers.Dangling l.module else answers.NotYet l.module
 
 abbrev pub target_of : Option (Location × List TapFields) → Option Target
 target_of (Some (l, taps)) = Some (l, delivery_of_taps taps)
@@ -70,17 +83,17 @@ goes_on rest name m bytes found.Other = answers.OtherKind m
 goes_on rest name m bytes (found.Bad place) = answers.Bad m place
 goes_on rest name m bytes found.Missing = answers.Dangling m
 
-abbrev pub in_module : (Bytes → Answer) → ℕ → Option HeldModule → Answer
-in_module object m None = answers.Dangling m
-in_module object m (Some h) = if h.line.compressed then answers.Compressed m else go h.bytes where
-  go : Option Bytes → Answer
-  go (Some bytes) = object bytes
-  go None = answers.NotYet m
+abbrev pub in_bytes : (Bytes → Answer) → ℕ → Option Bytes → Answer
+in_bytes object m (Some bytes) = object bytes
+in_bytes object m None = answers.NotYet m
+
+-- `absent` is the answer where the module isn't listed
+abbrev pub in_module : (Bytes → Answer) → ℕ → Answer → Option HeldModule → Answer
+in_module object m absent None = absent
+in_module object m absent (Some h) = if h.line.compressed then answers.Compressed m else in_bytes object m h.bytes
 
 abbrev pub at_target : ℕ → Held → (Bytes → Answer) → Target → Answer
-at_target carousel held object t =
-    if is_elsewhere carousel held.identification t then answers.Elsewhere
-    else in_module object t.0.module (find (λ h. h.line.id == t.0.module) held.table)
+at_target carousel held object t = if is_elsewhere carousel t then answers.Elsewhere else in_module object t.0.module (unlisted held t) (module_of held t)
 
 -- at a location, where no name is left
 abbrev pub last : ℕ → Held → Target → Answer

@@ -1,7 +1,7 @@
 -- Locations and steps of a walk, as the walk keeps them.
 use Rattle.std.specs.Prelude.{◌≡◌, ℕ, Option}
 use Rattle.path_tree.specs.Paths.{Bytes}
-use Rattle.path_resolver.specs.Resolving.{Held, Target as TargetOf, turn, goes_on, by_binding, at_target}
+use Rattle.path_resolver.specs.Resolving.{Held, Target as TargetOf, goes_on, by_binding, turn, at_target}
 use Rattle.biop_object.specs.Objects.{BindingFields}
 use Rattle.biop_object.specs.declared.module.Found.{Found}
 use Rattle.path_resolver.specs.declared.answer.Answer.{Answer}

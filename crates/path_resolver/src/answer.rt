@@ -134,18 +134,19 @@ pub enum Answer {
     Folder(FolderRef),
     /// A folder on the way, held whole, has no binding of the next name, or a name follows a file.
     NoSuch,
-    /// The walk needs this module, which isn't whole yet.
+    /// The walk needs this module, which isn't whole yet, or which no DII that was heard lists so far.
     NotYet(u16),
     /// No gateway or no DII was heard yet.
     NoCarousel,
-    /// The walk leaves the carousel, or the DII that is held isn't the one that delivers the object.
+    /// The walk leaves the carousel: it comes to another one, to a delivery of identification 0, which no DII that describes
+    /// modules has, or to an IOR without a location.
     Elsewhere,
     /// The walk needs this module, which is sent compressed.
     Compressed(u16),
     /// The object isn't among those that could be read: reading this module stopped at this place, in bytes from
     /// the module's front.
     Bad(u16, usize),
-    /// A binding leads to a module that the DII doesn't list, or to no object of this module.
+    /// A binding leads to a module that the held DII which delivers it doesn't list, or to no object of this module.
     Dangling(u16),
     /// A binding leads to an object of this module that is neither a file nor a folder.
     OtherKind(u16),

@@ -12,8 +12,8 @@
 //! let key = Key::new(vec![in alloc; 0, 0, 0, 1]?);
 //! let gateway = Some(Gateway { location: Location { carousel: 1, module: 5, key }, delivery: None });
 //! let line = ModuleLine { id: 5, size: 34, version: 0, compressed: false };
-//! let table = vec![in alloc; Held { line, module: None }]?;
-//! let shot = Shot { number: 0, draws: 0, mark: 2, epoch: 0, label: Some(0), identification: 1, gateway, table };
+//! let table = vec![in alloc; Held { identification: 1, line, module: None }]?;
+//! let shot = Shot { number: 0, draws: 0, mark: 2, epoch: 0, label: Some(0), held: vec![in alloc; 1]?, gateway, table };
 //! let path = Path::parse(alloc, b"/news/today.txt")?;
 //! assert!(rt; matches!(resolve(&shot, &path)?, Answer::NotYet(5)));
 //! ```

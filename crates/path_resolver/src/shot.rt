@@ -6,7 +6,9 @@ use std::sync::Arc;
 /// A module as a receiver holds it.
 #[derive(Drop)]
 pub struct Held {
-    /// The module's line in the DII that is held.
+    /// The identification of the held DII that lists the module, 1 to 32,767.
+    pub identification: u16,
+    /// The module's line in that DII.
     pub line: ModuleLine,
     /// The module, where all of its blocks are there.
     pub module: Option<Arc<Module>>,
@@ -35,10 +37,10 @@ pub struct Shot {
     /// The generation as the receiver counts it, where a DII is held: the first DII's version, and then the sum of
     /// the distances; it stays at the greatest `u64`.
     pub label: Option<u64>,
-    /// The identification of the DII that is held, 0 to 32,767.
-    pub identification: u16,
+    /// The identifications of the DIIs that are held, each 1 to 32,767, in the order in which they were heard.
+    pub held: Vec<u16>,
     /// The gateway, where a DSI is held.
     pub gateway: Option<Gateway>,
-    /// The modules that the DII lists, in its order.
+    /// The modules that these DIIs list, DII by DII, each in its DII's order.
     pub table: Vec<Held>,
 }

@@ -1,12 +1,11 @@
-ghost use Rattle.std.specs.Prelude.{◌≡◌, ◌==◌, Option, map, IsTrue, IfOk, OnErr, MatchResult};
-ghost use Rattle.std.specs.List.{find};
+ghost use Rattle.std.specs.Prelude.{◌≡◌, ◌==◌, ◌&&◌, Option, map, IsTrue, IfOk, OnErr, MatchResult};
+ghost use Rattle.std.specs.List.{find, list_any};
 ghost use Rattle.std.specs.Option.{option_map};
 ghost use Rattle.std.specs.Arc.{arc_value};
-ghost use Rattle.path_tree.specs.Paths.{Bytes};
 ghost use Rattle.biop_object.specs.Objects.{view_binding};
 ghost use Rattle.biop_object.specs.ObjectReading.{found_of};
 ghost use Rattle.path_resolver.specs.Resolving as resolving;
-ghost use Rattle.path_resolver.specs.Resolving.{answer_of, is_shared, last, walk};
+ghost use Rattle.path_resolver.specs.Resolving.{answer_of, last, walk, module_of, is_shared};
 ghost use Rattle.path_resolver.specs.Shots.{held_of, view_held};
 ghost use Rattle.path_resolver.specs.Targets.{view_target, BindingGoes, ObjectGoes, StepGoes, IsModuleAt, IsNoModule};
 
@@ -45,15 +44,62 @@ fn held_in(table: &[Held], id: u16) -> Option<&Held>
     None
 }
 
-/// Whether a location lies outside of the carousel as it is held.
-fn is_elsewhere(shot: &Shot, carousel: u32, target: &Target) -> bool
-    ensures { result ≡ resolving.is_elsewhere carousel shot.now.identification (view_target target.now) }
+/// What the table holds of a module by the DII of an identification.
+fn delivered_in(table: &[Held], identification: u16, id: u16) -> Option<&Held>
+    ensures { option_map (λ h. view_held h.now) result ≡ find (λ h. (h.identification == identification) && (h.line.id == id)) (map view_held table.now) }
+{
+    for held in table {
+        if held.identification == identification && held.line.id == id {
+            return Some(held);
+        }
+    }
+    None
+}
+
+/// A DII of this identification is held.
+fn is_held(held: &[u16], identification: u16) -> bool
+    ensures { result ≡ list_any (λ i. i == identification) held.now }
+{
+    held.iter().any(|i| *i == identification)
+}
+
+/// Whether a location lies outside of the carousel.
+fn is_elsewhere(carousel: u32, target: &Target) -> bool
+    ensures { result ≡ resolving.is_elsewhere carousel (view_target target.now) }
 {
     let other = target.location.carousel != carousel;
     match target.delivery {
         None => other,
+        Some(transaction) => other || TransactionId(transaction).identification() == 0,
+    }
+}
+
+/// The module of a location: where its delivery is known, as that DII lists it, and else as any held DII does.
+fn sought<'a>(shot: &'a Shot, target: &Target) -> Option<&'a Held>
+    ensures { option_map (λ h. view_held h.now) result ≡ module_of (held_of shot.now) (view_target target.now) }
+{
+    let id = target.location.module;
+    match target.delivery {
+        None => held_in(&shot.table, id),
         Some(transaction) => {
-            other || TransactionId(transaction).identification() != shot.identification
+            delivered_in(&shot.table, TransactionId(transaction).identification(), id)
+        }
+    }
+}
+
+/// The answer where the module of a location isn't listed.
+fn unlisted(shot: &Shot, target: &Target) -> Answer
+    ensures { result ≡ resolving.unlisted (held_of shot.now) (view_target target.now) }
+{
+    let id = target.location.module;
+    match target.delivery {
+        None => Answer::NotYet(id),
+        Some(transaction) => {
+            if is_held(&shot.held, TransactionId(transaction).identification()) {
+                Answer::Dangling(id)
+            } else {
+                Answer::NotYet(id)
+            }
         }
     }
 }
@@ -64,11 +110,11 @@ fn module_at<'a>(shot: &'a Shot, carousel: u32, target: &Target) -> Result<&'a A
         (λ a. IsNoModule carousel (held_of shot.now) (view_target target.now) a) }
 {
     let id = target.location.module;
-    if is_elsewhere(shot, carousel, target) {
+    if is_elsewhere(carousel, target) {
         return Err(Answer::Elsewhere);
     }
-    match held_in(&shot.table, id) {
-        None => Err(Answer::Dangling(id)),
+    match sought(shot, target) {
+        None => Err(unlisted(shot, target)),
         Some(held) => {
             if held.line.compressed {
                 return Err(Answer::Compressed(id));
@@ -172,8 +218,9 @@ fn walk_from(shot: &Shot, gateway: &Gateway, path: &Path) -> Result<Answer, NoMe
 /// or a folder.
 ///
 /// Without a gateway or a label it is `NoCarousel`. At each location, in this order: `Elsewhere` where its carousel
-/// isn't the gateway's, or its delivery is known and of another identification than the DII that is held; `Dangling`
-/// where the table doesn't list its module; `Compressed`; `NotYet` where the module isn't whole; `Bad`, `Dangling` or
+/// isn't the gateway's, or its delivery is known and of identification 0; where its delivery is known, `NotYet` where
+/// no DII of that identification is held, and `Dangling` where that DII doesn't list the module; where it isn't known,
+/// `NotYet` where no held DII lists the module; `Compressed`; `NotYet` where the module isn't whole; `Bad`, `Dangling` or
 /// `OtherKind` where the module has no file or folder of its key; a file is `File` where no name is left, and else
 /// `NoSuch`; a folder is `Folder` where no name is left, and else the first binding of the next name leads on:
 /// `NoSuch` where there is none, `Elsewhere` where its IOR has no location. (ETSI TR 101 202, clauses 4.7.4 and

@@ -1,4 +1,4 @@
-//! Rows of calls on the parts of a receiver: a module out of its blocks, the modules of the DII that is held, answers to paths,
+//! Rows of calls on the parts of a receiver: a module out of its blocks, the modules of the DIIs that are held, answers to paths,
 //! and the receiver that is fed sections. The program writes what each call answers, and the gate compares that.
 #![tactic(auto)]
 

@@ -34,11 +34,11 @@ impl ShotRows {
             "shot" => self.make(alloc, row)?,
             "shot-gateway" => self.put_gateway(alloc, row)?,
             "shot-module" => {
-                let module = module_of(alloc, row.bytes(alloc, 1)?)?;
-                self.put_line(alloc, number_16(row, 0)?, false, Some(module))?
+                let module = module_of(alloc, row.bytes(alloc, 2)?)?;
+                self.put_line(alloc, row, false, Some(module))?
             }
-            "shot-missing" => self.put_line(alloc, number_16(row, 0)?, false, None)?,
-            "shot-compressed" => self.put_line(alloc, number_16(row, 0)?, true, None)?,
+            "shot-missing" => self.put_line(alloc, row, false, None)?,
+            "shot-compressed" => self.put_line(alloc, row, true, None)?,
             "resolve" => answer_text(alloc, &self.answer(alloc, row)?)?,
             "bytes" => self.bytes(alloc, row)?,
             "shared-bytes" => self.shared_bytes(alloc, row)?,
@@ -53,50 +53,70 @@ impl ShotRows {
         Ok(Some(text))
     }
 
-    /// Makes a shot anew, of a label or of `none`.
+    /// Makes a shot anew, of a label or of `none`, and of the identifications of the DIIs that are held.
     fn make(&mut self, alloc: Global, row: &Row<'_>) -> Result<String, RowFault> {
         let label = match row.word(0)? {
             "none" => None,
             _ => Some(row.number(0)?),
         };
         self.shot = empty_shot(alloc, label);
+        for place in 1..row.len() {
+            self.put_held(number_16(row, place)?)?;
+        }
         Ok(String::from_str(alloc, "made")?)
     }
 
-    /// Puts the gateway at a carousel, a module and a key, delivered by a transactionId.
+    /// Puts a DII behind those that are held.
+    fn put_held(&mut self, identification: u16) -> Result<(), AllocError> {
+        self.shot.held.push(identification)?;
+        Ok(())
+    }
+
+    /// Puts the gateway at a carousel, a module and a key, delivered by a transactionId or by `none` that is known.
     fn put_gateway(&mut self, alloc: Global, row: &Row<'_>) -> Result<String, RowFault> {
         let key = row.bytes(alloc, 2)?;
         if key.len() > 255 {
             return Err(RowFault::BadRow);
         }
+        let delivery = match row.word(3)? {
+            "none" => None,
+            _ => Some(number_32(row, 3)?),
+        };
         let location = Location {
             carousel: number_32(row, 0)?,
             module: number_16(row, 1)?,
             key: Key::new(key),
         };
-        self.shot.gateway = Some(Gateway {
-            location,
-            delivery: Some(number_32(row, 3)?),
-        });
+        self.shot.gateway = Some(Gateway { location, delivery });
         Ok(String::from_str(alloc, "put")?)
     }
 
-    /// Puts a module behind those of the table.
+    /// Puts a module of a DII behind those of the table; the row says the DII's identification and the module's id.
     fn put_line(
         &mut self,
         alloc: Global,
-        id: u16,
+        row: &Row<'_>,
         compressed: bool,
         module: Option<Arc<Module>>,
-    ) -> Result<String, AllocError> {
+    ) -> Result<String, RowFault> {
+        let identification = number_16(row, 0)?;
         let line = ModuleLine {
-            id,
+            id: number_16(row, 1)?,
             size: 0,
             version: 0,
             compressed,
         };
-        self.shot.table.push(Held { line, module })?;
-        String::from_str(alloc, "put")
+        self.put_module(Held {
+            identification,
+            line,
+            module,
+        })?;
+        Ok(String::from_str(alloc, "put")?)
+    }
+
+    fn put_module(&mut self, held: Held) -> Result<(), AllocError> {
+        self.shot.table.push(held)?;
+        Ok(())
     }
 
     /// The answer to the path of a row.
@@ -138,7 +158,7 @@ impl ShotRows {
     }
 }
 
-/// A shot of a carousel of identification 1, without a gateway and without a module.
+/// A shot without a DII, a gateway and a module.
 fn empty_shot(alloc: Global, label: Option<u64>) -> Shot {
     Shot {
         number: 0,
@@ -146,7 +166,7 @@ fn empty_shot(alloc: Global, label: Option<u64>) -> Shot {
         mark: 0,
         epoch: 0,
         label,
-        identification: 1,
+        held: Vec::new(alloc),
         gateway: None,
         table: Vec::new(alloc),
     }

@@ -39,6 +39,7 @@ impl TunerRows {
             }
             "tuner-feed-bytes" => self.feed(alloc, &row.bytes(alloc, 0)?)?,
             "tuner-feed-versions" => self.feed_versions(alloc, row)?,
+            "tuner-feed-in-turn" => self.feed_in_turn(alloc, row)?,
             "tuner-shot" => self.shot(alloc, row.number(0)?, row.number(1)?)?,
             "tuner-gateway" => self.gateway(alloc)?,
             "tuner-table" => self.table(alloc)?,
@@ -83,19 +84,30 @@ impl TunerRows {
         )?)
     }
 
-    /// The counts and the DII of a shot.
+    /// Feeds DIIs one after another, so many times over: how many of them changed what is held.
+    fn feed_in_turn(&mut self, alloc: Global, row: &Row<'_>) -> Result<String, RowFault> {
+        let mut changes = 0u64;
+        for _ in 0..row.number(0)? {
+            for place in 1..row.len() {
+                let dii = section_of(alloc, Table::Control, row.bytes(alloc, place)?)?;
+                if self.tuner.feed(&dii)? == Fed::Changed {
+                    changes = changes.saturating_add(1);
+                }
+            }
+        }
+        Ok(format!(in alloc; "{changes} DIIs changed what is held")?)
+    }
+
+    /// The counts and the DIIs of a shot.
     fn shot(&self, alloc: Global, number: u64, draws: u64) -> Result<String, AllocError> {
         let shot = self.tuner.shot(number, draws)?;
         let (number, draws) = (shot.number, shot.draws);
         let (mark, epoch) = (shot.mark, shot.epoch);
-        let dii = match shot.label {
-            Some(label) => {
-                let identification = shot.identification;
-                format!(in alloc; "label {label}, identification {identification}")?
-            }
+        let diis = match shot.label {
+            Some(label) => diis_text(alloc, label, &shot.held)?,
             None => String::from_str(alloc, "no DII")?,
         };
-        format!(in alloc; "number {number}, draws {draws}, mark {mark}, epoch {epoch}, {dii}")
+        format!(in alloc; "number {number}, draws {draws}, mark {mark}, epoch {epoch}, {diis}")
     }
 
     /// The gateway of a shot.
@@ -145,6 +157,16 @@ fn section_of(alloc: Global, table: Table, payload: Vec<u8>) -> Result<Vec<u8>, 
     }
 }
 
+/// The label, and the identifications of the DIIs that are held.
+fn diis_text(alloc: Global, label: u64, held: &[u16]) -> Result<String, AllocError> {
+    let mut text = format!(in alloc; "label {label}, held")?;
+    for identification in held {
+        let word = format!(in alloc; " {identification}")?;
+        text.push_str(word.as_str())?;
+    }
+    Ok(text)
+}
+
 /// Where the gateway lies, and what delivers it.
 fn gateway_text(alloc: Global, gateway: &Gateway) -> Result<String, AllocError> {
     let carousel = gateway.location.carousel;
@@ -157,14 +179,14 @@ fn gateway_text(alloc: Global, gateway: &Gateway) -> Result<String, AllocError> 
     format!(in alloc; "carousel {carousel}, module {module}, key {key}, delivery {delivery}")
 }
 
-/// A module as a shot holds it.
+/// A module as a shot holds it, with the identification of the DII that lists it.
 fn held_text(alloc: Global, held: &Held) -> Result<String, AllocError> {
-    let id = held.line.id;
+    let (dii, id) = (held.identification, held.line.id);
     match &held.module {
         Some(module) => {
             let size = module.bytes().len();
-            format!(in alloc; ", module {id} whole {size}")
+            format!(in alloc; ", DII {dii} module {id} whole {size}")
         }
-        None => format!(in alloc; ", module {id} not whole"),
+        None => format!(in alloc; ", DII {dii} module {id} not whole"),
     }
 }

@@ -47,6 +47,7 @@ fn held(alloc: Global, content: &[u8]) -> Result<Held, AllocError> {
     };
     match Module::read(alloc, module_bytes(alloc, content)?) {
         Ok(module) => Ok(Held {
+            identification: 1,
             line,
             module: Some(Arc::new(alloc, module)?),
         }),
@@ -71,7 +72,7 @@ fn shot_of(alloc: Global, number: u64, content: &[u8]) -> Result<Arc<Shot>, Allo
         mark: 0,
         epoch: 0,
         label: Some(number),
-        identification: 1,
+        held: vec![in alloc; 1]?,
         gateway: Some(Gateway {
             location,
             delivery: None,

@@ -9,7 +9,7 @@
 //! use section_workers::{NoGate, encode_batch};
 //!
 //! let generation = Generation::first(alloc, 1)?;
-//! let items = [Item::Dsi, Item::Dii, Item::Block(1, 0)];
+//! let items = [Item::Dsi, Item::Dii(1), Item::Block(1, 0)];
 //! let sections = encode_batch(&rt, alloc, &generation, &items, &NoGate)?;
 //! assert_eq!(rt; sections.len(), 3);
 //! assert_eq!(rt; sections[2].as_slice(), generation.section(Item::Block(1, 0))?.as_slice());

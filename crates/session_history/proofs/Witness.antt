@@ -124,7 +124,7 @@ parts = record {
 
 -- the draws, with their generations written out
 abbrev cycle_drawn : GenerationState → List Fate → Drawing
-cycle_drawn g fates = record { generation = g; items = Dsi ∷ Dii ∷ Block 1 0 ∷ []; fates = fates }
+cycle_drawn g fates = record { generation = g; items = Dsi ∷ Dii 1 ∷ Block 1 0 ∷ []; fates = fates }
 
 abbrev drawn : List Drawing
 drawn =

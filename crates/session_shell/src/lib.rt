@@ -27,6 +27,3 @@ mod sessions;
 mod top;
 
 pub use top::{run, run_session};
-
-#[cfg(test)]
-mod tests;

@@ -11,4 +11,6 @@ mod folders;
 #[cfg(test)]
 mod meeting;
 #[cfg(test)]
+mod sessions;
+#[cfg(test)]
 mod stopped;

@@ -1,12 +1,12 @@
 -- What memory is asked for.
-use Rattle.std.proofs.Common.{◌≡◌, ℕ, true, Option, Result, Ok, Err, OnErr, refl}
+use Rattle.std.proofs.Common.{◌≡◌, ℕ, true, Result, Ok, Err, OnErr, refl}
 use Rattle.dsi_dii.specs.Controls.{Message, IsDsi, IsDii}
-use Rattle.module_cache.specs.Held.{TunedState}
+use Rattle.module_cache.specs.Joining.{CacheState}
 use Rattle.tuner_core.specs.Heard.{heard_control}
 use Rattle.tuner_core.specs.Stands.{asks}
 
 -- for each control section
-pub asks_control : (held : Option TunedState) (r : Result Message ℕ) → asks held (heard_control r) ≡ true
+pub asks_control : (held : CacheState) (r : Result Message ℕ) → asks held (heard_control r) ≡ true
 asks_control held (Ok (IsDsi d)) = refl
 asks_control held (Ok (IsDii d)) = refl
 asks_control held (Err place) = refl

@@ -1,85 +1,171 @@
--- The spans are cuts of the list that was heard.
-use Rattle.std.proofs.Common.{ℕ, ◌≡◌, Bool, true, false, eqb, List, [], ◌∷◌, ◌++◌, None, refl, sym, ap, ◌∙◌, append_assoc, append-nil}
-use Rattle.std.specs.List.{filter, filter_map, fold, cons_option}
-use Rattle.std.proofs.lemmas.Bool.{cond-false, eqb-true}
+-- The spans are cuts of the list that was heard, and those that join a turn are found in its span looking forward.
+use Rattle.std.proofs.Common.{ℕ, ◌≡◌, Bool, true, false, cond, eqb, ◌&&◌, List, [], ◌∷◌, ◌++◌, map, Option, Some, None, refl, sym, ap, ◌∙◌, append_assoc, append-nil}
+use Rattle.std.specs.List.{filter_map, fold, cons_option}
+use Rattle.std.proofs.lemmas.Bool.{cond-false}
 use Rattle.dsi_dii.specs.Controls.{DiiFields}
+use Rattle.module_cache.specs.Joining.{Outline, outline}
+use Rattle.module_cache.specs.Turns.{admitted, heard_by, continued, with_joined}
 use Rattle.tuner_core.specs.Heard.{Heard, Skipped, NoControl, NoBlock, ADsi, ADii, ABlock}
 use Rattle.tuner_core.specs.Said.{is_sound, sound_in}
-use Rattle.tuner_core.specs.Spans.{Span, spans, span_after, within, is_near, version, identification, turning_after, turning_of, same_identification, or_first, from_first, put_together, openings, AreSpansOf, SpansAreOfTheList}
+use Rattle.tuner_core.specs.Spans.{Span, is_near, version, turning_after, turning_of, or_first, from_first, put_together, openings}
+use Rattle.tuner_core.specs.Turns.{Turn, turnings, outlines, is_room, turn_after, turns_of, dii_after, joining_by, joining_in, AreJoined, SpansAreOfTheList}
 
--- the DIIs of one identification that turn after a version
-abbrev turn_on : ℕ → ℕ → List Heard → List DiiFields
-turn_on last id hs = turning_after last (filter (λ e. eqb (identification e) id) (filter_map sound_in hs))
+-- ---- those that join, with something more at the end
 
--- ---- within a span
+-- the last that is heard joins
+abbrev joined_last : List Outline → ℕ → Bool → Option DiiFields → List Span
+joined_last os v kept (Some d) = cond (eqb (version d) v && is_room os d) (record { dii = d; kept = kept; since = [] } ∷ []) []
+joined_last os v kept None = []
 
--- after the newest span
-pub record Goes (s : Span) (ss : List Span) (hs : List Heard) : Type 0 where
-  pub cut : openings (fold span_after (s ∷ ss) hs) ≡ openings (s ∷ ss) ++ turn_on (version s.dii) (identification s.dii) hs
-  pub whole : put_together (fold span_after (s ∷ ss) hs) ≡ put_together (s ∷ ss) ++ hs
+abbrev Grows : Heard → List Outline → ℕ → Bool → List Span → List Span → Type 0
+Grows h os v kept more js = more ≡ map (heard_by h) js ++ joined_last (os ++ outlines js) v kept (sound_in h)
 
-longer : (s : Span) (ss : List Span) (h : Heard) (hs : List Heard) → put_together (within (s ∷ ss) h) ++ hs ≡ put_together (s ∷ ss) ++ h ∷ hs
-longer s ss h hs =
-    let one : ADii s.dii ∷ (s.since ++ h ∷ []) ≡ (ADii s.dii ∷ s.since) ++ h ∷ [] = refl in
-    ap (λ xs. xs ++ hs) (sym (append_assoc (put_together ss) (ADii s.dii ∷ s.since) (h ∷ [])))
-    ∙ append_assoc (put_together ss ++ ADii s.dii ∷ s.since) (h ∷ []) hs
+abbrev as_span : DiiFields → Bool → List Heard → Span
+as_span d kept since = record { dii = d; kept = kept; since = since }
 
-passed : (s : Span) (ss : List Span) (h : Heard) (hs : List Heard) → sound_in h ≡ None → span_after (s ∷ ss) h ≡ within (s ∷ ss) h
-    → Goes (record { dii = s.dii; kept = s.kept; since = s.since ++ h ∷ [] }) ss hs → Goes s ss (h ∷ hs)
-passed s ss h hs e f g = record {
-  cut = ap (λ xs. openings (fold span_after xs hs)) f ∙ g.cut
-      ∙ ap (λ o. openings (s ∷ ss) ++ turning_after (version s.dii) (filter (λ e. eqb (identification e) (identification s.dii)) (cons_option o (filter_map sound_in hs)))) (sym e);
-  whole = ap (λ xs. put_together (fold span_after xs hs)) f ∙ g.whole ∙ longer s ss h hs;
+joining_more : (hs : List Heard) (h : Heard) (os : List Outline) (v : ℕ) (kept : Bool) → Grows h os v kept (joining_in os v kept (hs ++ h ∷ [])) (joining_in os v kept hs)
+joining_more [] h os v kept = alone (sound_in h) ∙ ap (λ xs. joined_last xs v kept (sound_in h)) (sym (append-nil os)) where
+  alone : (o : Option DiiFields) → joining_by os v kept [] o [] (λ d. []) ≡ joined_last os v kept o
+  alone (Some d) = refl
+  alone None = refl
+joining_more (x ∷ hs) h os v kept = go (sound_in x) (joining_more hs h os v kept) (λ d. joining_more hs h (os ++ outline d ∷ []) v kept) where
+  go : (o : Option DiiFields) → Grows h os v kept (joining_in os v kept (hs ++ h ∷ [])) (joining_in os v kept hs)
+      → ((d : DiiFields) → Grows h (os ++ outline d ∷ []) v kept (joining_in (os ++ outline d ∷ []) v kept (hs ++ h ∷ [])) (joining_in (os ++ outline d ∷ []) v kept hs))
+      → Grows h os v kept (joining_by os v kept (hs ++ h ∷ []) o (joining_in os v kept (hs ++ h ∷ [])) (λ d. joining_in (os ++ outline d ∷ []) v kept (hs ++ h ∷ [])))
+      (joining_by os v kept hs o (joining_in os v kept hs) (λ d. joining_in (os ++ outline d ∷ []) v kept hs))
+  go None rest next = rest
+  go (Some d) rest next = by (eqb (version d) v && is_room os d) rest (next d) where
+    by : (t : Bool) → Grows h os v kept (joining_in os v kept (hs ++ h ∷ [])) (joining_in os v kept hs)
+        → Grows h (os ++ outline d ∷ []) v kept (joining_in (os ++ outline d ∷ []) v kept (hs ++ h ∷ [])) (joining_in (os ++ outline d ∷ []) v kept hs)
+        → Grows h os v kept (cond t (as_span d kept (hs ++ h ∷ []) ∷ joining_in (os ++ outline d ∷ []) v kept (hs ++ h ∷ [])) (joining_in os v kept (hs ++ h ∷ [])))
+        (cond t (as_span d kept hs ∷ joining_in (os ++ outline d ∷ []) v kept hs) (joining_in os v kept hs))
+    by false rest next = rest
+    by true rest next =
+        ap (λ js. as_span d kept (hs ++ h ∷ []) ∷ js) next
+        ∙ ap (λ xs. as_span d kept (hs ++ h ∷ []) ∷ (map (heard_by h) (joining_in (os ++ outline d ∷ []) v kept hs) ++ joined_last xs v kept (sound_in h)))
+        (append_assoc os (outline d ∷ []) (outlines (joining_in (os ++ outline d ∷ []) v kept hs)))
+
+-- ---- one candidate more
+
+joined_grows : (t : Turn) (ts : List Turn) (h : Heard) → AreJoined (t ∷ ts)
+    → Grows h (outline t.turning.dii ∷ []) (version t.turning.dii) t.turning.kept (joining_in (outline t.turning.dii ∷ []) (version t.turning.dii) t.turning.kept (t.turning.since ++ h ∷ [])) t.joined
+joined_grows t ts h a =
+    joining_more t.turning.since h (outline t.turning.dii ∷ []) (version t.turning.dii) t.turning.kept
+    ∙ ap (λ js. map (heard_by h) js ++ joined_last (outline t.turning.dii ∷ outlines js) (version t.turning.dii) t.turning.kept (sound_in h)) (sym a.0)
+
+passed_joined : (t : Turn) (ts : List Turn) (h : Heard) → joined_last (outlines (admitted t)) (version t.turning.dii) t.turning.kept (sound_in h) ≡ [] → AreJoined (t ∷ ts) → AreJoined (continued (t ∷ ts) h)
+passed_joined t ts h e a = (sym (joined_grows t ts h a ∙ ap (λ js. map (heard_by h) t.joined ++ js) e ∙ append-nil (map (heard_by h) t.joined)), a.1)
+
+one_joined : (t : Turn) (ts : List Turn) (d : DiiFields) → joined_last (outlines (admitted t)) (version t.turning.dii) t.turning.kept (sound_in (ADii d)) ≡ as_span d t.turning.kept [] ∷ []
+    → AreJoined (t ∷ ts) → AreJoined (with_joined (continued (t ∷ ts) (ADii d)) d)
+one_joined t ts d e a = (sym (joined_grows t ts (ADii d) a ∙ ap (λ js. map (heard_by (ADii d)) t.joined ++ js) e), a.1)
+
+-- a DII: sound or not, of the version or not, with room for it or not
+dii_joined : (t : Turn) (ts : List Turn) (d : DiiFields) → AreJoined (t ∷ ts) → (s v r : Bool) → is_sound d ≡ s → eqb (version d) (version t.turning.dii) ≡ v → is_room (outlines (admitted t)) d ≡ r
+    → AreJoined (dii_after (t ∷ ts) d)
+dii_joined t ts d a false v r e f g = rw e (passed_joined t ts (ADii d) (rw e refl) a)
+dii_joined t ts d a true false r e f g = rw (e, f) (refl, a)
+dii_joined t ts d a true true true e f g = rw (e, f, g) (one_joined t ts d (rw (e, f, g) refl) a)
+dii_joined t ts d a true true false e f g = rw (e, f, g) (passed_joined t ts (ADii d) (rw (e, f, g) refl) a)
+
+first_joined : (d : DiiFields) (s : Bool) → is_sound d ≡ s → AreJoined (dii_after [] d)
+first_joined d true e = rw e (refl, tt)
+first_joined d false e = rw e tt
+
+continued_joined : (ts : List Turn) (h : Heard) → sound_in h ≡ None → AreJoined ts → AreJoined (continued ts h)
+continued_joined [] h e a = tt
+continued_joined (t ∷ ts) h e a = passed_joined t ts h (ap (joined_last (outlines (admitted t)) (version t.turning.dii) t.turning.kept) e) a
+
+after_joined : (ts : List Turn) (h : Heard) → AreJoined ts → AreJoined (turn_after ts h)
+after_joined [] (ADii d) a = first_joined d (is_sound d) refl
+after_joined (t ∷ ts) (ADii d) a = dii_joined t ts d a (is_sound d) (eqb (version d) (version t.turning.dii)) (is_room (outlines (admitted t)) d) refl refl refl
+after_joined ts (ABlock b) a = continued_joined ts (ABlock b) refl a
+after_joined ts (ADsi d) a = continued_joined ts (ADsi d) refl a
+after_joined ts (Skipped c) a = continued_joined ts (Skipped c) refl a
+after_joined ts (NoControl c) a = continued_joined ts (NoControl c) refl a
+after_joined ts (NoBlock c) a = continued_joined ts (NoBlock c) refl a
+
+all_joined : (ts : List Turn) (hs : List Heard) → AreJoined ts → AreJoined (fold turn_after ts hs)
+all_joined ts [] a = a
+all_joined ts (h ∷ hs) a = all_joined (turn_after ts h) hs (after_joined ts h a)
+
+-- ---- the cuts
+
+-- after the newest turn
+record Goes (t : Turn) (ts : List Turn) (hs : List Heard) : Type 0 where
+  pub cut : openings (turnings (fold turn_after (t ∷ ts) hs)) ≡ openings (turnings (t ∷ ts)) ++ turning_after (version t.turning.dii) (filter_map sound_in hs)
+  pub whole : put_together (turnings (fold turn_after (t ∷ ts) hs)) ≡ put_together (turnings (t ∷ ts)) ++ hs
+
+abbrev as_turn : Heard → Turn → List Span → Turn
+as_turn h t js = record { turning = heard_by h t.turning; joined = js }
+
+longer : (t : Turn) (ts : List Turn) (h : Heard) (js : List Span) (hs : List Heard) → put_together (turnings (as_turn h t js ∷ ts)) ++ hs ≡ put_together (turnings (t ∷ ts)) ++ h ∷ hs
+longer t ts h js hs =
+    ap (λ xs. xs ++ hs) (sym (append_assoc (put_together (turnings ts)) (ADii t.turning.dii ∷ t.turning.since) (h ∷ [])))
+    ∙ append_assoc (put_together (turnings ts) ++ ADii t.turning.dii ∷ t.turning.since) (h ∷ []) hs
+
+-- what doesn't turn
+stays_in : (t : Turn) (ts : List Turn) (h : Heard) (js : List Span) (hs : List Heard) → turn_after (t ∷ ts) h ≡ as_turn h t js ∷ ts
+    → turning_after (version t.turning.dii) (cons_option (sound_in h) (filter_map sound_in hs)) ≡ turning_after (version t.turning.dii) (filter_map sound_in hs)
+    → Goes (as_turn h t js) ts hs → Goes t ts (h ∷ hs)
+stays_in t ts h js hs e f g = record {
+  cut = ap (λ us. openings (turnings (fold turn_after us hs))) e ∙ g.cut ∙ ap (λ ds. openings (turnings (t ∷ ts)) ++ ds) (sym f);
+  whole = ap (λ us. put_together (turnings (fold turn_after us hs))) e ∙ g.whole ∙ longer t ts h js hs;
 }
 
--- a DII: sound or not, of the identification or not, of the version or not
-by_dii : (s : Span) (ss : List Span) (d : DiiFields) (hs : List Heard) → ((u : Span) (us : List Span) → Goes u us hs)
-    → (a b c : Bool) → is_sound d ≡ a → eqb (identification d) (identification s.dii) ≡ b → eqb (version d) (version s.dii) ≡ c → Goes s ss (ADii d ∷ hs)
-by_dii s ss d hs rest false b c e f g = passed s ss (ADii d) hs (cond-false _ _ _ e) (rw e refl) (rest _ _)
-by_dii s ss d hs rest true false c e f g = record {
-  cut = rw (e, f) (rest (record { dii = s.dii; kept = s.kept; since = s.since ++ ADii d ∷ [] }) ss).cut;
-  whole = rw (e, f) ((rest (record { dii = s.dii; kept = s.kept; since = s.since ++ ADii d ∷ [] }) ss).whole ∙ longer s ss (ADii d) hs);
-}
-by_dii s ss d hs rest true true true e f g = record {
-  cut = rw (e, f, g) (rest (record { dii = s.dii; kept = s.kept; since = s.since ++ ADii d ∷ [] }) ss).cut;
-  whole = rw (e, f, g) ((rest (record { dii = s.dii; kept = s.kept; since = s.since ++ ADii d ∷ [] }) ss).whole ∙ longer s ss (ADii d) hs);
-}
-by_dii s ss d hs rest true true false e f g = record {
-  cut = rw (e, f, g) ((rest (record { dii = d; kept = is_near (s ∷ ss) d; since = [] }) (s ∷ ss)).cut ∙ turned_on);
-  whole = rw (e, f, g) ((rest (record { dii = d; kept = is_near (s ∷ ss) d; since = [] }) (s ∷ ss)).whole ∙ append_assoc (put_together (s ∷ ss)) (ADii d ∷ []) hs);
-} where
-  turned_on : openings (record { dii = d; kept = is_near (s ∷ ss) d; since = [] } ∷ s ∷ ss) ++ turn_on (version d) (identification d) hs ≡ openings (s ∷ ss) ++ d ∷ turn_on (version d) (identification s.dii) hs
-  turned_on =
-      append_assoc (openings (s ∷ ss)) (d ∷ []) (turn_on (version d) (identification d) hs)
-      ∙ ap (λ id. openings (s ∷ ss) ++ d ∷ turn_on (version d) id hs) (eqb-true _ _ f)
+abbrev new_turn : DiiFields → Bool → Turn
+new_turn d kept = record { turning = as_span d kept []; joined = [] }
 
-goes : (s : Span) (ss : List Span) (hs : List Heard) → Goes s ss hs
-goes s ss [] = record { cut = sym (append-nil (openings (s ∷ ss))); whole = sym (append-nil (put_together (s ∷ ss))) }
-goes s ss (ADii d ∷ hs) = by_dii s ss d hs (λ u us. goes u us hs) (is_sound d) (eqb (identification d) (identification s.dii)) (eqb (version d) (version s.dii)) refl refl refl
-goes s ss (ABlock b ∷ hs) = passed s ss (ABlock b) hs refl refl (goes _ _ hs)
-goes s ss (ADsi d ∷ hs) = passed s ss (ADsi d) hs refl refl (goes _ _ hs)
-goes s ss (Skipped c ∷ hs) = passed s ss (Skipped c) hs refl refl (goes _ _ hs)
-goes s ss (NoControl c ∷ hs) = passed s ss (NoControl c) hs refl refl (goes _ _ hs)
-goes s ss (NoBlock c ∷ hs) = passed s ss (NoBlock c) hs refl refl (goes _ _ hs)
+-- a DII: sound or not, of the version or not, with room for it or not
+by_dii : (t : Turn) (ts : List Turn) (d : DiiFields) (hs : List Heard) → ((u : Turn) (us : List Turn) → Goes u us hs)
+    → (s v r : Bool) → is_sound d ≡ s → eqb (version d) (version t.turning.dii) ≡ v → is_room (outlines (admitted t)) d ≡ r → Goes t ts (ADii d ∷ hs)
+by_dii t ts d hs rest false v r e f g = stays_in t ts (ADii d) (map (heard_by (ADii d)) t.joined) hs (rw e refl) (rw e refl) (rest _ _)
+by_dii t ts d hs rest true true true e f g =
+    stays_in t ts (ADii d) (map (heard_by (ADii d)) t.joined ++ as_span d t.turning.kept [] ∷ []) hs (rw (e, f, g) refl) (rw (e, f) refl) (rest _ _)
+by_dii t ts d hs rest true true false e f g = stays_in t ts (ADii d) (map (heard_by (ADii d)) t.joined) hs (rw (e, f, g) refl) (rw (e, f) refl) (rest _ _)
+by_dii t ts d hs rest true false r e f g =
+    let opened : turn_after (t ∷ ts) (ADii d) ≡ new_turn d (is_near (turnings (t ∷ ts)) d) ∷ t ∷ ts = rw (e, f) refl in
+    let said : turning_after (version t.turning.dii) (cons_option (sound_in (ADii d)) (filter_map sound_in hs)) ≡ d ∷ turning_after (version d) (filter_map sound_in hs) = rw (e, f) refl in
+    let g = rest (new_turn d (is_near (turnings (t ∷ ts)) d)) (t ∷ ts) in
+    record {
+      cut = ap (λ us. openings (turnings (fold turn_after us hs))) opened ∙ g.cut ∙ append_assoc (openings (turnings (t ∷ ts))) (d ∷ []) (turning_after (version d) (filter_map sound_in hs))
+          ∙ ap (λ ds. openings (turnings (t ∷ ts)) ++ ds) (sym said);
+      whole = ap (λ us. put_together (turnings (fold turn_after us hs))) opened ∙ g.whole ∙ append_assoc (put_together (turnings (t ∷ ts))) (ADii d ∷ []) hs;
+    }
+
+goes : (t : Turn) (ts : List Turn) (hs : List Heard) → Goes t ts hs
+goes t ts [] = record { cut = sym (append-nil (openings (turnings (t ∷ ts)))); whole = sym (append-nil (put_together (turnings (t ∷ ts)))) }
+goes t ts (ADii d ∷ hs) =
+    by_dii t ts d hs (λ u us. goes u us hs) (is_sound d) (eqb (version d) (version t.turning.dii)) (is_room (outlines (admitted t)) d) refl refl refl
+goes t ts (ABlock b ∷ hs) = stays_in t ts (ABlock b) (map (heard_by (ABlock b)) t.joined) hs refl refl (goes _ _ hs)
+goes t ts (ADsi d ∷ hs) = stays_in t ts (ADsi d) (map (heard_by (ADsi d)) t.joined) hs refl refl (goes _ _ hs)
+goes t ts (Skipped c ∷ hs) = stays_in t ts (Skipped c) (map (heard_by (Skipped c)) t.joined) hs refl refl (goes _ _ hs)
+goes t ts (NoControl c ∷ hs) = stays_in t ts (NoControl c) (map (heard_by (NoControl c)) t.joined) hs refl refl (goes _ _ hs)
+goes t ts (NoBlock c ∷ hs) = stays_in t ts (NoBlock c) (map (heard_by (NoBlock c)) t.joined) hs refl refl (goes _ _ hs)
+
+record Cuts (hs : List Heard) : Type 0 where
+  pub whole : put_together (turnings (turns_of hs)) ≡ from_first hs
+  pub cut : openings (turnings (turns_of hs)) ≡ turning_of (filter_map sound_in hs)
 
 -- before the first sound DII
-nothing_yet : (h : Heard) (hs : List Heard) → sound_in h ≡ None → span_after [] h ≡ [] → AreSpansOf hs (spans hs) → AreSpansOf (h ∷ hs) (spans (h ∷ hs))
+nothing_yet : (h : Heard) (hs : List Heard) → sound_in h ≡ None → turn_after [] h ≡ [] → Cuts hs → Cuts (h ∷ hs)
 nothing_yet h hs e f a = record {
-  whole = ap (λ xs. put_together (fold span_after xs hs)) f ∙ a.whole ∙ ap (λ o. or_first o (h ∷ hs) (from_first hs)) (sym e);
-  cut = ap (λ xs. openings (fold span_after xs hs)) f ∙ a.cut ∙ ap (λ o. turning_of (same_identification (cons_option o (filter_map sound_in hs)))) (sym e);
+  whole = ap (λ us. put_together (turnings (fold turn_after us hs))) f ∙ a.whole ∙ ap (λ o. or_first o (h ∷ hs) (from_first hs)) (sym e);
+  cut = ap (λ us. openings (turnings (fold turn_after us hs))) f ∙ a.cut ∙ ap (λ o. turning_of (cons_option o (filter_map sound_in hs))) (sym e);
 }
 
-first_dii : (d : DiiFields) (hs : List Heard) → AreSpansOf hs (spans hs) → (b : Bool) → is_sound d ≡ b → AreSpansOf (ADii d ∷ hs) (spans (ADii d ∷ hs))
+first_dii : (d : DiiFields) (hs : List Heard) → Cuts hs → (b : Bool) → is_sound d ≡ b → Cuts (ADii d ∷ hs)
 first_dii d hs a false e = nothing_yet (ADii d) hs (cond-false _ _ _ e) (rw e refl) a
-first_dii d hs a true e =
-    let g = goes (record { dii = d; kept = false; since = [] }) [] hs in
-    record { whole = rw e g.whole; cut = rw e g.cut }
+first_dii d hs a true e = let g = goes (new_turn d false) [] hs in record { whole = rw e g.whole; cut = rw e g.cut }
+
+cuts : (hs : List Heard) → Cuts hs
+cuts [] = record { whole = refl; cut = refl }
+cuts (ADii d ∷ hs) = first_dii d hs (cuts hs) (is_sound d) refl
+cuts (ABlock b ∷ hs) = nothing_yet (ABlock b) hs refl refl (cuts hs)
+cuts (ADsi d ∷ hs) = nothing_yet (ADsi d) hs refl refl (cuts hs)
+cuts (Skipped c ∷ hs) = nothing_yet (Skipped c) hs refl refl (cuts hs)
+cuts (NoControl c ∷ hs) = nothing_yet (NoControl c) hs refl refl (cuts hs)
+cuts (NoBlock c ∷ hs) = nothing_yet (NoBlock c) hs refl refl (cuts hs)
 
 pub spans_are : SpansAreOfTheList
-spans_are [] = record { whole = refl; cut = refl }
-spans_are (ADii d ∷ hs) = first_dii d hs (spans_are hs) (is_sound d) refl
-spans_are (ABlock b ∷ hs) = nothing_yet (ABlock b) hs refl refl (spans_are hs)
-spans_are (ADsi d ∷ hs) = nothing_yet (ADsi d) hs refl refl (spans_are hs)
-spans_are (Skipped c ∷ hs) = nothing_yet (Skipped c) hs refl refl (spans_are hs)
-spans_are (NoControl c ∷ hs) = nothing_yet (NoControl c) hs refl refl (spans_are hs)
-spans_are (NoBlock c ∷ hs) = nothing_yet (NoBlock c) hs refl refl (spans_are hs)
+spans_are hs = let c = cuts hs in record { whole = c.whole; cut = c.cut; joined = all_joined [] hs tt }

@@ -1,8 +1,8 @@
 -- The gateway after one more candidate.
-use Rattle.std.proofs.Common.{ℕ, ◌≡◌, Bool, true, false, List, [], ◌∷◌, Option, Some, None, refl, ap, subst, ◌∙◌}
+use Rattle.std.proofs.Common.{ℕ, ◌≡◌, Bool, true, false, List, Option, Some, None, refl, ap, subst, ◌∙◌}
 use Rattle.std.specs.Option.{option_map}
 use Rattle.std.proofs.lemmas.Bool.{cond-true, cond-false, eqb-true, eq-eqb, and_parts, and_from, both_ways}
-use Rattle.path_tree.specs.Paths.{Bytes, same_name}
+use Rattle.path_tree.specs.Paths.{Bytes}
 use Rattle.path_tree.proofs.CallerLemmas.{same_name-is, same_name-refl}
 use Rattle.ior_tap.specs.Iors.{TapFields, biop_of_profiles, delivery_of_taps}
 use Rattle.ior_tap.specs.declared.Location.{Location}

@@ -1,8 +1,13 @@
 pub mod Lists
 pub mod Gateways
-pub mod Cutting
+pub mod Ruling
+pub mod Changing
 pub mod Turning
-pub mod Stepping
+pub mod Distinct
+pub mod Cutting
 pub mod Asking
 pub mod Answering
+pub mod Showing
+pub mod Stepping
+pub mod CallerLemmas
 mod Rows

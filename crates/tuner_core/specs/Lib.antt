@@ -3,6 +3,7 @@ pub mod Hearing
 pub mod Limits
 pub mod Said
 pub mod Spans
+pub mod Turns
 pub mod LookBack
 pub mod Stands
 pub mod Answers

@@ -6,7 +6,7 @@ ghost use Rattle.dsi_dii.specs.ControlReading as controls;
 ghost use Rattle.tuner_core.specs.Heard.{as_heard, heard_control, heard_block};
 ghost use Rattle.tuner_core.specs.Hearing.{view_told};
 ghost use Rattle.tuner_core.specs.Stands.{asks};
-ghost use Rattle.module_cache.specs.Held.{TunedState};
+ghost use Rattle.module_cache.specs.Joining.{CacheState};
 
 use ddb_block::{Parts, parts_of};
 use dsi_dii::{Control, ControlFault, Dii, Dsi};
@@ -31,7 +31,7 @@ pub enum Told<'a> {
 #[tactic(auto, using(crate::proofs::Asking::asks_control))]
 fn control_of(alloc: Global, payload: &[u8]) -> Result<Told<'_>, NoMemory>
     ensures says { IfOk result (λ t. view_told t ≡ heard_control (controls.read payload.now)) }
-    ensures memory { (held : Option TunedState) → IsTrue (asks held (heard_control (controls.read payload.now))) }
+    ensures memory { (held : CacheState) → IsTrue (asks held (heard_control (controls.read payload.now))) }
 {
     match dsi_dii::decode(alloc, payload) {
         Ok(Control::Dsi(d)) => Ok(Told::Dsi(d)),
@@ -53,7 +53,7 @@ fn block_of(payload: &[u8]) -> Told<'_>
 /// What a candidate says. Only a control message takes memory.
 pub fn hear(alloc: Global, candidate: &[u8]) -> Result<Told<'_>, NoMemory>
     ensures says { IfOk result (λ t. view_told t ≡ as_heard candidate.now) }
-    ensures memory { OnErr result ((held : Option TunedState) → IsTrue (asks held (as_heard candidate.now))) }
+    ensures memory { OnErr result ((held : CacheState) → IsTrue (asks held (as_heard candidate.now))) }
 {
     match payload_of(candidate) {
         Ok((Table::Control, payload)) => control_of(alloc, payload),

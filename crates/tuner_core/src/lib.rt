@@ -1,7 +1,9 @@
 //! The receiver of one carousel: from candidates for sections to what is held of the modules, and shots of it.
 //!
-//! The receiver follows one generation after another. A DII (ISO/IEC 13818-6, DownloadInfoIndication) of another version than
-//! the held one takes its place, and what is there of a module stays where both describe the module in the same way.
+//! The receiver follows one generation after another. A generation is described by one to 16 DIIs (ISO/IEC 13818-6,
+//! DownloadInfoIndication) of one version, each of an identification of its own. The first of another version takes the place of all
+//! that are held, and those that follow join it. What is there of a module stays where the DIIs of its identification, before and
+//! after, describe the module in the same way. (These rules are this project's own.)
 //!
 //! ```
 //! use path_resolver::{Answer, resolve};
@@ -26,7 +28,7 @@ mod told;
 mod tuner;
 mod turns;
 
-pub use laws::spans_are_of_the_list;
+pub use laws::{held_looks_back, spans_are_of_the_list};
 pub use module_cache::Taken;
 pub use told::{Cause, Fed};
 pub use tuner::Tuner;

@@ -21,14 +21,14 @@ pub enum Cause {
     /// A DSI with the gateway that is held.
     #[error("the DSI has the gateway that is held")]
     SameDsi,
-    /// A DII of identification 0, or of another one than the first DII that was held.
-    #[error("the DII has another identification")]
+    /// A DII of identification 0, or one of the held version beside 16 DIIs of other identifications.
+    #[error("the DII has identification 0, or 16 others are held")]
     OtherDii,
-    /// A DII that breaks a limit of the receiver, or that lists a module twice.
+    /// A DII that breaks a limit of the receiver or lists a module twice, by itself or beside the held DIIs of its version.
     #[error("the DII breaks a limit of the receiver or lists a module twice")]
     DiiOverLimit,
-    /// A DII of the version that is held. It changes nothing, whatever it lists.
-    #[error("the DII has the version that is held")]
+    /// A DII of the held version, of an identification that is held. It changes nothing, whatever it lists.
+    #[error("the DII has a version and an identification that are held")]
     SameDii,
     /// A block message that wasn't taken; never `New`.
     #[error("the block was not taken: {0}")]

@@ -1,18 +1,19 @@
 ghost use Rattle.std.specs.Prelude.{◌≡◌, ◌≢◌, ◌↔◌, ◌++◌, ◌∷◌, [], List, map, IsTrue, IfOk, OnOk, OnErr};
 ghost use Rattle.std.specs.Arc.{arc_value};
+ghost use Rattle.std.specs.List.{flat_map};
 ghost use Rattle.path_tree.specs.Paths.{Bytes};
 ghost use Rattle.path_resolver.specs.Shots as shots;
 ghost use Rattle.module_cache.specs.Contents.{bytes_of};
 ghost use Rattle.tuner_core.specs.Answers.{fed_after};
 ghost use Rattle.tuner_core.specs.Heard.{as_heard};
-ghost use Rattle.tuner_core.specs.Spans.{snapshot_after};
-ghost use Rattle.tuner_core.specs.Stands.{StandsFor, fresh, step, with_next_mark, after_heard, asks, snapshot_of};
+ghost use Rattle.tuner_core.specs.Stands.{StandsFor, fresh, step, with_next_mark, after_heard, asks, modules_of, snapshot_of};
+ghost use Rattle.tuner_core.specs.Turns.{snapshot_after};
 
 use crate::gateway::{copy_of_held, take_dsi};
 use crate::hearing::{Told, hear};
 use crate::told::{Cause, Fed};
 use crate::turns::{Turns, take_block, take_dii};
-use module_cache::{Cache, Line, Slot};
+use module_cache::{Cache, Line, Slot, Tuned};
 use oc_bytes::NoMemory;
 use path_resolver::{Gateway, Held, Shot};
 use std::alloc::Global;
@@ -24,8 +25,14 @@ use std::sync::Arc;
 /// It is fed candidates: what a demultiplexer took for sections. Contracts see what it holds, and the relation `StandsFor`
 /// says of which candidates that is what looking back over all of them gives.
 ///
-/// It follows one generation after another: a DII of the first one's identification and of another version than the held one
-/// turns, and is held from then on.
+/// It holds up to 16 DIIs of one version, each of an identification of its own, with what came of the modules that they list, and
+/// the gateway of the last DSI that has one. A DII of another version turns: it takes the place of all that are held. What came of
+/// their modules then waits for the DII of the same identification, up to the next turn.
+///
+/// The memory of what is held is bounded, whatever comes. No two held DIIs list the same module, and their modules have at most
+/// 268,435,456 bytes together. What waits are modules of DIIs that were held before the last turn, so the same bounds hold of it, and
+/// each turn drops what waited before. Where DIIs of two versions alternate, each of them turns, and no more than the modules of one
+/// version wait beside those of the other.
 #[derive(Drop)]
 pub struct Tuner {
     alloc: Global,
@@ -45,28 +52,51 @@ impl Model for Tuner {
 }
 
 /// The line of a shot. A module is shared where it is whole.
-fn held_line(line: &Line) -> Result<Held, NoMemory>
-    ensures { IfOk result (λ h. shots.view_held h ≡ record { line = line.now.line; bytes = bytes_of line.now.stored.content }) }
+fn held_line(identification: u16, line: &Line) -> Result<Held, NoMemory>
+    ensures { IfOk result (λ h. shots.view_held h ≡ record { identification = identification; line = line.now.line; bytes = bytes_of line.now.stored.content }) }
 {
     let module = match line.stored.slot() {
         Slot::Whole(module) => Some(Arc::try_clone(module)?),
         _ => None,
     };
     Ok(Held {
+        identification,
         line: line.line,
         module,
     })
 }
 
-/// The table of a shot.
-fn table_of(alloc: Global, lines: &[Line]) -> Result<Vec<Held>, NoMemory>
-    ensures { IfOk result (λ v. map shots.view_held v.items ≡ map (λ x. record { line = x.line; bytes = bytes_of x.stored.content }) lines.now) }
+/// Appends the lines of a DII to the table of a shot.
+fn put_lines(table: &mut Vec<Held>, tuned: &Tuned) -> Result<(), NoMemory>
+    ensures { OnOk result (map shots.view_held table.new.items ≡ map shots.view_held table.old.items ++ modules_of tuned.now) }
 {
-    let mut table = Vec::with_capacity(alloc, lines.len())?;
-    for line in lines {
-        table.push(held_line(line)?)?;
+    let identification = tuned.identification();
+    for line in tuned.lines() {
+        table.push(held_line(identification, line)?)?;
+    }
+    Ok(())
+}
+
+/// The table of a shot.
+fn table_of(alloc: Global, held: &[Tuned]) -> Result<Vec<Held>, NoMemory>
+    ensures { IfOk result (λ v. map shots.view_held v.items ≡ flat_map modules_of held.now) }
+{
+    let mut table = Vec::new(alloc);
+    for tuned in held {
+        put_lines(&mut table, tuned)?;
     }
     Ok(table)
+}
+
+/// The identifications of the held DIIs.
+fn identifications_of(alloc: Global, held: &[Tuned]) -> Result<Vec<u16>, NoMemory>
+    ensures { IfOk result (λ v. v.items ≡ map (λ u. u.identification) held.now) }
+{
+    let mut identifications = Vec::with_capacity(alloc, held.len())?;
+    for tuned in held {
+        identifications.push(tuned.identification())?;
+    }
+    Ok(identifications)
 }
 
 impl Tuner {
@@ -90,9 +120,9 @@ impl Tuner {
     /// What a candidate changes, but for the count of candidates.
     fn take(&mut self, candidate: &[u8]) -> Result<Fed, NoMemory>
         ensures answer { IfOk result (λ fed. (self.new, fed) ≡ after_heard self.old (as_heard candidate.now)) }
-        ensures changed { IfOk result (λ fed. fed ≡ Fed.Changed → self.new.gateway ≡ self.old.gateway → self.new.held ≡ self.old.held → ⊥) }
+        ensures changed { IfOk result (λ fed. fed ≡ Fed.Changed → self.new.gateway ≡ self.old.gateway → self.new.cache ≡ self.old.cache → ⊥) }
         ensures err { OnErr result (self.new ≡ self.old) }
-        ensures memory { OnErr result (IsTrue (asks self.old.held (as_heard candidate.now))) }
+        ensures memory { OnErr result (IsTrue (asks self.old.cache (as_heard candidate.now))) }
     {
         match hear(self.alloc, candidate)? {
             Told::Skipped(skip) => Ok(Fed::Nothing(Cause::Section(skip))),
@@ -115,15 +145,28 @@ impl Tuner {
     ///
     /// The answer is the first of these that holds. A candidate that is no section is `Section`; one of table 0x3B that holds no
     /// control message `NotControl`. A DSI is `NoGateway` where its IOR has no BIOP profile, `SameDsi` where that is the held
-    /// gateway, and else `Changed`. A DII is `OtherDii` where its identification is 0 or isn't that of the first DII that was
-    /// held, `DiiOverLimit` where it breaks a limit, `SameDii` where it is of the held version, and else it turns: `Changed`. A
-    /// section of table 0x3C that holds no block message is `NotDdb`; a block that is taken is `Changed`, and any other `Block`
-    /// with what became of it.
+    /// gateway, and else `Changed`. A section of table 0x3C that holds no block message is `NotDdb`; a block that is taken is
+    /// `Changed`, and any other `Block` with what became of it. Of a DII the first of these holds:
     ///
-    /// The first DII that turns sets the label to its version, 0 to 16,383, and each later one adds its distance from the version
-    /// held before, 1 to 16,383. Below a distance of 256 what is there of a module stays, whole or in part, where both DIIs
-    /// describe it in the same way; from 256 on all is dropped, and the epoch rises by one. Label and epoch stay at the greatest
-    /// u64. (These rules are this project's own.)
+    /// 1. `OtherDii` where its identification is 0.
+    /// 2. `DiiOverLimit` where it breaks a limit by itself: a block size of 0 or above 4,066 bytes, a module of more than 16,842,752
+    ///    bytes or 65,536 blocks, more than 268,435,456 bytes in all, or a module that is listed twice.
+    /// 3. It turns where no DII is held, or where its version isn't the held one: `Changed`.
+    /// 4. `SameDii` where a DII of its identification is held, whatever either lists.
+    /// 5. `OtherDii` where 16 DIIs are held.
+    /// 6. `DiiOverLimit` where a held DII lists a module of it, or where the modules of the held DIIs and its own have more than
+    ///    268,435,456 bytes together.
+    /// 7. Else it joins: it is held beside the others, `Changed`.
+    ///
+    /// A DII that turns is held alone from then on. The first sets the label to its version, 0 to 16,383, and each later one adds its
+    /// distance from the version held before, 1 to 16,383. Below a distance of 256 the modules of the DIIs that were held wait, each
+    /// under its DII's identification; from 256 on they are dropped, and the epoch rises by one. What waited before is dropped
+    /// by every turn. Label and epoch stay at the greatest u64, and a DII that joins changes neither.
+    ///
+    /// A DII that turns or joins takes up what waits under its identification. A module stays, whole or in part, exactly where
+    /// both DIIs have the same downloadId and block size and list it with the same version, size and compression. Its other modules
+    /// begin empty, and nothing waits under the identification any more. Of a module that waits no block is taken.
+    /// (These rules are this project's own.)
     ///
     /// `Nothing` comes exactly where what is held doesn't change. Each candidate is counted, up to the greatest u64. `NoMemory`
     /// leaves the receiver as it was; it comes only of sections of table 0x3B, which are read into lists, and of blocks that are
@@ -134,7 +177,7 @@ impl Tuner {
         ensures nothing { IfOk result (λ fed. (fed ≢ Fed.Changed) ↔ (self.new ≡ with_next_mark self.old)) }
         ensures stands { OnOk result ((candidates : List Bytes) → StandsFor self.old candidates → StandsFor self.new (candidates ++ candidate.now ∷ [])) }
         ensures err { OnErr result (self.new ≡ self.old) }
-        ensures memory { OnErr result (IsTrue (asks self.old.held (as_heard candidate.now))) }
+        ensures memory { OnErr result (IsTrue (asks self.old.cache (as_heard candidate.now))) }
     {
         let fed = self.take(candidate)?;
         self.count();
@@ -147,17 +190,15 @@ impl Tuner {
         ensures state { IfOk result (λ s. shots.view s ≡ snapshot_of number draws self.now) }
     {
         let gateway = copy_of_held(self.alloc, &self.gateway)?;
-        let (identification, table) = match self.turns.cache.held() {
-            Some(tuned) => (tuned.identification(), table_of(self.alloc, tuned.lines())?),
-            None => (0, Vec::new(self.alloc)),
-        };
+        let held = identifications_of(self.alloc, self.turns.cache.held())?;
+        let table = table_of(self.alloc, self.turns.cache.held())?;
         Ok(Shot {
             number,
             draws,
             mark: self.mark,
             epoch: self.turns.epoch,
             label: self.turns.label,
-            identification,
+            held,
             gateway,
             table,
         })
@@ -165,8 +206,10 @@ impl Tuner {
 
     /// A shot of what is held, with the number of candidates so far as its mark. The modules are shared and not copied.
     ///
-    /// `number` and `draws` are the caller's own counts, and stand in the shot as they are. The label is the first held version
-    /// plus the distances since, none where no DII is held, and the epoch is the number of turns that dropped all.
+    /// `number` and `draws` are the caller's own counts, and stand in the shot as they are. The label is the version of the first DII
+    /// that turned plus the distances since, none where no DII is held, and the epoch is the number of turns that dropped all. The held
+    /// DIIs are given by their identifications in the order in which they were heard, the one that turned first, and the table has
+    /// their modules in the same order. What waits isn't in it. `NoMemory` says that there was no room for the shot.
     pub fn shot(&self, number: u64, draws: u64) -> Result<Arc<Shot>, NoMemory>
         ensures numbers { IfOk result (λ s. ((arc_value s).number ≡ number) × ((arc_value s).draws ≡ draws)) }
         ensures state { IfOk result (λ s. shots.view (arc_value s) ≡ snapshot_of number draws self.now) }

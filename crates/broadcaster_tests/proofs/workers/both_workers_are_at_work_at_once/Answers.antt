@@ -11,5 +11,5 @@ pub encode_batch-requires-clause-items : goal.encode_batch-requires-clause-items
 unfolding kept_modules
 encode_batch-requires-clause-items g c κs =
     let IsOne : Item → Type 0 = λ item. Contains (items_of (first_of 1)) item in
-    subst (λ s. All (λ item. Contains (items_of s) item) (Dsi ∷ Dii ∷ Block 1 0 ∷ [])) (sym c.in_ok-generation.ensures.first)
-    (All-cons IsOne Dsi (Dii ∷ Block 1 0 ∷ []) (0, lit< tt, refl) (All-cons IsOne Dii (Block 1 0 ∷ []) (1, lit< tt, refl) (All-cons IsOne (Block 1 0) [] (2, lit< tt, refl) (All-nil IsOne))))
+    subst (λ s. All (λ item. Contains (items_of s) item) (Dsi ∷ Dii 1 ∷ Block 1 0 ∷ [])) (sym c.in_ok-generation.ensures.first)
+    (All-cons IsOne Dsi (Dii 1 ∷ Block 1 0 ∷ []) (0, lit< tt, refl) (All-cons IsOne (Dii 1) (Block 1 0 ∷ []) (1, lit< tt, refl) (All-cons IsOne (Block 1 0) [] (2, lit< tt, refl) (All-nil IsOne))))

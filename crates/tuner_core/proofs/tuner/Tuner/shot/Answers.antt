@@ -1,6 +1,6 @@
 use Rattle.std.proofs.Common.{◌∙◌, ap}
 use Rattle.path_resolver.specs.Shots.{view}
-use Rattle.tuner_core.proofs.Stepping.{shot_is}
+use Rattle.tuner_core.proofs.Showing.{shot_is}
 use Rattle.tuner_core.proofs.tuner.Tuner.shot.Goals as goal
 
 pub returns-clause-held : goal.returns-clause-held

@@ -1,19 +1,17 @@
+//! Sessions on running threads, by the call that runs every command.
 ghost use Rattle.std.specs.Prelude.{◌≡◌};
 
-use super::*;
-use carousel_shell::Status;
+use crate::failing::words;
+use crate::meeting::Meeting;
 use cycle_planner::{GREATEST_ID, Weigh};
 use folder_store::MemFolders;
 use oc_bytes::{MemSink, MemSource};
-use section_workers::{Actor, Gate, NoGate};
+use section_workers::{Gate, NoGate};
+use session_shell::run;
 use std::alloc::Global;
 use std::sync::Wait;
-use std::sync::atomic::{AtomicU64, Ordering};
 use std::test::Fail;
 use std::thread::Threads;
-
-/// How often an actor looks for the others.
-const TURNS: u64 = 100_000_000;
 
 /// A file that the first editor takes away and then the second, or the other way round: the second of them finds none.
 const WORKED: &[u8] =
@@ -32,56 +30,6 @@ const SECOND_BEFORE: &[u8] =
 /// Two editors, the feeder and two readers with a step each.
 const MEETING: &[u8] = b"commit 1\ncommit 2\ndraw 3\nopen 1 /\nopen 2 /\n";
 
-/// Each of five actors waits at its first step for the others, and each of two workers for the other one.
-#[derive(Drop)]
-struct Meeting {
-    actors: AtomicU64,
-    first_worker: AtomicU64,
-    second_worker: AtomicU64,
-    late: AtomicU64,
-}
-
-impl Meeting {
-    fn new() -> Meeting {
-        Meeting {
-            actors: AtomicU64::new(0),
-            first_worker: AtomicU64::new(0),
-            second_worker: AtomicU64::new(0),
-            late: AtomicU64::new(0),
-        }
-    }
-
-    /// Comes to a place, and waits until so many came to another one or the same.
-    fn meet(&self, own: &AtomicU64, other: &AtomicU64, all: u64) {
-        own.fetch_add(1, Ordering::SeqCst);
-        for _ in 0..TURNS {
-            if other.load(Ordering::SeqCst) >= all {
-                return;
-            }
-        }
-        self.late.fetch_add(1, Ordering::SeqCst);
-    }
-
-    /// Whether all met, and nobody had to leave before.
-    fn has_met(&self) -> bool {
-        self.actors.load(Ordering::SeqCst) == 5
-            && self.first_worker.load(Ordering::SeqCst) > 0
-            && self.second_worker.load(Ordering::SeqCst) > 0
-            && self.late.load(Ordering::SeqCst) == 0
-    }
-}
-
-impl Gate for Meeting {
-    fn pass(&self, actor: Actor, step: u32) {
-        match (actor, step) {
-            (Actor::Worker(0), _) => self.meet(&self.first_worker, &self.second_worker, 1),
-            (Actor::Worker(_), _) => self.meet(&self.second_worker, &self.first_worker, 1),
-            (_, 0) => self.meet(&self.actors, &self.actors, 5),
-            _ => {}
-        }
-    }
-}
-
 /// The calls of the input and of the output that fail.
 #[derive(Clone, Copy)]
 struct Failing {
@@ -93,6 +41,13 @@ const NONE: Failing = Failing {
     read: None,
     write: None,
 };
+
+/// How a session ended.
+#[derive(Drop)]
+struct Played {
+    code: u8,
+    sink: MemSink,
+}
 
 /// The number of this call, if there is one.
 fn calls(alloc: Global, failing: Option<u64>) -> Result<Vec<u64>, Fail> {
@@ -112,11 +67,8 @@ fn outcome<R: Threads + Wait + Sync, G: Gate>(
     script: &[u8],
     failing: Failing,
     gate: &G,
-) -> Result<(Status, MemSink), Fail> {
-    let mut words = Vec::new(alloc);
-    for word in line.split_whitespace() {
-        words.push(String::from_str(alloc, word)?)?;
-    }
+) -> Result<Played, Fail> {
+    let words = words(alloc, line)?;
     let reads = calls(alloc, failing.read)?;
     let mut source = MemSource::new(Vec::from_slice(alloc, script)?, reads, 20);
     let mut sink = MemSink::new(alloc, calls(alloc, failing.write)?, 100);
@@ -138,7 +90,21 @@ fn outcome<R: Threads + Wait + Sync, G: Gate>(
         gate,
         weigh,
     );
-    Ok((status, sink))
+    let code = status.code();
+    Ok(Played { code, sink })
+}
+
+/// Whether a command ends with this status, and wrote this.
+fn is_played<R: Threads + Wait + Sync>(
+    rt: &R,
+    alloc: Global,
+    line: &str,
+    script: &[u8],
+    code: u8,
+    written: &[u8],
+) -> Result<bool, Fail> {
+    let played = outcome(rt, alloc, line, script, NONE, &NoGate)?;
+    Ok(played.code == code && played.sink.written() == written)
 }
 
 /// Whether this is the report of the worked script.
@@ -152,57 +118,52 @@ fn is_worked(report: &[u8]) -> bool {
 #[test]
 fn scripts_are_played(rt: HostRuntime) -> Result<(), Fail> {
     let alloc = rt.alloc();
-    let (status, sink) = outcome(&rt, alloc, "session", WORKED, NONE, &NoGate)?;
-    assert_eq!(rt; status.code(), 0);
-    assert!(rt; is_worked(sink.written()));
+    let played = outcome(&rt, alloc, "session", WORKED, NONE, &NoGate)?;
+    assert!(rt; played.code == 0);
+    assert!(rt; is_worked(played.sink.written()));
 
-    let rows: [(&str, &[u8], u8, &[u8]); 5] = [
-        ("session", b"", 0, b""),
-        ("session", b"put 1 /x 31\ncommit 1\nopen 1 x\n", 3, b""),
-        ("session 1", WORKED, 2, b""),
-        ("big 0", b"", 2, b""),
-        ("rehearse", b"commit 1\n", 0, b"commit 1 generation 1\n"),
-    ];
-    for (line, script, code, written) in rows {
-        let (status, sink) = outcome(&rt, alloc, line, script, NONE, &NoGate)?;
-        assert_eq!(rt; status.code(), code, "of {line}");
-        assert_eq!(rt; sink.written(), written, "of {line}");
-    }
+    assert!(rt; is_played(&rt, alloc, "session", b"", 0, b"")?);
+    let bad_line = b"put 1 /x 31\ncommit 1\nopen 1 x\n";
+    assert!(rt; is_played(&rt, alloc, "session", bad_line, 3, b"")?);
+    assert!(rt; is_played(&rt, alloc, "session 1", WORKED, 2, b"")?);
+    assert!(rt; is_played(&rt, alloc, "big 0", b"", 2, b"")?);
+    let commit = b"commit 1 generation 1\n";
+    assert!(rt; is_played(&rt, alloc, "rehearse", b"commit 1\n", 0, commit)?);
     Ok(())
+}
+
+/// How the worked script ends where a call of the input, of the output, or of both fails.
+fn failed<R: Threads + Wait + Sync>(
+    rt: &R,
+    alloc: Global,
+    read: Option<u64>,
+    write: Option<u64>,
+) -> Result<Played, Fail> {
+    outcome(
+        rt,
+        alloc,
+        "session",
+        WORKED,
+        Failing { read, write },
+        &NoGate,
+    )
 }
 
 /// The worked script has 111 bytes, so it takes six reads and one at its end; its report takes two writes.
 #[test]
 fn each_failing_call_ends_the_session(rt: HostRuntime) -> Result<(), Fail> {
     let alloc = rt.alloc();
-    for call in 0..7 {
-        let failing = Failing {
-            read: Some(call),
-            write: None,
-        };
-        let (status, sink) = outcome(&rt, alloc, "session", WORKED, failing, &NoGate)?;
-        assert_eq!(rt; status.code(), 4, "of read {call}");
-        assert!(rt; sink.written().is_empty(), "of read {call}");
+    for call in 0..7u64 {
+        let played = failed(&rt, alloc, Some(call), None)?;
+        assert!(rt; played.code == 4 && played.sink.written().is_empty());
     }
-    for call in 0..2 {
-        let failing = Failing {
-            read: None,
-            write: Some(call),
-        };
-        let (status, sink) = outcome(&rt, alloc, "session", WORKED, failing, &NoGate)?;
-        assert_eq!(rt; status.code(), 5, "of write {call}");
-        assert_eq!(rt; sink.written().len() as u64, 100 * call, "of write {call}");
-        assert!(rt;
-            sink.written().starts_with(BEFORE) || call == 0,
-            "of write {call}"
-        );
-    }
-    let failing = Failing {
-        read: Some(7),
-        write: Some(2),
-    };
-    let (status, _sink) = outcome(&rt, alloc, "session", WORKED, failing, &NoGate)?;
-    assert_eq!(rt; status.code(), 0);
+    let first = failed(&rt, alloc, None, Some(0))?;
+    assert!(rt; first.code == 5 && first.sink.written().is_empty());
+    let second = failed(&rt, alloc, None, Some(1))?;
+    assert!(rt; second.code == 5 && second.sink.written().len() == 100);
+    assert!(rt; second.sink.written().starts_with(BEFORE));
+    let neither = failed(&rt, alloc, Some(7), Some(2))?;
+    assert!(rt; neither.code == 0);
     Ok(())
 }
 
@@ -211,47 +172,48 @@ fn each_failing_call_ends_the_session(rt: HostRuntime) -> Result<(), Fail> {
 #[test]
 fn a_generated_session_is_counted(rt: HostRuntime) -> Result<(), Fail> {
     let alloc = rt.alloc();
-    let rows = [
-        (
-            "big 1",
-            b"big 1 editors 1 commits 4 files 32 bytes 280000\n".as_slice(),
-        ),
-        (
-            "big 16",
-            b"big 16 editors 16 commits 64 files 512 bytes 5680000\n".as_slice(),
-        ),
-    ];
-    for (line, counts) in rows {
-        let (status, sink) = outcome(&rt, alloc, line, WORKED, NONE, &NoGate)?;
-        assert_eq!(rt; status.code(), 0, "of {line}");
-        assert_eq!(rt; sink.written(), counts, "of {line}");
-    }
+    let small = b"big 1 editors 1 commits 4 files 32 bytes 280000\n";
+    assert!(rt; is_played(&rt, alloc, "big 1", WORKED, 0, small)?);
+    let large = b"big 16 editors 16 commits 64 files 512 bytes 5680000\n";
+    assert!(rt; is_played(&rt, alloc, "big 16", WORKED, 0, large)?);
 
     let failing = Failing {
         read: Some(0),
         write: Some(0),
     };
-    let (status, sink) = outcome(&rt, alloc, "big 1", b"", failing, &NoGate)?;
-    assert_eq!(rt; status.code(), 5);
-    assert!(rt; sink.written().is_empty());
+    let played = outcome(&rt, alloc, "big 1", b"", failing, &NoGate)?;
+    assert!(rt; played.code == 5 && played.sink.written().is_empty());
     Ok(())
 }
 
+/// Plays a session of two editors, the feeder and two readers. Answers whether it ended well, and all met at their first steps.
+fn meets<R: Threads + Wait + Sync>(
+    rt: &R,
+    alloc: Global,
+    line: &str,
+    script: &[u8],
+) -> Result<bool, Fail> {
+    let gate = Meeting::new();
+    let played = outcome(rt, alloc, line, script, NONE, &gate)?;
+    let (first, second) = gate.workers();
+    Ok(played.code == 0 && gate.actors() == 5 && first > 0 && second > 0 && gate.late() == 0)
+}
+
 #[test]
-fn all_actors_are_at_work_at_once(rt: HostRuntime) -> Result<(), Fail> {
+fn all_actors_of_a_session_are_at_work_at_once(rt: HostRuntime) -> Result<(), Fail> {
     let alloc = rt.alloc();
-    for (line, script) in [("session", MEETING), ("big 2", b"".as_slice())] {
-        let gate = Meeting::new();
-        let (status, _sink) = outcome(&rt, alloc, line, script, NONE, &gate)?;
-        assert_eq!(rt; status.code(), 0, "of {line}");
-        assert!(rt; gate.has_met(), "of {line}");
-    }
+    assert!(rt; meets(&rt, alloc, "session", MEETING)?);
+    assert!(rt; meets(&rt, alloc, "big 2", b"")?);
     Ok(())
 }
 
 /// A file of row `n`, in one of four folders: its length and its first byte.
 fn row(n: u32) -> (u32, u32) {
-    let length = if n >= 60 { 2_097_152 } else { 1_024 + n * 676 };
+    let length = if n >= 60 {
+        2_097_152
+    } else {
+        n.wrapping_mul(676).wrapping_add(1_024)
+    };
     (length, n)
 }
 
@@ -287,8 +249,8 @@ fn finales_are_the_last_tree(rt: HostRuntime) -> Result<(), Fail> {
     }
     script.push_str("commit 1\ndraw 1048576 k49 d1\ndraw 1048576 k49 d1\nsettle\n")?;
     script.push_str(&finales)?;
-    let (status, sink) = outcome(&rt, alloc, "session", script.as_bytes(), NONE, &NoGate)?;
-    assert_eq!(rt; status.code(), 0);
-    assert!(rt; sink.written().ends_with(report.as_bytes()));
+    let played = outcome(&rt, alloc, "session", script.as_bytes(), NONE, &NoGate)?;
+    assert!(rt; played.code == 0);
+    assert!(rt; played.sink.written().ends_with(report.as_bytes()));
     Ok(())
 }

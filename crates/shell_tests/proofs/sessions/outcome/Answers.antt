@@ -1,8 +1,8 @@
 use Rattle.std.proofs.Common.{rules, ◌≡◌, sym, ◌∙◌, subst}
 use denote.Param.Callables.{held_fn}
 use Rattle.cycle_planner.proofs.CallerLemmas.{are_ones, weighs_one}
-use Rattle.session_shell.proofs.tests.outcome.OwnLists.{own-1}
-use Rattle.session_shell.proofs.tests.outcome.Goals as goal
+use Rattle.shell_tests.proofs.sessions.outcome.OwnLists.{own-1}
+use Rattle.shell_tests.proofs.sessions.outcome.Goals as goal
 
 pub new-weigh-requires-clause-weights : goal.new-weigh-requires-clause-weights
 new-weigh-requires-clause-weights g c = are_ones

@@ -1,0 +1,82 @@
+"""What bench/turns and bench/many-diis share: receptions are held against what the models owe by themselves, and what the program
+writes of each against the independent receiver.
+
+The packet by packet rules have to cut what the definition cuts, taking a turn after the other to hold what the look back holds, and
+under the premises a lawful carousel's answers are those of its trees.
+"""
+
+import program
+import receiver
+import receptions
+from paths import printed
+from rehearsal import Tuner
+
+
+def model_holds(case, looks):
+    """The faults of the models on a case, in words."""
+    demux, tuner, premises, label = receiver.Demux(receptions.PID), Tuner(), receptions.Premises(case), -1
+    found = []
+    for arrived, packet in enumerate(case.packets, 1):
+        given = demux.feed(packet)
+        found += given
+        for _, candidate in given:
+            tuner.feed(candidate)
+        premises.hear(packet)
+        if arrived not in looks:
+            continue
+        if found != receiver.cuts(case.packets[:arrived], receptions.PID):
+            yield f"the cuts of {arrived} packets"
+        held = receiver.look_back(premises.messages)
+        if tuner.held() != held:
+            yield f"what is held after {arrived} packets"
+        if case.trees and premises.near:
+            yield from owed(case, premises, held, arrived)
+            if held.label is not None and held.label < label:
+                yield f"the label fell after {arrived} packets"
+            label = held.label if held.label is not None else label
+    if case.whole is not None and premises.near:
+        yield from whole(case, premises, held)
+
+
+def owed(case, premises, held, arrived):
+    """An answer is the tree's own, or not there yet, or there is no carousel yet."""
+    heard = (held.gateway is not None, held.label is not None)
+    for path in case.paths:
+        answer = receiver.resolve(held, path)
+        waits = answer.text.startswith("not-yet ") if all(heard) else answer == receiver.NO_CAROUSEL
+        if not waits and (not all(heard) or answer != receptions.looked_up(case.trees[premises.generation(held.label)], path)):
+            yield f"{printed(path)} after {arrived} packets"
+
+
+def whole(case, premises, held):
+    """After a whole cycle each answer is the tree's own."""
+    if held.label is None or premises.generation(held.label) != case.whole or held.gateway is None:
+        yield "the label after a whole cycle"
+        return
+    for path in case.paths:
+        if receiver.resolve(held, path) != receptions.looked_up(case.trees[case.whole], path):
+            yield f"{printed(path)} after a whole cycle"
+
+
+def heard_of(arrived):
+    """What is held of the packets that arrived."""
+    return receiver.held_of([candidate for _, candidate in receiver.cuts(arrived, receptions.PID)])
+
+
+def compare(name, case_of, looks_of, words):
+    """Runs the cases that the words of a script ask for, and ends it: [--alone] [CASES] [SEED]. `looks_of` gives after how many
+    packets a case is opened."""
+    alone = words[:1] == ["--alone"]
+    cases, seed = [*map(int, words[alone:]), *[200, 0][len(words) - alone:]]
+    found, tally = None if alone else program.find(), program.Tally()
+    for number in range(seed, seed + cases):
+        case, again = case_of(number), f"bench/{name} 1 {number}"
+        looks = looks_of(number, case)
+        for fault in model_holds(case, looks):
+            tally.differ(f"{again}: of the models: {fault}, input {{}}", b"".join(case.packets))
+        for arrived in [] if alone else looks:
+            stream, held = b"".join(case.packets[:arrived]), heard_of(case.packets[:arrived])
+            opening = ["open", "256", *(printed(path).decode() for path in case.paths)]
+            for asked, (text, status) in [(opening, receiver.open_text(held, case.paths)), (["list", "256"], receiver.list_text(held))]:
+                tally.compare(again, asked, stream, program.Ended(status, text, b""), program.run(found, stream, *asked))
+    tally.end(f"{cases} cases from {seed} on")

@@ -1,7 +1,0 @@
-use Rattle.std.proofs.Common.{◌≡◌, ◌+◌, take}
-use Rattle.std.specs.List.{sum_by}
-use Rattle.module_cache.proofs.limits.fit_together.Given as goal
-use Rattle.dsi_dii.specs.declared.TheConstants.{MOST_TOTAL_SIZE}
-
-abbrev pub invariant-loop-line : goal.invariant-loop-line
-invariant-loop-line l = l.left + sum_by (λ x. x.size) (take l.line-index l.lines) ≡ MOST_TOTAL_SIZE

@@ -1,0 +1,126 @@
+-- What a receiver holds where up to 16 DIIs describe a generation, looking back over all that it has heard, turn by turn.
+--
+-- Sound DIIs are taken in order. The first turns, and so does each later one of another version than the last that turned. One of the
+-- same version joins those that were admitted since, where none of them has its identification or lists a module of it, and where
+-- they are few and small enough; else it isn't admitted.
+use Rattle.std.specs.Prelude.{◌≡◌, ℕ, Bool, false, not, ◌&&◌, List, [], ◌∷◌, ◌++◌, length, map, Option, Some, None, nat_lt, ◌==◌, if◌then◌else◌}
+use Rattle.std.specs.List.{filter_map, flat_map, fold}
+use Rattle.oc_bytes.specs.Outcome.{cap_at_u64}
+use Rattle.path_tree.specs.Paths.{Bytes}
+use Rattle.dsi_dii.specs.Controls.{DiiFields}
+use Rattle.dsi_dii.specs.declared.ModuleLine.{ModuleLine}
+use Rattle.module_cache.specs.Joining.{Outline, outline, may_join, fits_beside}
+use Rattle.module_cache.specs.Turns as any
+use Rattle.module_cache.specs.Turns.{admitted, newest, continued, with_turning, with_joined, before}
+use Rattle.path_resolver.specs.Resolving.{Held, HeldModule, answer_of}
+use Rattle.path_resolver.specs.Shots.{Snapshot}
+use Rattle.path_resolver.specs.declared.answer.Answer.{Answer}
+use Rattle.tuner_core.specs.Heard.{Heard, ADii, as_heard}
+use Rattle.tuner_core.specs.Said.{is_sound, sound_in, module_among, gateway_of}
+use Rattle.tuner_core.specs.Spans.{Span, version, identification, stretch, is_near, label_in, epoch_in, from_first, put_together, openings, turning_of}
+
+abbrev pub Turn : Type 0
+Turn = any.Turn Heard
+
+-- the DIIs that turned, each with what was heard up to the next
+abbrev pub turnings : List Turn → List Span
+turnings ts = map (λ t. t.turning) ts
+
+abbrev pub outlines : List Span → List Outline
+outlines ss = map (λ s. outline s.dii) ss
+
+-- so many DIIs are held together at most
+abbrev pub MOST_HELD : ℕ
+MOST_HELD = 16
+
+-- beside these a DII of their version may be admitted
+abbrev pub is_room : List Outline → DiiFields → Bool
+is_room os d = may_join os d && nat_lt (length os) MOST_HELD && fits_beside os d
+
+-- the DII turns: it is the first sound one, or of another version than the last that turned
+abbrev pub turns : List Turn → DiiFields → Bool
+turns [] d = is_sound d
+turns (t ∷ ts) d = is_sound d && not (version d == version t.turning.dii)
+
+-- a DII that doesn't turn joins
+abbrev pub joins : List Turn → DiiFields → Bool
+joins [] d = false
+joins (t ∷ ts) d = is_sound d && is_room (outlines (admitted t)) d
+
+abbrev pub dii_after : List Turn → DiiFields → List Turn
+dii_after ts d =
+    if turns ts d then with_turning ts d (is_near (turnings ts) d) else (if joins ts d then with_joined (continued ts (ADii d)) d else continued ts (ADii d))
+
+abbrev pub turn_after : List Turn → Heard → List Turn
+turn_after ts (ADii d) = dii_after ts d
+turn_after ts h = continued ts h
+
+-- the turns, the newest first
+abbrev pub turns_of : List Heard → List Turn
+turns_of hs = fold turn_after [] hs
+
+-- ---- the same in other words, looking forward
+
+-- whether a DII joins those that were admitted before; `since` is what was heard after it
+abbrev pub joining_by : List Outline → ℕ → Bool → List Heard → Option DiiFields → List Span → (DiiFields → List Span) → List Span
+joining_by os v kept since None rest next = rest
+joining_by os v kept since (Some d) rest next = if (version d == v) && is_room os d then record { dii = d; kept = kept; since = since } ∷ next d else rest
+
+-- the DIIs of this version that join, each with what was heard after it
+abbrev pub joining_in : List Outline → ℕ → Bool → List Heard → List Span
+joining_in os v kept [] = []
+joining_in os v kept (h ∷ hs) = joining_by os v kept hs (sound_in h) (joining_in os v kept hs) (λ d. joining_in (os ++ outline d ∷ []) v kept hs)
+
+-- those that join a turn are found in what was heard after the DII that turned
+abbrev pub AreJoined : List Turn → Type 0
+AreJoined [] = Unit {0}
+AreJoined (t ∷ ts) = (t.joined ≡ joining_in (outline t.turning.dii ∷ []) (version t.turning.dii) t.turning.kept t.turning.since) × AreJoined ts
+
+-- The spans of the turning DIIs are what was heard from the first sound DII on, cut before each that turns: each sound one that differs
+-- in version from the last that turned. Those that join are found in the span that they stand in.
+pub record AreSpansOf (hs : List Heard) (ts : List Turn) : Type 0 where
+  pub whole : put_together (turnings ts) ≡ from_first hs
+  pub cut : openings (turnings ts) ≡ turning_of (filter_map sound_in hs)
+  pub joined : AreJoined ts
+
+abbrev pub SpansAreOfTheList : Type 0
+SpansAreOfTheList = (hs : List Heard) → AreSpansOf hs (turns_of hs)
+
+-- ---- all that is held
+
+abbrev pub label_of : List Turn → Option ℕ
+label_of ts = label_in (turnings ts)
+
+abbrev pub epoch_of : List Turn → ℕ
+epoch_of ts = epoch_in (turnings ts)
+
+abbrev pub held_module : Span → List Span → ModuleLine → HeldModule
+held_module s ss l = record { identification = identification s.dii; line = l; bytes = module_among (stretch s ss l) s.dii l }
+
+abbrev pub modules_in : List Turn → Span → List HeldModule
+modules_in ts s = map (held_module s (before s ts)) s.dii.modules
+
+abbrev pub table_in : List Turn → List HeldModule
+table_in [] = []
+table_in (t ∷ ts) = flat_map (modules_in ts) (admitted t)
+
+abbrev pub held_in : List Heard → List Turn → Held
+held_in hs ts = record { label = label_of ts; held = map (λ s. identification s.dii) (newest ts); gateway = gateway_of hs; table = table_in ts }
+
+-- all that an answer depends on
+abbrev pub held_after : List Heard → Held
+held_after hs = held_in hs (turns_of hs)
+
+-- a shot of what is held, with the number of candidates as its mark
+abbrev pub snapshot_after : ℕ → ℕ → List Bytes → Snapshot
+snapshot_after number draws candidates = record {
+  number = number;
+  draws = draws;
+  mark = cap_at_u64 (length candidates);
+  epoch = epoch_of (turns_of (map as_heard candidates));
+  held = held_after (map as_heard candidates);
+}
+
+-- the answer to a path after these candidates
+abbrev pub answer_after : List Bytes → List Bytes → Answer
+answer_after candidates path = answer_of (held_after (map as_heard candidates)) path
