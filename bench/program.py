@@ -4,6 +4,7 @@ The program is the one that ./carousel builds, or the one that the environment v
 """
 
 import os
+import shutil
 import subprocess
 import sys
 import tempfile
@@ -49,6 +50,15 @@ def shim(room):
     source = os.path.join(TOP, "bench", "failing.c")
     subprocess.run(["cc", "-shared", "-fPIC", "-O2", "-Wall", "-o", made, source], check=True)
     return made
+
+
+def over_libdvbpsi(source, room):
+    """A program in C over libdvbpsi, built in the folder `room`; None where the library's header or a C compiler isn't there."""
+    made = os.path.join(room, "dvbpsi")
+    with open(f"{made}.c", "w") as out:
+        out.write(source)
+    words = ["cc", "-o", made, f"{made}.c", "-ldvbpsi"]
+    return made if shutil.which("cc") and subprocess.run(words, capture_output=True).returncode == 0 else None
 
 
 def run(program, stream, *words):

@@ -619,9 +619,13 @@ def is_found(answer):
 
 def open_text(held, paths):
     """What `open` writes for the paths, and its status."""
+    return answers_text((path, resolve(held, path)) for path in paths)
+
+
+def answers_text(answered):
+    """What is written of paths with their answers, and the status."""
     out, status = [], 0
-    for path in paths:
-        answer = resolve(held, path)
+    for path, answer in answered:
         out.append(printed(path) + b" " + answer.text.encode() + b"\n")
         if answer.content is not None:
             out += [answer.content, b"\n"]

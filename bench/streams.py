@@ -7,8 +7,10 @@ It shares no code with the crates, so that what they read of its streams says so
     streams.py --folder MEGABYTES FOLDER     the same files in a new folder
     streams.py --sections FOLDER > SECTIONS  one cycle as sections back to back
     streams.py --two-diis FOLDER > STREAM    as another sender may do it: two DIIs, and a second version of one file
+    streams.py --two-carousels FOLDER FOLDER > STREAM    a cycle of each, as carousel 1 on PID 256 and 2 on PID 257, packet by packet in turn
 """
 
+import itertools
 import os
 import struct
 import subprocess
@@ -372,10 +374,10 @@ class Rules:
 BUILT = Rules({1: 2}, packed, kept_placement)
 
 
-def published(files, cycles, carousel=1, rules=BUILT):
-    """The packets of so many cycles of the first generation of a tree, as `publish` writes them."""
+def published(files, cycles, carousel=1, rules=BUILT, pid=256):
+    """The packets of so many cycles of the first generation of a tree, as `publish` writes them, and `publish-on` on other PIDs."""
     first = generation(files, carousel, rules.place)
-    return rules.lay([section for _ in range(cycles) for section in cycle(first, rules.weights)])
+    return rules.lay([section for _ in range(cycles) for section in cycle(first, rules.weights)], pid)
 
 
 def published_in_groups(files, cycles, carousel=1):
@@ -395,6 +397,16 @@ def two_diis(files):
     second = next_generation(first, {**files, path: files[path].upper()}, place)
     changed = [it for it in second.cycle() if is_block(it) and second.counts[it[0]] != first.counts[it[0]]]
     return packed([*cycle(first), *map(second.section, [*reversed(second.diis()), *changed])])
+
+
+def in_turn(*parts):
+    """The packets of several lists, one of each in turn as long as it has any."""
+    return [packet for turn in itertools.zip_longest(*parts) for packet in turn if packet]
+
+
+def two_carousels(one, other):
+    """A cycle of each of two trees, as carousels on two PIDs, packet by packet in turn."""
+    return in_turn(published(one, 1, 1, pid=256), published(other, 1, 2, pid=257))
 
 
 def files_in(folder):
@@ -455,6 +467,8 @@ def main(words):
         parts = published(made(int(words[1])), 1)
     elif words[:1] == ["--two-diis"]:
         parts = two_diis(files_in(words[1]))
+    elif words[:1] == ["--two-carousels"]:
+        parts = two_carousels(*map(files_in, words[1:]))
     elif words[:1] == ["--sections"]:
         parts = cycle(generation(files_in(words[1])), BUILT.weights)
     else:

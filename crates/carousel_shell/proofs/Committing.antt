@@ -76,11 +76,11 @@ sent_sections carousel weights cycles t g is =
     ∙ sym (published_sections carousel weights cycles t)
 
 -- the packets of the cycles of generation 1 are those that are published
-pub published_is : (carousel : ℕ) (weights : List ℕ) (cycles : ℕ) (t : Tree) (g : GenerationState) → GenerationsAreOfTheLists → g ≡ generation_of carousel (t ∷ [])
-    → group_bytes (map (section_of g) (repeat_list cycles (cycle_of weights (lines_of g)))) ≡ published_bytes carousel weights cycles t
-published_is carousel weights cycles t g law e =
+pub published_is : (pid carousel : ℕ) (weights : List ℕ) (cycles : ℕ) (t : Tree) (g : GenerationState) → GenerationsAreOfTheLists → g ≡ generation_of carousel (t ∷ [])
+    → group_bytes pid (map (section_of g) (repeat_list cycles (cycle_of weights (lines_of g)))) ≡ published_bytes pid carousel weights cycles t
+published_is pid carousel weights cycles t g law e =
     let P : GenerationState → Type 0 = λ s. IsGenerationOf carousel (t ∷ []) 1 s in
-    ap group_bytes (sent_sections carousel weights cycles t g (subst P (sym e) (law carousel (t ∷ []) 1 (lit≤ tt))))
+    ap (group_bytes pid) (sent_sections carousel weights cycles t g (subst P (sym e) (law carousel (t ∷ []) 1 (lit≤ tt))))
 
 -- one cycle of generation 1
 pub one_cycle_is : (carousel : ℕ) (weights : List ℕ) (t : Tree) (g : GenerationState) → GenerationsAreOfTheLists → g ≡ generation_of carousel (t ∷ [])
@@ -264,25 +264,25 @@ ended_part folder carousel sent_of old new folders g f of begin puts = record {
 
 -- ---- `publish`
 
-publishes_by : (folder : Bytes) (carousel : ℕ) (weights : List ℕ) (cycles : ℕ) (s : Status) (sink : Over Bytes) (folders : Over FolderTree) → Receptions → AreWeights weights
-    → HasEnded folder carousel (published_bytes carousel weights cycles) s sink folders → Publishes folder carousel weights cycles s sink folders
-publishes_by folder carousel weights cycles s sink folders law are e = record { ends = e.ends; needs = e.needs; heard = law.sent carousel weights cycles are }
+publishes_by : (pid : ℕ) (folder : Bytes) (carousel : ℕ) (weights : List ℕ) (cycles : ℕ) (s : Status) (sink : Over Bytes) (folders : Over FolderTree) → Receptions → AreWeights weights
+    → HasEnded folder carousel (published_bytes pid carousel weights cycles) s sink folders → Publishes pid folder carousel weights cycles s sink folders
+publishes_by pid folder carousel weights cycles s sink folders law are e = record { ends = e.ends; needs = e.needs; heard = law.sent pid carousel weights cycles are }
 
-pub publishes_none : (folder : Bytes) (carousel : ℕ) (weights : List ℕ) (cycles : ℕ) (sink : Over Bytes) (folders : Over FolderTree) (s : Status) → Receptions → AreWeights weights → Refused folder carousel folders s → IsUntouched sink
-    → Publishes folder carousel weights cycles s sink folders
-publishes_none folder carousel weights cycles sink folders s law are r none =
-    publishes_by folder carousel weights cycles s sink folders law are (ended_none folder carousel (published_bytes carousel weights cycles) sink folders s r none)
+pub publishes_none : (pid : ℕ) (folder : Bytes) (carousel : ℕ) (weights : List ℕ) (cycles : ℕ) (sink : Over Bytes) (folders : Over FolderTree) (s : Status) → Receptions → AreWeights weights → Refused folder carousel folders s → IsUntouched sink
+    → Publishes pid folder carousel weights cycles s sink folders
+publishes_none pid folder carousel weights cycles sink folders s law are r none =
+    publishes_by pid folder carousel weights cycles s sink folders law are (ended_none folder carousel (published_bytes pid carousel weights cycles) sink folders s r none)
 
-pub publishes_all : (folder : Bytes) (carousel : ℕ) (weights : List ℕ) (cycles : ℕ) (old new : OutputState) (folders : Over FolderTree) (g : GenerationState) → Receptions → AreWeights weights → GenerationsAreOfTheLists
-    → IsOfFolder folder carousel folders.before g → old.pending ≡ [] → new.pending ≡ [] → HasPut old new (group_bytes (map (section_of g) (repeat_list cycles (cycle_of weights (lines_of g)))))
-    → Publishes folder carousel weights cycles status.Done (sink_over old new) folders
-publishes_all folder carousel weights cycles old new folders g law are lists of begin empty puts =
-    publishes_by folder carousel weights cycles status.Done (sink_over old new) folders law are
-    (ended_all folder carousel (published_bytes carousel weights cycles) old new folders g of begin empty (puts_as (published_is carousel weights cycles of.tree g lists of.is) puts))
+pub publishes_all : (pid : ℕ) (folder : Bytes) (carousel : ℕ) (weights : List ℕ) (cycles : ℕ) (old new : OutputState) (folders : Over FolderTree) (g : GenerationState) → Receptions → AreWeights weights → GenerationsAreOfTheLists
+    → IsOfFolder folder carousel folders.before g → old.pending ≡ [] → new.pending ≡ [] → HasPut old new (group_bytes pid (map (section_of g) (repeat_list cycles (cycle_of weights (lines_of g)))))
+    → Publishes pid folder carousel weights cycles status.Done (sink_over old new) folders
+publishes_all pid folder carousel weights cycles old new folders g law are lists of begin empty puts =
+    publishes_by pid folder carousel weights cycles status.Done (sink_over old new) folders law are
+    (ended_all folder carousel (published_bytes pid carousel weights cycles) old new folders g of begin empty (puts_as (published_is pid carousel weights cycles of.tree g lists of.is) puts))
 
-pub publishes_part : (folder : Bytes) (carousel : ℕ) (weights : List ℕ) (cycles : ℕ) (old new : OutputState) (folders : Over FolderTree) (g : GenerationState) (f : OutputFault) → Receptions → AreWeights weights → GenerationsAreOfTheLists
-    → IsOfFolder folder carousel folders.before g → old.pending ≡ [] → Puts {T = Unit {0}} (Err f) old new (group_bytes (map (section_of g) (repeat_list cycles (cycle_of weights (lines_of g)))))
-    → Publishes folder carousel weights cycles (output_status f) (sink_over old new) folders
-publishes_part folder carousel weights cycles old new folders g f law are lists of begin puts =
-    publishes_by folder carousel weights cycles (output_status f) (sink_over old new) folders law are
-    (ended_part folder carousel (published_bytes carousel weights cycles) old new folders g f of begin (puts_as (published_is carousel weights cycles of.tree g lists of.is) puts))
+pub publishes_part : (pid : ℕ) (folder : Bytes) (carousel : ℕ) (weights : List ℕ) (cycles : ℕ) (old new : OutputState) (folders : Over FolderTree) (g : GenerationState) (f : OutputFault) → Receptions → AreWeights weights → GenerationsAreOfTheLists
+    → IsOfFolder folder carousel folders.before g → old.pending ≡ [] → Puts {T = Unit {0}} (Err f) old new (group_bytes pid (map (section_of g) (repeat_list cycles (cycle_of weights (lines_of g)))))
+    → Publishes pid folder carousel weights cycles (output_status f) (sink_over old new) folders
+publishes_part pid folder carousel weights cycles old new folders g f law are lists of begin puts =
+    publishes_by pid folder carousel weights cycles (output_status f) (sink_over old new) folders law are
+    (ended_part folder carousel (published_bytes pid carousel weights cycles) old new folders g f of begin (puts_as (published_is pid carousel weights cycles of.tree g lists of.is) puts))

@@ -1,12 +1,10 @@
 -- Sections whose packets are put one after another.
-use Rattle.std.proofs.Common.{◌≡◌, ℕ, zero, suc, ◌+◌, ◌-◌, ◌<◌, List, [], ◌∷◌, ◌++◌, map, take, drop, Some, refl, ◌∙◌, sym, ap, subst, append_assoc, append-nil, arith}
+use Rattle.std.proofs.Common.{◌≡◌, ℕ, zero, suc, ◌+◌, ◌-◌, ◌<◌, List, [], ◌∷◌, ◌++◌, map, refl, ◌∙◌, sym, ap, subst, append_assoc, append-nil, arith}
 use Rattle.std.specs.List.{All, concat, fold}
-use Rattle.std.specs.Prelude.{slice_get}
-use Rattle.std.proofs.lemmas.List.{map-append, take_more, take-append-drop}
+use Rattle.std.proofs.lemmas.List.{map-append}
 use Rattle.std.proofs.lemmas.List.Elements.{All-append, All-nil}
 use Rattle.std.proofs.lemmas.List.Folds.{concat-append}
 use Rattle.std.proofs.lemmas.List.Sums.{fold-append}
-use Rattle.std.proofs.lemmas.Option.{slice_get_within, get_or_from_slice_get}
 use Rattle.section_stream.specs.Groups.{IsBetween, packets_of_group, past_group}
 use Rattle.section_stream.specs.Packing.{MuxState, IsSectionLike, after_finish, last_of, packets_of, packets_of_all, past}
 use Rattle.section_stream.proofs.CallerLemmas.{calls_give, packets_of_all-append}

@@ -24,6 +24,7 @@ use Rattle.carousel_shell.proofs.Replying.{replies_nothing}
 use Rattle.carousel_shell.proofs.Answering.{answers_by}
 use Rattle.carousel_shell.proofs.Finding.{finds_by}
 use Rattle.carousel_shell.proofs.Opening.{opens_by}
+use Rattle.carousel_shell.proofs.Serving.{serves_no_memory}
 
 takes_nothing : (source : Over Bytes) → IsUntouched source → TakesPrefix source
 takes_nothing source e = let P : Option Bytes → Type 0 = λ a. Known source.before a IsRear in subst P (sym e) (told_same source.before (λ x. record { taken = []; whole = refl }))
@@ -53,7 +54,7 @@ memory_promises weights (commands.Open pid paths) source sink folders law are e 
 memory_promises weights (commands.Record pid) source sink folders law are e f = records_nothing pid source sink e f
 memory_promises weights (commands.ListAll pid) source sink folders law are e f = answers_nothing (carriers.Packets pid) asks_all source sink law e f
 memory_promises weights (commands.Publish folder carousel cycles) source sink folders law are e f =
-    record { unread = e; keeps = record { ends = inl f; needs = λ t h n. inr refl; heard = law.sent carousel weights cycles are } }
+    record { unread = e; keeps = record { ends = inl f; needs = λ t h n. inr refl; heard = law.sent 256 carousel weights cycles are } }
 memory_promises weights commands.Rehearse source sink folders law are e f = record { ends = inl f; takes = takes_nothing source e }
 memory_promises weights commands.Session source sink folders law are e f = record { ends = inr refl; unread = e; unwritten = f }
 memory_promises weights (commands.Big n) source sink folders law are e f = record { ends = inr refl; unread = e; unwritten = f }
@@ -63,6 +64,9 @@ memory_promises weights (commands.OpenId carousel paths) source sink folders law
     opens_by carousel paths status.NoMemory source sink law (replies_nothing (sections_by_id carousel) (answers_to (asks_paths paths)) source sink (takes_nothing source e) f)
 memory_promises weights (commands.PublishPsi folder carousel cycles) source sink folders law are e f =
     record { unread = e; keeps = record { ends = inl f; needs = λ t h n. inr refl; heard = law.cycles carousel weights cycles are } }
+memory_promises weights (commands.PublishOn pid folder carousel cycles) source sink folders law are e f =
+    record { unread = e; keeps = record { ends = inl f; needs = λ t h n. inr refl; heard = law.sent pid carousel weights cycles are } }
+memory_promises weights (commands.Mounts entries paths) source sink folders law are e f = serves_no_memory entries paths source sink law e f
 
 pub memory_keeps : (weights : List ℕ) (r : Result commands.Named commands.Misfit) (source sink : Over Bytes) (folders : Over FolderTree) → Receptions → AreWeights weights → IsUntouched source → IsUntouched sink
     → Keeps weights r status.NoMemory source sink folders

@@ -2,6 +2,7 @@ mod Beginning
 mod Joining
 mod Offering
 mod Parts
+mod Entries
 mod Walking
 mod Receiving
 mod Interleaving
@@ -12,6 +13,7 @@ mod Answering
 mod Finding
 mod Opening
 mod Seeking
+mod Serving
 mod Announcing
 mod Assembling
 mod Recording

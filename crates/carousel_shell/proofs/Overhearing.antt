@@ -93,7 +93,7 @@ cycles_are carousel weights n t =
 
 -- what is cut of so many cycles is what is cut of a publication of so many
 heard_as_published : PacketsGiveTheGroups → PublicationsCanBePacked → (carousel : ℕ) (weights : List ℕ) (missed heard : ℕ) (t : Tree) → carousel < 4294967296 → IsPublishable t
-    → candidates 256 (cycles_sent (one_cycle carousel weights t) heard (after_cycles (one_cycle carousel weights t) missed (senders_start carousel))) ≡ candidates 256 (packets_sent carousel weights heard t)
+    → candidates 256 (cycles_sent (one_cycle carousel weights t) heard (after_cycles (one_cycle carousel weights t) missed (senders_start carousel))) ≡ candidates 256 (packets_sent 256 carousel weights heard t)
 heard_as_published law can carousel weights missed heard t small publishable =
     let cycle : List Bytes = one_cycle carousel weights t in
     cycles_cut law cycle heard (after_cycles cycle missed (senders_start carousel)) (can carousel weights 1 t small publishable) (pids_after cycle missed (senders_start carousel) (pids_start carousel))
@@ -127,10 +127,10 @@ opens_by law can opens carousel weights missed zero t p are some small publishab
 opens_by law can opens carousel weights missed (suc more) t p are some small publishable =
     let cycle : List Bytes = one_cycle carousel weights t in
     let from : Senders = after_cycles cycle missed (senders_start carousel) in
-    let back : candidates_of 256 (published_after carousel weights missed (suc more) t) ≡ candidates 256 (packets_sent carousel weights (suc more) t) =
+    let back : candidates_of 256 (published_after carousel weights missed (suc more) t) ≡ candidates 256 (packets_sent 256 carousel weights (suc more) t) =
     ap (candidates 256) (packets_back (cycles_sent cycle (suc more) from) (cycles_sized cycle (suc more) from (pids_after cycle missed (senders_start carousel) (pids_start carousel))))
     ∙ heard_as_published law can carousel weights missed (suc more) t small publishable in
-    rw back (opens carousel weights more t p small are publishable)
+    rw back (opens 256 carousel weights more t p (omega arith) small are publishable)
 
 pub cycles_open : PacketsGiveTheGroups → PublicationsCanBePacked → EachCycleOpens → (carousel : ℕ) (weights : List ℕ) (cycles : ℕ) → AreWeights weights → CyclesOpen carousel weights cycles
 cycles_open law can opens carousel weights cycles are t missed heard p some within small publishable = opens_by law can opens carousel weights missed heard t p are some small publishable

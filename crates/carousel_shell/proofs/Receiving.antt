@@ -23,6 +23,7 @@ use Rattle.shell_streams.specs.Packets.{AreSized, packets_of, candidates_of}
 use Rattle.shell_streams.specs.declared.carrier.Carrier.{Carrier}
 use Rattle.shell_streams.specs.declared.carrier.Carrier.TheVariants as carriers
 use Rattle.shell_streams.proofs.CallerLemmas.{packets_before}
+use Rattle.mount_table.specs.Laws.{OneMountDecides}
 use Rattle.psi_tables.specs.Laws.{IsNowhereElse, IsFoundOnceItCame, EachIsFollowed}
 use Rattle.carousel_shell.specs.Find.{UsuallyFound}
 use Rattle.carousel_shell.proofs.Beginning.{falls_never}
@@ -76,12 +77,12 @@ pub packets_back : (packets : List Bytes) → AreSized packets → packets_of (c
 packets_back packets h = ap packets_of (sym (append-nil (concat packets))) ∙ packets_before packets [] h ∙ append-nil packets
 
 -- whoever hears all packets of a publication has each path of its tree
-sent_opens : EachCycleOpens → (carousel : ℕ) (weights : List ℕ) (cycles : ℕ) → AreWeights weights → SentOpens carousel weights cycles
-sent_opens law carousel weights zero are t p some small publishable = absurd (omega arith)
-sent_opens law carousel weights (suc cycles) are t p some small publishable =
-    let back : candidates_of 256 (published_bytes carousel weights (suc cycles) t) ≡ candidates 256 (packets_sent carousel weights (suc cycles) t) =
-    ap (candidates 256) (packets_back (packets_sent carousel weights (suc cycles) t) (all_sized (packing.idle 256 0) (sections (publication carousel weights (suc cycles) t)))) in
-    rw back (law carousel weights cycles t p small are publishable)
+sent_opens : EachCycleOpens → (pid carousel : ℕ) (weights : List ℕ) (cycles : ℕ) → AreWeights weights → SentOpens pid carousel weights cycles
+sent_opens law pid carousel weights zero are t p below some small publishable = absurd (omega arith)
+sent_opens law pid carousel weights (suc cycles) are t p below some small publishable =
+    let back : candidates_of pid (published_bytes pid carousel weights (suc cycles) t) ≡ candidates pid (packets_sent pid carousel weights (suc cycles) t) =
+    ap (candidates pid) (packets_back (packets_sent pid carousel weights (suc cycles) t) (all_sized (packing.idle pid 0) (sections (publication carousel weights (suc cycles) t)))) in
+    rw back (law pid carousel weights cycles t p below small are publishable)
 
 usually : IsNowhereElse → IsFoundOnceItCame → EachIsFollowed → (carousel : ℕ) (packets : List Bytes) → UsuallyFound carousel packets
 usually nowhere once each carousel packets = record {
@@ -90,5 +91,6 @@ usually nowhere once each carousel packets = record {
   followed = λ p l all line program few. each packets p l all line program few;
 }
 
-pub all_laws : EveryReceptionMeets → LabelsNeverFall → EveryPublicationMeets → EachCycleOpens → ((carousel : ℕ) (weights : List ℕ) (cycles : ℕ) → AreWeights weights → CyclesOpen carousel weights cycles) → IsNowhereElse → IsFoundOnceItCame → EachIsFollowed → Receptions
-all_laws law falls one cycle cycles nowhere once each = record { each = received law falls one; sent = sent_opens cycle; cycles = cycles; tables = usually nowhere once each }
+pub all_laws : EveryReceptionMeets → LabelsNeverFall → EveryPublicationMeets → EachCycleOpens → ((carousel : ℕ) (weights : List ℕ) (cycles : ℕ) → AreWeights weights → CyclesOpen carousel weights cycles) → IsNowhereElse → IsFoundOnceItCame → EachIsFollowed → OneMountDecides
+    → Receptions
+all_laws law falls one cycle cycles nowhere once each mounts = record { each = received law falls one; sent = sent_opens cycle; cycles = cycles; tables = usually nowhere once each; mounts = mounts }

@@ -5,7 +5,7 @@ use Rattle.path_tree.specs.Trees.{Tree}
 use Rattle.generation.specs.Layouts.{GenerationState, generation_of}
 use Rattle.folder_store.specs.Folders.{FolderTree, is_folder_at, MayFail}
 use Rattle.section_stream.specs.Groups.{packets_of_group}
-use Rattle.section_stream.specs.Packing.{MuxState, idle}
+use Rattle.section_stream.specs.Packing.{idle}
 use Rattle.shell_streams.specs.Cuts.{Bytes}
 use Rattle.carousel_shell.specs.Over.{Over, Failed}
 use Rattle.carousel_shell.specs.Publish.{IsTreeOf, Refuses}
@@ -25,10 +25,6 @@ pub record IsOfFolder (folder : Bytes) (carousel : ℕ) (told : Option FolderTre
   pub is : g ≡ generation_of carousel (tree ∷ [])
   pub of : IsTreeOf folder carousel told tree
 
--- the PID, and the counter of the first packet
-abbrev pub mux_start : MuxState
-mux_start = idle 256 0
-
--- the bytes of all packets of these sections, which are one group
-abbrev pub group_bytes : List Bytes → Bytes
-group_bytes sections = concat (packets_of_group mux_start sections)
+-- the bytes of all packets of these sections on a PID, which are one group and have continuity counters from 0
+abbrev pub group_bytes : (pid : ℕ) → List Bytes → Bytes
+group_bytes pid sections = concat (packets_of_group (idle pid 0) sections)

@@ -7,10 +7,12 @@ pub mod Publishing
 pub mod Announced
 pub mod Reception
 pub mod Replies
+pub mod Refusing
 pub mod Open
 pub mod Find
 pub mod OpenId
 pub mod Seeking
+pub mod Mounts
 pub mod Assemble
 pub mod Record
 pub mod Publish

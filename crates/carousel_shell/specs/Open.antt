@@ -18,10 +18,14 @@ use Rattle.carousel_shell.specs.declared.status.Status.{Status}
 
 -- ---- what is asked
 
+-- the answer to each path
+abbrev pub AllAnswers : Type 0
+AllAnswers = PathNames → Answer
+
 -- the text of the answers, and whether each path asked for is a file or a folder
 pub record Question : Type 0 where
-  pub text : (PathNames → Answer) → Bytes
-  pub all : (PathNames → Answer) → Bool
+  pub text : AllAnswers → Bytes
+  pub all : AllAnswers → Bool
 
 -- `open`: these paths
 abbrev pub asks_paths : List PathNames → Question
@@ -31,9 +35,13 @@ asks_paths paths = record { text = λ answer. open_text answer paths; all = λ a
 abbrev pub asks_all : Question
 asks_all = record { text = list_text; all = all_listed }
 
+-- what is said to it, where these are the answers after what was read
+abbrev pub reply_by : (List Bytes → AllAnswers) → Question → Reply
+reply_by answers question = record { text = λ taken. question.text (answers taken); all = λ taken. question.all (answers taken) }
+
 -- what a receiver that heard these sections says to it
 abbrev pub answers_to : Question → Reply
-answers_to question = record { text = λ sections. question.text (answer_after sections); all = λ sections. question.all (answer_after sections) }
+answers_to question = reply_by answer_after question
 
 -- ---- how it ends
 

@@ -1,5 +1,5 @@
 -- What each command promises. A page of its own says it of each.
-use Rattle.std.specs.Prelude.{◌≡◌, ◌⊎◌, ℕ, List, Result, Ok, Err}
+use Rattle.std.specs.Prelude.{ℕ, List, Result, Ok, Err}
 use Rattle.folder_store.specs.Folders.{FolderTree}
 use Rattle.shell_words.specs.Words as commands
 use Rattle.shell_streams.specs.Cuts.{Bytes}
@@ -12,17 +12,12 @@ use Rattle.carousel_shell.specs.Record.{Records}
 use Rattle.carousel_shell.specs.Publish.{Publishes}
 use Rattle.carousel_shell.specs.Find.{Finds}
 use Rattle.carousel_shell.specs.OpenId.{OpensId}
+use Rattle.carousel_shell.specs.Mounts.{ServesMounts}
 use Rattle.carousel_shell.specs.PublishPsi.{PublishesPsi}
 use Rattle.carousel_shell.specs.Rehearse.{Rehearses}
+use Rattle.carousel_shell.specs.Refusing.{Declines}
 use Rattle.carousel_shell.specs.declared.status.Status.{Status}
-use Rattle.carousel_shell.specs.declared.status.Status.TheVariants as status
 use Rattle.carousel_shell.specs.declared.plain.TheConstants.{MOST_OPENED}
-
--- the words don't fit, or name a command that needs threads: nothing is read or written
-pub record Declines (s : Status) (source sink : Over Bytes) : Type 0 where
-  pub ends : (s ≡ status.Words) ⊎ (s ≡ status.NoMemory)
-  pub unread : IsUntouched source
-  pub unwritten : IsUntouched sink
 
 -- a command that reads no input
 pub record WithoutInput (source : Over Bytes) (Promised : Type 0) : Type 0 where
@@ -35,15 +30,17 @@ Promises weights (commands.OpenSections paths) s source sink folders = Answers (
 Promises weights (commands.Open pid paths) s source sink folders = Answers (carriers.Packets pid) (asks_paths paths) s source sink
 Promises weights (commands.Record pid) s source sink folders = Records pid s source sink
 Promises weights (commands.ListAll pid) s source sink folders = Answers (carriers.Packets pid) asks_all s source sink
-Promises weights (commands.Publish folder carousel cycles) s source sink folders = WithoutInput source (Publishes folder carousel weights cycles s sink folders)
+Promises weights (commands.Publish folder carousel cycles) s source sink folders = WithoutInput source (Publishes 256 folder carousel weights cycles s sink folders)
 Promises weights commands.Rehearse s source sink folders = Rehearses weights s source sink
 Promises weights commands.Session s source sink folders = Declines s source sink
 Promises weights (commands.Big n) s source sink folders = Declines s source sink
 Promises weights (commands.Find carousel) s source sink folders = Finds carousel s source sink
 Promises weights (commands.OpenId carousel paths) s source sink folders = OpensId carousel paths s source sink
 Promises weights (commands.PublishPsi folder carousel cycles) s source sink folders = WithoutInput source (PublishesPsi folder carousel weights cycles s sink folders)
+Promises weights (commands.PublishOn pid folder carousel cycles) s source sink folders = WithoutInput source (Publishes pid folder carousel weights cycles s sink folders)
+Promises weights (commands.Mounts entries paths) s source sink folders = ServesMounts entries paths s source sink
 
--- what is promised of words, under these weights
+-- what is promised of words, under these weights; words that don't fit, and those of a command that needs threads, are refused
 abbrev pub Keeps : List ℕ → Result commands.Named commands.Misfit → Status → Over Bytes → Over Bytes → Over FolderTree → Type 0
 Keeps weights (Ok command) s source sink folders = Promises weights command s source sink folders
 Keeps weights (Err misfit) s source sink folders = Declines s source sink

@@ -1,5 +1,5 @@
 -- What `publish FOLDER CAROUSEL CYCLES` promises: the folder's files are one commit on generation 0, and whole cycles of generation 1 are
--- written as packets, in which each module comes as often as it weighs.
+-- written as packets of one PID, in which each module comes as often as it weighs. The PID of `publish` is 256; here it is a parameter.
 use Rattle.std.specs.Prelude.{◌≡◌, ◌⊎◌, ℕ, List, false, Option, Some}
 use Rattle.path_tree.specs.Trees.{Tree}
 use Rattle.generation.specs.Lawful.{IsPublishable}
@@ -52,7 +52,7 @@ EndsPublish folder carousel sent_of sink folders _ = ⊥
 abbrev pub NeedsFolder : Bytes → Over FolderTree → Status → Type 0
 NeedsFolder folder folders s = (t : FolderTree) → folders.before ≡ Some t → is_folder_at t folder ≡ false → (s ≡ status.FolderFault) ⊎ (s ≡ status.NoMemory)
 
-pub record Publishes (folder : Bytes) (carousel : ℕ) (weights : List ℕ) (cycles : ℕ) (s : Status) (sink : Over Bytes) (folders : Over FolderTree) : Type 0 where
-  pub ends : EndsPublish folder carousel (published_bytes carousel weights cycles) sink folders s
+pub record Publishes (pid : ℕ) (folder : Bytes) (carousel : ℕ) (weights : List ℕ) (cycles : ℕ) (s : Status) (sink : Over Bytes) (folders : Over FolderTree) : Type 0 where
+  pub ends : EndsPublish folder carousel (published_bytes pid carousel weights cycles) sink folders s
   pub needs : NeedsFolder folder folders s
-  pub heard : SentOpens carousel weights cycles
+  pub heard : SentOpens pid carousel weights cycles

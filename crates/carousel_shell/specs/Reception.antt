@@ -7,6 +7,7 @@ use Rattle.path_resolver.specs.declared.answer.Answer.TheVariants as answers
 use Rattle.cycle_planner.specs.Weights.{AreWeights}
 use Rattle.generation.specs.Lawful.{IsPublishable, tree_at}
 use Rattle.tuner_core.specs.LookBack.{answer_after}
+use Rattle.mount_table.specs.Laws.{OneMountDecides}
 use Rattle.carousel_world.specs.Broadcasts.{Broadcast, Ascription, NeverBack, IsAscribed}
 use Rattle.carousel_world.specs.Premises.{AcceptedAreSent, IsHeardOf, IsWhole}
 use Rattle.carousel_world.specs.Headline.{IsNodeAnswer}
@@ -75,19 +76,20 @@ pub record Reception (carrier : Carrier) (input : Bytes) : Type 0 where
   pub whole_published : OpensWhole carrier input
   pub never_falls : NeverFalls carrier input
 
--- whoever hears all packets of a publication has each path of its tree
-abbrev pub SentOpens : (carousel : ℕ) (weights : List ℕ) (cycles : ℕ) → Type 0
-SentOpens carousel weights cycles = (t : Tree) (p : PathNames) → 0 < cycles → carousel < 4294967296 → IsPublishable t
-    → IsNodeAnswer (answer_after (candidates_of 256 (published_bytes carousel weights cycles t)) p) (node_at t p)
+-- whoever hears all packets of a publication on its PID has each path of its tree
+abbrev pub SentOpens : (pid carousel : ℕ) (weights : List ℕ) (cycles : ℕ) → Type 0
+SentOpens pid carousel weights cycles = (t : Tree) (p : PathNames) → pid < 8192 → 0 < cycles → carousel < 4294967296 → IsPublishable t
+    → IsNodeAnswer (answer_after (candidates_of pid (published_bytes pid carousel weights cycles t)) p) (node_at t p)
 
 -- whoever hears one or more whole cycles that are sent after tables, from any of them on, has each path of the tree
 abbrev pub CyclesOpen : (carousel : ℕ) (weights : List ℕ) (cycles : ℕ) → Type 0
 CyclesOpen carousel weights cycles = (t : Tree) (missed heard : ℕ) (p : PathNames) → 0 < heard → missed + heard ≤ cycles → carousel < 4294967296 → IsPublishable t
     → IsNodeAnswer (answer_after (candidates_of 256 (published_after carousel weights missed heard t)) p) (node_at t p)
 
--- the laws of every input, of every publication, and of the tables in any packets
+-- the laws of every input, of every publication, of the tables in any packets, and of each mount of a table
 pub record Receptions : Type 0 where
   pub each : (carrier : Carrier) (input : Bytes) → Reception carrier input
-  pub sent : (carousel : ℕ) (weights : List ℕ) (cycles : ℕ) → AreWeights weights → SentOpens carousel weights cycles
+  pub sent : (pid carousel : ℕ) (weights : List ℕ) (cycles : ℕ) → AreWeights weights → SentOpens pid carousel weights cycles
   pub cycles : (carousel : ℕ) (weights : List ℕ) (cycles : ℕ) → AreWeights weights → CyclesOpen carousel weights cycles
   pub tables : (carousel : ℕ) (packets : List Bytes) → UsuallyFound carousel packets
+  pub mounts : OneMountDecides

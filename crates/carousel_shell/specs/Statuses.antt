@@ -7,6 +7,8 @@ use Rattle.folder_store.specs.declared.reading.ReadTree.{ReadTree}
 use Rattle.folder_store.specs.declared.reading.ReadTree.TheVariants as reads
 use Rattle.generation_catalogue.specs.declared.entry.CommitFault.{CommitFault}
 use Rattle.generation_catalogue.specs.declared.entry.CommitFault.TheVariants as commits
+use Rattle.mount_table.specs.declared.fault.TableFault.{TableFault}
+use Rattle.mount_table.specs.declared.fault.TableFault.TheVariants as tables
 use Rattle.session_script.specs.Texts.{cause_text}
 use Rattle.session_script.specs.declared.script.LineCause.{LineCause}
 use Rattle.session_script.specs.declared.script.ScriptFault.{ScriptFault}
@@ -84,6 +86,15 @@ end_status (Err s) = s
 abbrev pub script_status : ScriptFault → Status
 script_status (scripts.BadLine number cause) = status.BadLine number cause
 script_status scripts.NoMemory = status.NoMemory
+
+-- of a table of carousels that isn't made
+abbrev pub table_status : TableFault → Status
+table_status tables.TooMany = status.Words
+table_status (tables.BadName place) = status.Words
+table_status (tables.BadPid place) = status.Words
+table_status (tables.NameTwice place) = status.Words
+table_status (tables.PidTwice place) = status.Words
+table_status tables.NoMemory = status.NoMemory
 
 -- of a walk, and of a commit, that gave nothing
 abbrev pub walk_status : ReadTree → Status

@@ -4,6 +4,7 @@ use carousel_world::{
     each_cycle_opens, every_publication_meets, every_reception_meets, labels_never_fall,
     publications_can_be_packed,
 };
+use mount_table::one_mount_decides;
 use psi_tables::{
     each_listed_pid_is_followed, it_is_found_once_its_tables_came, it_is_nowhere_else,
 };
@@ -22,4 +23,5 @@ pub fn receptions()
     it_is_nowhere_else();
     it_is_found_once_its_tables_came();
     each_listed_pid_is_followed();
+    one_mount_decides();
 }

@@ -25,6 +25,7 @@ mod assemble;
 mod find;
 mod law;
 mod listing;
+mod mounts;
 mod open;
 mod open_id;
 mod plain;

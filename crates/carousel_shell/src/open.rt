@@ -29,7 +29,7 @@ pub fn open<S: Source, O: Output>(
 {
     receptions();
     match receive(alloc, carrier, source) {
-        Ok(shot) => status_of(write_answers(alloc, &shot, paths, out)),
+        Ok(shot) => status_of(write_answers(alloc, &*shot, paths, out)),
         Err(fault) => Status::from(fault),
     }
 }

@@ -90,7 +90,7 @@ pub fn open_id<S: Source, O: Output>(
 {
     receptions();
     match receive_by_id(alloc, carousel, source) {
-        Ok(shot) => status_of(write_answers(alloc, &shot, paths, out)),
+        Ok(shot) => status_of(write_answers(alloc, &*shot, paths, out)),
         Err(fault) => Status::from(fault),
     }
 }

@@ -8,9 +8,10 @@ ghost use Rattle.carousel_shell.specs.Promises.{Promises, Keeps};
 use crate::assemble::{Wanted, assemble};
 use crate::find::find;
 use crate::law::receptions;
+use crate::mounts::mounts;
 use crate::open::{list, open};
 use crate::open_id::open_id;
-use crate::publish::publish;
+use crate::publish::{PID, publish};
 use crate::publish_psi::publish_psi;
 use crate::record::record;
 use crate::rehearse::rehearse;
@@ -26,19 +27,20 @@ use std::alloc::Global;
 pub const MOST_OPENED: u32 = 16_777_216;
 
 /// Runs the command that the words name: they are the command line without the program's name. The input comes from the
-/// source, the output goes to the sink, and the folders are those that `publish` and `publish-psi` read. `weigh` says how often each
-/// module is sent in every cycle.
+/// source, the output goes to the sink, and the folders are those that `publish`, `publish-on` and `publish-psi` read. `weigh` says how
+/// often each module is sent in every cycle.
 ///
 /// - `Words` comes before all else: where the words name no command with its values, or one that needs threads, which are
-///   `session` and `big`. Nothing was read or written.
-/// - `assemble`, `open`, `list`, `find` and `open-id` read their whole input before they write. While they read come `ReadFault`,
+///   `session` and `big`, or where the table of `mounts` breaks a rule: it has more than 16 names, or a name or a PID twice. Nothing was
+///   read or written.
+/// - `assemble`, `open`, `list`, `find`, `open-id` and `mounts` read their whole input before they write. While they read come `ReadFault`,
 ///   and `InputTooLong` where a byte is left after [`MOST_ASSEMBLED`](crate::MOST_ASSEMBLED) sections (`assemble`), [`MOST_OPENED`] sections
 ///   (`open sections`) or [`shell_streams::MOST_PACKETS`] packets; nothing was written then. After that `assemble` answers `Incomplete` where a block of the module is
 ///   missing, and writes nothing. While they write comes `WriteFault`, and a prefix of the output was written. At the end come
-///   `Done` and, at `open`, `list`, `find` and `open-id`, `NotAll`: the whole output was written.
+///   `Done` and, at `open`, `list`, `find`, `open-id` and `mounts`, `NotAll`: the whole output was written.
 /// - `record` writes as it reads. `ReadFault`, `InputTooLong` (after [`shell_streams::MOST_PACKETS`] packets) and `WriteFault` come as they are
 ///   met, when a prefix of the sections in the input so far was written, and `Done` when all of them were.
-/// - `publish` and `publish-psi` read no input. While one reads the folder come `FolderFault` and the `TreeRefused` of a name or of depth,
+/// - `publish`, `publish-on` and `publish-psi` read no input. While one reads the folder come `FolderFault` and the `TreeRefused` of a name or of depth,
 ///   whichever is met first, and then the `TreeRefused` of the commit; nothing was written. While it writes comes
 ///   `WriteFault`, and a prefix of the packets was written; `Done` comes when all of them were.
 /// - `rehearse` reads its whole input before it does anything else. While it reads come `ReadFault`, and `InputTooLong` where
@@ -114,6 +116,7 @@ fn run_command<S: Source, O: Output, F: Folders>(
         Command::Publish(folder, carousel, cycles) => {
             publish(
                 alloc,
+                PID,
                 folder.as_str(),
                 carousel,
                 cycles,
@@ -136,6 +139,19 @@ fn run_command<S: Source, O: Output, F: Folders>(
                 folders,
             )
         }
+        Command::PublishOn(pid, folder, carousel, cycles) => {
+            publish(
+                alloc,
+                pid,
+                folder.as_str(),
+                carousel,
+                cycles,
+                weigh,
+                out,
+                folders,
+            )
+        }
+        Command::Mounts(entries, paths) => mounts(alloc, entries, &paths, source, out),
         Command::Session | Command::Big(_) => Status::Words,
     }
 }

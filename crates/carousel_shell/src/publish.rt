@@ -1,15 +1,15 @@
-ghost use Rattle.std.specs.Prelude.{◌≡◌, [], map, IfOk, IfErr, OnOk};
+ghost use Rattle.std.specs.Prelude.{◌≡◌, ◌<◌, [], map, IfOk, IfErr, OnOk};
 ghost use Rattle.std.specs.List.{All, Contains, concat, fold};
 ghost use Rattle.std.specs.Arc.{arc_value};
 ghost use Rattle.cycle_planner.specs.Cycle.{cycle_of};
 ghost use Rattle.generation.specs.Layouts.{items_of, lines_of, section_of};
 ghost use Rattle.section_stream.specs.Groups.{IsBetween, packets_of_group, past_group};
-ghost use Rattle.section_stream.specs.Packing.{IsSectionLike, after_finish, last_of, packets_of, packets_of_all, past};
+ghost use Rattle.section_stream.specs.Packing.{IsSectionLike, after_finish, idle, last_of, packets_of, packets_of_all, past};
 ghost use Rattle.carousel_world.specs.Publishing.{repeat_list};
 ghost use Rattle.shell_streams.specs.Sending.{Puts, IsInTime};
 ghost use Rattle.carousel_shell.specs.Over.{over, sink_over};
 ghost use Rattle.carousel_shell.specs.Publish.{Publishes};
-ghost use Rattle.carousel_shell.specs.Cycles.{IsOfFolder, Refused, group_bytes, mux_start};
+ghost use Rattle.carousel_shell.specs.Cycles.{IsOfFolder, Refused, group_bytes};
 
 use crate::law::receptions;
 use crate::status::Status;
@@ -24,22 +24,23 @@ use shell_streams::{Output, OutputFault};
 use std::alloc::Global;
 use std::sync::Arc;
 
-/// The PID of the packets.
-const PID: u16 = 256;
+/// The PID on which a carousel is sent where the command names none (this project's own).
+pub const PID: u16 = 256;
 
 /// Who commits the folder: the history has one entry, and nobody asks for it.
 const EDITOR: u32 = 1;
 
 /// Publishes a folder: its files become one commit on generation 0 of the carousel, and generation 1 is written as so many whole
-/// cycles of packets (ISO/IEC 13818-1, 2.4.3) on the PID 256, with continuity counters from 0. All cycles are one group of sections,
+/// cycles of packets (ISO/IEC 13818-1, 2.4.3) on one PID, with continuity counters from 0. All cycles are one group of sections,
 /// which stand back to back.
 ///
-/// `folder` is a path text of the folders, `carousel` the carousel's id, any 32-bit number, `cycles` is 1 to 1,000, and `weigh` says
-/// how often each module is sent in a cycle, which is 1 to 8 times. The answer is `FolderFault` where the folders fail or the folder
-/// isn't there, and `TreeRefused` exactly where the walk or the commit refuses the folder's files; then nothing is written. After
-/// `WriteFault` and `NoMemory` a prefix of the packets was written.
+/// `pid` is the PID of all packets, 0 to 8,191. `folder` is a path text of the folders, `carousel` the carousel's id, any 32-bit
+/// number, `cycles` is 1 to 1,000, and `weigh` says how often each module is sent in a cycle, which is 1 to 8 times. The answer is
+/// `FolderFault` where the folders fail or the folder isn't there, and `TreeRefused` exactly where the walk or the commit refuses the
+/// folder's files; then nothing is written. After `WriteFault` and `NoMemory` a prefix of the packets was written.
 pub fn publish<O: Output, F: Folders>(
     alloc: Global,
+    pid: u16,
     folder: &str,
     carousel: u32,
     cycles: u32,
@@ -47,8 +48,9 @@ pub fn publish<O: Output, F: Folders>(
     out: &mut O,
     folders: &mut F,
 ) -> Status
-    requires { (O.state out.old).pending ≡ [] }
-    ensures publishes { Publishes folder.now carousel weigh.weights cycles result (sink_over (O.state out.old) (O.state out.new)) (over F.tree F.faults folders.old folders.new) }
+    requires pending { (O.state out.old).pending ≡ [] }
+    requires in_range { pid < 8192 }
+    ensures publishes { Publishes pid folder.now carousel weigh.weights cycles result (sink_over (O.state out.old) (O.state out.new)) (over F.tree F.faults folders.old folders.new) }
     ensures same { (O.state out.new).name ≡ (O.state out.old).name }
     ensures in_time { IsInTime (O.state out.old) (O.state out.new) }
 {
@@ -56,7 +58,7 @@ pub fn publish<O: Output, F: Folders>(
     publications_can_be_packed();
     receptions();
     match first_generation(alloc, folder, carousel, &weigh, folders) {
-        Ok(generation) => match send(alloc, &generation, &weigh, cycles, out) {
+        Ok(generation) => match send(alloc, pid, &generation, &weigh, cycles, out) {
             Ok(()) => Status::Done,
             Err(fault) => Status::from(fault),
         },
@@ -86,19 +88,21 @@ pub fn first_generation<F: Folders>(
     Ok(generation)
 }
 
-/// Writes so many cycles of a generation under these weights, which are one group.
+/// Writes so many cycles of a generation under these weights, which are one group, on the PID `pid`.
 fn send<O: Output>(
     alloc: Global,
+    pid: u16,
     generation: &Generation,
     weigh: &Weigh,
     cycles: u32,
     out: &mut O,
 ) -> Result<(), OutputFault>
-    requires { All IsSectionLike (map (section_of generation.now) (cycle_of weigh.now.weights (lines_of generation.now))) }
-    ensures puts { Puts result (O.state out.old) (O.state out.new) (group_bytes (map (section_of generation.now) (repeat_list cycles (cycle_of weigh.now.weights (lines_of generation.now))))) }
+    requires in_range { pid < 8192 }
+    requires like { All IsSectionLike (map (section_of generation.now) (cycle_of weigh.now.weights (lines_of generation.now))) }
+    ensures puts { Puts result (O.state out.old) (O.state out.new) (group_bytes pid (map (section_of generation.now) (repeat_list cycles (cycle_of weigh.now.weights (lines_of generation.now))))) }
     ensures empty { OnOk result ((O.state out.new).pending ≡ []) }
 {
-    let mut sender = Sender::new(alloc);
+    let mut sender = Sender::new(alloc, pid);
     for _ in 0..cycles {
         sender.send_cycle(generation, weigh, out)?;
     }
@@ -115,11 +119,13 @@ pub struct Sender {
 }
 
 impl Sender {
-    pub fn new(alloc: Global) -> Sender
-        ensures { result.mux ≡ mux_start }
+    /// Sections for the packets of the PID `pid`, 0 to 8,191, whose first one has the continuity counter 0.
+    pub fn new(alloc: Global, pid: u16) -> Sender
+        requires { pid < 8192 }
+        ensures { result.mux ≡ idle pid 0 }
     {
         Sender {
-            mux: Mux::new(alloc, PID),
+            mux: Mux::new(alloc, pid),
             packets: Vec::new(alloc),
         }
     }

@@ -10,7 +10,7 @@ ghost use Rattle.carousel_shell.specs.Announced.{cycles_sent, senders_start};
 ghost use Rattle.carousel_shell.specs.PublishPsi.{PublishesPsi};
 
 use crate::law::receptions;
-use crate::publish::{Sender, first_generation, put_packets};
+use crate::publish::{PID, Sender, first_generation, put_packets};
 use crate::status::Status;
 use carousel_world::publications_can_be_packed;
 use cycle_planner::Weigh;
@@ -65,7 +65,7 @@ fn send_announced<O: Output>(
     ensures empty { OnOk result ((O.state out.new).pending ≡ []) }
 {
     let mut announcer = Announcer::new(alloc, carousel)?;
-    let mut sender = Sender::new(alloc);
+    let mut sender = Sender::new(alloc, PID);
     for _ in 0..cycles {
         announce(&mut announcer, &mut sender.packets, out)?;
         sender.send_group(generation, weigh, out)?;

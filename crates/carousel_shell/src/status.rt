@@ -5,6 +5,7 @@ ghost use Rattle.carousel_shell.specs.Statuses.{code_of, line_of, script_text as
 
 use folder_store::{ReadTree, TreeFault};
 use generation_catalogue::CommitFault;
+use mount_table::TableFault;
 use oc_bytes::NoMemory;
 use session_script::{LineCause, ScriptFault};
 use shell_streams::{InputFault, OutputFault};
@@ -16,10 +17,10 @@ use std::alloc::{AllocError, Global};
 pub enum Status {
     /// Nothing is left to do: all that the command writes was written, and its input was read to the end.
     Done,
-    /// `open`, `open-id`, `list`: some answer is neither a file nor a folder, or `list` met its limit of [`MOST_LINES`](crate::MOST_LINES) lines. `find`: no
+    /// `open`, `open-id`, `list`, `mounts`: some answer is neither a file nor a folder, or `list` met its limit of [`MOST_LINES`](crate::MOST_LINES) lines. `find`: no
     /// PID is found.
     NotAll,
-    /// The words don't name a command with its values.
+    /// The words don't name a command with its values, or the table of `mounts` is refused.
     Words,
     /// `rehearse`: the number of the script's first line that doesn't fit, counted from 1 and at most the greatest `u32`, and
     /// that line's first cause.
@@ -28,9 +29,9 @@ pub enum Status {
     ReadFault,
     /// The sink failed.
     WriteFault,
-    /// The folders failed, or the folder that `publish` or `publish-psi` names is none.
+    /// The folders failed, or the folder that `publish`, `publish-on` or `publish-psi` names is none.
     FolderFault,
-    /// `publish`, `publish-psi`: the folder's files make no tree that can be sent.
+    /// `publish`, `publish-on`, `publish-psi`: the folder's files make no tree that can be sent.
     TreeRefused(TreeFault),
     /// The input goes on after the most that the command takes.
     InputTooLong,
@@ -170,6 +171,23 @@ impl From<ReadTree> for Status {
             ReadTree::TooDeep => Status::TreeRefused(TreeFault::TooDeep),
             ReadTree::BadName => Status::TreeRefused(TreeFault::BadName),
             ReadTree::NoMemory => Status::NoMemory,
+        }
+    }
+}
+
+impl From<TableFault> for Status {
+    ghost use Rattle.carousel_shell.specs.Statuses.{table_status};
+
+    ghost from_gives = { λ fault s. s ≡ table_status fault };
+
+    fn from(fault: TableFault) -> Status {
+        match fault {
+            TableFault::NoMemory => Status::NoMemory,
+            TableFault::TooMany
+            | TableFault::BadName(_)
+            | TableFault::BadPid(_)
+            | TableFault::NameTwice(_)
+            | TableFault::PidTwice(_) => Status::Words,
         }
     }
 }

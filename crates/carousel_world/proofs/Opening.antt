@@ -82,13 +82,13 @@ never_back i j a b lt e h =
     omega arith
 
 pub each_cycle : EveryPublicationMeets → PacketsGiveTheGroups → LayoutsAreLawful → LayoutsAreInOneGroup → Spelled → ((s : sections.Fields) → sections.Fits s → sections.IsFramed (sections.spelling s)) → EachCycleOpens
-each_cycle meets give lawful one spelled framed carousel weights cycles t p lt are is =
+each_cycle meets give lawful one spelled framed pid carousel weights cycles t p small lt are is =
     let ls = layouts_for carousel t in
     let of : IsSecond carousel ls t = second_of lawful carousel t lt is in
     let sent = broadcasts.sections (publication carousel weights (suc cycles) t) in
     let same : sent ≡ sections_of carousel weights ls 1 (suc cycles) = published_sections carousel weights (suc cycles) t in
     let like : All IsSectionLike sent = published_like lawful spelled framed carousel weights (suc cycles) t lt is in
-    let heard : candidates 256 (packets_sent carousel weights (suc cycles) t) ≡ sent = group_cut give (idle 256 0) sent (lit< tt) (lit< tt) like in
+    let heard : candidates pid (packets_sent pid carousel weights (suc cycles) t) ≡ sent = group_cut give (idle pid 0) sent small (lit< tt) like in
     let whole : IsWhole carousel ls 1 sent = subst (IsWhole carousel ls 1) (sym same) (whole_cycles carousel weights ls 1 cycles are of.sent.some of.two (first_group_of lawful one carousel t lt is)) in
     subst (λ cs. IsNodeAnswer (answer_after cs p) (node_at t p)) (sym heard)
     ((meets.sections sent carousel weights (suc cycles) t (λ i. Some i) never_back lt is (λ i bytes e accepted. (i, refl, e))).opens p whole)

@@ -44,12 +44,12 @@ publication carousel weights cycles t = record {
   groups = record { generation = 1; items = items_sent carousel weights cycles t } ∷ [];
 }
 
--- its packets, one group on PID 256 with continuity counters from 0
-abbrev pub packets_sent : (carousel : ℕ) (weights : List ℕ) (cycles : ℕ) → Tree → List Bytes
-packets_sent carousel weights cycles t = packets_of_group (idle 256 0) (sections (publication carousel weights cycles t))
+-- its packets on a PID, one group with continuity counters from 0
+abbrev pub packets_sent : (pid carousel : ℕ) (weights : List ℕ) (cycles : ℕ) → Tree → List Bytes
+packets_sent pid carousel weights cycles t = packets_of_group (idle pid 0) (sections (publication carousel weights cycles t))
 
-abbrev pub published_bytes : (carousel : ℕ) (weights : List ℕ) (cycles : ℕ) → Tree → Bytes
-published_bytes carousel weights cycles t = concat (packets_sent carousel weights cycles t)
+abbrev pub published_bytes : (pid carousel : ℕ) (weights : List ℕ) (cycles : ℕ) → Tree → Bytes
+published_bytes pid carousel weights cycles t = concat (packets_sent pid carousel weights cycles t)
 
 -- each of its sections meets the condition of a packer
 abbrev pub PublicationsCanBePacked : Type 0
@@ -86,7 +86,7 @@ pub record EveryPublicationMeets : Type 0 where
   pub packets : (pid : ℕ) (packets : List Bytes) → MeetsPublished pid packets (candidates pid packets)
   pub sections : (candidates : List Bytes) → MeetsPublishedSections candidates
 
--- the packets of one or more whole cycles, undamaged, give each path of the tree
+-- the packets of one or more whole cycles on a PID, undamaged, give each path of the tree; a PID has 13 bits
 abbrev pub EachCycleOpens : Type 0
-EachCycleOpens = (carousel : ℕ) (weights : List ℕ) (cycles : ℕ) (t : Tree) (p : PathNames) → carousel < 4294967296 → AreWeights weights → IsPublishable t
-    → IsNodeAnswer (answer_after (candidates 256 (packets_sent carousel weights (suc cycles) t)) p) (node_at t p)
+EachCycleOpens = (pid carousel : ℕ) (weights : List ℕ) (cycles : ℕ) (t : Tree) (p : PathNames) → pid < 8192 → carousel < 4294967296 → AreWeights weights → IsPublishable t
+    → IsNodeAnswer (answer_after (candidates pid (packets_sent pid carousel weights (suc cycles) t)) p) (node_at t p)

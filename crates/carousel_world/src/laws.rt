@@ -41,7 +41,8 @@ pub fn every_publication_meets()
     generation::layouts_are_lawful();
 }
 
-/// The packets of one or more whole cycles, undamaged, give each path of the tree, whatever the weights, each 1 to 8.
+/// The packets of one or more whole cycles, undamaged, give each path of the tree, whatever their PID, 0 to 8,191, and the weights,
+/// each 1 to 8.
 pub fn each_cycle_opens()
     ensures { EachCycleOpens }
 {

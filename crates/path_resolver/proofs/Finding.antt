@@ -15,7 +15,7 @@ use Rattle.biop_object.specs.declared.module.Found.TheVariants as founds
 
 -- ---- one name more
 
-front_of : {A : Type 0} (xs : List A) (i : ℕ) (x : A) → slice_get xs i ≡ Some x → drop i xs ≡ x ∷ drop (suc i) xs
+pub front_of : {A : Type 0} (xs : List A) (i : ℕ) (x : A) → slice_get xs i ≡ Some x → drop i xs ≡ x ∷ drop (suc i) xs
 front_of [] i x e = absurd cc
 front_of {A = A} (y ∷ ys) zero x e = ap (λ (z : A). z ∷ ys) (same_Some y x e)
 front_of (y ∷ ys) (suc i) x e = front_of ys i x e

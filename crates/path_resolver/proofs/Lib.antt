@@ -1,2 +1,4 @@
 pub mod Finding
 pub mod Named
+pub mod Alike
+pub mod CallerLemmas

@@ -3,3 +3,4 @@ pub mod Shots
 pub mod Shared
 pub mod Names
 pub mod Targets
+pub mod Comparing

@@ -134,7 +134,8 @@ pub enum Answer {
     Folder(FolderRef),
     /// A folder on the way, held whole, has no binding of the next name, or a name follows a file.
     NoSuch,
-    /// The walk needs this module, which isn't whole yet, or which no DII that was heard lists so far.
+    /// The walk needs this module, which isn't whole yet, or whose DII isn't held: the one that delivers it, or, where its location
+    /// names none, one that lists it.
     NotYet(u16),
     /// No gateway or no DII was heard yet.
     NoCarousel,

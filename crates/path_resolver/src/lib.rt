@@ -20,11 +20,13 @@
 #![tactic(auto)]
 
 mod answer;
+mod comparing;
 mod crossing;
 mod shot;
 mod walking;
 
 pub use answer::{Answer, FileRef, FolderRef};
+pub use comparing::same;
 pub use crossing::cross_threads;
 pub use shot::{Gateway, Held, Shot};
 pub use walking::resolve;

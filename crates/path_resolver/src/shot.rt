@@ -41,6 +41,7 @@ pub struct Shot {
     pub held: Vec<u16>,
     /// The gateway, where a DSI is held.
     pub gateway: Option<Gateway>,
-    /// The modules that these DIIs list, DII by DII, each in its DII's order.
+    /// The modules that these DIIs list, DII by DII, each in its DII's order. Each line's identification stands in `held`; a shot that
+    /// is made otherwise answers by its table.
     pub table: Vec<Held>,
 }

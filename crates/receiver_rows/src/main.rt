@@ -1,15 +1,18 @@
 //! Rows of calls on the parts of a receiver: a module out of its blocks, the modules of the DIIs that are held, answers to paths,
-//! and the receiver that is fed sections. The program writes what each call answers, and the gate compares that.
+//! the receiver that is fed sections, and several carousels under names in one tree. The program writes what each call answers,
+//! and the gate compares that.
 #![tactic(auto)]
 
 mod assembler;
 mod cache;
+mod mounts;
 mod numbers;
 mod resolver;
 mod tuner;
 
 use crate::assembler::AssemblerRows;
 use crate::cache::CacheRows;
+use crate::mounts::MountRows;
 use crate::resolver::ShotRows;
 use crate::tuner::TunerRows;
 use std::alloc::Global;
@@ -23,6 +26,7 @@ struct Receiver {
     cache: CacheRows,
     shot: ShotRows,
     tuner: TunerRows,
+    mounts: MountRows,
 }
 
 impl Calls for Receiver {
@@ -36,7 +40,10 @@ impl Calls for Receiver {
         if let Some(text) = self.shot.call(alloc, row)? {
             return Ok(text);
         }
-        match self.tuner.call(alloc, row)? {
+        if let Some(text) = self.tuner.call(alloc, row)? {
+            return Ok(text);
+        }
+        match self.mounts.call(alloc, row)? {
             Some(text) => Ok(text),
             None => Err(RowFault::BadRow),
         }
@@ -50,6 +57,7 @@ fn main(rt: HostRuntime) -> io::Result<()> {
         cache: CacheRows::new(alloc),
         shot: ShotRows::new(alloc),
         tuner: TunerRows::new(alloc),
+        mounts: MountRows::new(),
     };
     answer_rows(&rt, &mut receiver)
 }

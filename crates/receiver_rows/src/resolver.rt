@@ -4,7 +4,9 @@ use crate::numbers::{number_16, number_32};
 use biop_object::Module;
 use dsi_dii::ModuleLine;
 use ior_tap::{Key, Location};
-use path_resolver::{Answer, FileRef, FolderRef, Gateway, Held, Shot, cross_threads, resolve};
+use path_resolver::{
+    Answer, FileRef, FolderRef, Gateway, Held, Shot, cross_threads, resolve, same,
+};
 use path_tree::{Path, PathFault, print_name};
 use std::alloc::{AllocError, Global};
 use std::sync::Arc;
@@ -42,6 +44,7 @@ impl ShotRows {
             "resolve" => answer_text(alloc, &self.answer(alloc, row)?)?,
             "bytes" => self.bytes(alloc, row)?,
             "shared-bytes" => self.shared_bytes(alloc, row)?,
+            "same" => self.compared(alloc, row)?,
             "names" => self.names(alloc, row)?,
             "shared-names" => self.shared_names(alloc, row)?,
             "cross-threads" => {
@@ -121,8 +124,25 @@ impl ShotRows {
 
     /// The answer to the path of a row.
     fn answer(&self, alloc: Global, row: &Row<'_>) -> Result<Answer, RowFault> {
-        let path = path_of(alloc, row)?;
+        self.answer_at(alloc, row, 0)
+    }
+
+    /// The answer to the path that the word at a place says.
+    fn answer_at(&self, alloc: Global, row: &Row<'_>, place: usize) -> Result<Answer, RowFault> {
+        let path = path_at(alloc, row, place)?;
         Ok(resolve(&self.shot, &path)?)
+    }
+
+    /// Whether the answers to the two paths of a row are the same.
+    fn compared(&self, alloc: Global, row: &Row<'_>) -> Result<String, RowFault> {
+        let first = self.answer_at(alloc, row, 0)?;
+        let second = self.answer_at(alloc, row, 1)?;
+        let text = if same(&first, &second) {
+            "the same"
+        } else {
+            "not the same"
+        };
+        Ok(String::from_str(alloc, text)?)
     }
 
     /// The bytes of the file at a path.
@@ -182,7 +202,12 @@ fn module_of(alloc: Global, bytes: Vec<u8>) -> Result<Arc<Module>, AllocError> {
 
 /// The path that a row's first word says.
 pub(crate) fn path_of(alloc: Global, row: &Row<'_>) -> Result<Path, RowFault> {
-    match Path::parse(alloc, row.word(0)?.as_bytes()) {
+    path_at(alloc, row, 0)
+}
+
+/// The path that the word at a place says.
+fn path_at(alloc: Global, row: &Row<'_>, place: usize) -> Result<Path, RowFault> {
+    match Path::parse(alloc, row.word(place)?.as_bytes()) {
         Ok(path) => Ok(path),
         Err(PathFault::NoMemory) => Err(RowFault::NoMemory),
         Err(_fault) => Err(RowFault::BadRow),

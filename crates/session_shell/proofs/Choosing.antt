@@ -68,14 +68,23 @@ find_one [] = refl
 find_one (c ∷ []) = mapped commands.Find (λ a. refl) (commands.any_u32_in c)
 find_one (c ∷ d ∷ words) = refl
 
-opened_by_id : (carousel : Option ℕ) (paths : Option (List PathNames)) → says_session (carousel >>= λ c. option_map (commands.OpenId c) paths) ≡ false
-opened_by_id (Some c) (Some paths) = refl
-opened_by_id (Some c) None = refl
-opened_by_id None paths = refl
+-- a value of the first word, and one of those behind it
+both_mapped : {A B : Type 0} (name : A → B → Named) → ((a : A) (b : B) → is_session (name a b) ≡ false) → (first : Option A) (rest : Option B)
+    → says_session (first >>= λ a. option_map (name a) rest) ≡ false
+both_mapped name h (Some a) rest = mapped (name a) (h a) rest
+both_mapped name h None rest = refl
 
 open_by_id : (words : List Bytes) → says_session (commands.open_id_by words) ≡ false
 open_by_id [] = refl
-open_by_id (carousel ∷ words) = opened_by_id (commands.any_u32_in carousel) (commands.paths_in words)
+open_by_id (carousel ∷ words) = both_mapped commands.OpenId (λ c paths. refl) (commands.any_u32_in carousel) (commands.paths_in words)
+
+publish_on : (words : List Bytes) → says_session (commands.publish_on_by words) ≡ false
+publish_on [] = refl
+publish_on (pid ∷ words) = both_mapped (λ q p. commands.PublishOn q p.0 p.1 p.2) (λ q p. refl) (commands.pid_in pid) (commands.publication_in words)
+
+open_mounted : (words : List Bytes) → says_session (commands.mounts_by words) ≡ false
+open_mounted [] = refl
+open_mounted (table ∷ words) = both_mapped commands.Mounts (λ t paths. refl) (commands.table_in table) (commands.paths_in words)
 
 -- ---- the first word
 
@@ -113,7 +122,13 @@ named word words other small = among word words commands.commands (
               λ e. absurd (true≢false (sym e ∙ other)),
               (
                 λ e. absurd (true≢false (sym e ∙ small)),
-                (λ e. find_one words, (λ e. open_by_id words, (λ e. mapped (λ p. commands.PublishPsi p.0 p.1 p.2) (λ a. refl) (commands.publication_in words), tt))),
+                (
+                  λ e. find_one words,
+                  (
+                    λ e. open_by_id words,
+                    (λ e. mapped (λ p. commands.PublishPsi p.0 p.1 p.2) (λ a. refl) (commands.publication_in words), (λ e. publish_on words, (λ e. open_mounted words, tt))),
+                  ),
+                ),
               ),
             ),
           ),
@@ -226,6 +241,8 @@ others_decline ws (code.Big size) source sink other small e f = absurd (small si
 others_decline ws (code.Find carousel) source sink other small e f = record { ends = inl refl; unread = e; unwritten = f }
 others_decline ws (code.OpenId carousel paths) source sink other small e f = record { ends = inl refl; unread = e; unwritten = f }
 others_decline ws (code.PublishPsi folder carousel cycles) source sink other small e f = record { ends = inl refl; unread = e; unwritten = f }
+others_decline ws (code.PublishOn pid folder carousel cycles) source sink other small e f = record { ends = inl refl; unread = e; unwritten = f }
+others_decline ws (code.Mounts table paths) source sink other small e f = record { ends = inl refl; unread = e; unwritten = f }
 
 -- there was no memory before a session began
 pub memory_declines : (ws : List ℕ) (r : Result Named Misfit) (source sink : Over Bytes) → IsUntouched source → IsUntouched sink → KeepsSession ws r status.NoMemory source sink
@@ -245,6 +262,8 @@ memory_declines ws (Ok command) source sink e f = by command
     by (commands.Find carousel) = record { ends = inr refl; unread = e; unwritten = f }
     by (commands.OpenId carousel paths) = record { ends = inr refl; unread = e; unwritten = f }
     by (commands.PublishPsi folder carousel cycles) = record { ends = inr refl; unread = e; unwritten = f }
+    by (commands.PublishOn pid folder carousel cycles) = record { ends = inr refl; unread = e; unwritten = f }
+    by (commands.Mounts table paths) = record { ends = inr refl; unread = e; unwritten = f }
 
 -- the sink that the output lends is the one that was handed in
 pub promises_over : {X : Type 0} (ws : List ℕ) (c : Named) (s : Status) (source : Over Bytes) (content : X → Option Bytes) (faults : X → ℕ) (begin end first last : X) → begin ≡ first → end ≡ last

@@ -6,7 +6,8 @@ use Rattle.folder_store.specs.Folders.{FolderTree}
 use Rattle.shell_words.specs.Words as commands
 use Rattle.shell_streams.specs.Cuts.{Bytes}
 use Rattle.carousel_shell.specs.Over.{Over}
-use Rattle.carousel_shell.specs.Promises.{Declines, Keeps, WithoutInput}
+use Rattle.carousel_shell.specs.Promises.{Keeps, WithoutInput}
+use Rattle.carousel_shell.specs.Refusing.{Declines}
 use Rattle.carousel_shell.specs.declared.status.Status.{Status}
 use Rattle.session_shell.specs.Session.{Plays}
 use Rattle.session_shell.specs.Big.{PlaysBig}

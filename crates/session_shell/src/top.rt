@@ -21,8 +21,8 @@ use std::thread::Threads;
 /// Runs the command that the words name: they are the command line without the program's name. `session` and `big` run by `run_session`,
 /// and every other command by `run_plain`, which says what each of them answers. The first word alone decides between the two.
 ///
-/// The input comes from the source, the output goes to the sink, and the folders are those that `publish` and `publish-psi` read. Each
-/// actor of a session passes the gate before each of its steps. Each module is sent as often a cycle as it weighs. A write that fails is
+/// The input comes from the source, the output goes to the sink, and the folders are those that `publish`, `publish-on` and `publish-psi`
+/// read. Each actor of a session passes the gate before each of its steps. Each module is sent as often a cycle as it weighs. A write that fails is
 /// the last one that is tried, where none had failed before. These rules are this project's own.
 pub fn run<R: Threads + Wait + Sync, S: Source, K: Sink, F: Folders, G: Gate>(
     rt: &R,

@@ -3,7 +3,7 @@
 use crate::texts::on_one_line;
 use generation_catalogue::Refusal;
 use path_resolver::Answer;
-use path_tree::{EditFault, Path};
+use path_tree::{EditFault, Name, Path, print_name};
 use shell_words::{Command, WordsFault, answer_text, answered_text, command, refusal_text};
 use std::alloc::{AllocError, Global};
 use test_rows::{Row, RowFault};
@@ -77,7 +77,25 @@ fn command_text(alloc: Global, command: &Command) -> Result<String, AllocError> 
         Command::PublishPsi(folder, carousel, cycles) => {
             format!(in alloc; "publish-psi {folder} {carousel} {cycles}")
         }
+        Command::PublishOn(pid, folder, carousel, cycles) => {
+            format!(in alloc; "publish-on {pid} {folder} {carousel} {cycles}")
+        }
+        Command::Mounts(table, paths) => with_paths(mounts_text(alloc, table)?, paths),
     }
+}
+
+/// `mounts` and its table.
+fn mounts_text(alloc: Global, table: &[(Name, u16)]) -> Result<String, AllocError> {
+    let mut text = String::from_str(alloc, "mounts")?;
+    let mut mark = ' ';
+    for (name, pid) in table {
+        let name = print_name(alloc, name.bytes())?;
+        let entry = format!(in alloc; "{name}={pid}")?;
+        text.push(mark)?;
+        text.push_str(entry.as_str())?;
+        mark = ',';
+    }
+    Ok(text)
 }
 
 fn with_paths(mut text: String, paths: &[Path]) -> Result<String, AllocError> {

@@ -39,7 +39,7 @@ fn calls_that_fail_stop_commands(rt: HostRuntime) -> Result<(), Fail> {
     let announced = run(alloc, "publish-psi F 1 1", b"", (1, 100), None)?;
     let packets = announced.sink.written();
     let script = b"put 1 /e -\ncommit 1\ndraw 3\n";
-    let rows: [(&str, &[u8], (usize, usize), (End, u64), (u8, usize, usize)); 10] = [
+    let rows: [(&str, &[u8], (usize, usize), (End, u64), (u8, usize, usize)); 12] = [
         (
             "assemble 1 0 5 42",
             &HELLO,
@@ -64,6 +64,20 @@ fn calls_that_fail_stop_commands(rt: HostRuntime) -> Result<(), Fail> {
             (4, 0, 13),
         ),
         ("open-id 1 /", packets, (300, 2), (End::Sink, 1), (5, 2, 13)),
+        (
+            "mounts x=256 /x",
+            packets,
+            (300, 2),
+            (End::Source, 1),
+            (4, 0, 14),
+        ),
+        (
+            "mounts x=256 /x",
+            packets,
+            (300, 2),
+            (End::Sink, 1),
+            (5, 2, 14),
+        ),
         (
             "publish F 1 1",
             b"",

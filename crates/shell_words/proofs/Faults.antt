@@ -6,7 +6,7 @@ use Rattle.std.specs.Str.{bytes_eq}
 use Rattle.std.specs.List.{fold, list_any}
 use Rattle.clap.specs.Lexer.{long_of, long_of_rest, short_of, short_of_rest, strip_byte}
 use Rattle.clap.specs.Walk.{Waiting, trailing, subcommand_or_other, plain_word, long_or_other, short_or_plain, Held, Row, Rule, Text, Walk, Step, word_met, walked, nothing_held, positional, idle, value, after_step, to_positional, arg_by_index, settled, finished}
-use Rattle.clap.specs.Simple.{App, Shape, built, entered, new_app, with_rule}
+use Rattle.clap.specs.Simple.{App, Shape, built, entered, new_app}
 use Rattle.clap.specs.Kinds.{Kinds, IsAmong, or_else}
 use Rattle.clap.specs.Faults.{other_fault, flag_word_fault, bundle_fault, turn_fault, word_fault, step_fault, walk_fault, settle_fault, defaults_fault, check_fault, level_fault, entered_fault, fault_of, is_simple_and_free}
 use Rattle.clap.specs.declared.error.ErrorKind.{ErrorKind}
@@ -15,10 +15,10 @@ use Rattle.clap.specs.declared.parser.ValueSource.TheVariants.{CommandLine}
 use Rattle.clap.specs.Words.{reading_of}
 use Rattle.clap.specs.declared.builder.ValueParser.TheVariants as parsers
 use Rattle.shell_words.specs.Words.{begins_with_dash}
-use Rattle.shell_words.specs.Counting.{Fits, single, open_app, publish_app, app_of_keyword, one}
+use Rattle.shell_words.specs.Counting.{Fits, single, four_app, open_app, publish_app, app_of_keyword}
 use Rattle.shell_words.proofs.Naming.{any_map, same_length}
 use Rattle.shell_words.specs.declared.keyword.Keyword.{Keyword}
-use Rattle.shell_words.specs.declared.keyword.Keyword.TheVariants.{Assemble, Open, Record, List as ListAll, Publish, Rehearse, Session, Big, Find, OpenId, PublishPsi}
+use Rattle.shell_words.specs.declared.keyword.Keyword.TheVariants.{Assemble, Open, Record, List as ListAll, Publish, Rehearse, Session, Big, Find, OpenId, PublishPsi, PublishOn, Mounts}
 
 -- a walk between two words, where the next one goes to the positional at place n
 abbrev between : Held → Bool → ℕ → Walk
@@ -173,35 +173,35 @@ publish_0 name [] p = too_few (shape (publish_app name)) (between nothing_held f
 publish_0 name (a ∷ rest) p =
     one_word (shape (publish_app name)) nothing_held 1 (between (held ([]) (codes "FOLDER") a) false 2) 2 a rest (neither _ _ p).0 refl refl (publish_1 name a rest (neither _ _ p).1)
 
--- a module
-assemble_4 : (a b c d : Text) (words : List Text) → list_any begins_with_dash words ≡ false → Counts (shape (app_of_keyword Assemble)) (between (held (row (codes "ID") (a ∷ []) ∷ row (codes "VERSION") (b ∷ []) ∷ row (codes "SIZE") (c ∷ []) ∷ []) (codes "DOWNLOAD") d) false 5) (length words ≡ 0) words
+-- four words
+four_4 : (name : Text) (a b c d : Text) (words : List Text) → list_any begins_with_dash words ≡ false → Counts (shape (four_app name)) (between (held (row (codes "FIRST") (a ∷ []) ∷ row (codes "SECOND") (b ∷ []) ∷ row (codes "THIRD") (c ∷ []) ∷ []) (codes "FOURTH") d) false 5) (length words ≡ 0) words
 unfolding walk_fault defaults_fault
-assemble_4 a b c d [] p = record { fits = λ _. refl; only = λ _. refl }
-assemble_4 a b c d (x ∷ rest) p = too_many (shape (app_of_keyword Assemble)) (held (row (codes "ID") (a ∷ []) ∷ row (codes "VERSION") (b ∷ []) ∷ row (codes "SIZE") (c ∷ []) ∷ []) (codes "DOWNLOAD") d) false 5 _ _ _ x rest (λ e. omega arith) (neither _ _ p).0 refl
+four_4 name a b c d [] p = record { fits = λ _. refl; only = λ _. refl }
+four_4 name a b c d (x ∷ rest) p = too_many (shape (four_app name)) (held (row (codes "FIRST") (a ∷ []) ∷ row (codes "SECOND") (b ∷ []) ∷ row (codes "THIRD") (c ∷ []) ∷ []) (codes "FOURTH") d) false 5 _ _ _ x rest (λ e. omega arith) (neither _ _ p).0 refl
 
-assemble_3 : (a b c : Text) (words : List Text) → list_any begins_with_dash words ≡ false → Counts (shape (app_of_keyword Assemble)) (between (held (row (codes "ID") (a ∷ []) ∷ row (codes "VERSION") (b ∷ []) ∷ []) (codes "SIZE") c) false 4) (length words ≡ 1) words
+four_3 : (name : Text) (a b c : Text) (words : List Text) → list_any begins_with_dash words ≡ false → Counts (shape (four_app name)) (between (held (row (codes "FIRST") (a ∷ []) ∷ row (codes "SECOND") (b ∷ []) ∷ []) (codes "THIRD") c) false 4) (length words ≡ 1) words
 unfolding walk_fault defaults_fault
-assemble_3 a b c [] p = too_few (shape (app_of_keyword Assemble)) (between (held (row (codes "ID") (a ∷ []) ∷ row (codes "VERSION") (b ∷ []) ∷ []) (codes "SIZE") c) false 4) _ _ _ (λ e. omega arith) refl
-assemble_3 a b c (d ∷ rest) p =
-    one_word (shape (app_of_keyword Assemble)) (held (row (codes "ID") (a ∷ []) ∷ row (codes "VERSION") (b ∷ []) ∷ []) (codes "SIZE") c) 4 (between (held (row (codes "ID") (a ∷ []) ∷ row (codes "VERSION") (b ∷ []) ∷ row (codes "SIZE") (c ∷ []) ∷ []) (codes "DOWNLOAD") d) false 5) 0 d rest (neither _ _ p).0 refl refl (assemble_4 a b c d rest (neither _ _ p).1)
+four_3 name a b c [] p = too_few (shape (four_app name)) (between (held (row (codes "FIRST") (a ∷ []) ∷ row (codes "SECOND") (b ∷ []) ∷ []) (codes "THIRD") c) false 4) _ _ _ (λ e. omega arith) refl
+four_3 name a b c (d ∷ rest) p =
+    one_word (shape (four_app name)) (held (row (codes "FIRST") (a ∷ []) ∷ row (codes "SECOND") (b ∷ []) ∷ []) (codes "THIRD") c) 4 (between (held (row (codes "FIRST") (a ∷ []) ∷ row (codes "SECOND") (b ∷ []) ∷ row (codes "THIRD") (c ∷ []) ∷ []) (codes "FOURTH") d) false 5) 0 d rest (neither _ _ p).0 refl refl (four_4 name a b c d rest (neither _ _ p).1)
 
-assemble_2 : (a b : Text) (words : List Text) → list_any begins_with_dash words ≡ false → Counts (shape (app_of_keyword Assemble)) (between (held (row (codes "ID") (a ∷ []) ∷ []) (codes "VERSION") b) false 3) (length words ≡ 2) words
+four_2 : (name : Text) (a b : Text) (words : List Text) → list_any begins_with_dash words ≡ false → Counts (shape (four_app name)) (between (held (row (codes "FIRST") (a ∷ []) ∷ []) (codes "SECOND") b) false 3) (length words ≡ 2) words
 unfolding walk_fault defaults_fault
-assemble_2 a b [] p = too_few (shape (app_of_keyword Assemble)) (between (held (row (codes "ID") (a ∷ []) ∷ []) (codes "VERSION") b) false 3) _ _ _ (λ e. omega arith) refl
-assemble_2 a b (c ∷ rest) p =
-    one_word (shape (app_of_keyword Assemble)) (held (row (codes "ID") (a ∷ []) ∷ []) (codes "VERSION") b) 3 (between (held (row (codes "ID") (a ∷ []) ∷ row (codes "VERSION") (b ∷ []) ∷ []) (codes "SIZE") c) false 4) 1 c rest (neither _ _ p).0 refl refl (assemble_3 a b c rest (neither _ _ p).1)
+four_2 name a b [] p = too_few (shape (four_app name)) (between (held (row (codes "FIRST") (a ∷ []) ∷ []) (codes "SECOND") b) false 3) _ _ _ (λ e. omega arith) refl
+four_2 name a b (c ∷ rest) p =
+    one_word (shape (four_app name)) (held (row (codes "FIRST") (a ∷ []) ∷ []) (codes "SECOND") b) 3 (between (held (row (codes "FIRST") (a ∷ []) ∷ row (codes "SECOND") (b ∷ []) ∷ []) (codes "THIRD") c) false 4) 1 c rest (neither _ _ p).0 refl refl (four_3 name a b c rest (neither _ _ p).1)
 
-assemble_1 : (a : Text) (words : List Text) → list_any begins_with_dash words ≡ false → Counts (shape (app_of_keyword Assemble)) (between (held ([]) (codes "ID") a) false 2) (length words ≡ 3) words
+four_1 : (name : Text) (a : Text) (words : List Text) → list_any begins_with_dash words ≡ false → Counts (shape (four_app name)) (between (held ([]) (codes "FIRST") a) false 2) (length words ≡ 3) words
 unfolding walk_fault defaults_fault
-assemble_1 a [] p = too_few (shape (app_of_keyword Assemble)) (between (held ([]) (codes "ID") a) false 2) _ _ _ (λ e. omega arith) refl
-assemble_1 a (b ∷ rest) p =
-    one_word (shape (app_of_keyword Assemble)) (held ([]) (codes "ID") a) 2 (between (held (row (codes "ID") (a ∷ []) ∷ []) (codes "VERSION") b) false 3) 2 b rest (neither _ _ p).0 refl refl (assemble_2 a b rest (neither _ _ p).1)
+four_1 name a [] p = too_few (shape (four_app name)) (between (held ([]) (codes "FIRST") a) false 2) _ _ _ (λ e. omega arith) refl
+four_1 name a (b ∷ rest) p =
+    one_word (shape (four_app name)) (held ([]) (codes "FIRST") a) 2 (between (held (row (codes "FIRST") (a ∷ []) ∷ []) (codes "SECOND") b) false 3) 2 b rest (neither _ _ p).0 refl refl (four_2 name a b rest (neither _ _ p).1)
 
-assemble_0 : (words : List Text) → list_any begins_with_dash words ≡ false → Counts (shape (app_of_keyword Assemble)) (between nothing_held false 1) (length words ≡ 4) words
+four_0 : (name : Text) (words : List Text) → list_any begins_with_dash words ≡ false → Counts (shape (four_app name)) (between nothing_held false 1) (length words ≡ 4) words
 unfolding walk_fault defaults_fault
-assemble_0 [] p = too_few (shape (app_of_keyword Assemble)) (between nothing_held false 1) _ _ _ (λ e. omega arith) refl
-assemble_0 (a ∷ rest) p =
-    one_word (shape (app_of_keyword Assemble)) nothing_held 1 (between (held ([]) (codes "ID") a) false 2) 3 a rest (neither _ _ p).0 refl refl (assemble_1 a rest (neither _ _ p).1)
+four_0 name [] p = too_few (shape (four_app name)) (between nothing_held false 1) _ _ _ (λ e. omega arith) refl
+four_0 name (a ∷ rest) p =
+    one_word (shape (four_app name)) nothing_held 1 (between (held ([]) (codes "FIRST") a) false 2) 3 a rest (neither _ _ p).0 refl refl (four_1 name a rest (neither _ _ p).1)
 
 -- a source and paths: those before the last one are a row
 abbrev paths_found : Text → List Text → Text → Held
@@ -239,7 +239,7 @@ open_0 name (a ∷ rest) p =
     record { fits = λ l. is ∙ more.fits (omega arith); only = λ z. let l : 1 ≤ length rest = more.only (sym is ∙ z) in omega arith }
 
 counted : (keyword : Keyword) (words : List Text) → list_any begins_with_dash words ≡ false → Counts (shape (app_of_keyword keyword)) (between nothing_held false 1) (Fits keyword (length words)) words
-counted Assemble words p = assemble_0 words p
+counted Assemble words p = four_0 (codes "assemble") words p
 counted Open words p = open_0 (codes "open") words p
 counted Record words p = single_0 (codes "record") words p
 counted ListAll words p = single_0 (codes "list") words p
@@ -250,6 +250,8 @@ counted Big words p = single_0 (codes "big") words p
 counted Find words p = single_0 (codes "find") words p
 counted OpenId words p = open_0 (codes "open-id") words p
 counted PublishPsi words p = publish_0 (codes "publish-psi") words p
+counted PublishOn words p = four_0 (codes "publish-on") words p
+counted Mounts words p = open_0 (codes "mounts") words p
 
 -- no positional has a rule on another, and there are no options
 pub is_free : (keyword : Keyword) → is_simple_and_free (app_of_keyword keyword) ≡ true
@@ -264,6 +266,8 @@ is_free Big = refl
 is_free Find = refl
 is_free OpenId = refl
 is_free PublishPsi = refl
+is_free PublishOn = refl
+is_free Mounts = refl
 
 no_subcommand : (s : Shape) (words : List Text) (stop : Option (Text × List Text))
     → level_fault s [] nothing_held words (is_some (entered (record { top = s; subs = [] }) stop)) (entered_fault (record { top = s; subs = [] }) stop) ≡ faults_from s (between nothing_held false 1) words
@@ -282,6 +286,8 @@ faults_are Big first words = no_subcommand (shape (app_of_keyword Big)) words _
 faults_are Find first words = no_subcommand (shape (app_of_keyword Find)) words _
 faults_are OpenId first words = no_subcommand (shape (app_of_keyword OpenId)) words _
 faults_are PublishPsi first words = no_subcommand (shape (app_of_keyword PublishPsi)) words _
+faults_are PublishOn first words = no_subcommand (shape (app_of_keyword PublishOn)) words _
+faults_are Mounts first words = no_subcommand (shape (app_of_keyword Mounts)) words _
 
 behind : {A : Type 0} (f : A → Text) (w : A) (ws : List A) → length (w ∷ ws) - 1 ≡ length (map f ws)
 behind f w ws = omega (arith, same_length f ws)

@@ -1,3 +1,4 @@
 pub mod Numerals
 pub mod Naming
+pub mod Tabling
 pub mod Faults

@@ -6,14 +6,14 @@ use Rattle.std.proofs.lemmas.Bool.{cond-true, cond-false}
 use Rattle.std.proofs.lemmas.List.{drop_more, drop_all}
 use Rattle.std.specs.Option.{option_map}
 use Rattle.oc_bytes.specs.Outcome.{Gives}
-use Rattle.path_tree.specs.Paths.{PathNames}
 use Rattle.shell_words.specs.declared.words.WordsFault.{WordsFault}
 use Rattle.shell_words.specs.declared.words.WordsFault.TheVariants as faults
 use Rattle.shell_words.specs.declared.keyword.Keyword.{Keyword}
 use Rattle.shell_words.specs.declared.keyword.Keyword.TheVariants as keywords
 use Rattle.shell_words.specs.Keywords.{words_by}
 use Rattle.shell_words.specs.Counting.{Fits}
-use Rattle.shell_words.specs.Words.{◌>>=◌, Open, OpenId, Words, pid_in, any_u32_in, begins_with_dash, or_misfit, command_named, command_of, view, cause, path_in, onto_paths, all_paths, paths_in}
+use Rattle.shell_words.specs.Values.{◌>>=◌, pid_in, any_u32_in, path_in, onto, each_in, paths_in, table_in}
+use Rattle.shell_words.specs.Words.{Named, Open, OpenId, PublishOn, Mounts, Words, begins_with_dash, or_misfit, command_named, command_of, view, cause}
 
 pub any_map : {A : Type 0} (f : A → List ℕ) (words : List A) → list_any begins_with_dash (map f words) ≡ list_any (λ w. begins_with_dash (f w)) words
 any_map f [] = refl
@@ -32,55 +32,58 @@ pub command_of-named : {A : Type 0} (f : A → List ℕ) (words : List A) (d : A
 command_of-named f [] d name n h e = absurd (omega arith)
 command_of-named f (w ∷ ws) d name n h e = cond-false _ _ _ (any_map f (w ∷ ws) ∙ h) ∙ ap (λ m. or_misfit (command_named m (map f ws))) (sym e)
 
-paths_in_all : {A : Type 0} (f : A → List ℕ) (words : List A) → 0 < length words → paths_in (map f words) ≡ all_paths (map f words)
-paths_in_all f [] n = absurd (omega arith)
-paths_in_all f (w ∷ ws) n = refl
+paths_in_each : {A : Type 0} (f : A → List ℕ) (words : List A) → 0 < length words → paths_in (map f words) ≡ each_in path_in (map f words)
+paths_in_each f [] n = absurd (omega arith)
+paths_in_each f (w ∷ ws) n = refl
 
--- paths in front of those of other words
-abbrev pub prepended : List PathNames → Option (List PathNames) → Option (List PathNames)
-prepended paths o = option_map (λ more. paths ++ more) o
+-- ---- what several words stand for, one after another
 
-pub paths_begin : (o : Option (List PathNames)) → o ≡ prepended [] o
-paths_begin (Some paths) = refl
-paths_begin None = refl
+-- values in front of those of other words
+abbrev pub prepended : {A : Type 0} → List A → Option (List A) → Option (List A)
+prepended xs o = option_map (λ more. xs ++ more) o
 
-path_read : (o : Option PathNames) (path : PathNames) → or_misfit o ≡ Ok path → o ≡ Some path
-path_read (Some p) path e = cc
-path_read None path e = cc
+pub each_begins : {A : Type 0} (o : Option (List A)) → o ≡ prepended [] o
+each_begins (Some xs) = refl
+each_begins None = refl
 
-path_unread : (o : Option PathNames) → or_misfit o ≡ Err Words → o ≡ None
-path_unread (Some p) e = cc
-path_unread None e = refl
+value_read : {A : Type 0} (o : Option A) (x : A) → or_misfit o ≡ Ok x → o ≡ Some x
+value_read (Some y) x e = cc
+value_read None x e = cc
 
-prepended_one : (paths : List PathNames) (path : PathNames) (o : Option (List PathNames)) → prepended paths (onto_paths (Some path) o) ≡ prepended (paths ++ path ∷ []) o
-prepended_one paths path (Some more) = ap Some (sym (append_assoc paths (path ∷ []) more))
-prepended_one paths path None = refl
+value_unread : {A : Type 0} (o : Option A) → or_misfit o ≡ Err Words → o ≡ None
+value_unread (Some y) e = cc
+value_unread None e = refl
 
-rest_of_words : {A : Type 0} (f : A → List ℕ) (words : List A) (i : ℕ) (d : A) → i < length words → all_paths (map f (drop i words)) ≡ onto_paths (path_in (f (get_or words i d))) (all_paths (map f (drop (i + 1) words)))
-rest_of_words f words i d h = ap (λ ws. all_paths (map f ws)) (drop_more words i d h)
+prepended_one : {A : Type 0} (xs : List A) (x : A) (o : Option (List A)) → prepended xs (onto (Some x) o) ≡ prepended (xs ++ x ∷ []) o
+prepended_one xs x (Some more) = ap Some (sym (append_assoc xs (x ∷ []) more))
+prepended_one xs x None = refl
 
--- one word more was read
-pub paths_more : {A : Type 0} (f : A → List ℕ) (words : List A) (i : ℕ) (d : A) (paths : List PathNames) (path : PathNames) → i < length words
-    → all_paths (map f words) ≡ prepended paths (all_paths (map f (drop i words))) → or_misfit (path_in (f (get_or words i d))) ≡ Ok path
-    → all_paths (map f words) ≡ prepended (paths ++ path ∷ []) (all_paths (map f (drop (i + 1) words)))
-paths_more f words i d paths path h e r =
-    e ∙ ap (prepended paths) (rest_of_words f words i d h ∙ ap (λ o. onto_paths o (all_paths (map f (drop (i + 1) words)))) (path_read _ path r))
-    ∙ prepended_one paths path (all_paths (map f (drop (i + 1) words)))
+-- the words from one of them on, after what the words before it stand for
+module _ {A B : Type 0} (value_in : List ℕ → Option B) (f : A → List ℕ) (words : List A) (i : ℕ) (o : Option (List B)) (xs : List B)
+    (so_far : o ≡ prepended xs (each_in value_in (map f (drop i words)))) where
+  next_is : (d : A) (word : List ℕ) → i < length words → word ≡ f (get_or words i d) → o ≡ prepended xs (onto (value_in word) (each_in value_in (map f (drop (i + 1) words))))
+  next_is d word h at =
+      so_far ∙ ap (λ ws. prepended xs (each_in value_in (map f ws))) (drop_more words i d h)
+      ∙ ap (λ w. prepended xs (onto (value_in w) (each_in value_in (map f (drop (i + 1) words))))) (sym at)
 
--- a word is no path, so the words aren't paths
-pub paths_fault : {A : Type 0} (f : A → List ℕ) (words : List A) (i : ℕ) (d : A) (paths : List PathNames) (fault : WordsFault) → i < length words
-    → all_paths (map f words) ≡ prepended paths (all_paths (map f (drop i words)))
-    → IfSome (cause fault) (λ m. or_misfit (path_in (f (get_or words i d))) ≡ Err m) → IfSome (cause fault) (λ m. or_misfit (paths_in (map f words)) ≡ Err m)
-paths_fault f words i d paths faults.NoMemory h e r = tt
-paths_fault f words i d paths faults.Words h e r =
-    let none : all_paths (map f (drop i words)) ≡ None = rest_of_words f words i d h ∙ ap (λ o. onto_paths o (all_paths (map f (drop (i + 1) words)))) (path_unread _ r) in
-    ap or_misfit (paths_in_all f words (omega arith) ∙ e ∙ ap (prepended paths) none)
+  -- the next one was read
+  pub each_more : (d : A) (word : List ℕ) (x : B) → i < length words → word ≡ f (get_or words i d) → or_misfit (value_in word) ≡ Ok x
+      → o ≡ prepended (xs ++ x ∷ []) (each_in value_in (map f (drop (i + 1) words)))
+  each_more d word x h at e =
+      next_is d word h at ∙ ap (λ y. prepended xs (onto y (each_in value_in (map f (drop (i + 1) words))))) (value_read _ x e)
+      ∙ prepended_one xs x (each_in value_in (map f (drop (i + 1) words)))
 
--- all words were read
-pub paths_all : {A : Type 0} (f : A → List ℕ) (words : List A) (i : ℕ) (paths : List PathNames) → 0 < length words → length words ≤ i
-    → all_paths (map f words) ≡ prepended paths (all_paths (map f (drop i words))) → or_misfit (paths_in (map f words)) ≡ Ok paths
-paths_all f words i paths n h e =
-    ap or_misfit (paths_in_all f words n ∙ e ∙ ap (λ ws. prepended paths (all_paths (map f ws))) (drop_all i words h) ∙ ap Some (append-nil paths))
+  -- the next one stands for nothing, so they don't either
+  pub each_fault : (d : A) (word : List ℕ) (fault : WordsFault) → i < length words → word ≡ f (get_or words i d) → IfSome (cause fault) (λ m. or_misfit (value_in word) ≡ Err m)
+      → IfSome (cause fault) (λ m. or_misfit o ≡ Err m)
+  each_fault d word faults.NoMemory h at e = tt
+  each_fault d word faults.Words h at e = ap or_misfit (next_is d word h at ∙ ap (λ y. prepended xs (onto y (each_in value_in (map f (drop (i + 1) words))))) (value_unread _ e))
+
+  -- all were read
+  pub each_ends : length words ≤ i → or_misfit o ≡ Ok xs
+  each_ends h = ap or_misfit (so_far ∙ ap (λ ws. prepended xs (each_in value_in (map f ws))) (drop_all i words h) ∙ ap Some (append-nil xs))
+
+-- ---- words of which there are too few or too many
 
 -- no value, whatever the source
 no_paths : (b : Bool) (o : Option ℕ) → cond b None (o >>= λ pid. option_map (Open pid) None) ≡ None
@@ -88,9 +91,13 @@ no_paths true o = refl
 no_paths false None = refl
 no_paths false (Some pid) = refl
 
-nowhere : (o : Option ℕ) → (o >>= λ c. option_map (OpenId c) None) ≡ None
-nowhere None = refl
-nowhere (Some c) = refl
+-- nor with the value of the first word alone
+nowhere : {A B : Type 0} (named : A → B → Named) (o : Option A) → (o >>= λ a. option_map (named a) None) ≡ None
+nowhere named None = refl
+nowhere named (Some a) = refl
+
+publishes_nothing : (o : Option ℕ) → (o >>= λ q. option_map (λ (p : List ℕ × ℕ × ℕ). PublishOn q p.0 p.1 p.2) None) ≡ None
+publishes_nothing o = nowhere {A = ℕ} {B = List ℕ × ℕ × ℕ} (λ q p. PublishOn q p.0 p.1 p.2) o
 
 -- words of another number than the keyword's command takes say nothing
 misfit_none : (keyword : Keyword) (words : List (List ℕ)) → (Fits keyword (length words) → ⊥) → words_by keyword words ≡ None
@@ -125,13 +132,22 @@ misfit_none keywords.Find [] h = refl
 misfit_none keywords.Find (c ∷ []) h = absurd (h (omega arith))
 misfit_none keywords.Find (c ∷ word ∷ words) h = refl
 misfit_none keywords.OpenId [] h = refl
-misfit_none keywords.OpenId (c ∷ []) h = nowhere (any_u32_in c)
+misfit_none keywords.OpenId (c ∷ []) h = nowhere OpenId (any_u32_in c)
 misfit_none keywords.OpenId (c ∷ word ∷ words) h = absurd (h (omega arith))
 misfit_none keywords.PublishPsi [] h = refl
 misfit_none keywords.PublishPsi (a ∷ []) h = refl
 misfit_none keywords.PublishPsi (a ∷ b ∷ []) h = refl
 misfit_none keywords.PublishPsi (a ∷ b ∷ c ∷ []) h = absurd (h (omega arith))
 misfit_none keywords.PublishPsi (a ∷ b ∷ c ∷ d ∷ words) h = refl
+misfit_none keywords.PublishOn [] h = refl
+misfit_none keywords.PublishOn (a ∷ []) h = publishes_nothing (pid_in a)
+misfit_none keywords.PublishOn (a ∷ b ∷ []) h = publishes_nothing (pid_in a)
+misfit_none keywords.PublishOn (a ∷ b ∷ c ∷ []) h = publishes_nothing (pid_in a)
+misfit_none keywords.PublishOn (a ∷ b ∷ c ∷ d ∷ []) h = absurd (h (omega arith))
+misfit_none keywords.PublishOn (a ∷ b ∷ c ∷ d ∷ e ∷ words) h = publishes_nothing (pid_in a)
+misfit_none keywords.Mounts [] h = refl
+misfit_none keywords.Mounts (t ∷ []) h = nowhere Mounts (table_in t)
+misfit_none keywords.Mounts (t ∷ word ∷ words) h = absurd (h (omega arith))
 
 pub same_length : {A : Type 0} (f : A → List ℕ) (words : List A) → length words ≡ length (map f words)
 same_length f [] = refl

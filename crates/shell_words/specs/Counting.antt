@@ -3,7 +3,7 @@ use Rattle.std.specs.Prelude.{◌≡◌, ◌≤◌, ℕ, Some, true, codes}
 use Rattle.clap.specs.Words.{App, Rule, Text, new_app, new_rule, with_rule}
 use Rattle.clap.specs.declared.builder.ArgAction.TheVariants.{Append}
 use Rattle.shell_words.specs.declared.keyword.Keyword.{Keyword}
-use Rattle.shell_words.specs.declared.keyword.Keyword.TheVariants.{Assemble, Open, Record, List as ListAll, Publish, Rehearse, Session, Big, Find, OpenId, PublishPsi}
+use Rattle.shell_words.specs.declared.keyword.Keyword.TheVariants.{Assemble, Open, Record, List as ListAll, Publish, Rehearse, Session, Big, Find, OpenId, PublishPsi, PublishOn, Mounts}
 
 abbrev pub Fits : Keyword → ℕ → Type 0
 Fits Assemble n = n ≡ 4
@@ -17,6 +17,8 @@ Fits Big n = n ≡ 1
 Fits Find n = n ≡ 1
 Fits OpenId n = 2 ≤ n
 Fits PublishPsi n = n ≡ 3
+Fits PublishOn n = n ≡ 4
+Fits Mounts n = 2 ≤ n
 
 -- a positional that one word is for
 abbrev pub one : Text → Rule
@@ -30,6 +32,10 @@ one_or_more id = record (new_rule id) { required = true; action = Some Append }
 abbrev pub single : Text → App
 single name = with_rule (new_app name) (one (codes "VALUE"))
 
+-- one of four words
+abbrev pub four_app : Text → App
+four_app name = with_rule (with_rule (with_rule (with_rule (new_app name) (one (codes "FIRST"))) (one (codes "SECOND"))) (one (codes "THIRD"))) (one (codes "FOURTH"))
+
 -- one that opens paths
 abbrev pub open_app : Text → App
 open_app name = with_rule (with_rule (new_app name) (one (codes "SOURCE"))) (one_or_more (codes "PATH"))
@@ -39,7 +45,7 @@ abbrev pub publish_app : Text → App
 publish_app name = with_rule (with_rule (with_rule (new_app name) (one (codes "FOLDER"))) (one (codes "CAROUSEL"))) (one (codes "CYCLES"))
 
 abbrev pub app_of_keyword : Keyword → App
-app_of_keyword Assemble = with_rule (with_rule (with_rule (with_rule (new_app (codes "assemble")) (one (codes "ID"))) (one (codes "VERSION"))) (one (codes "SIZE"))) (one (codes "DOWNLOAD"))
+app_of_keyword Assemble = four_app (codes "assemble")
 app_of_keyword Open = open_app (codes "open")
 app_of_keyword Record = single (codes "record")
 app_of_keyword ListAll = single (codes "list")
@@ -50,3 +56,5 @@ app_of_keyword Big = single (codes "big")
 app_of_keyword Find = single (codes "find")
 app_of_keyword OpenId = open_app (codes "open-id")
 app_of_keyword PublishPsi = publish_app (codes "publish-psi")
+app_of_keyword PublishOn = four_app (codes "publish-on")
+app_of_keyword Mounts = open_app (codes "mounts")

@@ -7,7 +7,7 @@ use Rattle.std.specs.String.{string_bytes}
 use Rattle.std.specs.declared.string.String.{String}
 use Rattle.oc_bytes.specs.Decimals.{decimal_in}
 use Rattle.path_tree.specs.Paths.{Bytes, PathNames}
-use Rattle.path_tree.specs.Texts.{path_of, TextFault}
+pub use Rattle.shell_words.specs.Values.{◌>>=◌, pid_in, any_u32_in, folder_in, path_in, paths_in, Entry, table_in, IsTable}
 use Rattle.shell_words.specs.declared.words.Command.{Command}
 use Rattle.shell_words.specs.declared.words.Command.TheVariants as code
 use Rattle.shell_words.specs.declared.words.WordsFault.{WordsFault}
@@ -29,6 +29,8 @@ pub data Named : Type 0 where
   Find : ℕ → Named
   OpenId : ℕ → List PathNames → Named
   PublishPsi : Bytes → ℕ → ℕ → Named
+  PublishOn : ℕ → Bytes → ℕ → ℕ → Named
+  Mounts : List Entry → List PathNames → Named
 
 abbrev pub view : Command → Named
 view (code.Assemble id version size download) = Assemble id version size download
@@ -43,6 +45,8 @@ view (code.Big n) = Big n
 view (code.Find carousel) = Find carousel
 view (code.OpenId carousel paths) = OpenId carousel paths.items
 view (code.PublishPsi folder carousel cycles) = PublishPsi (string_bytes folder) carousel cycles
+view (code.PublishOn pid folder carousel cycles) = PublishOn pid (string_bytes folder) carousel cycles
+view (code.Mounts table paths) = Mounts table.items paths.items
 
 -- the words don't fit
 pub data Misfit : Type 0 where
@@ -51,44 +55,6 @@ pub data Misfit : Type 0 where
 abbrev pub cause : WordsFault → Option Misfit
 cause faults.Words = Some Words
 cause faults.NoMemory = None
-
--- ---- values of words
-
-infixl 10 ◌>>=◌
-abbrev pub ◌>>=◌ : {A B : Type 0} → Option A → (A → Option B) → Option B
-(Some x) >>= f = f x
-None >>= f = None
-
-abbrev pub pid_in : Bytes → Option ℕ
-pid_in word = decimal_in 0 MOST_PID word
-
-abbrev pub any_u32_in : Bytes → Option ℕ
-any_u32_in word = decimal_in 0 4294967295 word
-
--- at least one byte
-abbrev pub folder_in : Bytes → Option Bytes
-folder_in [] = None
-folder_in (c ∷ cs) = Some (c ∷ cs)
-
-abbrev pub path_by : Result PathNames TextFault → Option PathNames
-path_by (Ok path) = Some path
-path_by (Err fault) = None
-
-abbrev pub path_in : Bytes → Option PathNames
-path_in word = path_by (path_of word)
-
-abbrev pub onto_paths : Option PathNames → Option (List PathNames) → Option (List PathNames)
-onto_paths (Some path) (Some paths) = Some (path ∷ paths)
-onto_paths _ _ = None
-
-abbrev pub all_paths : List Bytes → Option (List PathNames)
-all_paths [] = Some []
-all_paths (word ∷ words) = onto_paths (path_in word) (all_paths words)
-
--- one or more paths
-abbrev pub paths_in : List Bytes → Option (List PathNames)
-paths_in [] = None
-paths_in (word ∷ words) = all_paths (word ∷ words)
 
 -- ---- the commands: what the words after the first one say, or None where they don't fit
 
@@ -136,6 +102,14 @@ publish_by words = option_map (λ p. Publish p.0 p.1 p.2) (publication_in words)
 abbrev pub publish_psi_by : List Bytes → Option Named
 publish_psi_by words = option_map (λ p. PublishPsi p.0 p.1 p.2) (publication_in words)
 
+abbrev pub publish_on_by : List Bytes → Option Named
+publish_on_by [] = None
+publish_on_by (pid ∷ words) = pid_in pid >>= λ q. option_map (λ p. PublishOn q p.0 p.1 p.2) (publication_in words)
+
+abbrev pub mounts_by : List Bytes → Option Named
+mounts_by [] = None
+mounts_by (table ∷ words) = table_in table >>= λ t. option_map (Mounts t) (paths_in words)
+
 abbrev pub find_by : List Bytes → Option Named
 find_by (carousel ∷ []) = option_map Find (any_u32_in carousel)
 find_by _ = None
@@ -160,7 +134,8 @@ abbrev pub commands : List (Bytes × (List Bytes → Option Named))
 commands =
     (codes "assemble", assemble_by) ∷ (codes "open", open_by) ∷ (codes "record", record_by) ∷ (codes "list", list_by)
     ∷ (codes "publish", publish_by) ∷ (codes "rehearse", rehearse_by) ∷ (codes "session", session_by) ∷ (codes "big", big_by)
-    ∷ (codes "find", find_by) ∷ (codes "open-id", open_id_by) ∷ (codes "publish-psi", publish_psi_by) ∷ []
+    ∷ (codes "find", find_by) ∷ (codes "open-id", open_id_by) ∷ (codes "publish-psi", publish_psi_by)
+    ∷ (codes "publish-on", publish_on_by) ∷ (codes "mounts", mounts_by) ∷ []
 
 abbrev pub command_named : Bytes → List Bytes → Option Named
 command_named word words = find (λ c. bytes_eq word c.0) commands >>= λ c. c.1 words
@@ -196,3 +171,5 @@ IsSized (code.Big n) = (1 ≤ n) × (n ≤ MOST_BIG)
 IsSized (code.Find carousel) = Unit {0}
 IsSized (code.OpenId carousel paths) = Unit {0}
 IsSized (code.PublishPsi folder carousel cycles) = IsPublication (string_bytes folder) cycles
+IsSized (code.PublishOn pid folder carousel cycles) = (pid ≤ MOST_PID) × IsPublication (string_bytes folder) cycles
+IsSized (code.Mounts table paths) = IsTable table.items

@@ -38,7 +38,7 @@ fn syntax<'a>(alloc: Global, keyword: Keyword) -> Result<Command<'a>, AllocError
     ensures { IfOk result (λ c. app_of c ≡ app_of_keyword keyword) }
 {
     match keyword {
-        Keyword::Assemble => assemble(alloc),
+        Keyword::Assemble => four(alloc, "assemble"),
         Keyword::Open => open(alloc, "open"),
         Keyword::Record => single(alloc, "record"),
         Keyword::List => single(alloc, "list"),
@@ -49,17 +49,20 @@ fn syntax<'a>(alloc: Global, keyword: Keyword) -> Result<Command<'a>, AllocError
         Keyword::Find => single(alloc, "find"),
         Keyword::OpenId => open(alloc, "open-id"),
         Keyword::PublishPsi => publish(alloc, "publish-psi"),
+        Keyword::PublishOn => four(alloc, "publish-on"),
+        Keyword::Mounts => open(alloc, "mounts"),
     }
 }
 
-fn assemble<'a>(alloc: Global) -> Result<Command<'a>, AllocError>
-    ensures { IfOk result (λ c. app_of c ≡ app_of_keyword Keyword.Assemble) }
+/// Four words.
+fn four<'a>(alloc: Global, name: &'a str) -> Result<Command<'a>, AllocError>
+    ensures { IfOk result (λ c. app_of c ≡ counting.four_app name.entry.now) }
 {
-    Command::new(alloc, "assemble")
-        .arg(one(alloc, "ID"))?
-        .arg(one(alloc, "VERSION"))?
-        .arg(one(alloc, "SIZE"))?
-        .arg(one(alloc, "DOWNLOAD"))
+    Command::new(alloc, name)
+        .arg(one(alloc, "FIRST"))?
+        .arg(one(alloc, "SECOND"))?
+        .arg(one(alloc, "THIRD"))?
+        .arg(one(alloc, "FOURTH"))
 }
 
 /// One word.

@@ -17,6 +17,8 @@ pub enum Keyword {
     Find,
     OpenId,
     PublishPsi,
+    PublishOn,
+    Mounts,
 }
 
 impl Keyword {
@@ -46,6 +48,10 @@ impl Keyword {
             Some(Keyword::OpenId)
         } else if word == "publish-psi" {
             Some(Keyword::PublishPsi)
+        } else if word == "publish-on" {
+            Some(Keyword::PublishOn)
+        } else if word == "mounts" {
+            Some(Keyword::Mounts)
         } else {
             None
         }

@@ -17,10 +17,12 @@
 mod counting;
 mod keyword;
 mod parsing;
+mod table;
 mod texts;
 mod values;
 mod words;
 
 pub use parsing::command;
+pub use table::MOST_MOUNT_NAME;
 pub use texts::{answer_text, answered_text, refusal_text};
 pub use words::{Command, WordsFault};

@@ -9,6 +9,7 @@ ghost use Rattle.shell_words.specs.Counting.{Fits};
 
 use crate::counting::count;
 use crate::keyword::Keyword;
+use crate::table::table;
 use crate::values;
 use crate::words::{Command, WordsFault};
 use block_assembler::MOST_MODULE_SIZE;
@@ -25,7 +26,7 @@ pub const MOST_BIG: u32 = 16;
 ///
 /// The first word is the command's, byte for byte. A word that begins with `-` is refused. Numbers are decimal digits
 /// without a sign and without a leading zero, `0` itself excepted, in the ranges that `Command` gives; a folder has at
-/// least one byte; a path is a text that `Path::parse` takes.
+/// least one byte; a path is a text that `Path::parse` takes; a table is NAME=PID or several with a comma between each two.
 ///
 /// `WordsFault::Words` comes exactly where the words don't fit that, and `WordsFault::NoMemory` only where no memory was
 /// found.
@@ -85,6 +86,8 @@ fn read(alloc: Global, keyword: Keyword, words: &[String]) -> Result<Command, Wo
             let (folder, carousel, cycles) = publication(alloc, words)?;
             Ok(Command::PublishPsi(folder, carousel, cycles))
         }
+        Keyword::PublishOn => publish_on(alloc, words),
+        Keyword::Mounts => mounts(alloc, words),
     }
 }
 
@@ -117,7 +120,7 @@ fn open(alloc: Global, words: &[String]) -> Result<Command, WordsFault>
         let paths = values::paths(alloc, &words[1..])?;
         return Ok(Command::OpenSections(paths));
     }
-    let Some(pid) = values::pid(&words[0]) else {
+    let Some(pid) = values::pid(words[0].as_str()) else {
         return Err(WordsFault::Words);
     };
     let paths = values::paths(alloc, &words[1..])?;
@@ -133,7 +136,7 @@ fn only_pid(words: &[String]) -> Option<u16>
     let [pid] = words else {
         unreachable!();
     };
-    values::pid(pid)
+    values::pid(pid.as_str())
 }
 
 /// A folder, the id of a carousel, and a number of cycles.
@@ -153,6 +156,30 @@ fn publication(alloc: Global, words: &[String]) -> Result<(String, u32, u32), Wo
     };
     let folder = values::folder(alloc, folder)?;
     Ok((folder, carousel, cycles))
+}
+
+/// A PID, and what is published on it.
+fn publish_on(alloc: Global, words: &[String]) -> Result<Command, WordsFault>
+    requires { length words.now ≡ 4 }
+    ensures gives { Gives commands.view commands.cause result (commands.or_misfit (commands.publish_on_by (map string_bytes words.now))) }
+    ensures sized { IfOk result commands.IsSized }
+{
+    let Some(pid) = values::pid(words[0].as_str()) else {
+        return Err(WordsFault::Words);
+    };
+    let (folder, carousel, cycles) = publication(alloc, &words[1..])?;
+    Ok(Command::PublishOn(pid, folder, carousel, cycles))
+}
+
+/// A table of carousels, and paths.
+fn mounts(alloc: Global, words: &[String]) -> Result<Command, WordsFault>
+    requires { 2 ≤ length words.now }
+    ensures gives { Gives commands.view commands.cause result (commands.or_misfit (commands.mounts_by (map string_bytes words.now))) }
+    ensures sized { IfOk result commands.IsSized }
+{
+    let table = table(alloc, words[0].as_str())?;
+    let paths = values::paths(alloc, &words[1..])?;
+    Ok(Command::Mounts(table, paths))
 }
 
 fn find(words: &[String]) -> Option<Command>

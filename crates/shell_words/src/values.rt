@@ -5,6 +5,7 @@ ghost use Rattle.std.specs.String.{string_bytes};
 ghost use Rattle.std.specs.List.{list_all};
 ghost use Rattle.oc_bytes.specs.Outcome.{Gives};
 ghost use Rattle.oc_bytes.specs.Decimals as decimals;
+ghost use Rattle.shell_words.specs.Values as values;
 ghost use Rattle.shell_words.specs.Words as commands;
 
 use crate::words::WordsFault;
@@ -14,25 +15,34 @@ use std::alloc::Global;
 /// The greatest PID of a stream; the one above it is that of stuffing (ISO/IEC 13818-1, 2.4.3.3).
 pub const MOST_PID: u32 = 8_190;
 
-/// The PID that a word spells.
-pub fn pid(word: &String) -> Option<u16>
-    ensures value { result ≡ commands.pid_in (string_bytes word.now) }
+/// The PID that a text spells.
+pub fn pid(text: &str) -> Option<u16>
+    ensures value { result ≡ values.pid_in text.now }
     ensures bound { IfSome result (λ pid. pid ≤ MOST_PID) }
 {
-    let pid = decimal(word, 0, MOST_PID)?;
+    let pid = number(text, 0, MOST_PID)?;
     Some(pid as u16)
 }
 
-/// The number that a word spells, from `least` to `greatest`: decimal digits without a sign and without a leading zero.
+/// The number that a word spells, from `least` to `greatest`.
 pub fn decimal(word: &String, least: u32, greatest: u32) -> Option<u32>
     ensures value { result ≡ decimals.decimal_in least greatest (string_bytes word.now) }
     ensures least { IfSome result (λ n. least ≤ n) }
     ensures greatest { IfSome result (λ n. n ≤ greatest) }
 {
-    if !is_decimal(word.as_bytes()) {
+    number(word.as_str(), least, greatest)
+}
+
+/// The number that a text spells, from `least` to `greatest`: decimal digits without a sign and without a leading zero.
+fn number(text: &str, least: u32, greatest: u32) -> Option<u32>
+    ensures value { result ≡ decimals.decimal_in least greatest text.now }
+    ensures least { IfSome result (λ n. least ≤ n) }
+    ensures greatest { IfSome result (λ n. n ≤ greatest) }
+{
+    if !is_decimal(text.as_bytes()) {
         return None;
     }
-    let Ok(number) = word.as_str().parse::<u32>() else {
+    let Ok(number) = text.parse::<u32>() else {
         return None;
     };
     if number < least {
@@ -65,20 +75,17 @@ fn are_digits(text: &[u8]) -> bool
 /// The paths of one or more words.
 pub fn paths(alloc: Global, words: &[String]) -> Result<Vec<Path>, WordsFault>
     requires { 0 < length words.now }
-    ensures { Gives (λ paths. paths.items) commands.cause result (commands.or_misfit (commands.paths_in (map string_bytes words.now))) }
+    ensures { Gives (λ paths. paths.items) commands.cause result (commands.or_misfit (values.paths_in (map string_bytes words.now))) }
 {
     let mut paths = Vec::new(alloc);
     for word in words {
-        let path = path(alloc, word)?;
-        if paths.push(path).is_err() {
-            return Err(WordsFault::NoMemory);
-        }
+        paths.push(path(alloc, word)?)?;
     }
     Ok(paths)
 }
 
 fn path(alloc: Global, word: &String) -> Result<Path, WordsFault>
-    ensures { Gives (λ path. path) commands.cause result (commands.or_misfit (commands.path_in (string_bytes word.now))) }
+    ensures { Gives (λ path. path) commands.cause result (commands.or_misfit (values.path_in (string_bytes word.now))) }
 {
     match Path::parse(alloc, word.as_bytes()) {
         Ok(path) => Ok(path),
@@ -89,13 +96,10 @@ fn path(alloc: Global, word: &String) -> Result<Path, WordsFault>
 
 /// The folder that a word names: any but the empty word.
 pub fn folder(alloc: Global, word: &String) -> Result<String, WordsFault>
-    ensures { Gives string_bytes commands.cause result (commands.or_misfit (commands.folder_in (string_bytes word.now))) }
+    ensures { Gives string_bytes commands.cause result (commands.or_misfit (values.folder_in (string_bytes word.now))) }
 {
     if word.is_empty() {
         return Err(WordsFault::Words);
     }
-    match String::from_str(alloc, word.as_str()) {
-        Ok(folder) => Ok(folder),
-        Err(_) => Err(WordsFault::NoMemory),
-    }
+    Ok(String::from_str(alloc, word.as_str())?)
 }

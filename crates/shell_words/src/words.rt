@@ -1,4 +1,5 @@
-use path_tree::Path;
+use path_tree::{Name, Path};
+use std::alloc::{AllocError, AllocFailed};
 use thiserror::Error;
 
 /// A command with the values of its words.
@@ -37,6 +38,13 @@ pub enum Command {
     /// `publish-psi FOLDER CAROUSEL CYCLES`: the packets of a folder's files, and the tables that name the carousel. The values
     /// are those of `publish`.
     PublishPsi(String, u32, u32),
+    /// `publish-on PID FOLDER CAROUSEL CYCLES`: the packets of a folder's files on a PID, 0 to 8,190. The other values are those of
+    /// `publish`.
+    PublishOn(u16, String, u32, u32),
+    /// `mounts TABLE PATH..`: the answers to one or more paths, out of the packets of several carousels. One or more of their names, 1 to
+    /// [`MOST_MOUNT_NAME`](crate::MOST_MOUNT_NAME) lower case letters or digits, each with its PID, 0 to 8,190; the first name of a path is one of
+    /// them. A name or a PID may stand twice here.
+    Mounts(Vec<(Name, u16)>, Vec<Path>),
 }
 
 /// Why no command is given.
@@ -48,4 +56,26 @@ pub enum WordsFault {
     /// No memory was found.
     #[error("out of memory")]
     NoMemory,
+}
+
+impl From<AllocError> for WordsFault {
+    ghost use Rattle.std.specs.Prelude.{◌≡◌};
+    ghost use Rattle.shell_words.specs.declared.words.WordsFault.TheVariants.{NoMemory};
+
+    ghost from_gives = { λ _ e. e ≡ NoMemory };
+
+    fn from(_error: AllocError) -> WordsFault {
+        WordsFault::NoMemory
+    }
+}
+
+impl<T: Drop> From<AllocFailed<T>> for WordsFault {
+    ghost use Rattle.std.specs.Prelude.{◌≡◌};
+    ghost use Rattle.shell_words.specs.declared.words.WordsFault.TheVariants.{NoMemory};
+
+    ghost from_gives = { λ _ e. e ≡ NoMemory };
+
+    fn from(_error: AllocFailed<T>) -> WordsFault {
+        WordsFault::NoMemory
+    }
 }

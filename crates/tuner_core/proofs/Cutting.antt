@@ -1,14 +1,15 @@
 -- The spans are cuts of the list that was heard, and those that join a turn are found in its span looking forward.
-use Rattle.std.proofs.Common.{ℕ, ◌≡◌, Bool, true, false, cond, eqb, ◌&&◌, List, [], ◌∷◌, ◌++◌, map, Option, Some, None, refl, sym, ap, ◌∙◌, append_assoc, append-nil}
-use Rattle.std.specs.List.{filter_map, fold, cons_option}
-use Rattle.std.proofs.lemmas.Bool.{cond-false}
+use Rattle.std.proofs.Common.{ℕ, ◌≡◌, Bool, true, false, cond, eqb, ◌&&◌, List, [], ◌∷◌, ◌++◌, map, Option, Some, None, refl, sym, ap, subst, ◌∙◌, append_assoc, append-nil}
+use Rattle.std.specs.List.{All, filter_map, fold, cons_option}
+use Rattle.std.proofs.lemmas.List.Elements.{All-append, All-cons, All-nil, filter_map-append}
+use Rattle.std.proofs.lemmas.Bool.{cond-false, eqb-true}
 use Rattle.dsi_dii.specs.Controls.{DiiFields}
 use Rattle.module_cache.specs.Joining.{Outline, outline}
 use Rattle.module_cache.specs.Turns.{admitted, heard_by, continued, with_joined}
 use Rattle.tuner_core.specs.Heard.{Heard, Skipped, NoControl, NoBlock, ADsi, ADii, ABlock}
 use Rattle.tuner_core.specs.Said.{is_sound, sound_in}
 use Rattle.tuner_core.specs.Spans.{Span, is_near, version, turning_after, turning_of, or_first, from_first, put_together, openings}
-use Rattle.tuner_core.specs.Turns.{Turn, turnings, outlines, is_room, turn_after, turns_of, dii_after, joining_by, joining_in, AreJoined, SpansAreOfTheList}
+use Rattle.tuner_core.specs.Turns.{Turn, turnings, outlines, is_room, turn_after, turns_of, dii_after, joining_by, joining_in, AreJoined, AreOfOneVersion, AreKeptWhereNear, SpansAreOfTheList}
 
 -- ---- those that join, with something more at the end
 
@@ -167,5 +168,66 @@ cuts (Skipped c ∷ hs) = nothing_yet (Skipped c) hs refl refl (cuts hs)
 cuts (NoControl c ∷ hs) = nothing_yet (NoControl c) hs refl refl (cuts hs)
 cuts (NoBlock c ∷ hs) = nothing_yet (NoBlock c) hs refl refl (cuts hs)
 
+-- ---- the versions in a span, and what is kept
+
+record Steady (ts : List Turn) : Type 0 where
+  pub one : AreOfOneVersion ts
+  pub near : AreKeptWhereNear ts
+
+abbrev IsAlike : DiiFields → DiiFields → Type 0
+IsAlike first d = version d ≡ version first
+
+-- what is heard is no sound DII, or one of the version
+abbrev IsNoOther : DiiFields → Option DiiFields → Type 0
+IsNoOther first None = Unit {0}
+IsNoOther first (Some d) = IsAlike first d
+
+one_more : (first : DiiFields) (o : Option DiiFields) → IsNoOther first o → All (IsAlike first) (cons_option o [])
+one_more first None e = All-nil (IsAlike first)
+one_more first (Some d) e = All-cons (IsAlike first) d [] e (All-nil (IsAlike first))
+
+since_more : (first : DiiFields) (since : List Heard) (h : Heard) → IsNoOther first (sound_in h) → All (IsAlike first) (filter_map sound_in since)
+    → All (IsAlike first) (filter_map sound_in (since ++ h ∷ []))
+since_more first since h e a =
+    subst (All (IsAlike first)) (sym (filter_map-append sound_in since (h ∷ [])))
+    (All-append (IsAlike first) (filter_map sound_in since) (cons_option (sound_in h) []) a (one_more first (sound_in h) e))
+
+heard_steady : (t : Turn) (ts : List Turn) (h : Heard) (js : List Span) → IsNoOther t.turning.dii (sound_in h) → Steady (t ∷ ts) → Steady (as_turn h t js ∷ ts)
+heard_steady t ts h js e s = record { one = (since_more t.turning.dii t.turning.since h e s.one.0, s.one.1); near = s.near }
+
+-- a DII: sound or not, of the version or not, with room for it or not
+dii_steady : (t : Turn) (ts : List Turn) (d : DiiFields) → Steady (t ∷ ts) → (s v r : Bool) → is_sound d ≡ s → eqb (version d) (version t.turning.dii) ≡ v → is_room (outlines (admitted t)) d ≡ r
+    → Steady (dii_after (t ∷ ts) d)
+dii_steady t ts d a false v r e f g = rw e (heard_steady t ts (ADii d) (map (heard_by (ADii d)) t.joined) (rw e tt) a)
+dii_steady t ts d a true false r e f g = rw (e, f) (record { one = (All-nil (IsAlike d), a.one); near = (refl, a.near) })
+dii_steady t ts d a true true true e f g =
+    rw (e, f, g) (heard_steady t ts (ADii d) (map (heard_by (ADii d)) t.joined ++ as_span d t.turning.kept [] ∷ []) (rw e (eqb-true (version d) (version t.turning.dii) f)) a)
+dii_steady t ts d a true true false e f g =
+    rw (e, f, g) (heard_steady t ts (ADii d) (map (heard_by (ADii d)) t.joined) (rw e (eqb-true (version d) (version t.turning.dii) f)) a)
+
+first_steady : (d : DiiFields) (s : Bool) → is_sound d ≡ s → Steady (dii_after [] d)
+first_steady d true e = rw e (record { one = (All-nil (IsAlike d), tt); near = (refl, tt) })
+first_steady d false e = rw e (record { one = tt; near = tt })
+
+continued_steady : (ts : List Turn) (h : Heard) → sound_in h ≡ None → Steady ts → Steady (continued ts h)
+continued_steady [] h e a = a
+continued_steady (t ∷ ts) h e a = heard_steady t ts h (map (heard_by h) t.joined) (rw e tt) a
+
+after_steady : (ts : List Turn) (h : Heard) → Steady ts → Steady (turn_after ts h)
+after_steady [] (ADii d) a = first_steady d (is_sound d) refl
+after_steady (t ∷ ts) (ADii d) a = dii_steady t ts d a (is_sound d) (eqb (version d) (version t.turning.dii)) (is_room (outlines (admitted t)) d) refl refl refl
+after_steady ts (ABlock b) a = continued_steady ts (ABlock b) refl a
+after_steady ts (ADsi d) a = continued_steady ts (ADsi d) refl a
+after_steady ts (Skipped c) a = continued_steady ts (Skipped c) refl a
+after_steady ts (NoControl c) a = continued_steady ts (NoControl c) refl a
+after_steady ts (NoBlock c) a = continued_steady ts (NoBlock c) refl a
+
+all_steady : (ts : List Turn) (hs : List Heard) → Steady ts → Steady (fold turn_after ts hs)
+all_steady ts [] a = a
+all_steady ts (h ∷ hs) a = all_steady (turn_after ts h) hs (after_steady ts h a)
+
 pub spans_are : SpansAreOfTheList
-spans_are hs = let c = cuts hs in record { whole = c.whole; cut = c.cut; joined = all_joined [] hs tt }
+spans_are hs =
+    let c = cuts hs in
+    let s = all_steady [] hs (record { one = tt; near = tt }) in
+    record { whole = c.whole; cut = c.cut; steady = s.one; kept = s.near; joined = all_joined [] hs tt }

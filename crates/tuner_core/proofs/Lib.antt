@@ -4,6 +4,7 @@ pub mod Ruling
 pub mod Changing
 pub mod Turning
 pub mod Distinct
+pub mod Bounded
 pub mod Cutting
 pub mod Asking
 pub mod Answering

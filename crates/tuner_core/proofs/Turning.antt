@@ -30,7 +30,7 @@ are_tuned os = AreOnce os × AreApart os
 abbrev newest_tuned : List Turn → Type 0
 newest_tuned ts = are_tuned (outlines (newest ts))
 
-same_outlines : (h : Heard) (ss : List Span) → outlines (map (heard_by h) ss) ≡ outlines ss
+pub same_outlines : (h : Heard) (ss : List Span) → outlines (map (heard_by h) ss) ≡ outlines ss
 same_outlines h ss = map_map (heard_by h) (λ s. outline s.dii) ss
 
 continued_tuned : (ts : List Turn) (h : Heard) → newest_tuned ts → newest_tuned (continued ts h)
@@ -61,7 +61,7 @@ joined_tuned t ts d e a =
     (ap (λ os. outline t.turning.dii ∷ os) (sym (map-append (λ s. outline s.dii) (map (heard_by (ADii d)) t.joined) (record { dii = d; kept = t.turning.kept; since = [] } ∷ []) ∙ ap (λ os. os ++ outline d ∷ []) (same_outlines (ADii d) t.joined))))
     all
 
-turns_sound : (ts : List Turn) (d : DiiFields) → turns ts d ≡ true → is_sound d ≡ true
+pub turns_sound : (ts : List Turn) (d : DiiFields) → turns ts d ≡ true → is_sound d ≡ true
 turns_sound [] d e = e
 turns_sound (t ∷ ts) d e = (and_parts _ _ e).0
 
@@ -89,7 +89,7 @@ after_tuned ts (Skipped c) a = continued_tuned ts (Skipped c) a
 after_tuned ts (NoControl c) a = continued_tuned ts (NoControl c) a
 after_tuned ts (NoBlock c) a = continued_tuned ts (NoBlock c) a
 
-all_tuned_from : (ts : List Turn) (hs : List Heard) → newest_tuned ts → newest_tuned (fold turn_after ts hs)
+pub all_tuned_from : (ts : List Turn) (hs : List Heard) → newest_tuned ts → newest_tuned (fold turn_after ts hs)
 all_tuned_from ts [] a = a
 all_tuned_from ts (h ∷ hs) a = all_tuned_from (turn_after ts h) hs (after_tuned ts h a)
 

@@ -3,13 +3,13 @@
 -- Sound DIIs are taken in order. The first turns, and so does each later one of another version than the last that turned. One of the
 -- same version joins those that were admitted since, where none of them has its identification or lists a module of it, and where
 -- they are few and small enough; else it isn't admitted.
-use Rattle.std.specs.Prelude.{◌≡◌, ℕ, Bool, false, not, ◌&&◌, List, [], ◌∷◌, ◌++◌, length, map, Option, Some, None, nat_lt, ◌==◌, if◌then◌else◌}
-use Rattle.std.specs.List.{filter_map, flat_map, fold}
+use Rattle.std.specs.Prelude.{◌≡◌, ◌≤◌, ℕ, Bool, false, not, ◌&&◌, List, [], ◌∷◌, ◌++◌, length, map, Option, Some, None, nat_lt, ◌==◌, if◌then◌else◌}
+use Rattle.std.specs.List.{All, filter_map, flat_map, fold, sum_by}
 use Rattle.oc_bytes.specs.Outcome.{cap_at_u64}
 use Rattle.path_tree.specs.Paths.{Bytes}
 use Rattle.dsi_dii.specs.Controls.{DiiFields}
 use Rattle.dsi_dii.specs.declared.ModuleLine.{ModuleLine}
-use Rattle.module_cache.specs.Joining.{Outline, outline, may_join, fits_beside}
+use Rattle.module_cache.specs.Joining.{Outline, outline, may_join, fits_beside, size_of, AreOnce, AreApart}
 use Rattle.module_cache.specs.Turns as any
 use Rattle.module_cache.specs.Turns.{admitted, newest, continued, with_turning, with_joined, before}
 use Rattle.path_resolver.specs.Resolving.{Held, HeldModule, answer_of}
@@ -76,15 +76,40 @@ abbrev pub AreJoined : List Turn → Type 0
 AreJoined [] = Unit {0}
 AreJoined (t ∷ ts) = (t.joined ≡ joining_in (outline t.turning.dii ∷ []) (version t.turning.dii) t.turning.kept t.turning.since) × AreJoined ts
 
+-- no sound DII of another version is heard between one that turns and the next
+abbrev pub AreOfOneVersion : List Turn → Type 0
+AreOfOneVersion [] = Unit {0}
+AreOfOneVersion (t ∷ ts) = All (λ d. version d ≡ version t.turning.dii) (filter_map sound_in t.turning.since) × AreOfOneVersion ts
+
+-- a turn keeps what was there exactly where its DII is near the one that turned before it; the first keeps nothing
+abbrev pub AreKeptWhereNear : List Turn → Type 0
+AreKeptWhereNear [] = Unit {0}
+AreKeptWhereNear (t ∷ ts) = (t.turning.kept ≡ is_near (turnings ts) t.turning.dii) × AreKeptWhereNear ts
+
 -- The spans of the turning DIIs are what was heard from the first sound DII on, cut before each that turns: each sound one that differs
--- in version from the last that turned. Those that join are found in the span that they stand in.
+-- in version from the last that turned, so that those of one span are of one version. Those that join are found in the span that they
+-- stand in, and what was there is kept exactly over the turns that are near.
 pub record AreSpansOf (hs : List Heard) (ts : List Turn) : Type 0 where
   pub whole : put_together (turnings ts) ≡ from_first hs
   pub cut : openings (turnings ts) ≡ turning_of (filter_map sound_in hs)
+  pub steady : AreOfOneVersion ts
+  pub kept : AreKeptWhereNear ts
   pub joined : AreJoined ts
 
 abbrev pub SpansAreOfTheList : Type 0
 SpansAreOfTheList = (hs : List Heard) → AreSpansOf hs (turns_of hs)
+
+-- ---- the memory of what is held
+
+-- at most 16 DIIs, with at most 268,435,456 bytes in all their modules, none of which is listed twice
+pub record AreBounded (os : List Outline) : Type 0 where
+  pub few : length os ≤ 16
+  pub small : sum_by (λ o. size_of o.modules) os ≤ 268435456
+  pub once : AreOnce os
+  pub apart : AreApart os
+
+abbrev pub HeldIsBounded : Type 0
+HeldIsBounded = (hs : List Heard) → AreBounded (outlines (newest (turns_of hs)))
 
 -- ---- all that is held
 

@@ -2,8 +2,9 @@
 //!
 //! The receiver follows one generation after another. A generation is described by one to 16 DIIs (ISO/IEC 13818-6,
 //! DownloadInfoIndication) of one version, each of an identification of its own. The first of another version takes the place of all
-//! that are held, and those that follow join it. What is there of a module stays where the DIIs of its identification, before and
-//! after, describe the module in the same way. (These rules are this project's own.)
+//! that are held, and those that follow join it. What is there of a module stays over such a turn where the DIIs of its
+//! identification, before and after, describe the module in the same way, and the two versions are fewer than 256 apart. (These
+//! rules are this project's own.)
 //!
 //! ```
 //! use path_resolver::{Answer, resolve};
@@ -28,7 +29,7 @@ mod told;
 mod tuner;
 mod turns;
 
-pub use laws::{held_looks_back, spans_are_of_the_list};
+pub use laws::{held_is_bounded, held_looks_back, spans_are_of_the_list};
 pub use module_cache::Taken;
 pub use told::{Cause, Fed};
 pub use tuner::Tuner;

@@ -25,7 +25,7 @@ pub enum Cause {
     #[error("the DII has identification 0, or 16 others are held")]
     OtherDii,
     /// A DII that breaks a limit of the receiver or lists a module twice, by itself or beside the held DIIs of its version.
-    #[error("the DII breaks a limit of the receiver or lists a module twice")]
+    #[error("the DII, by itself or beside those that are held, breaks a limit or lists a module twice")]
     DiiOverLimit,
     /// A DII of the held version, of an identification that is held. It changes nothing, whatever it lists.
     #[error("the DII has a version and an identification that are held")]

@@ -26,13 +26,14 @@ use std::sync::Arc;
 /// says of which candidates that is what looking back over all of them gives.
 ///
 /// It holds up to 16 DIIs of one version, each of an identification of its own, with what came of the modules that they list, and
-/// the gateway of the last DSI that has one. A DII of another version turns: it takes the place of all that are held. What came of
-/// their modules then waits for the DII of the same identification, up to the next turn.
+/// the gateway of the last DSI that has one. A DII of another version turns: it takes the place of all that are held. Where the two
+/// versions are fewer than 256 apart, what came of their modules then waits for the DII of the same identification, up to the next
+/// turn; else it is dropped.
 ///
-/// The memory of what is held is bounded, whatever comes. No two held DIIs list the same module, and their modules have at most
-/// 268,435,456 bytes together. What waits are modules of DIIs that were held before the last turn, so the same bounds hold of it, and
-/// each turn drops what waited before. Where DIIs of two versions alternate, each of them turns, and no more than the modules of one
-/// version wait beside those of the other.
+/// The memory of what is held is bounded, whatever comes: a DII joins only where it lists no module of a held one, and where the
+/// modules of all of them have at most 268,435,456 bytes. What waits are modules of DIIs that were held before the last turn, and each
+/// turn drops what waited before. Where DIIs of two versions alternate, each of them turns, and no more than the modules of one
+/// version wait beside those of the other. `held_is_bounded` says the numbers.
 #[derive(Drop)]
 pub struct Tuner {
     alloc: Global,

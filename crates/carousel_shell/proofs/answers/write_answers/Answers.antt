@@ -1,47 +1,36 @@
-use Rattle.std.proofs.Common.{◌≤◌, ◌<◌, ◌+◌, ◌∙◌, ◌&&◌, take, length, arith, ap, append-nil, rules}
-use Rattle.std.specs.List.{list_all, flat_map}
+use Rattle.std.proofs.Common.{◌≤◌, ◌<◌, length, arith}
 use Rattle.std.proofs.lemmas.Result.{err_from_is_err_and}
-use Rattle.std.proofs.lemmas.List.{take_all}
-use Rattle.path_tree.specs.Paths.{PathNames}
-use Rattle.path_resolver.specs.Resolving.{answer_of}
-use Rattle.path_resolver.specs.Shots.{held_of}
-use Rattle.shell_streams.proofs.CallerLemmas.{puts_nothing, puts_then, puts_stop, puts_as, puts_ok, puts_err}
-use Rattle.shell_words.specs.Texts.{open_entry, is_found}
-use Rattle.carousel_shell.proofs.Parts.{parts_next, parts_all, all_next}
+use Rattle.shell_streams.proofs.CallerLemmas.{puts_ok, puts_err}
+use Rattle.carousel_shell.proofs.Entries.{answered_none, answered_more, answered_stop, answered_all, found_all}
 use Rattle.carousel_shell.proofs.answers.write_answers.Goals as goal
+
+pub loop-path-init : goal.loop-path-init
+loop-path-init g c = λ answer h. answered_none _ answer
 
 pub returns-in_err-found-clause-puts : goal.returns-in_err-found-clause-puts
 returns-in_err-found-clause-puts g c =
     let p = err_from_is_err_and c.from_residual.result c.from_residual.ensures.1 in
-    let h : c.loop-path.path-index < length c.args.paths.now = omega arith in
-    let entry = open_entry (answer_of (held_of c.args.shot.now)) in
-    rw (p.1, p.2) (puts_as (parts_all entry c.args.paths.now (c.loop-path.path-index + 1)) (puts_stop _
-    (puts_as (parts_next entry c.args.paths.now c.loop-path.path-index c.path-item.result h c.path-item.is) (puts_then c.loop-path.invariant.puts c.in_err-found.ensures.puts))))
-
-pub loop-path-init : goal.loop-path-init
-loop-path-init g c = record { puts = puts_nothing tt _; found = search rules }
+    let within : c.loop-path.path-index < length c.args.paths.now = omega arith in
+    rw (p.1, p.2) (λ answer h. answered_stop answer c.args.paths.now c.loop-path.path-index (c.loop-path.invariant answer h) c.path-item.result within c.path-item.is (c.in_err-found.ensures.puts answer h))
 
 pub loop-path-preserved : goal.loop-path-preserved
 loop-path-preserved g c =
-    let h : c.loop-path.path-index < length c.args.paths.now = omega arith in
-    let good = λ (p : PathNames). is_found (answer_of (held_of c.args.shot.now) p) in
-    record {
-      puts = puts_as (parts_next (open_entry (answer_of (held_of c.args.shot.now))) c.args.paths.now c.loop-path.path-index c.path-item.result h c.path-item.is)
-          (puts_ok tt (puts_then c.loop-path.invariant.puts c.in_ok-found.ensures.puts));
-      found = c.both-all.ensures ∙ ap (λ b. b && c.in_ok-found.found) c.loop-path.invariant.found
-          ∙ ap (λ b. list_all good (take c.loop-path.path-index c.args.paths.now) && b) c.in_ok-found.ensures.found
-          ∙ all_next good c.args.paths.now c.loop-path.path-index c.path-item.result h c.path-item.is;
-    }
+    let within : c.loop-path.path-index < length c.args.paths.now = omega arith in
+    λ answer h. answered_more answer c.args.paths.now c.loop-path.path-index (c.loop-path.invariant answer h) c.path-item.result c.in_ok-found.found c.both-all.result within c.path-item.is
+    (c.in_ok-found.ensures.puts answer h) (c.in_ok-found.ensures.found answer h) c.both-all.ensures
 
 pub returns-in_err-flush-clause-puts : goal.returns-in_err-flush-clause-puts
 returns-in_err-flush-clause-puts g c =
     let p = err_from_is_err_and c.from_residual-in_err-flush.result c.from_residual-in_err-flush.ensures.1 in
     let all : length c.args.paths.now ≤ c.loop-path.path-index = omega arith in
-    let entry = open_entry (answer_of (held_of c.args.shot.now)) in
-    rw (p.1, p.2) (puts_err (puts_as (append-nil _ ∙ ap (flat_map entry) (take_all c.loop-path.path-index c.args.paths.now all)) (puts_then c.loop-path.invariant.puts c.in_err-flush.ensures.puts)))
+    rw (p.1, p.2) (λ answer h. puts_err (answered_all answer c.args.paths.now c.loop-path.path-index (c.loop-path.invariant answer h) all c.in_err-flush.ensures.puts))
+
+pub returns-clause-found : goal.returns-clause-found
+returns-clause-found g c =
+    let all : length c.args.paths.now ≤ c.loop-path.path-index = omega arith in
+    λ answer h. found_all answer c.args.paths.now c.loop-path.path-index all (c.loop-path.invariant answer h)
 
 pub returns-clause-puts : goal.returns-clause-puts
 returns-clause-puts g c =
     let all : length c.args.paths.now ≤ c.loop-path.path-index = omega arith in
-    let entry = open_entry (answer_of (held_of c.args.shot.now)) in
-    puts_ok _ (puts_as (append-nil _ ∙ ap (flat_map entry) (take_all c.loop-path.path-index c.args.paths.now all)) (puts_then c.loop-path.invariant.puts c.in_ok-flush.ensures.puts))
+    λ answer h. puts_ok _ (answered_all answer c.args.paths.now c.loop-path.path-index (c.loop-path.invariant answer h) all c.in_ok-flush.ensures.puts)

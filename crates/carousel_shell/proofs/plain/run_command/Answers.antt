@@ -30,3 +30,9 @@ returns-in-OpenId-clause-promises g c = rw (c.in-OpenId.is, ← c.deref-in-OpenI
 
 pub returns-in-PublishPsi-clause-promises : goal.returns-in-PublishPsi-clause-promises
 returns-in-PublishPsi-clause-promises g c = rw c.in-PublishPsi.is (record { unread = refl; keeps = rw c.as_str-in-PublishPsi.ensures.value at c.publish_psi.ensures.publishes })
+
+pub returns-in-PublishOn-clause-promises : goal.returns-in-PublishOn-clause-promises
+returns-in-PublishOn-clause-promises g c = rw c.in-PublishOn.is (record { unread = refl; keeps = rw c.as_str-in-PublishOn.ensures.value at c.publish-in-PublishOn.ensures.publishes })
+
+pub returns-in-Mounts-clause-promises : goal.returns-in-Mounts-clause-promises
+returns-in-Mounts-clause-promises g c = rw (c.in-Mounts.is, ← c.deref-in-Mounts.ensures.value) c.mounts.ensures.serves

@@ -1,0 +1,4 @@
+pub mod Receiving
+pub mod Mounts
+pub mod Stands
+pub mod Laws

@@ -1,0 +1,84 @@
+ghost use Rattle.std.specs.Prelude.{◌≡◌, ◌<◌, ◌++◌, ◌∷◌, [], List, length, map, drop, Some, IfOk, IsErr, OnOk};
+ghost use Rattle.section_stream.specs.Cuts.{Bytes, candidates};
+ghost use Rattle.section_stream.specs.Kept.{view_bytes};
+ghost use Rattle.tuner_core.specs.LookBack.{answer_after};
+ghost use Rattle.tuner_core.specs.Stands as tuners;
+ghost use Rattle.mount_table.specs.Receiving.{pid_of};
+ghost use Rattle.mount_table.specs.Stands.{Receives};
+
+use crate::mount::Mount;
+use oc_bytes::NoMemory;
+use path_resolver::{Answer, resolve};
+use path_tree::Path;
+use section_stream::PacketDemux;
+use std::alloc::Global;
+use tuner_core::Tuner;
+
+/// A mount, with what receives its carousel.
+#[derive(Drop)]
+pub struct Receiver {
+    pub mount: Mount,
+    pub demux: PacketDemux,
+    pub tuner: Tuner,
+}
+
+/// A receiver hears sections, in order.
+fn hear_all(tuner: &mut Tuner, sections: &[Vec<u8>]) -> Result<(), NoMemory>
+    ensures stands { OnOk result ((heard : List Bytes) → tuners.StandsFor tuner.old heard → tuners.StandsFor tuner.new (heard ++ map view_bytes sections.now)) }
+    ensures some { IsErr result → 0 < length sections.now }
+{
+    for section in sections {
+        tuner.feed(section)?;
+    }
+    Ok(())
+}
+
+/// The path of all names behind the first one.
+fn rest_of(path: &Path) -> Result<Path, NoMemory>
+    ensures { IfOk result (λ rest. rest ≡ drop 1 path.now) }
+{
+    let mut rest = path.above(0)?;
+    for i in 1..path.len() {
+        rest = rest.below(path.name(i))?.unwrap();
+    }
+    Ok(rest)
+}
+
+impl Receiver {
+    /// A mount that has had no packet.
+    pub fn new(alloc: Global, mount: Mount) -> Result<Receiver, NoMemory>
+        ensures mount { IfOk result (λ r. r.mount ≡ mount) }
+        ensures receives { IfOk result (λ r. Receives [] r) }
+    {
+        let demux = PacketDemux::new(alloc, mount.pid)?;
+        Ok(Receiver {
+            mount,
+            demux,
+            tuner: Tuner::new(alloc),
+        })
+    }
+
+    /// Takes a packet of the PID `pid`: where it is the mount's, and else nothing changes.
+    pub fn hear(&mut self, pid: u16, packet: &[u8; 188]) -> Result<(), NoMemory>
+        requires { pid_of packet.now ≡ Some pid }
+        ensures receives { OnOk result ((packets : List Bytes) → Receives packets self.old → Receives (packets ++ packet.now ∷ []) self.new) }
+        ensures mount { self.new.mount ≡ self.old.mount }
+        ensures memory { IsErr result → (packets : List Bytes) → Receives packets self.old
+            → length (candidates self.old.mount.pid packets) < length (candidates self.old.mount.pid (packets ++ packet.now ∷ [])) }
+    {
+        if pid != self.mount.pid {
+            return Ok(());
+        }
+        let sections = self.demux.feed(packet)?;
+        hear_all(&mut self.tuner, &sections)
+    }
+
+    /// The answer to what follows the first name of a path.
+    pub fn answer(&self, path: &Path) -> Result<Answer, NoMemory>
+        ensures { IfOk result (λ a. (heard : List Bytes) → tuners.StandsFor self.now.tuner heard → a ≡ answer_after heard (drop 1 path.now)) }
+    {
+        let rest = rest_of(path)?;
+        let shot = self.tuner.shot(0, 0)?;
+        Ok(resolve(&shot, &rest)?)
+    }
+}

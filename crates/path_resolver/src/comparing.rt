@@ -1,0 +1,60 @@
+ghost use Rattle.std.specs.Prelude.{◌≡◌, ◌↔◌, IsTrue};
+ghost use Rattle.path_tree.specs.Paths.{same_name};
+ghost use Rattle.path_resolver.specs.Comparing.{same_answer, same_names};
+
+use crate::answer::{Answer, FolderRef};
+
+/// Whether two answers are the same: they are of one variant with the same numbers, files of the same bytes, or folders of the same
+/// names in the same order. Where the bytes or names lie, in which module and of which shot, makes no difference. It takes no memory;
+/// bytes are compared only where there are as many of them, and so are names. (This project's own rule.)
+pub fn same(a: &Answer, b: &Answer) -> bool
+    ensures equal { IsTrue result ↔ (a.now ≡ b.now) }
+    ensures test { result ≡ same_answer a.now b.now }
+{
+    is_same(a, b)
+}
+
+/// The test by variants.
+fn is_same(a: &Answer, b: &Answer) -> bool
+    ensures { result ≡ same_answer a.now b.now }
+{
+    match (a, b) {
+        (Answer::File(file), Answer::File(other)) => is_same_name(file.bytes(), other.bytes()),
+        (Answer::Folder(folder), Answer::Folder(other)) => has_same_names(folder, other),
+        (Answer::NoSuch, Answer::NoSuch) => true,
+        (Answer::NotYet(module), Answer::NotYet(other)) => module == other,
+        (Answer::NoCarousel, Answer::NoCarousel) => true,
+        (Answer::Elsewhere, Answer::Elsewhere) => true,
+        (Answer::Compressed(module), Answer::Compressed(other)) => module == other,
+        (Answer::Bad(module, place), Answer::Bad(other, at)) => module == other && place == at,
+        (Answer::Dangling(module), Answer::Dangling(other)) => module == other,
+        (Answer::OtherKind(module), Answer::OtherKind(other)) => module == other,
+        _ => false,
+    }
+}
+
+/// The same names, in the same order.
+fn has_same_names(a: &FolderRef, b: &FolderRef) -> bool
+    ensures { result ≡ same_names a.now b.now }
+{
+    let count = a.count();
+    let others = b.count();
+    if count != others {
+        return false;
+    }
+    for i in 0..count {
+        let name = a.name(i);
+        let other = b.name(i);
+        if !is_same_name(name, other) {
+            return false;
+        }
+    }
+    true
+}
+
+/// The same bytes.
+fn is_same_name(a: &[u8], b: &[u8]) -> bool
+    ensures { result ≡ same_name a.now b.now }
+{
+    a == b
+}

@@ -1,0 +1,9 @@
+pub mod Lists
+pub mod Due
+pub mod Agreeing
+pub mod Steps
+mod Within
+pub mod Over
+pub mod Heard
+pub mod CallerLemmas
+pub mod Rows

@@ -1,0 +1,9 @@
+pub mod Wanting
+pub mod Notices
+pub mod Watching
+pub mod Showing
+pub mod Kept
+pub mod Prefixes
+pub mod View
+pub mod Telling
+pub mod Laws
