@@ -1,5 +1,6 @@
 //! The plain receiver and the plain broadcaster as a program, for comparisons of time: `record PID`, `open PID PATH..`,
-//! `open sections PATH..`, `list PID` and `publish FOLDER CAROUSEL CYCLES`, as ./carousel has them.
+//! `open sections PATH..`, `list PID`, `watch PID PATH..` and `publish FOLDER CAROUSEL CYCLES`, as ./carousel has them, but that
+//! `watch` writes in large pieces.
 
 mod publisher;
 mod receiver;
@@ -7,7 +8,7 @@ mod receiver;
 use std::io::{self, BufWriter, Read, Write};
 use std::process::exit;
 
-use receiver::{Demux, PACKET, Path, Tuner, each_back_to_back, is_name, is_section, write_list, write_opened};
+use receiver::{Demux, PACKET, Path, Tuner, Watch, each_back_to_back, is_name, is_section, write_list, write_opened};
 
 fn name_of(text: &[u8]) -> Option<Vec<u8>> {
     let mut name = Vec::new();
@@ -64,16 +65,31 @@ fn record(pid: u16, out: &mut impl Write) -> io::Result<()> {
     result
 }
 
+/// Writes what changes of the answers to some paths.
+fn watch(pid: u16, paths: &[Path], out: &mut impl Write) -> io::Result<()> {
+    let (mut result, mut watch) = (Ok(()), Watch::new(paths));
+    each_candidate(pid, &mut |it| {
+        if result.is_ok() {
+            result = watch.hear(it, out);
+        }
+    })?;
+    result
+}
+
 /// What is held after the packets of a PID, or after sections back to back; None where the word is neither.
 fn heard(place: &str) -> io::Result<Option<Tuner>> {
     let mut tuner = Tuner::default();
     if place == "sections" {
         let mut bytes = Vec::new();
         io::stdin().lock().read_to_end(&mut bytes)?;
-        each_back_to_back(&bytes, &mut |it| tuner.feed(it));
+        each_back_to_back(&bytes, &mut |it| {
+            tuner.feed(it);
+        });
     } else {
         let Ok(pid) = place.parse() else { return Ok(None) };
-        each_candidate(pid, &mut |it| tuner.feed(it))?;
+        each_candidate(pid, &mut |it| {
+            tuner.feed(it);
+        })?;
     }
     Ok(Some(tuner))
 }
@@ -89,6 +105,7 @@ fn run(words: &[String]) -> io::Result<i32> {
     let Some(paths) = paths.iter().map(|word| path_of(word)).collect::<Option<Vec<_>>>() else { return Ok(2) };
     let all = match (command.as_str(), place.parse()) {
         ("record", Ok(pid)) => record(pid, &mut out).map(|()| true)?,
+        ("watch", Ok(pid)) => watch(pid, &paths, &mut out).map(|()| true)?,
         ("open", _) => {
             let Some(tuner) = heard(place)? else { return Ok(2) };
             write_opened(&tuner, &paths, &mut out)?

@@ -13,7 +13,7 @@ use std::process::{Command, ExitStatus, Stdio, exit};
 use std::time::{Duration, Instant};
 
 use air::{Chance, Piece};
-use receiver::{Demux, PACKET, Path, Tuner, each_back_to_back, is_section, printed, write_list, write_opened};
+use receiver::{Demux, PACKET, Path, Tuner, Watch, each_back_to_back, is_section, printed, write_list, write_opened};
 
 /// A program that takes longer on a piece has failed.
 const MOST_SECONDS: &str = "100";
@@ -31,6 +31,7 @@ enum Asked<'a> {
     Record(u16),
     Open(Form, &'a [Path]),
     List(u16),
+    Watch(u16, &'a [Path]),
 }
 
 #[derive(PartialEq)]
@@ -43,7 +44,7 @@ struct Ended {
 impl Asked<'_> {
     fn form(&self) -> Form {
         match *self {
-            Asked::Record(pid) | Asked::List(pid) => Form::Packets(pid),
+            Asked::Record(pid) | Asked::List(pid) | Asked::Watch(pid, _) => Form::Packets(pid),
             Asked::Open(form, _) => form,
         }
     }
@@ -57,6 +58,7 @@ impl Asked<'_> {
             Asked::Record(_) => ("record", &[][..]),
             Asked::Open(_, paths) => ("open", paths),
             Asked::List(_) => ("list", &[][..]),
+            Asked::Watch(_, paths) => ("watch", paths),
         };
         [command.into(), place].into_iter().chain(paths.iter().map(|it| printed(it))).collect()
     }
@@ -84,7 +86,9 @@ struct Reading<'a> {
 impl<'a> Reading<'a> {
     fn of(form: Form, input: &'a [u8]) -> Reading<'a> {
         let (candidates, mut tuner) = (cut(form, input), Tuner::default());
-        each_back_to_back(&candidates, &mut |it| tuner.feed(it));
+        each_back_to_back(&candidates, &mut |it| {
+            tuner.feed(it);
+        });
         Reading { input, candidates, tuner }
     }
 
@@ -98,6 +102,12 @@ impl<'a> Reading<'a> {
             }
             Asked::Open(_, paths) => write_opened(&self.tuner, paths, &mut out),
             Asked::List(_) => write_list(&self.tuner, &mut out),
+            Asked::Watch(_, paths) => {
+                let mut watch = Watch::new(paths);
+                let mut written = Ok(true);
+                each_back_to_back(&self.candidates, &mut |it| written = watch.hear(it, &mut out).map(|()| true));
+                written
+            }
         };
         Ended { status: i32::from(!all.expect("a list of bytes takes them")), out, error: Vec::new() }
     }
@@ -228,7 +238,7 @@ impl Tally {
 
     fn count_output(&mut self, asked: &Asked, wanted: &Ended) {
         self.compared += 1;
-        if let Asked::List(_) = asked {
+        if let Asked::List(_) | Asked::Watch(..) = asked {
             self.lines += wanted.out.iter().filter(|&&byte| byte == b'\n').count();
         }
     }
@@ -236,7 +246,7 @@ impl Tally {
     fn print(&self, first: u64, taken: Duration) {
         println!("{} bytes in {} pieces from {first} on; {} outputs compared", self.bytes, self.pieces, self.compared);
         let answers: Vec<String> = self.answers.iter().map(|(kind, count)| format!("{kind} {count}")).collect();
-        println!("opened: {}; listed: {} lines", answers.join(", "), self.lines);
+        println!("opened: {}; listed and watched: {} lines", answers.join(", "), self.lines);
         let speed = |time: Duration| self.bytes as f64 / 1e6 / time.as_secs_f64();
         println!(
             "MB a second: {:.0} made and read, by the processor's time; {:.0} in all, by the clock",
@@ -272,7 +282,8 @@ impl Run<'_> {
         self.tally.own += processor_time() - began;
         self.tally.count(&piece, &reading.tuner);
         let mut chance = Chance::new(!number);
-        for asked in [Asked::Record(piece.pid), Asked::Open(form, &piece.paths), Asked::List(piece.pid)] {
+        let asked = [Asked::Record(piece.pid), Asked::Open(form, &piece.paths), Asked::List(piece.pid), Asked::Watch(piece.pid, &piece.paths)];
+        for asked in asked {
             if !self.is_same(number, &asked, &reading, &mut chance)? {
                 return Ok(false);
             }

@@ -476,19 +476,20 @@ impl Slot {
         Slot { line: line.clone(), state }
     }
 
-    fn offer(&mut self, block_size: u16, block: u16, from: &[u8]) {
-        let State::Partial { bytes, has, missing } = &mut self.state else { return };
+    /// Whether the block is new.
+    fn offer(&mut self, block_size: u16, block: u16, from: &[u8]) -> bool {
+        let State::Partial { bytes, has, missing } = &mut self.state else { return false };
         let (size, block_size, block) = (self.line.size as usize, usize::from(block_size), usize::from(block));
         let first = block * block_size;
         if first >= size || from.len() != block_size.min(size - first) {
-            return;
+            return false;
         }
         if bytes.is_empty() {
             *bytes = vec![0; size];
             *has = vec![false; size.div_ceil(block_size)];
         }
         if has[block] {
-            return;
+            return false;
         }
         bytes[first..first + from.len()].copy_from_slice(from);
         has[block] = true;
@@ -498,6 +499,7 @@ impl Slot {
             let index = index_of(&bytes);
             self.state = State::Whole(bytes, index);
         }
+        true
     }
 }
 
@@ -542,34 +544,41 @@ fn is_within(dii: &Dii) -> bool {
 }
 
 impl Tuner {
-    pub fn feed(&mut self, candidate: &[u8]) {
+    /// Hears a candidate. Where the answer is false, what is held is as it was.
+    pub fn feed(&mut self, candidate: &[u8]) -> bool {
         if !is_section(candidate) {
-            return;
+            return false;
         }
         match message_of(candidate) {
-            Some(Message::Dsi(gateway)) => self.gateway = gateway.or(self.gateway.take()),
+            Some(Message::Dsi(gateway)) => {
+                self.gateway = gateway.or(self.gateway.take());
+                true
+            }
             Some(Message::Dii(dii)) => self.hear(dii),
             Some(Message::Ddb { download, module, version, block, bytes }) => {
+                let mut is_new = false;
                 for part in self.held.iter_mut().filter(|it| it.dii.download == download) {
                     if let Some(slot) = part.slots.get_mut(&module)
                         && slot.line.version == version
                     {
-                        slot.offer(part.dii.block_size, block, bytes);
+                        is_new |= slot.offer(part.dii.block_size, block, bytes);
                     }
                 }
+                is_new
             }
-            None => {}
+            None => false,
         }
     }
 
-    fn hear(&mut self, dii: Dii) {
+    /// Whether it is held.
+    fn hear(&mut self, dii: Dii) -> bool {
         if dii.identification == 0 || !is_within(&dii) {
-            return;
+            return false;
         }
         if let Some(held) = self.held.last() {
             let step = dii.version.wrapping_sub(held.dii.version) & 0x3FFF;
             if step == 0 && !self.has_room(&dii) {
-                return;
+                return false;
             }
             if step > 0 {
                 let held = std::mem::take(&mut self.held);
@@ -579,6 +588,7 @@ impl Tuner {
         let place = self.waiting.iter().position(|it| it.dii.identification == dii.identification);
         let before = place.map(|place| self.waiting.swap_remove(place));
         self.held.push(Part::new(dii, before));
+        true
     }
 
     /// Whether a DII can be held beside those of its version.
@@ -741,4 +751,74 @@ pub fn write_list(tuner: &Tuner, out: &mut impl Write) -> io::Result<bool> {
         out.write_all(b"more\n")?;
     }
     Ok(listing.all && !listing.more)
+}
+
+// Watching
+
+/// An answer by itself, whatever is held now.
+#[derive(PartialEq)]
+enum Kept {
+    File(Vec<u8>),
+    Folder(Vec<Vec<u8>>),
+    Other(String),
+}
+
+impl Kept {
+    fn of(answer: &Answer) -> Kept {
+        match answer {
+            Answer::File(bytes) => Kept::File(bytes.to_vec()),
+            Answer::Folder(bindings) => Kept::Folder(bindings.iter().map(|(name, _)| name.clone()).collect()),
+            Answer::Other(text) => Kept::Other(text.clone()),
+        }
+    }
+
+    fn is(&self, answer: &Answer) -> bool {
+        match (self, answer) {
+            (Kept::File(kept), Answer::File(bytes)) => kept == bytes,
+            (Kept::Folder(names), Answer::Folder(bindings)) => names.iter().eq(bindings.iter().map(|(name, _)| name)),
+            (Kept::Other(kept), Answer::Other(text)) => kept == text,
+            _ => false,
+        }
+    }
+}
+
+/// A receiver, and paths with the last answers to them.
+pub struct Watch {
+    tuner: Tuner,
+    watched: Vec<(Path, Kept)>,
+    mark: u64,
+}
+
+impl Watch {
+    pub fn new(paths: &[Path]) -> Watch {
+        let mut seen = HashSet::new();
+        let once = paths.iter().filter(|path| seen.insert(*path));
+        let watched = once.map(|path| (path.clone(), Kept::Other("no-carousel".into()))).collect();
+        Watch { tuner: Tuner::default(), watched, mark: 0 }
+    }
+
+    /// Hears a candidate, and writes a line for each watcher and each of its paths whose answer is another one now: the first watcher
+    /// has all paths, and the second those of `now` and below.
+    pub fn hear(&mut self, candidate: &[u8], out: &mut impl Write) -> io::Result<()> {
+        self.mark += 1;
+        if !self.tuner.feed(candidate) {
+            return Ok(());
+        }
+        let mut changed = Vec::new();
+        for (path, last) in &mut self.watched {
+            let answer = self.tuner.open(path);
+            if !last.is(&answer) {
+                *last = Kept::of(&answer);
+                changed.push((&*path, answer.text()));
+            }
+        }
+        for watcher in 0..2 {
+            for (path, text) in &changed {
+                if watcher == 0 || path.first().is_some_and(|name| name == b"now") {
+                    writeln!(out, "{watcher} {} {} {text}", self.mark, printed(path))?;
+                }
+            }
+        }
+        Ok(())
+    }
 }

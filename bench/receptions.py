@@ -203,8 +203,8 @@ class Broadcaster:
         return items
 
 
-def lawful(chance):
-    caster, air = Broadcaster(chance), Air(chance)
+def lawful(chance, broadcaster=Broadcaster):
+    caster, air = broadcaster(chance), Air(chance)
     for _ in range(chance.randrange(1, 7)):
         for _ in range(chance.choice([1, 1, 2])):
             air.send(map(caster.now.section, caster.part()), caster.now.number, way(chance))

@@ -8,6 +8,7 @@ It shares no code with the crates, so that what they read of its streams says so
     streams.py --sections FOLDER > SECTIONS  one cycle as sections back to back
     streams.py --two-diis FOLDER > STREAM    as another sender may do it: two DIIs, and a second version of one file
     streams.py --two-carousels FOLDER FOLDER > STREAM    a cycle of each, as carousel 1 on PID 256 and 2 on PID 257, packet by packet in turn
+    streams.py --update > STREAM             a cycle of a tree whose one file is /now, and one of the next, in which it says something else
 """
 
 import itertools
@@ -409,6 +410,20 @@ def two_carousels(one, other):
     return in_turn(published(one, 1, 1, pid=256), published(other, 1, 2, pid=257))
 
 
+def updated(*trees, rules=BUILT):
+    """The packets of a whole cycle of each of these trees, which are generations one after another; each cycle is a group of its own."""
+    now, sent = first_generation(), []
+    for files in trees:
+        now = next_generation(now, files, rules.place)
+        sent += rules.lay(cycle(now, rules.weights), counter=len(sent) % 16)
+    return sent
+
+
+def update():
+    """One file, /now, and then another content of it. Each module comes once a cycle."""
+    return updated({(b"now",): b"The news\n"}, {(b"now",): b"The weather\n"}, rules=Rules(lay=packed, place=kept_placement))
+
+
 def files_in(folder):
     files = {}
     for at, _, names in os.walk(folder):
@@ -469,6 +484,8 @@ def main(words):
         parts = two_diis(files_in(words[1]))
     elif words[:1] == ["--two-carousels"]:
         parts = two_carousels(*map(files_in, words[1:]))
+    elif words[:1] == ["--update"]:
+        parts = update()
     elif words[:1] == ["--sections"]:
         parts = cycle(generation(files_in(words[1])), BUILT.weights)
     else:

@@ -2,17 +2,23 @@
 #![tactic(auto)]
 
 ghost use Rattle.std.specs.Prelude.{◌≡◌, ◌==◌, if◌then◌else◌};
+ghost use Rattle.watch_desk.specs.Wanting.{is_wanted};
 
 use carousel_shell::Status;
 use cycle_planner::{GREATEST_ID, Weigh};
 use folder_store::{Folders, OsFolders};
-use oc_bytes::{Sink, Source, StdSink, StdSource};
+use oc_bytes::{NoMemory, Sink, Source, StdSink, StdSource};
+use path_tree::Path;
 use section_workers::NoGate;
-use std::alloc::Global;
+use std::alloc::{AllocError, Global};
 use std::process::ExitCode;
 use std::sync::Wait;
 use std::thread::Threads;
 use std::{env, io};
+use watch_desk::Filter;
+
+/// The prefixes of the two watchers: that of all paths, and that of what is on now.
+const PREFIXES: [&[u8]; 2] = [b"/", b"/now"];
 
 fn main(rt: HostRuntime) -> ExitCode {
     let status = match words(&rt) {
@@ -58,7 +64,49 @@ fn run<R: Threads + Wait + Sync, S: Source, K: Sink, F: Folders>(
         return Status::NoMemory;
     };
     let weigh = Weigh::new(weights, call);
-    session_shell::run(rt, alloc, words, source, sink, folders, &NoGate, weigh)
+    let Ok(prefixes) = prefixes(alloc) else {
+        return Status::NoMemory;
+    };
+    match run_watched(rt, alloc, words, &prefixes, source, sink, folders, weigh) {
+        Ok(status) => status,
+        Err(_) => Status::NoMemory,
+    }
+}
+
+/// The prefixes of the watchers as paths, which they are.
+fn prefixes(alloc: Global) -> Result<Vec<Path>, NoMemory> {
+    let mut prefixes = Vec::new(alloc);
+    for text in PREFIXES {
+        prefixes.push(Path::parse(alloc, text).map_err(|_| AllocError)?)?;
+    }
+    Ok(prefixes)
+}
+
+/// Runs it with a watcher for each of the prefixes.
+fn run_watched<R: Threads + Wait + Sync, S: Source, K: Sink, F: Folders>(
+    rt: &R,
+    alloc: Global,
+    words: &[String],
+    prefixes: &[Path],
+    source: &mut S,
+    sink: &mut K,
+    folders: &mut F,
+    weigh: Weigh,
+) -> Result<Status, NoMemory> {
+    let mut filters = Vec::new(alloc);
+    for prefix in prefixes {
+        let own = prefix.share()?;
+        let call = Box::new(
+            alloc,
+            move |path: &Path| -> bool
+                ensures { result ≡ is_wanted own path.now }
+            { own.is_same(path) || own.is_above(path) },
+        )?;
+        filters.push(Filter::new(prefix.share()?, call))?;
+    }
+    Ok(session_shell::run(
+        rt, alloc, words, source, sink, folders, &NoGate, weigh, filters,
+    ))
 }
 
 /// The words after the program's name. A word that isn't UTF-8 is a faulty one.

@@ -2,6 +2,7 @@
 use Rattle.std.proofs.Common.{◌≡◌, ℕ, Bool, false, List, [], Option, Result, Ok, Err, inl, inr, refl, sym, ap, ◌∙◌, append-nil, subst}
 use Rattle.cycle_planner.specs.Weights.{AreWeights}
 use Rattle.oc_bytes.specs.Outcome.{Known}
+use Rattle.path_tree.specs.Paths.{PathNames}
 use Rattle.folder_store.specs.Folders.{FolderTree}
 use Rattle.shell_words.specs.Words as commands
 use Rattle.shell_streams.specs.Cuts.{Bytes}
@@ -10,9 +11,10 @@ use Rattle.shell_streams.specs.Carriers.{sections_by, all_packets}
 use Rattle.shell_streams.specs.declared.carrier.Carrier.{Carrier}
 use Rattle.shell_streams.specs.declared.carrier.Carrier.TheVariants as carriers
 use Rattle.shell_streams.proofs.CallerLemmas.{told_same}
-use Rattle.carousel_shell.specs.Over.{Over, over, IsUntouched, TakesPrefix, Appends}
+use Rattle.carousel_shell.specs.Over.{Over, over, IsUntouched, TakesPrefix, WritesPrefix, Appends}
 use Rattle.carousel_shell.specs.Record.{AreFirst, Records}
 use Rattle.carousel_shell.specs.Open.{Question, Answers, answers_to, asks_paths, asks_all}
+use Rattle.carousel_shell.specs.Watch.{Watches}
 use Rattle.carousel_shell.specs.Find.{place_of}
 use Rattle.carousel_shell.specs.OpenId.{sections_by_id}
 use Rattle.carousel_shell.specs.Reception.{Receptions}
@@ -33,59 +35,62 @@ answers_nothing : (carrier : Carrier) (question : Question) (source sink : Over 
 answers_nothing carrier question source sink law e f =
     answers_by carrier question status.NoMemory source sink law (replies_nothing (sections_by carrier) (answers_to question) source sink (takes_nothing source e) f)
 
-records_nothing : (pid : ℕ) (source sink : Over Bytes) → IsUntouched source → IsUntouched sink → Records pid status.NoMemory source sink
-records_nothing pid source sink e f =
-    let P : Option Bytes → Type 0 = λ a. Known source.before a (AreFirst pid []) in
+first_untouched : (pid : ℕ) (source : Over Bytes) → IsUntouched source → Known source.before source.after (AreFirst pid [])
+first_untouched pid source e = let P : Option Bytes → Type 0 = λ a. Known source.before a (AreFirst pid []) in subst P (sym e) (first_none pid source.before)
+
+nothing_written : (sink : Over Bytes) → IsUntouched sink → WritesPrefix sink []
+nothing_written sink f =
     let Q : Option Bytes → Type 0 = λ a. Known sink.before a (Appends []) in
-    record {
-      ends = record {
-        sections = [];
-        first = subst P (sym e) (first_none pid source.before);
-        writes = subst Q (sym f) (told_same sink.before (λ x. record { part = []; after_is = sym (append-nil x); prefix = record { rest = []; whole_is = refl } }));
-      };
-      takes = takes_nothing source e;
-    }
+    subst Q (sym f) (told_same sink.before (λ x. record { part = []; after_is = sym (append-nil x); prefix = record { rest = []; whole_is = refl } }))
+
+records_nothing : (pid : ℕ) (source sink : Over Bytes) → IsUntouched source → IsUntouched sink → Records pid status.NoMemory source sink
+records_nothing pid source sink e f = record { ends = record { sections = []; first = first_untouched pid source e; writes = nothing_written sink f }; takes = takes_nothing source e }
+
+watches_nothing : (pid : ℕ) (prefixes paths : List PathNames) (source sink : Over Bytes) → IsUntouched source → IsUntouched sink → Watches pid prefixes paths status.NoMemory source sink
+watches_nothing pid prefixes paths source sink e f =
+    record { ends = record { sections = []; first = first_untouched pid source e; writes = nothing_written sink f }; takes = takes_nothing source e }
 
 -- there was no memory before a command began
-memory_promises : (weights : List ℕ) (c : commands.Named) (source sink : Over Bytes) (folders : Over FolderTree) → Receptions → AreWeights weights → IsUntouched source → IsUntouched sink → Promises weights c status.NoMemory source sink folders
-memory_promises weights (commands.Assemble id version size download) source sink folders law are e f = record { ends = inl f; takes = takes_nothing source e }
-memory_promises weights (commands.OpenSections paths) source sink folders law are e f = answers_nothing (carriers.Sections 16777216) (asks_paths paths) source sink law e f
-memory_promises weights (commands.Open pid paths) source sink folders law are e f = answers_nothing (carriers.Packets pid) (asks_paths paths) source sink law e f
-memory_promises weights (commands.Record pid) source sink folders law are e f = records_nothing pid source sink e f
-memory_promises weights (commands.ListAll pid) source sink folders law are e f = answers_nothing (carriers.Packets pid) asks_all source sink law e f
-memory_promises weights (commands.Publish folder carousel cycles) source sink folders law are e f =
+memory_promises : (weights : List ℕ) (prefixes : List PathNames) (c : commands.Named) (source sink : Over Bytes) (folders : Over FolderTree) → Receptions → AreWeights weights → IsUntouched source → IsUntouched sink → Promises weights prefixes c status.NoMemory source sink folders
+memory_promises weights prefixes (commands.Assemble id version size download) source sink folders law are e f = record { ends = inl f; takes = takes_nothing source e }
+memory_promises weights prefixes (commands.OpenSections paths) source sink folders law are e f = answers_nothing (carriers.Sections 16777216) (asks_paths paths) source sink law e f
+memory_promises weights prefixes (commands.Open pid paths) source sink folders law are e f = answers_nothing (carriers.Packets pid) (asks_paths paths) source sink law e f
+memory_promises weights prefixes (commands.Record pid) source sink folders law are e f = records_nothing pid source sink e f
+memory_promises weights prefixes (commands.ListAll pid) source sink folders law are e f = answers_nothing (carriers.Packets pid) asks_all source sink law e f
+memory_promises weights prefixes (commands.Publish folder carousel cycles) source sink folders law are e f =
     record { unread = e; keeps = record { ends = inl f; needs = λ t h n. inr refl; heard = law.sent 256 carousel weights cycles are } }
-memory_promises weights commands.Rehearse source sink folders law are e f = record { ends = inl f; takes = takes_nothing source e }
-memory_promises weights commands.Session source sink folders law are e f = record { ends = inr refl; unread = e; unwritten = f }
-memory_promises weights (commands.Big n) source sink folders law are e f = record { ends = inr refl; unread = e; unwritten = f }
-memory_promises weights (commands.Find carousel) source sink folders law are e f =
+memory_promises weights prefixes commands.Rehearse source sink folders law are e f = record { ends = inl f; takes = takes_nothing source e }
+memory_promises weights prefixes commands.Session source sink folders law are e f = record { ends = inr refl; unread = e; unwritten = f }
+memory_promises weights prefixes (commands.Big n) source sink folders law are e f = record { ends = inr refl; unread = e; unwritten = f }
+memory_promises weights prefixes (commands.Find carousel) source sink folders law are e f =
     finds_by carousel status.NoMemory source sink law (replies_nothing all_packets (place_of carousel) source sink (takes_nothing source e) f)
-memory_promises weights (commands.OpenId carousel paths) source sink folders law are e f =
+memory_promises weights prefixes (commands.OpenId carousel paths) source sink folders law are e f =
     opens_by carousel paths status.NoMemory source sink law (replies_nothing (sections_by_id carousel) (answers_to (asks_paths paths)) source sink (takes_nothing source e) f)
-memory_promises weights (commands.PublishPsi folder carousel cycles) source sink folders law are e f =
+memory_promises weights prefixes (commands.PublishPsi folder carousel cycles) source sink folders law are e f =
     record { unread = e; keeps = record { ends = inl f; needs = λ t h n. inr refl; heard = law.cycles carousel weights cycles are } }
-memory_promises weights (commands.PublishOn pid folder carousel cycles) source sink folders law are e f =
+memory_promises weights prefixes (commands.PublishOn pid folder carousel cycles) source sink folders law are e f =
     record { unread = e; keeps = record { ends = inl f; needs = λ t h n. inr refl; heard = law.sent pid carousel weights cycles are } }
-memory_promises weights (commands.Mounts entries paths) source sink folders law are e f = serves_no_memory entries paths source sink law e f
+memory_promises weights prefixes (commands.Mounts entries paths) source sink folders law are e f = serves_no_memory entries paths source sink law e f
+memory_promises weights prefixes (commands.Watch pid paths) source sink folders law are e f = watches_nothing pid prefixes paths source sink e f
 
-pub memory_keeps : (weights : List ℕ) (r : Result commands.Named commands.Misfit) (source sink : Over Bytes) (folders : Over FolderTree) → Receptions → AreWeights weights → IsUntouched source → IsUntouched sink
-    → Keeps weights r status.NoMemory source sink folders
-memory_keeps weights (Ok c) source sink folders law are e f = memory_promises weights c source sink folders law are e f
-memory_keeps weights (Err misfit) source sink folders law are e f = record { ends = inr refl; unread = e; unwritten = f }
+pub memory_keeps : (weights : List ℕ) (prefixes : List PathNames) (r : Result commands.Named commands.Misfit) (source sink : Over Bytes) (folders : Over FolderTree) → Receptions → AreWeights weights → IsUntouched source → IsUntouched sink
+    → Keeps weights prefixes r status.NoMemory source sink folders
+memory_keeps weights prefixes (Ok c) source sink folders law are e f = memory_promises weights prefixes c source sink folders law are e f
+memory_keeps weights prefixes (Err misfit) source sink folders law are e f = record { ends = inr refl; unread = e; unwritten = f }
 
 -- the words don't fit
-pub words_keep : (weights : List ℕ) (r : Result commands.Named commands.Misfit) (source sink : Over Bytes) (folders : Over FolderTree) → r ≡ Err commands.Words → IsUntouched source → IsUntouched sink
-    → Keeps weights r status.Words source sink folders
-words_keep weights r source sink folders is e f =
-    let P : Result commands.Named commands.Misfit → Type 0 = λ x. Keeps weights x status.Words source sink folders in
+pub words_keep : (weights : List ℕ) (prefixes : List PathNames) (r : Result commands.Named commands.Misfit) (source sink : Over Bytes) (folders : Over FolderTree) → r ≡ Err commands.Words → IsUntouched source → IsUntouched sink
+    → Keeps weights prefixes r status.Words source sink folders
+words_keep weights prefixes r source sink folders is e f =
+    let P : Result commands.Named commands.Misfit → Type 0 = λ x. Keeps weights prefixes x status.Words source sink folders in
     subst P (sym is) (record { ends = inl refl; unread = e; unwritten = f })
 
 -- the sink that the output lends is the one that was handed in
-pub promises_over : {X : Type 0} (weights : List ℕ) (c : commands.Named) (s : Status) (source : Over Bytes) (folders : Over FolderTree) (content : X → Option Bytes) (faults : X → ℕ) (begin end first last : X)
-    → begin ≡ first → end ≡ last → Promises weights c s source (over content faults begin end) folders → Promises weights c s source (over content faults first last) folders
-promises_over {X} weights c s source folders content faults begin end first last a b p =
-    let P : X → Type 0 = λ x. Promises weights c s source (over content faults x end) folders in
-    let Q : X → Type 0 = λ x. Promises weights c s source (over content faults first x) folders in
+pub promises_over : {X : Type 0} (weights : List ℕ) (prefixes : List PathNames) (c : commands.Named) (s : Status) (source : Over Bytes) (folders : Over FolderTree) (content : X → Option Bytes) (faults : X → ℕ) (begin end first last : X)
+    → begin ≡ first → end ≡ last → Promises weights prefixes c s source (over content faults begin end) folders → Promises weights prefixes c s source (over content faults first last) folders
+promises_over {X} weights prefixes c s source folders content faults begin end first last a b p =
+    let P : X → Type 0 = λ x. Promises weights prefixes c s source (over content faults x end) folders in
+    let Q : X → Type 0 = λ x. Promises weights prefixes c s source (over content faults first x) folders in
     subst Q b (subst P a p)
 
 -- nor is a write tried there after one that failed

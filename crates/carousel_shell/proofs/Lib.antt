@@ -3,6 +3,7 @@ mod Joining
 mod Offering
 mod Parts
 mod Entries
+mod Firsts
 mod Walking
 mod Receiving
 mod Interleaving
@@ -17,6 +18,9 @@ mod Serving
 mod Announcing
 mod Assembling
 mod Recording
+mod Telling
+mod Showing
+mod Watching
 mod Committing
 mod Rehearsing
 mod Cycling

@@ -13,6 +13,10 @@ parts_more f xs i x e =
     flat_map_more f [] (take i xs) x
     ∙ ap (flat_map f) (sym (take_more xs i x (slice_get_within xs i x e) ∙ ap (λ y. take i xs ++ y ∷ []) (get_or_from_slice_get xs i x x e)))
 
+-- the one at a place
+pub parts_at : {X : Type 0} (f : X → Bytes) (xs : List X) (i : ℕ) (d : X) → i < length xs → flat_map f (take i xs) ++ f (get_or xs i d) ≡ flat_map f (take (i + 1) xs)
+parts_at f xs i d h = flat_map_more f [] (take i xs) (get_or xs i d) ∙ ap (flat_map f) (sym (take_more xs i d h))
+
 pub parts_next : {X : Type 0} (f : X → Bytes) (xs : List X) (i : ℕ) (x : X) → i < length xs → x ≡ get_or xs i x → flat_map f (take i xs) ++ f x ≡ flat_map f (take (i + 1) xs)
 parts_next f xs i x h e = parts_more f xs i x (slice_get-get_or xs i x h ∙ ap Some (sym e))
 

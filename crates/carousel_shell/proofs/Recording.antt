@@ -73,10 +73,10 @@ first_ended {cs = cs} t = told_weaker t (λ x y e. record {
   all = e.all ∙ sym (append-nil cs);
 })
 
-takes_first : {pid : ℕ} {cs : List Bytes} (source : Over Bytes) → Known source.before source.after (AreFirst pid cs) → TakesPrefix source
+pub takes_first : {pid : ℕ} {cs : List Bytes} (source : Over Bytes) → Known source.before source.after (AreFirst pid cs) → TakesPrefix source
 takes_first source t = told_weaker t (λ x y f. record { taken = f.taken; whole = f.input_is })
 
-long_halted : {pid : ℕ} {cs : List Bytes} (a b : Option Bytes) → Known a b (Halts pid cs inputs.TooLong) → (input : Bytes) → a ≡ Some input → is_over_packets 16777216 input ≡ true
+pub long_halted : {pid : ℕ} {cs : List Bytes} (a b : Option Bytes) → Known a b (Halts pid cs inputs.TooLong) → (input : Bytes) → a ≡ Some input → is_over_packets 16777216 input ≡ true
 long_halted a b t input i = (told_here a b input t i).2.too_long refl
 
 -- ---- how it ends

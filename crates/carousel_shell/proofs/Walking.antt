@@ -1,5 +1,5 @@
 -- A listing in parts: the paths below a path by more and more of its folder's names.
-use Rattle.std.proofs.Common.{◌≡◌, ℕ, zero, suc, ◌+◌, ◌-◌, ◌<◌, ◌≤◌, Bool, true, false, cond, not, ◌&&◌, ◌||◌, nat_le, nat_lt, List, [], ◌∷◌, ◌++◌, length, take, drop, Some, None, Result, Ok, Err, refl, sym, ap, ◌∙◌, subst, arith, append-nil, length-append}
+use Rattle.std.proofs.Common.{◌≡◌, ℕ, zero, suc, ◌+◌, ◌-◌, ◌<◌, ◌≤◌, Bool, true, false, cond, not, ◌&&◌, nat_le, nat_lt, List, [], ◌∷◌, ◌++◌, length, take, drop, Some, None, Result, Ok, Err, refl, sym, ap, ◌∙◌, subst, arith, append-nil, length-append}
 use Rattle.std.specs.Prelude.{slice_get}
 use Rattle.std.specs.List.{flat_map, list_any, filter}
 use Rattle.std.proofs.Math.Seq.{take-append-add}
@@ -18,8 +18,10 @@ use Rattle.shell_streams.specs.Cuts.{Bytes}
 use Rattle.shell_streams.specs.Sending.{OutputState, Puts}
 use Rattle.shell_streams.specs.declared.output.OutputFault.{OutputFault}
 use Rattle.shell_words.specs.Texts.{is_found}
-use Rattle.carousel_shell.specs.Listing.{first_only, names_in, folder_in, walk, list_line, lines_in, are_found, paths_below, paths_by, Lists, list_text, more_unless, all_listed}
+use Rattle.carousel_shell.specs.Firsts.{first_only}
+use Rattle.carousel_shell.specs.Listing.{names_in, folder_in, walk, list_line, lines_in, are_found, paths_below, paths_by, Lists, list_text, more_unless, all_listed}
 use Rattle.shell_streams.proofs.CallerLemmas.{puts_as, puts_then, puts_stop}
+use Rattle.carousel_shell.proofs.Firsts.{rest_of, first_only-append, rest_of-one}
 
 -- ---- lines of lists one after another
 
@@ -107,33 +109,11 @@ stops_front answer n ps qs p = puts_as (sym (lines_both answer n ps qs)) (puts_s
 
 -- ---- the names of a folder, one after another
 
--- what stays of later names after earlier ones
-unfoldable pub rest_of : List Bytes → List Bytes → List Bytes
-rest_of [] ys = first_only ys
-rest_of (m ∷ ms) ys = filter (λ n. not (same_name m n)) (rest_of ms ys)
-
-first_only-append : (xs ys : List Bytes) → first_only (xs ++ ys) ≡ first_only xs ++ rest_of xs ys
-unfolding rest_of
-first_only-append [] ys = refl
-first_only-append (m ∷ ms) ys =
-    ap (λ (ns : List Bytes). m ∷ filter (λ n. not (same_name m n)) ns) (first_only-append ms ys)
-    ∙ ap (λ (ns : List Bytes). m ∷ ns) (filter-append (λ n. not (same_name m n)) (first_only ms) (rest_of ms ys))
-
-rest_of-one : (xs : List Bytes) (n : Bytes) → rest_of xs (n ∷ []) ≡ cond (list_any (λ m. same_name m n) xs) [] (n ∷ [])
-unfolding rest_of
-rest_of-one [] n = refl
-rest_of-one (m ∷ ms) n = ap (filter (λ k. not (same_name m k))) (rest_of-one ms n) ∙ go (same_name m n) refl (list_any (λ k. same_name k n) ms) where
-  go : (a : Bool) → same_name m n ≡ a → (b : Bool) → filter (λ k. not (same_name m k)) (cond b [] (n ∷ [])) ≡ cond (a || b) [] (n ∷ [])
-  go true e true = refl
-  go false e true = refl
-  go true e false = rw e refl
-  go false e false = rw e refl
-
-pub below_append : (answer : PathNames → Answer) (room : ℕ) (p : PathNames) (xs ys : List Bytes) → paths_below answer room p (xs ++ ys) ≡ paths_below answer room p xs ++ flat_map (λ n. walk answer room (p ++ n ∷ [])) (filter is_name (rest_of xs ys))
+pub below_append : (answer : PathNames → Answer) (room : ℕ) (p : PathNames) (xs ys : List Bytes) → paths_below answer room p (xs ++ ys) ≡ paths_below answer room p xs ++ flat_map (λ n. walk answer room (p ++ n ∷ [])) (filter is_name (rest_of same_name xs ys))
 below_append answer room p xs ys =
-    ap (λ (ns : List Bytes). flat_map (λ n. walk answer room (p ++ n ∷ [])) (filter is_name ns)) (first_only-append xs ys)
-    ∙ ap (flat_map (λ n. walk answer room (p ++ n ∷ []))) (filter-append is_name (first_only xs) (rest_of xs ys))
-    ∙ flat_map-append (λ n. walk answer room (p ++ n ∷ [])) (filter is_name (first_only xs)) (filter is_name (rest_of xs ys))
+    ap (λ (ns : List Bytes). flat_map (λ n. walk answer room (p ++ n ∷ [])) (filter is_name ns)) (first_only-append same_name xs ys)
+    ∙ ap (flat_map (λ n. walk answer room (p ++ n ∷ []))) (filter-append is_name (first_only same_name xs) (rest_of same_name xs ys))
+    ∙ flat_map-append (λ n. walk answer room (p ++ n ∷ [])) (filter is_name (first_only same_name xs)) (filter is_name (rest_of same_name xs ys))
 
 by_one : (answer : PathNames → Answer) (room : ℕ) (p : PathNames) (n : Bytes) → flat_map (λ m. walk answer room (p ++ m ∷ [])) (filter is_name (n ∷ [])) ≡ paths_by answer room p n
 by_one answer room p n = go (is_name n) where
@@ -148,20 +128,20 @@ front_more xs i n e = take_more xs i n (slice_get_within xs i n e) ∙ ap (λ (m
 pub below_met : (answer : PathNames → Answer) (room : ℕ) (p : PathNames) (xs : List Bytes) (i : ℕ) (n : Bytes) → slice_get xs i ≡ Some n → list_any (λ m. same_name m n) (take i xs) ≡ true → paths_below answer room p (take (i + 1) xs) ≡ paths_below answer room p (take i xs)
 below_met answer room p xs i n e met =
     ap (paths_below answer room p) (front_more xs i n e) ∙ below_append answer room p (take i xs) (n ∷ [])
-    ∙ ap (λ (ns : List Bytes). paths_below answer room p (take i xs) ++ flat_map (λ m. walk answer room (p ++ m ∷ [])) (filter is_name ns)) (rest_of-one (take i xs) n ∙ ap (λ b. cond b [] (n ∷ [])) met)
+    ∙ ap (λ (ns : List Bytes). paths_below answer room p (take i xs) ++ flat_map (λ m. walk answer room (p ++ m ∷ [])) (filter is_name ns)) (rest_of-one same_name (take i xs) n ∙ ap (λ b. cond b [] (n ∷ [])) met)
     ∙ append-nil (paths_below answer room p (take i xs))
 
 -- a name that stands for the first time
 pub below_new : (answer : PathNames → Answer) (room : ℕ) (p : PathNames) (xs : List Bytes) (i : ℕ) (n : Bytes) → slice_get xs i ≡ Some n → list_any (λ m. same_name m n) (take i xs) ≡ false → paths_below answer room p (take (i + 1) xs) ≡ paths_below answer room p (take i xs) ++ paths_by answer room p n
 below_new answer room p xs i n e new =
     ap (paths_below answer room p) (front_more xs i n e) ∙ below_append answer room p (take i xs) (n ∷ [])
-    ∙ ap (λ (ns : List Bytes). paths_below answer room p (take i xs) ++ flat_map (λ m. walk answer room (p ++ m ∷ [])) (filter is_name ns)) (rest_of-one (take i xs) n ∙ ap (λ b. cond b [] (n ∷ [])) new)
+    ∙ ap (λ (ns : List Bytes). paths_below answer room p (take i xs) ++ flat_map (λ m. walk answer room (p ++ m ∷ [])) (filter is_name ns)) (rest_of-one same_name (take i xs) n ∙ ap (λ b. cond b [] (n ∷ [])) new)
     ∙ ap (λ (qs : List PathNames). paths_below answer room p (take i xs) ++ qs) (by_one answer room p n)
 
 -- the paths by a prefix of the names are a prefix of all
 pub below_rest : (answer : PathNames → Answer) (room : ℕ) (p : PathNames) (xs : List Bytes) (i : ℕ) → (rest : List PathNames) × (paths_below answer room p xs ≡ paths_below answer room p (take i xs) ++ rest)
 below_rest answer room p xs i = (
-  flat_map (λ n. walk answer room (p ++ n ∷ [])) (filter is_name (rest_of (take i xs) (drop i xs))),
+  flat_map (λ n. walk answer room (p ++ n ∷ [])) (filter is_name (rest_of same_name (take i xs) (drop i xs))),
   ap (paths_below answer room p) (sym (take-append-drop i xs)) ∙ below_append answer room p (take i xs) (drop i xs),
 )
 

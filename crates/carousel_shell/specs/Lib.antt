@@ -1,4 +1,5 @@
 pub mod Over
+pub mod Firsts
 pub mod Input
 pub mod Accepted
 pub mod Listing
@@ -13,6 +14,8 @@ pub mod Find
 pub mod OpenId
 pub mod Seeking
 pub mod Mounts
+pub mod Watch
+pub mod Watching
 pub mod Assemble
 pub mod Record
 pub mod Publish

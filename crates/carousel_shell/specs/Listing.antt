@@ -1,5 +1,5 @@
 -- What `list` writes: the paths of a carousel's tree from the root on, each with its answer. It is this project's own rule.
-use Rattle.std.specs.Prelude.{◌≡◌, ℕ, ◌-◌, zero, suc, Bool, ◌&&◌, not, List, [], ◌∷◌, ◌++◌, length, take, Option, Some, None, nat_le, codes, if◌then◌else◌}
+use Rattle.std.specs.Prelude.{◌≡◌, ℕ, ◌-◌, zero, suc, Bool, ◌&&◌, List, [], ◌∷◌, ◌++◌, length, take, Option, Some, None, nat_le, codes, if◌then◌else◌}
 use Rattle.std.specs.List.{flat_map, list_all, filter}
 use Rattle.path_tree.specs.Paths.{PathNames, same_name}
 use Rattle.path_tree.specs.Texts.{is_name}
@@ -8,14 +8,10 @@ use Rattle.path_resolver.specs.declared.answer.Answer.TheVariants as answers
 use Rattle.shell_streams.specs.Cuts.{Bytes}
 use Rattle.shell_words.specs.Texts.{line, is_found, answered_line}
 use Rattle.path_tree.specs.declared.text.TheConstants.{MOST_NAMES}
+use Rattle.carousel_shell.specs.Firsts.{first_only}
 use Rattle.carousel_shell.specs.declared.listing.TheConstants.{MOST_LINES}
 
 -- ---- the paths
-
--- each name at its first place only
-abbrev pub first_only : List Bytes → List Bytes
-first_only [] = []
-first_only (n ∷ ns) = n ∷ filter (λ m. not (same_name n m)) (first_only ns)
 
 abbrev pub folder_in : Answer → Option (List Bytes)
 folder_in (answers.Folder ns) = Some ns
@@ -23,7 +19,7 @@ folder_in _ = None
 
 -- the names of a folder that lead on to a path: those that are names of paths, each at its first binding
 abbrev pub names_in : Answer → List Bytes
-names_in (answers.Folder ns) = filter is_name (first_only ns)
+names_in (answers.Folder ns) = filter is_name (first_only same_name ns)
 names_in _ = []
 
 -- a path and then those below it, with at most this many names more
@@ -63,7 +59,7 @@ all_listed answer = nat_le (length (all_paths answer)) MOST_LINES && are_found a
 
 -- the paths below a path, by the names of its folder, with at most this many names more than the path's one
 abbrev pub paths_below : (PathNames → Answer) → ℕ → PathNames → List Bytes → List PathNames
-paths_below answer room p ns = flat_map (λ n. walk answer room (p ++ n ∷ [])) (filter is_name (first_only ns))
+paths_below answer room p ns = flat_map (λ n. walk answer room (p ++ n ∷ [])) (filter is_name (first_only same_name ns))
 
 -- the paths below a path by one name
 abbrev pub paths_by : (PathNames → Answer) → ℕ → PathNames → Bytes → List PathNames

@@ -14,7 +14,8 @@
 //! let mut source = MemSource::new(b"commit 1\ndraw 3\nopen 2 /a\n".to_vec(alloc)?, Vec::new(alloc), 100);
 //! let mut sink = MemSink::new(alloc, Vec::new(alloc), 100);
 //! let mut folders = MemFolders::new(Vec::new(alloc), Vec::new(alloc));
-//! let status = run_plain(alloc, &words, &mut source, &mut sink, &mut folders, weigh);
+//! let filters = Vec::new(alloc);
+//! let status = run_plain(alloc, &words, &mut source, &mut sink, &mut folders, weigh, filters);
 //! assert_eq!(rt; status.code(), 0);
 //! assert_eq!(rt; sink.written(), b"commit 1 generation 1\ndraw 1 0 3\nopen 2 1 /a no-such\n".as_slice());
 //! ```
@@ -35,6 +36,7 @@ mod receiver;
 mod record;
 mod rehearse;
 mod status;
+mod watch;
 
 pub use assemble::MOST_ASSEMBLED;
 pub use listing::MOST_LINES;

@@ -1,6 +1,7 @@
 ghost use Rattle.std.specs.Prelude.{◌≡◌, false, [], map};
 ghost use Rattle.std.specs.String.{string_bytes};
 ghost use Rattle.shell_words.specs.Words as commands;
+ghost use Rattle.watch_desk.specs.Prefixes.{prefixes_of};
 ghost use Rattle.shell_streams.specs.Sending.{IsInTime};
 ghost use Rattle.carousel_shell.specs.Over.{over, sink_over};
 ghost use Rattle.carousel_shell.specs.Promises.{Promises, Keeps};
@@ -16,19 +17,22 @@ use crate::publish_psi::publish_psi;
 use crate::record::record;
 use crate::rehearse::rehearse;
 use crate::status::Status;
+use crate::watch::watch;
 use cycle_planner::Weigh;
 use folder_store::Folders;
 use oc_bytes::{Sink, Source};
 use shell_streams::{Buffered, Carrier, Output, room};
 use shell_words::{Command, WordsFault, command};
 use std::alloc::Global;
+use watch_desk::Filter;
 
 /// The most sections back to back that `open` takes.
 pub const MOST_OPENED: u32 = 16_777_216;
 
 /// Runs the command that the words name: they are the command line without the program's name. The input comes from the
 /// source, the output goes to the sink, and the folders are those that `publish`, `publish-on` and `publish-psi` read. `weigh` says how
-/// often each module is sent in every cycle.
+/// often each module is sent in every cycle. `filters` are the watchers that `watch` tells of changes, the first [`watch_desk::MOST_FILTERS`] of
+/// them.
 ///
 /// - `Words` comes before all else: where the words name no command with its values, or one that needs threads, which are
 ///   `session` and `big`, or where the table of `mounts` breaks a rule: it has more than 16 names, or a name or a PID twice. Nothing was
@@ -40,6 +44,9 @@ pub const MOST_OPENED: u32 = 16_777_216;
 ///   `Done` and, at `open`, `list`, `find`, `open-id` and `mounts`, `NotAll`: the whole output was written.
 /// - `record` writes as it reads. `ReadFault`, `InputTooLong` (after [`shell_streams::MOST_PACKETS`] packets) and `WriteFault` come as they are
 ///   met, when a prefix of the sections in the input so far was written, and `Done` when all of them were.
+/// - `watch` writes as it reads: the lines of a packet before more is read. `ReadFault` and `InputTooLong` (after [`shell_streams::MOST_PACKETS`]
+///   packets) come as they are met, when all lines of the packets so far were written, `WriteFault` when a prefix of them was, and `Done`
+///   when all lines of the input were.
 /// - `publish`, `publish-on` and `publish-psi` read no input. While one reads the folder come `FolderFault` and the `TreeRefused` of a name or of depth,
 ///   whichever is met first, and then the `TreeRefused` of the commit; nothing was written. While it writes comes
 ///   `WriteFault`, and a prefix of the packets was written; `Done` comes when all of them were.
@@ -58,8 +65,9 @@ pub fn run_plain<S: Source, K: Sink, F: Folders>(
     sink: &mut K,
     folders: &mut F,
     weigh: Weigh,
+    filters: Vec<Filter>,
 ) -> Status
-    ensures keeps { Keeps weigh.weights (commands.command_of (map string_bytes words.now)) result (over S.left S.faults source.old source.new)
+    ensures keeps { Keeps weigh.weights (prefixes_of filters.items) (commands.command_of (map string_bytes words.now)) result (over S.left S.faults source.old source.new)
         (over K.written K.faults sink.old sink.new) (over F.tree F.faults folders.old folders.new) }
     ensures in_time { K.failed sink.old ≡ false → K.late sink.new ≡ K.late sink.old }
 {
@@ -73,7 +81,7 @@ pub fn run_plain<S: Source, K: Sink, F: Folders>(
         return Status::NoMemory;
     };
     let mut out = Buffered::new(sink, &mut room);
-    run_command(alloc, command, source, &mut out, folders, weigh)
+    run_command(alloc, command, source, &mut out, folders, weigh, filters)
 }
 
 /// Runs a command; one that needs threads is none here.
@@ -84,10 +92,11 @@ fn run_command<S: Source, O: Output, F: Folders>(
     out: &mut O,
     folders: &mut F,
     weigh: Weigh,
+    filters: Vec<Filter>,
 ) -> Status
     requires sized { commands.IsSized command }
     requires pending { (O.state out.old).pending ≡ [] }
-    ensures promises { Promises weigh.weights (commands.view command) result (over S.left S.faults source.old source.new) (sink_over (O.state out.old) (O.state out.new))
+    ensures promises { Promises weigh.weights (prefixes_of filters.items) (commands.view command) result (over S.left S.faults source.old source.new) (sink_over (O.state out.old) (O.state out.new))
         (over F.tree F.faults folders.old folders.new) }
     ensures same { (O.state out.new).name ≡ (O.state out.old).name }
     ensures in_time { IsInTime (O.state out.old) (O.state out.new) }
@@ -152,6 +161,7 @@ fn run_command<S: Source, O: Output, F: Folders>(
             )
         }
         Command::Mounts(entries, paths) => mounts(alloc, entries, &paths, source, out),
+        Command::Watch(pid, paths) => watch(alloc, pid, &paths, filters, source, out),
         Command::Session | Command::Big(_) => Status::Words,
     }
 }

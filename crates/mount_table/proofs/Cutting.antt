@@ -1,14 +1,15 @@
 -- What is cut on a PID depends on the packets of that PID alone, but for the packets' numbers among all that came.
-use Rattle.std.proofs.Common.{ℕ, zero, suc, ◌≡◌, ◌+◌, ◌-◌, ◌%◌, Bool, true, false, cond, not, ◌==◌, ◌&&◌, ◌||◌, nat_le, List, [], ◌∷◌, ◌++◌, length, map, take, drop, Option, Some, None, Result, Ok, Err, refl, sym, ap, ◌∙◌}
+use Rattle.std.proofs.Common.{ℕ, zero, suc, ◌≡◌, ◌+◌, ◌-◌, ◌/◌, ◌%◌, Bool, true, false, cond, not, ◌==◌, ◌&&◌, ◌||◌, nat_le, nat_lt, List, [], ◌∷◌, ◌++◌, length, map, take, drop, Option, Some, None, Result, Ok, Err, refl, sym, ap, ◌∙◌}
 use Rattle.std.specs.Prelude.{slice_index}
-use Rattle.std.specs.List.{filter_map, enumerate_from, cons_option}
+use Rattle.std.specs.List.{filter, filter_map, enumerate_from, cons_option}
 use Rattle.std.specs.Option.{option_map}
 use Rattle.std.proofs.lemmas.List.{append-nil, map-append}
 use Rattle.std.proofs.lemmas.List.Elements.{filter-append}
-use Rattle.ts_packet.specs.Packets.{Fields, parse_packet}
+use Rattle.ts_packet.specs.Packets.{Fields, control, parse_packet, payload_of}
 use Rattle.ts_packet.specs.declared.PacketFault.{PacketFault}
+use Rattle.ts_packet.specs.declared.PacketFault.TheVariants.{NoSync, Errored, Scrambled, Reserved, BadField}
 use Rattle.section_stream.specs.Cuts.{Bytes, Received, Cut, kept_of, payloads_in, is_repeat, without_repeats_of, without_repeats, pointer_of, pointer_fits, going_on, whole_len, opened_in, cuts_at, cuts_of, cuts, candidates}
-use Rattle.mount_table.specs.Receiving.{pid_in, pid_of, is_pid, of_pid}
+use Rattle.mount_table.specs.Receiving.{pid_in, pid_of, is_pid, of_pid, header_pid, with_header_pid}
 use Rattle.mount_table.specs.Laws.{unnumbered_cuts, OnePidDecides}
 
 -- ---- what is cut doesn't depend on the packets' numbers
@@ -117,13 +118,33 @@ not_kept pid (Ok p) e = go (p.pid == pid) e where
   go true f = cc
   go false f = refl
 
-alone : (pid : ℕ) (packets : List Bytes) → filter_map (kept pid) (of_pid pid packets) ≡ filter_map (kept pid) packets
-alone pid [] = refl
-alone pid (p ∷ ps) = go (is_pid pid (pid_of p)) refl (alone pid ps) where
-  go : (t : Bool) → is_pid pid (pid_of p) ≡ t → filter_map (kept pid) (of_pid pid ps) ≡ filter_map (kept pid) ps
-      → filter_map (kept pid) (cond t (p ∷ of_pid pid ps) (of_pid pid ps)) ≡ cons_option (kept pid p) (filter_map (kept pid) ps)
+-- a packet whose header has another PID, whether it parses or not
+not_kept_header : (pid : ℕ) (p : Bytes) → (header_pid p == pid) ≡ false → kept pid p ≡ None
+not_kept_header pid p e =
+    go (slice_index p 0 == 0x47) (slice_index p 1 / 128 == 1) (slice_index p 3 / 64 == 0) (control p == 0) ((control p == 3) && nat_lt 182 (slice_index p 4)) where
+      fields : Fields
+      fields = record { pid = header_pid p; start = slice_index p 1 / 64 % 2 == 1; counter = slice_index p 3 % 16; payload = payload_of p }
+
+      go : (sync errored clear reserved long : Bool)
+          → kept_of pid 0 (cond (not sync) (Err NoSync) (cond errored (Err Errored) (cond (not clear) (Err Scrambled) (cond reserved (Err Reserved) (cond long (Err BadField) (Ok fields)))))) ≡ None
+      go false errored clear reserved long = refl
+      go true true clear reserved long = refl
+      go true false false reserved long = refl
+      go true false true true long = refl
+      go true false true false true = refl
+      go true false true false false = not_kept pid (Ok fields) e
+
+-- packets that aren't kept can go
+alone_in : (pid : ℕ) (test : Bytes → Bool) → ((p : Bytes) → test p ≡ false → kept pid p ≡ None) → (packets : List Bytes) → filter_map (kept pid) (filter test packets) ≡ filter_map (kept pid) packets
+alone_in pid test none [] = refl
+alone_in pid test none (p ∷ ps) = go (test p) refl (alone_in pid test none ps) where
+  go : (t : Bool) → test p ≡ t → filter_map (kept pid) (filter test ps) ≡ filter_map (kept pid) ps
+      → filter_map (kept pid) (cond t (p ∷ filter test ps) (filter test ps)) ≡ cons_option (kept pid p) (filter_map (kept pid) ps)
   go true f later = ap (λ (rs : List Received). cons_option (kept pid p) rs) later
-  go false f later = later ∙ sym (ap (λ (o : Option Received). cons_option o (filter_map (kept pid) ps)) (not_kept pid (parse_packet p) f))
+  go false f later = later ∙ sym (ap (λ (o : Option Received). cons_option o (filter_map (kept pid) ps)) (none p f))
+
+alone : (pid : ℕ) (packets : List Bytes) → filter_map (kept pid) (of_pid pid packets) ≡ filter_map (kept pid) packets
+alone pid packets = alone_in pid (λ p. is_pid pid (pid_of p)) (λ p f. not_kept pid (parse_packet p) f) packets
 
 cut_alike : (pid : ℕ) (xs ys : List Bytes) → filter_map (kept pid) xs ≡ filter_map (kept pid) ys → unnumbered_cuts pid xs ≡ unnumbered_cuts pid ys
 cut_alike pid xs ys e = cut_plain pid xs ∙ ap (λ (rs : List Received). places_of (cuts_of (without_repeats rs))) e ∙ sym (cut_plain pid ys)
@@ -140,38 +161,38 @@ pub same_cuts : OnePidDecides
 same_cuts pid xs ys e =
     let same = cut_alike pid xs ys (sym (alone pid xs) ∙ ap (filter_map (kept pid)) e ∙ alone pid ys) in record { places = same; sections = sections_alike pid xs ys same }
 
-cut_alone : (pid : ℕ) (packets : List Bytes) → candidates pid (of_pid pid packets) ≡ candidates pid packets
-cut_alone pid packets = sections_alike pid (of_pid pid packets) packets (cut_alike pid (of_pid pid packets) packets (alone pid packets))
+cut_alone : (pid : ℕ) (packets : List Bytes) → candidates pid (with_header_pid pid packets) ≡ candidates pid packets
+cut_alone pid packets = sections_alike pid (with_header_pid pid packets) packets (cut_alike pid (with_header_pid pid packets) packets (alone_in pid (λ p. header_pid p == pid) (not_kept_header pid) packets))
 
 -- ---- one packet more
 
-of_pid_more : (pid : ℕ) (packets : List Bytes) (x : Bytes) → of_pid pid (packets ++ x ∷ []) ≡ of_pid pid packets ++ of_pid pid (x ∷ [])
-of_pid_more pid packets x = filter-append (λ p. is_pid pid (pid_of p)) packets (x ∷ [])
+handed_more : (pid : ℕ) (packets : List Bytes) (x : Bytes) → with_header_pid pid (packets ++ x ∷ []) ≡ with_header_pid pid packets ++ with_header_pid pid (x ∷ [])
+handed_more pid packets x = filter-append (λ p. header_pid p == pid) packets (x ∷ [])
 
-pub of_pid_with : (pid : ℕ) (packets : List Bytes) (x : Bytes) → is_pid pid (pid_of x) ≡ true → of_pid pid (packets ++ x ∷ []) ≡ of_pid pid packets ++ x ∷ []
-of_pid_with pid packets x t = of_pid_more pid packets x ∙ ap (λ (b : Bool). of_pid pid packets ++ cond b (x ∷ []) []) t
+pub handed_with : (pid : ℕ) (packets : List Bytes) (x : Bytes) → (header_pid x == pid) ≡ true → with_header_pid pid (packets ++ x ∷ []) ≡ with_header_pid pid packets ++ x ∷ []
+handed_with pid packets x t = handed_more pid packets x ∙ ap (λ (b : Bool). with_header_pid pid packets ++ cond b (x ∷ []) []) t
 
-pub of_pid_without : (pid : ℕ) (packets : List Bytes) (x : Bytes) → is_pid pid (pid_of x) ≡ false → of_pid pid (packets ++ x ∷ []) ≡ of_pid pid packets
-of_pid_without pid packets x f = of_pid_more pid packets x ∙ ap (λ (b : Bool). of_pid pid packets ++ cond b (x ∷ []) []) f ∙ append-nil (of_pid pid packets)
+pub handed_without : (pid : ℕ) (packets : List Bytes) (x : Bytes) → (header_pid x == pid) ≡ false → with_header_pid pid (packets ++ x ∷ []) ≡ with_header_pid pid packets
+handed_without pid packets x f = handed_more pid packets x ∙ ap (λ (b : Bool). with_header_pid pid packets ++ cond b (x ∷ []) []) f ∙ append-nil (with_header_pid pid packets)
 
 -- what a packet of the PID adds, as a demultiplexer says it that was handed those of the PID alone
-pub cuts_more : (pid own : ℕ) (packets : List Bytes) (x : Bytes) (new : List Bytes) → is_pid pid (pid_of x) ≡ true → own ≡ pid
-    → candidates own (of_pid pid packets ++ x ∷ []) ≡ candidates own (of_pid pid packets) ++ new → candidates pid (packets ++ x ∷ []) ≡ candidates pid packets ++ new
+pub cuts_more : (pid own : ℕ) (packets : List Bytes) (x : Bytes) (new : List Bytes) → (header_pid x == pid) ≡ true → own ≡ pid
+    → candidates own (with_header_pid pid packets ++ x ∷ []) ≡ candidates own (with_header_pid pid packets) ++ new → candidates pid (packets ++ x ∷ []) ≡ candidates pid packets ++ new
 cuts_more pid own packets x new t same e =
-    let here : candidates pid (of_pid pid packets ++ x ∷ []) ≡ candidates pid (of_pid pid packets) ++ new =
-    ap (λ (q : ℕ). candidates q (of_pid pid packets ++ x ∷ [])) (sym same) ∙ e ∙ ap (λ (q : ℕ). candidates q (of_pid pid packets) ++ new) same in
-    sym (cut_alone pid (packets ++ x ∷ [])) ∙ ap (candidates pid) (of_pid_with pid packets x t) ∙ here ∙ ap (λ (cs : List Bytes). cs ++ new) (cut_alone pid packets)
+    let here : candidates pid (with_header_pid pid packets ++ x ∷ []) ≡ candidates pid (with_header_pid pid packets) ++ new =
+    ap (λ (q : ℕ). candidates q (with_header_pid pid packets ++ x ∷ [])) (sym same) ∙ e ∙ ap (λ (q : ℕ). candidates q (with_header_pid pid packets) ++ new) same in
+    sym (cut_alone pid (packets ++ x ∷ [])) ∙ ap (candidates pid) (handed_with pid packets x t) ∙ here ∙ ap (λ (cs : List Bytes). cs ++ new) (cut_alone pid packets)
 
 -- how many there are before and after it
-pub count_before : (pid own : ℕ) (packets : List Bytes) → own ≡ pid → length (candidates own (of_pid pid packets)) ≡ length (candidates pid packets)
-count_before pid own packets same = ap (λ (q : ℕ). length (candidates q (of_pid pid packets))) same ∙ ap (λ (cs : List Bytes). length cs) (cut_alone pid packets)
+pub count_before : (pid own : ℕ) (packets : List Bytes) → own ≡ pid → length (candidates own (with_header_pid pid packets)) ≡ length (candidates pid packets)
+count_before pid own packets same = ap (λ (q : ℕ). length (candidates q (with_header_pid pid packets))) same ∙ ap (λ (cs : List Bytes). length cs) (cut_alone pid packets)
 
-pub count_after : (pid own : ℕ) (packets : List Bytes) (x : Bytes) → is_pid pid (pid_of x) ≡ true → own ≡ pid
-    → length (candidates own (of_pid pid packets ++ x ∷ [])) ≡ length (candidates pid (packets ++ x ∷ []))
+pub count_after : (pid own : ℕ) (packets : List Bytes) (x : Bytes) → (header_pid x == pid) ≡ true → own ≡ pid
+    → length (candidates own (with_header_pid pid packets ++ x ∷ [])) ≡ length (candidates pid (packets ++ x ∷ []))
 count_after pid own packets x t same =
-    ap (λ (q : ℕ). length (candidates q (of_pid pid packets ++ x ∷ []))) same
-    ∙ ap (λ (ps : List Bytes). length (candidates pid ps)) (sym (of_pid_with pid packets x t)) ∙ ap (λ (cs : List Bytes). length cs) (cut_alone pid (packets ++ x ∷ []))
+    ap (λ (q : ℕ). length (candidates q (with_header_pid pid packets ++ x ∷ []))) same
+    ∙ ap (λ (ps : List Bytes). length (candidates pid ps)) (sym (handed_with pid packets x t)) ∙ ap (λ (cs : List Bytes). length cs) (cut_alone pid (packets ++ x ∷ []))
 
 -- a packet of another PID adds nothing
-pub cuts_still : (pid : ℕ) (packets : List Bytes) (x : Bytes) → is_pid pid (pid_of x) ≡ false → candidates pid (packets ++ x ∷ []) ≡ candidates pid packets
-cuts_still pid packets x f = sym (cut_alone pid (packets ++ x ∷ [])) ∙ ap (candidates pid) (of_pid_without pid packets x f) ∙ cut_alone pid packets
+pub cuts_still : (pid : ℕ) (packets : List Bytes) (x : Bytes) → (header_pid x == pid) ≡ false → candidates pid (packets ++ x ∷ []) ≡ candidates pid packets
+cuts_still pid packets x f = sym (cut_alone pid (packets ++ x ∷ [])) ∙ ap (candidates pid) (handed_without pid packets x f) ∙ cut_alone pid packets

@@ -1,5 +1,5 @@
 -- A mount over one packet more.
-use Rattle.std.proofs.Common.{ℕ, ◌≡◌, ◌+◌, ◌<◌, ◌≤◌, true, false, List, [], ◌∷◌, ◌++◌, length, get_or, map, take, drop, Some, None, refl, sym, ap, subst, ◌∙◌, add-zero, append_assoc, arith, length-append}
+use Rattle.std.proofs.Common.{ℕ, ◌≡◌, ◌+◌, ◌<◌, ◌≤◌, ◌==◌, true, false, List, [], ◌∷◌, ◌++◌, length, get_or, map, take, drop, refl, sym, ap, subst, ◌∙◌, add-zero, append_assoc, arith, length-append}
 use Rattle.std.proofs.Math.ListN.{set}
 use Rattle.std.proofs.Math.Seq.{map-set_same}
 use Rattle.std.specs.List.{All, Contains}
@@ -11,29 +11,29 @@ use Rattle.section_stream.specs.Rules as streams
 use Rattle.tuner_core.specs.Stands as tuners
 use Rattle.mount_table.specs.declared.mount.Mount.{Mount}
 use Rattle.mount_table.specs.declared.receiver.Receiver.{Receiver}
-use Rattle.mount_table.specs.Receiving.{pid_of, is_pid, of_pid}
+use Rattle.mount_table.specs.Receiving.{header_pid, with_header_pid}
 use Rattle.mount_table.specs.Stands.{Receives, CompletesOne}
-use Rattle.mount_table.proofs.Cutting.{of_pid_with, of_pid_without, cuts_more, count_before, count_after, cuts_still}
+use Rattle.mount_table.proofs.Cutting.{handed_with, handed_without, cuts_more, count_before, count_after, cuts_still}
 
 -- ---- one mount
 
--- the PID of a packet, as the code compares it
-pub other_pid : (own pid : ℕ) (x : Bytes) → pid_of x ≡ Some pid → (pid ≡ own → ⊥) → is_pid own (pid_of x) ≡ false
-other_pid own pid x is other = ap (is_pid own) is ∙ ne_eqb pid own other
+-- the PID in a packet's header, as the code compares it
+pub other_pid : (own pid : ℕ) (x : Bytes) → header_pid x ≡ pid → (pid ≡ own → ⊥) → (header_pid x == own) ≡ false
+other_pid own pid x is other = ap (λ (q : ℕ). q == own) is ∙ ne_eqb pid own other
 
-pub own_pid : (own pid : ℕ) (x : Bytes) → pid_of x ≡ Some pid → pid ≡ own → is_pid own (pid_of x) ≡ true
-own_pid own pid x is same = ap (is_pid own) is ∙ eq-eqb pid own same
+pub own_pid : (own : ℕ) (x : Bytes) → header_pid x ≡ own → (header_pid x == own) ≡ true
+own_pid own x is = eq-eqb (header_pid x) own is
 
 -- a packet of another PID passes
-pub passes : (x : Bytes) (r : Receiver) → is_pid r.mount.pid (pid_of x) ≡ false → (packets : List Bytes) → Receives packets r → Receives (packets ++ x ∷ []) r
+pub passes : (x : Bytes) (r : Receiver) → (header_pid x == r.mount.pid) ≡ false → (packets : List Bytes) → Receives packets r → Receives (packets ++ x ∷ []) r
 passes x r f packets h = record {
   own = h.own;
-  demux = subst (λ (ps : List Bytes). streams.StandsFor r.demux ps) (sym (of_pid_without r.mount.pid packets x f)) h.demux;
+  demux = subst (λ (ps : List Bytes). streams.StandsFor r.demux ps) (sym (handed_without r.mount.pid packets x f)) h.demux;
   tuner = subst (λ (cs : List Bytes). tuners.StandsFor r.tuner cs) (sym (cuts_still r.mount.pid packets x f)) h.tuner;
 }
 
 -- a packet of its own is taken: what the demultiplexer gave of it, the receiver heard
-pub hears : (x : Bytes) (new : List Bytes) (r s : Receiver) → is_pid r.mount.pid (pid_of x) ≡ true → s.mount ≡ r.mount → s.demux.pid ≡ r.demux.pid
+pub hears : (x : Bytes) (new : List Bytes) (r s : Receiver) → (header_pid x == r.mount.pid) ≡ true → s.mount ≡ r.mount → s.demux.pid ≡ r.demux.pid
     → ((packets : List Bytes) → streams.StandsFor r.demux packets → streams.StandsFor s.demux (packets ++ x ∷ []))
     → ((packets : List Bytes) → streams.StandsFor r.demux packets → candidates r.demux.pid (packets ++ x ∷ []) ≡ candidates r.demux.pid packets ++ new)
     → ((heard : List Bytes) → tuners.StandsFor r.tuner heard → tuners.StandsFor s.tuner (heard ++ new))
@@ -41,13 +41,13 @@ pub hears : (x : Bytes) (new : List Bytes) (r s : Receiver) → is_pid r.mount.p
 hears x new r s mine mount own stands cuts hear packets h =
     let pid : ℕ = r.mount.pid in
     let same : s.mount.pid ≡ pid = ap (λ (m : Mount). m.pid) mount in
-    let demux : streams.StandsFor s.demux (of_pid pid (packets ++ x ∷ [])) =
-    subst (λ (ps : List Bytes). streams.StandsFor s.demux ps) (sym (of_pid_with pid packets x mine)) (stands (of_pid pid packets) h.demux) in
+    let demux : streams.StandsFor s.demux (with_header_pid pid (packets ++ x ∷ [])) =
+    subst (λ (ps : List Bytes). streams.StandsFor s.demux ps) (sym (handed_with pid packets x mine)) (stands (with_header_pid pid packets) h.demux) in
     let tuner : tuners.StandsFor s.tuner (candidates pid (packets ++ x ∷ [])) =
-    subst (λ (cs : List Bytes). tuners.StandsFor s.tuner cs) (sym (cuts_more pid r.demux.pid packets x new mine h.own (cuts (of_pid pid packets) h.demux))) (hear (candidates pid packets) h.tuner) in
+    subst (λ (cs : List Bytes). tuners.StandsFor s.tuner cs) (sym (cuts_more pid r.demux.pid packets x new mine h.own (cuts (with_header_pid pid packets) h.demux))) (hear (candidates pid packets) h.tuner) in
     record {
       own = own ∙ h.own ∙ sym same;
-      demux = subst (λ (q : ℕ). streams.StandsFor s.demux (of_pid q (packets ++ x ∷ []))) (sym same) demux;
+      demux = subst (λ (q : ℕ). streams.StandsFor s.demux (with_header_pid q (packets ++ x ∷ []))) (sym same) demux;
       tuner = subst (λ (q : ℕ). tuners.StandsFor s.tuner (candidates q (packets ++ x ∷ []))) (sym same) tuner;
     }
 
@@ -55,20 +55,20 @@ abbrev pub Grows : ℕ → List Bytes → Bytes → Type 0
 Grows pid packets x = length (candidates pid packets) < length (candidates pid (packets ++ x ∷ []))
 
 -- where the demultiplexer found no memory
-pub grows_in_demux : (x : Bytes) (r : Receiver) → is_pid r.mount.pid (pid_of x) ≡ true
+pub grows_in_demux : (x : Bytes) (r : Receiver) → (header_pid x == r.mount.pid) ≡ true
     → ((packets : List Bytes) → streams.StandsFor r.demux packets → Grows r.demux.pid packets x) → (packets : List Bytes) → Receives packets r → Grows r.mount.pid packets x
 grows_in_demux x r mine grows packets h =
-    let more = grows (of_pid r.mount.pid packets) h.demux in
+    let more = grows (with_header_pid r.mount.pid packets) h.demux in
     let before = count_before r.mount.pid r.demux.pid packets h.own in
     let after = count_after r.mount.pid r.demux.pid packets x mine h.own in
     omega (arith, more, before, after)
 
 -- where the receiver found none for what the demultiplexer gave
-pub grows_in_tuner : {A : Type 0} (x : Bytes) (view : A → Bytes) (new : List A) (r : Receiver) → is_pid r.mount.pid (pid_of x) ≡ true → 0 < length new
+pub grows_in_tuner : {A : Type 0} (x : Bytes) (view : A → Bytes) (new : List A) (r : Receiver) → (header_pid x == r.mount.pid) ≡ true → 0 < length new
     → ((packets : List Bytes) → streams.StandsFor r.demux packets → candidates r.demux.pid (packets ++ x ∷ []) ≡ candidates r.demux.pid packets ++ map view new)
     → (packets : List Bytes) → Receives packets r → Grows r.mount.pid packets x
 grows_in_tuner x view new r mine some cuts packets h =
-    let all = ap (λ (cs : List Bytes). length cs) (cuts_more r.mount.pid r.demux.pid packets x (map view new) mine h.own (cuts (of_pid r.mount.pid packets) h.demux)) in
+    let all = ap (λ (cs : List Bytes). length cs) (cuts_more r.mount.pid r.demux.pid packets x (map view new) mine h.own (cuts (with_header_pid r.mount.pid packets) h.demux)) in
     let both = length-append (candidates r.mount.pid packets) (map view new) in
     let mapped = length-map new view in
     omega (arith, some, all, both, mapped)
@@ -121,11 +121,6 @@ completes_one x before now i d lt grows h packets all =
     subst (λ (s : Receiver). Grows s.mount.pid packets x) (sym same) (grows packets (subst (Receives packets) same (All-get_or (Receives packets) before i d lt all))) in
     let within : i < length (map mount_in before) = omega (arith, lt, length-map before mount_in) in
     record { mount = r.mount; among = subst (λ (m : Mount). Contains (map mount_in before) m) found (Contains-get_or (map mount_in before) i d.mount within); more = more }
-
--- a packet that doesn't parse
-pub none_hears : (x : Bytes) (rs : List Receiver) → pid_of x ≡ None → (packets : List Bytes) → All (Receives packets) rs → All (Receives (packets ++ x ∷ [])) rs
-none_hears x rs is packets all k d lt =
-    let r : Receiver = get_or rs k d in passes x r (ap (is_pid r.mount.pid) is) packets (all k d lt)
 
 -- ---- one element after another
 

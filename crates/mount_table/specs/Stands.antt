@@ -4,7 +4,7 @@ use Rattle.std.specs.List.{All, Contains}
 use Rattle.section_stream.specs.Cuts.{Bytes, candidates}
 use Rattle.section_stream.specs.Rules as streams
 use Rattle.tuner_core.specs.Stands as tuners
-use Rattle.mount_table.specs.Receiving.{of_pid}
+use Rattle.mount_table.specs.Receiving.{with_header_pid}
 use Rattle.mount_table.specs.declared.mount.Mount.{Mount}
 use Rattle.mount_table.specs.declared.receiver.Receiver.{Receiver}
 use Rattle.mount_table.specs.declared.mounts.Mounts.TheInside.{Inside}
@@ -22,10 +22,11 @@ view_mounts m = record { receivers = m.receivers.items; spent = m.spent }
 abbrev pub mounts_of : MountsState → List Mount
 mounts_of m = map (λ r. r.mount) m.receivers
 
--- One mount and these packets: its demultiplexer was handed those of its PID alone, and its receiver has heard the candidates of its PID.
+-- One mount and these packets: its demultiplexer was handed those whose header has its PID, and its receiver has heard the candidates of
+-- its PID.
 pub record Receives (packets : List Bytes) (r : Receiver) : Type 0 where
   pub own : r.demux.pid ≡ r.mount.pid
-  pub demux : streams.StandsFor r.demux (of_pid r.mount.pid packets)
+  pub demux : streams.StandsFor r.demux (with_header_pid r.mount.pid packets)
   pub tuner : tuners.StandsFor r.tuner (candidates r.mount.pid packets)
 
 -- the table stands for these packets; one that found no memory stands for none

@@ -10,7 +10,7 @@ ghost use Rattle.mount_table.specs.Stands.{StandsFor, Receives, CompletesOne, mo
 use crate::fault::TableFault;
 use crate::mount::{Mount, refusal, sort_by_name};
 use crate::receiver::Receiver;
-use crate::receiving::pid_of;
+use crate::receiving::header_pid;
 use oc_bytes::NoMemory;
 use path_resolver::Answer;
 use path_tree::Path;
@@ -57,9 +57,9 @@ fn receivers_of(alloc: Global, mounts: Vec<Mount>) -> Result<Vec<Receiver>, NoMe
     Ok(receivers)
 }
 
-/// Each mount takes a packet of the PID `pid`, where that is its own.
+/// Each mount takes a packet whose header has the PID `pid`, where that is its own.
 fn hear_on(receivers: &mut [Receiver], pid: u16, packet: &[u8; 188]) -> Result<(), NoMemory>
-    requires { receiving.pid_of packet.now ≡ Some pid }
+    requires { receiving.header_pid packet.now ≡ pid }
     ensures receives { OnOk result ((packets : List Bytes) → All (Receives packets) receivers.old → All (Receives (packets ++ packet.now ∷ [])) receivers.new) }
     ensures mounts { map (λ r. r.mount) receivers.new ≡ map (λ r. r.mount) receivers.old }
     ensures memory { IsErr result → (packets : List Bytes) → All (Receives packets) receivers.old
@@ -106,7 +106,7 @@ impl Mounts {
     }
 
     /// Takes one packet of the stream, of any PID: the mount of its PID receives it, and no other. A packet that doesn't parse, or whose
-    /// PID no mount has, changes nothing.
+    /// PID no mount has, changes no answer.
     ///
     /// `NoMemory` comes only of a packet that completes a section on a mount's PID. After it the table is spent: each later call of this and
     /// of [`open_path`](Mounts::open_path) answers `NoMemory`.
@@ -126,17 +126,14 @@ impl Mounts {
         Ok(())
     }
 
-    /// Each mount takes a packet, where it is of its PID.
+    /// Each mount takes a packet, where the header has its PID.
     fn hear(&mut self, packet: &[u8; 188]) -> Result<(), NoMemory>
         ensures receives { OnOk result ((packets : List Bytes) → All (Receives packets) self.old.receivers → All (Receives (packets ++ packet.now ∷ [])) self.new.receivers) }
         ensures mounts { mounts_of self.new ≡ mounts_of self.old }
         ensures spent { self.new.spent ≡ self.old.spent }
         ensures memory { IsErr result → (packets : List Bytes) → All (Receives packets) self.old.receivers → CompletesOne (mounts_of self.old) packets packet.now }
     {
-        match pid_of(packet) {
-            Some(pid) => hear_on(&mut self.receivers, pid, packet),
-            None => Ok(()),
-        }
+        hear_on(&mut self.receivers, header_pid(packet), packet)
     }
 
     /// The answer to a path by all packets so far: `Root` for the root, `NoMount` where no mount has the first name, and else the mount's PID

@@ -1,9 +1,9 @@
-ghost use Rattle.std.specs.Prelude.{◌≡◌, ◌<◌, ◌++◌, ◌∷◌, [], List, length, map, drop, Some, IfOk, IsErr, OnOk};
+ghost use Rattle.std.specs.Prelude.{◌≡◌, ◌<◌, ◌++◌, ◌∷◌, [], List, length, map, drop, IfOk, IsErr, OnOk};
 ghost use Rattle.section_stream.specs.Cuts.{Bytes, candidates};
 ghost use Rattle.section_stream.specs.Kept.{view_bytes};
 ghost use Rattle.tuner_core.specs.LookBack.{answer_after};
 ghost use Rattle.tuner_core.specs.Stands as tuners;
-ghost use Rattle.mount_table.specs.Receiving.{pid_of};
+ghost use Rattle.mount_table.specs.Receiving.{header_pid};
 ghost use Rattle.mount_table.specs.Stands.{Receives};
 
 use crate::mount::Mount;
@@ -58,9 +58,10 @@ impl Receiver {
         })
     }
 
-    /// Takes a packet of the PID `pid`: where it is the mount's, and else nothing changes.
+    /// Takes a packet whose header has the PID `pid`: where it is the mount's, and else nothing changes.
+    #[inline]
     pub fn hear(&mut self, pid: u16, packet: &[u8; 188]) -> Result<(), NoMemory>
-        requires { pid_of packet.now ≡ Some pid }
+        requires { header_pid packet.now ≡ pid }
         ensures receives { OnOk result ((packets : List Bytes) → Receives packets self.old → Receives (packets ++ packet.now ∷ []) self.new) }
         ensures mount { self.new.mount ≡ self.old.mount }
         ensures memory { IsErr result → (packets : List Bytes) → Receives packets self.old
@@ -69,6 +70,17 @@ impl Receiver {
         if pid != self.mount.pid {
             return Ok(());
         }
+        self.take(packet)
+    }
+
+    /// Takes a packet of the mount.
+    fn take(&mut self, packet: &[u8; 188]) -> Result<(), NoMemory>
+        requires { header_pid packet.now ≡ self.old.mount.pid }
+        ensures receives { OnOk result ((packets : List Bytes) → Receives packets self.old → Receives (packets ++ packet.now ∷ []) self.new) }
+        ensures mount { self.new.mount ≡ self.old.mount }
+        ensures memory { IsErr result → (packets : List Bytes) → Receives packets self.old
+            → length (candidates self.old.mount.pid packets) < length (candidates self.old.mount.pid (packets ++ packet.now ∷ [])) }
+    {
         let sections = self.demux.feed(packet)?;
         hear_all(&mut self.tuner, &sections)
     }

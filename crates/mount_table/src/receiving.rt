@@ -1,14 +1,11 @@
 ghost use Rattle.std.specs.Prelude.{◌≡◌};
 ghost use Rattle.mount_table.specs.Receiving as receiving;
 
-use ts_packet::parse;
-
-/// The PID of a packet that parses. It takes no memory.
-pub fn pid_of(packet: &[u8; 188]) -> Option<u16>
-    ensures { result ≡ receiving.pid_of packet.now }
+/// The 13 bits of the PID in a packet's header, whatever else the packet is: two bytes are looked at, since whoever takes the packet
+/// parses it.
+#[inline]
+pub fn header_pid(packet: &[u8; 188]) -> u16
+    ensures { result ≡ receiving.header_pid packet.now }
 {
-    match parse(packet) {
-        Ok(fields) => Some(fields.pid),
-        Err(_) => None,
-    }
+    u16::from(packet[1] & 0x1F) << 8 | u16::from(packet[2])
 }

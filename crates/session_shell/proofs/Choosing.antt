@@ -86,6 +86,10 @@ open_mounted : (words : List Bytes) → says_session (commands.mounts_by words) 
 open_mounted [] = refl
 open_mounted (table ∷ words) = both_mapped commands.Mounts (λ t paths. refl) (commands.table_in table) (commands.paths_in words)
 
+watch_paths : (words : List Bytes) → says_session (commands.watch_by words) ≡ false
+watch_paths [] = refl
+watch_paths (pid ∷ words) = both_mapped commands.Watch (λ q paths. refl) (commands.pid_in pid) (commands.watched_in words)
+
 -- ---- the first word
 
 abbrev Reader : Type 0
@@ -126,7 +130,7 @@ named word words other small = among word words commands.commands (
                   λ e. find_one words,
                   (
                     λ e. open_by_id words,
-                    (λ e. mapped (λ p. commands.PublishPsi p.0 p.1 p.2) (λ a. refl) (commands.publication_in words), (λ e. publish_on words, (λ e. open_mounted words, tt))),
+                    (λ e. mapped (λ p. commands.PublishPsi p.0 p.1 p.2) (λ a. refl) (commands.publication_in words), (λ e. publish_on words, (λ e. open_mounted words, (λ e. watch_paths words, tt)))),
                   ),
                 ),
               ),
@@ -161,15 +165,15 @@ not_named (word ∷ words) other = fitting (list_any begins_with_dash (word ∷ 
 takes_nothing : (source : Over Bytes) → IsUntouched source → TakesPrefix source
 takes_nothing source e = let P : Option Bytes → Type 0 = λ a. Known source.before a IsRear in subst P (sym e) (told_same source.before (λ x. record { taken = []; whole = refl }))
 
-keeps_by : (ws : List ℕ) (b : Bool) (r : Result Named Misfit) (s : Status) (source sink : Over Bytes) (folders : Over FolderTree) → b ≡ false → Keeps ws r s source sink folders
-    → PlaysOrKeeps ws b r s source sink folders
-keeps_by ws true r s source sink folders other k = absurd (true≢false other)
-keeps_by ws false r s source sink folders other k = k
+keeps_by : (ws : List ℕ) (ps : List PathNames) (b : Bool) (r : Result Named Misfit) (s : Status) (source sink : Over Bytes) (folders : Over FolderTree) → b ≡ false → Keeps ws ps r s source sink folders
+    → PlaysOrKeeps ws ps b r s source sink folders
+keeps_by ws ps true r s source sink folders other k = absurd (true≢false other)
+keeps_by ws ps false r s source sink folders other k = k
 
 -- where the first word is another one
-pub keeps_plain : (ws : List ℕ) (words : List Bytes) (s : Status) (source sink : Over Bytes) (folders : Over FolderTree) → begins_session words ≡ false
-    → Keeps ws (command_of words) s source sink folders → KeepsAll ws (command_of words) s source sink folders
-keeps_plain ws words s source sink folders other k = keeps_by ws (names_session (command_of words)) (command_of words) s source sink folders (not_named words other) k
+pub keeps_plain : (ws : List ℕ) (ps : List PathNames) (words : List Bytes) (s : Status) (source sink : Over Bytes) (folders : Over FolderTree) → begins_session words ≡ false
+    → Keeps ws ps (command_of words) s source sink folders → KeepsAll ws ps (command_of words) s source sink folders
+keeps_plain ws ps words s source sink folders other k = keeps_by ws ps (names_session (command_of words)) (command_of words) s source sink folders (not_named words other) k
 
 -- whether they name a session or nothing
 abbrev is_session_or_none : Result Named Misfit → Bool
@@ -204,22 +208,22 @@ behind false true word words e f h =
     subst (λ (w : Bytes). is_session_or_none (command_of (w ∷ words)) ≡ true) (sym is) (behind_big words)
 behind false false word words e f h = absurd (true≢false (sym h))
 
-by_session : (ws : List ℕ) (b : Bool) (c : Named) (s : Status) (source sink : Over Bytes) (folders : Over FolderTree) → b ≡ true → KeepsSession ws (Ok c) s source sink
-    → PlaysOrKeeps ws b (Ok c) s source sink folders
-by_session ws true c s source sink folders e k = k
-by_session ws false c s source sink folders e k = absurd (true≢false (sym e))
+by_session : (ws : List ℕ) (ps : List PathNames) (b : Bool) (c : Named) (s : Status) (source sink : Over Bytes) (folders : Over FolderTree) → b ≡ true → KeepsSession ws (Ok c) s source sink
+    → PlaysOrKeeps ws ps b (Ok c) s source sink folders
+by_session ws ps true c s source sink folders e k = k
+by_session ws ps false c s source sink folders e k = absurd (true≢false (sym e))
 
-by_words : (ws : List ℕ) (r : Result Named Misfit) (s : Status) (source sink : Over Bytes) (folders : Over FolderTree) → is_session_or_none r ≡ true → KeepsSession ws r s source sink
-    → KeepsAll ws r s source sink folders
-by_words ws (Ok c) s source sink folders e k = by_session ws (is_session c) c s source sink folders e k
-by_words ws (Err misfit) s source sink folders e k = k
+by_words : (ws : List ℕ) (ps : List PathNames) (r : Result Named Misfit) (s : Status) (source sink : Over Bytes) (folders : Over FolderTree) → is_session_or_none r ≡ true → KeepsSession ws r s source sink
+    → KeepsAll ws ps r s source sink folders
+by_words ws ps (Ok c) s source sink folders e k = by_session ws ps (is_session c) c s source sink folders e k
+by_words ws ps (Err misfit) s source sink folders e k = k
 
 -- where the first word is that of a session
-pub keeps_session : (ws : List ℕ) (words : List Bytes) (s : Status) (source sink : Over Bytes) (folders : Over FolderTree) → begins_session words ≡ true → KeepsSession ws (command_of words) s source sink
-    → KeepsAll ws (command_of words) s source sink folders
-keeps_session ws [] s source sink folders first k = absurd (true≢false (sym first))
-keeps_session ws (word ∷ words) s source sink folders first k =
-    by_words ws (command_of (word ∷ words)) s source sink folders (behind (bytes_eq word (codes "session")) (bytes_eq word (codes "big")) word words refl refl first) k
+pub keeps_session : (ws : List ℕ) (ps : List PathNames) (words : List Bytes) (s : Status) (source sink : Over Bytes) (folders : Over FolderTree) → begins_session words ≡ true → KeepsSession ws (command_of words) s source sink
+    → KeepsAll ws ps (command_of words) s source sink folders
+keeps_session ws ps [] s source sink folders first k = absurd (true≢false (sym first))
+keeps_session ws ps (word ∷ words) s source sink folders first k =
+    by_words ws ps (command_of (word ∷ words)) s source sink folders (behind (bytes_eq word (codes "session")) (bytes_eq word (codes "big")) word words refl refl first) k
 
 -- the words name nothing, so nothing was done
 pub words_decline : (ws : List ℕ) (r : Result Named Misfit) (misfit : Misfit) (source sink : Over Bytes) → r ≡ Err misfit → IsUntouched source → IsUntouched sink → KeepsSession ws r status.Words source sink
@@ -243,6 +247,7 @@ others_decline ws (code.OpenId carousel paths) source sink other small e f = rec
 others_decline ws (code.PublishPsi folder carousel cycles) source sink other small e f = record { ends = inl refl; unread = e; unwritten = f }
 others_decline ws (code.PublishOn pid folder carousel cycles) source sink other small e f = record { ends = inl refl; unread = e; unwritten = f }
 others_decline ws (code.Mounts table paths) source sink other small e f = record { ends = inl refl; unread = e; unwritten = f }
+others_decline ws (code.Watch pid paths) source sink other small e f = record { ends = inl refl; unread = e; unwritten = f }
 
 -- there was no memory before a session began
 pub memory_declines : (ws : List ℕ) (r : Result Named Misfit) (source sink : Over Bytes) → IsUntouched source → IsUntouched sink → KeepsSession ws r status.NoMemory source sink
@@ -264,6 +269,7 @@ memory_declines ws (Ok command) source sink e f = by command
     by (commands.PublishPsi folder carousel cycles) = record { ends = inr refl; unread = e; unwritten = f }
     by (commands.PublishOn pid folder carousel cycles) = record { ends = inr refl; unread = e; unwritten = f }
     by (commands.Mounts table paths) = record { ends = inr refl; unread = e; unwritten = f }
+    by (commands.Watch pid paths) = record { ends = inr refl; unread = e; unwritten = f }
 
 -- the sink that the output lends is the one that was handed in
 pub promises_over : {X : Type 0} (ws : List ℕ) (c : Named) (s : Status) (source : Over Bytes) (content : X → Option Bytes) (faults : X → ℕ) (begin end first last : X) → begin ≡ first → end ≡ last

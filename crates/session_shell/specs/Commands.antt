@@ -2,6 +2,7 @@
 -- promises.
 use Rattle.std.specs.Prelude.{ℕ, Bool, true, false, ◌||◌, List, [], ◌∷◌, Result, Ok, Err, codes}
 use Rattle.std.specs.Str.{bytes_eq}
+use Rattle.path_tree.specs.Paths.{PathNames}
 use Rattle.folder_store.specs.Folders.{FolderTree}
 use Rattle.shell_words.specs.Words as commands
 use Rattle.shell_streams.specs.Cuts.{Bytes}
@@ -42,10 +43,10 @@ KeepsSession weights (Err misfit) s source sink = Declines s source sink
 
 -- ---- what is promised of all words
 
-abbrev pub PlaysOrKeeps : List ℕ → Bool → Result commands.Named commands.Misfit → Status → Over Bytes → Over Bytes → Over FolderTree → Type 0
-PlaysOrKeeps weights true words s source sink folders = KeepsSession weights words s source sink
-PlaysOrKeeps weights false words s source sink folders = Keeps weights words s source sink folders
+abbrev pub PlaysOrKeeps : List ℕ → List PathNames → Bool → Result commands.Named commands.Misfit → Status → Over Bytes → Over Bytes → Over FolderTree → Type 0
+PlaysOrKeeps weights prefixes true words s source sink folders = KeepsSession weights words s source sink
+PlaysOrKeeps weights prefixes false words s source sink folders = Keeps weights prefixes words s source sink folders
 
 -- the words name a session, or what they name runs without threads
-abbrev pub KeepsAll : List ℕ → Result commands.Named commands.Misfit → Status → Over Bytes → Over Bytes → Over FolderTree → Type 0
-KeepsAll weights words s source sink folders = PlaysOrKeeps weights (names_session words) words s source sink folders
+abbrev pub KeepsAll : List ℕ → List PathNames → Result commands.Named commands.Misfit → Status → Over Bytes → Over Bytes → Over FolderTree → Type 0
+KeepsAll weights prefixes words s source sink folders = PlaysOrKeeps weights prefixes (names_session words) words s source sink folders

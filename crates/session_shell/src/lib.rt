@@ -14,7 +14,8 @@
 //! let mut source = MemSource::new(b"commit 1\nsettle\nfinale 2 /a\n".to_vec(alloc)?, Vec::new(alloc), 100);
 //! let mut sink = MemSink::new(alloc, Vec::new(alloc), 100);
 //! let mut folders = MemFolders::new(Vec::new(alloc), Vec::new(alloc));
-//! let status = run(&rt, alloc, &words, &mut source, &mut sink, &mut folders, &NoGate, weigh);
+//! let filters = Vec::new(alloc);
+//! let status = run(&rt, alloc, &words, &mut source, &mut sink, &mut folders, &NoGate, weigh, filters);
 //! assert_eq!(rt; status.code(), 0);
 //! let report = b"commit 1 generation 1\ndraw 1 0 3\ndraw 1 0 3\nopen 2 1 /a no-such\n";
 //! assert_eq!(rt; sink.written(), report.as_slice());

@@ -1,12 +1,15 @@
 //! Whole commands over input, output and folders in memory.
 
+use crate::ends::Ends;
 use crate::folders::Folder;
 use crate::texts::{bytes_text, output_text, spelled};
+use crate::watchers::prefixes_of;
 use crate::weights::{run_first_twice, run_once};
 use crate::words::{size_of, words_of};
 use carousel_shell::Status;
 use oc_bytes::{MemSink, MemSource};
-use std::alloc::Global;
+use path_tree::Path;
+use std::alloc::{AllocError, Global};
 use test_rows::{Row, RowFault, hex_text};
 
 /// The ends of the next command, and what the last one wrote and how it ended.
@@ -18,6 +21,8 @@ pub(crate) struct Commands {
     /// How many bytes one write takes at most, at least 1.
     written_piece: usize,
     folder: Folder,
+    /// What the watchers want: these paths, and what is below them.
+    prefixes: Vec<Path>,
     output: Vec<u8>,
     status: Status,
 }
@@ -29,6 +34,7 @@ impl Commands {
             read_piece: 100,
             written_piece: 100,
             folder: Folder::Nothing,
+            prefixes: Vec::new(alloc),
             output: Vec::new(alloc),
             status: Status::Done,
         }
@@ -39,6 +45,7 @@ impl Commands {
         match row.name() {
             "pieces" => self.set_pieces(alloc, row),
             "folder" => self.set_folder(alloc, row),
+            "watchers" => self.set_watchers(alloc, row),
             "input" => self.set_input(alloc, row.bytes(alloc, 0)?),
             "script" => self.set_input(alloc, spelled(alloc, row)?.into_bytes()),
             "take" => self.take(alloc),
@@ -64,6 +71,12 @@ impl Commands {
         Ok(String::from_str(alloc, "set")?)
     }
 
+    /// `watchers PATH..`: a watcher for each of these prefixes, or none.
+    fn set_watchers(&mut self, alloc: Global, row: &Row<'_>) -> Result<String, RowFault> {
+        self.prefixes = prefixes_of(alloc, row)?;
+        Ok(String::from_str(alloc, "set")?)
+    }
+
     /// `input BYTES` and `script TEXT`: what the commands read. It answers how many bytes that are.
     fn set_input(&mut self, alloc: Global, input: Vec<u8>) -> Result<String, RowFault> {
         self.input = input;
@@ -85,19 +98,31 @@ impl Commands {
         is_first_twice: bool,
     ) -> Result<String, RowFault> {
         let words = words_of(alloc, row)?;
-        let input = Vec::from_slice(alloc, &self.input)?;
-        let mut source = MemSource::new(input, Vec::new(alloc), self.read_piece.max(1));
-        let mut sink = MemSink::new(alloc, Vec::new(alloc), self.written_piece.max(1));
-        let mut folders = self.folder.made(alloc)?;
+        let mut ends = self.ends(alloc)?;
         self.status = if is_first_twice {
-            run_first_twice(alloc, &words, &mut source, &mut sink, &mut folders)?
+            run_first_twice(alloc, &words, &self.prefixes, &mut ends)?
         } else {
-            run_once(alloc, &words, &mut source, &mut sink, &mut folders)?
+            run_once(alloc, &words, &self.prefixes, &mut ends)?
         };
-        self.output = Vec::from_slice(alloc, sink.written())?;
+        self.output = Vec::from_slice(alloc, ends.sink.written())?;
+        Ok(self.outcome(alloc)?)
+    }
+
+    /// The ends as the rows have set them.
+    fn ends(&self, alloc: Global) -> Result<Ends, AllocError> {
+        let input = Vec::from_slice(alloc, &self.input)?;
+        Ok(Ends {
+            source: MemSource::new(input, Vec::new(alloc), self.read_piece.max(1)),
+            sink: MemSink::new(alloc, Vec::new(alloc), self.written_piece.max(1)),
+            folders: self.folder.made(alloc)?,
+        })
+    }
+
+    /// The exit status of the last command and what it wrote.
+    fn outcome(&self, alloc: Global) -> Result<String, AllocError> {
         let code = self.status.code();
         let output = output_text(alloc, &self.output)?;
-        Ok(format!(in alloc; "{code} {output}")?)
+        format!(in alloc; "{code} {output}")
     }
 
     /// `written BYTES`: whether the last command wrote these bytes, and which it did where it wrote others.

@@ -3,10 +3,12 @@
 #![tactic(auto)]
 
 mod commands;
+mod ends;
 mod folders;
 mod reports;
 mod scripts;
 mod texts;
+mod watchers;
 mod weights;
 mod words;
 

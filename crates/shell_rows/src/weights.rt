@@ -1,19 +1,19 @@
 //! Commands under weights: how often each module is sent in a cycle.
 ghost use Rattle.std.specs.Prelude.{◌≡◌, ◌==◌, if◌then◌else◌};
 
-use carousel_shell::{Status, run_plain};
+use crate::ends::Ends;
+use crate::watchers::run_watched;
+use carousel_shell::Status;
 use cycle_planner::{GREATEST_ID, Weigh};
-use folder_store::MemFolders;
-use oc_bytes::{MemSink, MemSource};
+use path_tree::Path;
 use std::alloc::{AllocError, Global};
 
-/// The status of a command under which each module is sent once a cycle.
+/// The status of a command under which each module is sent once a cycle, with a watcher for each of the prefixes.
 pub(crate) fn run_once(
     alloc: Global,
     words: &[String],
-    source: &mut MemSource,
-    sink: &mut MemSink,
-    folders: &mut MemFolders,
+    prefixes: &[Path],
+    ends: &mut Ends,
 ) -> Result<Status, AllocError> {
     let call = Box::new(
         alloc,
@@ -22,16 +22,16 @@ pub(crate) fn run_once(
         { 1 },
     )?;
     let weigh = Weigh::new([1; GREATEST_ID], call);
-    Ok(run_plain(alloc, words, source, sink, folders, weigh))
+    run_watched(alloc, words, prefixes, ends, weigh)
 }
 
-/// The status of a command under which module 1 is sent twice a cycle, and each other one once.
+/// The status of a command under which module 1 is sent twice a cycle, and each other one once, with a watcher for each of the
+/// prefixes.
 pub(crate) fn run_first_twice(
     alloc: Global,
     words: &[String],
-    source: &mut MemSource,
-    sink: &mut MemSink,
-    folders: &mut MemFolders,
+    prefixes: &[Path],
+    ends: &mut Ends,
 ) -> Result<Status, AllocError> {
     let mut weights = [1; GREATEST_ID];
     weights[0] = 2;
@@ -42,5 +42,5 @@ pub(crate) fn run_first_twice(
         { if id == 1 { 2u8 } else { 1u8 } },
     )?;
     let weigh = Weigh::new(weights, call);
-    Ok(run_plain(alloc, words, source, sink, folders, weigh))
+    run_watched(alloc, words, prefixes, ends, weigh)
 }

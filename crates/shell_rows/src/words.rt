@@ -81,6 +81,7 @@ fn command_text(alloc: Global, command: &Command) -> Result<String, AllocError> 
             format!(in alloc; "publish-on {pid} {folder} {carousel} {cycles}")
         }
         Command::Mounts(table, paths) => with_paths(mounts_text(alloc, table)?, paths),
+        Command::Watch(pid, paths) => with_paths(format!(in alloc; "watch {pid}")?, paths),
     }
 }
 

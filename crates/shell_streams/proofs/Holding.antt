@@ -1,11 +1,11 @@
 -- What is held of an input, and what the source has left.
-use Rattle.std.proofs.Common.{◌≡◌, ◌≢◌, ◌==◌, ℕ, ◌+◌, ◌-◌, ◌<◌, ◌≤◌, List, [], ◌++◌, length, take, drop, refl, arith, ◌∙◌, sym, ap, Option, Some, None, Result, Ok, Err, IfOk, Vec, vec_len, Global, false, append_assoc, length-append, take-append-drop}
+use Rattle.std.proofs.Common.{◌≡◌, ◌≢◌, ◌==◌, ℕ, ◌+◌, ◌-◌, ◌<◌, ◌≤◌, List, [], ◌∷◌, ◌++◌, length, take, drop, refl, arith, ◌∙◌, sym, ap, Option, Some, None, Result, Ok, Err, IfOk, Vec, vec_len, Global, true, false, append_assoc, length-append, take-append-drop}
 use Rattle.std.specs.List.{slice_range}
 use Rattle.std.proofs.lemmas.List.{drop-drop, drop-take, length-take, drop-append-le, drop_all, take-append-le, drop_at, length-take-le, with_items_is}
 use Rattle.std.specs.Vec.{with_items}
 use Rattle.std.proofs.Math.Seq.{take-add}
 use Rattle.std.proofs.lemmas.Slice.{between_is}
-use Rattle.std.proofs.lemmas.Bool.{true≢false, eqb-false}
+use Rattle.std.proofs.lemmas.Bool.{true≢false, eqb-true, eqb-false}
 use Rattle.std.proofs.lemmas.Option.{same_Some}
 use Rattle.oc_bytes.specs.Outcome.{Known}
 use borrow.Rule.Slice.PartMut.{put_mid, post_of}
@@ -107,6 +107,10 @@ reads_behind bytes into before after start n lt len within t = record {
 pub if_both : {T E : Type 0} {P Q R : T → Type 0} (r : Result T E) → IfOk r P → IfOk r Q → ((x : T) → P x → Q x → R x) → IfOk r R
 if_both (Ok x) p q f = f x p q
 if_both (Err e) p q f = tt
+
+pub none_held : (held : List ℕ) → (length held == 0) ≡ true → held ≡ []
+none_held [] h = refl
+none_held (b ∷ bs) h = absurd (omega (arith, eqb-true (length (b ∷ bs)) 0 h))
 
 -- where something is held, something is still to be taken
 pub goes_on_held : (held : List ℕ) (left : Option (List ℕ)) (rest : List ℕ) → (length held == 0) ≡ false → onto_left held left ≡ Some rest → rest ≢ []

@@ -4,7 +4,7 @@ use Rattle.std.specs.Option.{is_some}
 use Rattle.std.specs.List.{concat}
 use Rattle.std.proofs.lemmas.Bool.{cond-true, cond-false, le-leb, lt-leb, lt-ltb, le-ltb, ltb-true, ltb-false, true≢false, cases_lt}
 use Rattle.std.proofs.lemmas.Option.{same_Some}
-use Rattle.std.proofs.lemmas.List.{take-append-drop, take_at, drop_at, drop-drop, length-take-le}
+use Rattle.std.proofs.lemmas.List.{take-append-drop, take_all, take_at, drop_at, drop-drop, length-take-le}
 use Rattle.std.proofs.lemmas.List.Folds.{concat-append}
 use Rattle.oc_bytes.specs.Outcome.{Known}
 use Rattle.section_stream.specs.Cuts.{candidates}
@@ -206,8 +206,8 @@ taken_full most held old start before after packets rest dry full none c = recor
 -- ---- stopping
 
 halted : (start left : Option Bytes) (held : Bytes) (packets : List Bytes) (s : InputFault) → Known start (onto_left held left) (AreTaken packets)
-    → ((x : Bytes) → start ≡ Some x → s ≡ faults.TooLong → is_over_packets 16777216 x ≡ true) → Known start left (Stops packets s)
-halted start left held packets s t long = record {
+    → ((s ≡ faults.NoMemory → ⊥) → packets ≡ take 16777216 (packets ++ packets_of held)) → ((x : Bytes) → start ≡ Some x → s ≡ faults.TooLong → is_over_packets 16777216 x ≡ true) → Known start left (Stops packets s)
+halted start left held packets s t whole long = record {
   kept = sym (told_both held left) ∙ t.kept;
   each = λ x y i o. halt left x y i o t;
 }
@@ -220,14 +220,30 @@ halted start left held packets s t long = record {
           whole = r.whole ∙ rw (append_assoc, same_Some l y o) refl;
           others = packets_of held;
           split = packets_before packets held r.sizes;
+          heard = λ n. whole n ∙ ap (take 16777216) (sym (packets_before packets held r.sizes));
           too_long = long x i;
         }
     halt None x y i o t = cc
 
+-- what is held after the packets is none, or they are as many as may be taken
+heard_short : (packets : List Bytes) (held : Bytes) → length packets ≤ 16777216 → length held < 188 → packets ≡ take 16777216 (packets ++ packets_of held)
+heard_short packets held few short =
+    sym (ap (λ (os : List Bytes). take 16777216 (packets ++ os)) (packet_none held short) ∙ ap (take 16777216) (append-nil packets) ∙ take_all 16777216 packets few)
+
+heard_full : (packets others : List Bytes) → length packets ≡ 16777216 → packets ≡ take 16777216 (packets ++ others)
+heard_full packets others n = sym (take_at packets others 16777216 n)
+
+heard_stopped : (packets : List Bytes) (held : Bytes) (s : InputFault) → (s ≡ faults.TooLong → ⊥) → (s ≡ faults.Failed → length held < 188) → length packets ≤ 16777216
+    → (s ≡ faults.NoMemory → ⊥) → packets ≡ take 16777216 (packets ++ packets_of held)
+heard_stopped packets held faults.Failed n short few m = heard_short packets held few (short refl)
+heard_stopped packets held faults.TooLong n short few m = absurd (n refl)
+heard_stopped packets held faults.NoMemory n short few m = absurd (m refl)
+
 -- a fault, or out of memory, stopped reading
 pub taken_stopped : (most : ℕ) (held old : Bytes) (start before after : Option Bytes) (packets : List Bytes) (s : InputFault) → (s ≡ faults.TooLong → ⊥)
-    → onto_left held after ≡ onto_left old before → HasTaken packets most start (onto_left old before) → Known start after (Stops packets s)
-taken_stopped most held old start before after packets s n rest c = halted start after held packets s (rw rest c.taken) (λ x i e. absurd (n e))
+    → (s ≡ faults.Failed → length held < 188) → onto_left held after ≡ onto_left old before → HasTaken packets most start (onto_left old before) → Known start after (Stops packets s)
+taken_stopped most held old start before after packets s n short rest c =
+    halted start after held packets s (rw rest c.taken) (heard_stopped packets held s n short (omega (arith, c.number))) (λ x i e. absurd (n e))
 
 over : (packets : List Bytes) (input rest : Bytes) → AreTaken packets input rest → length packets ≡ 16777216 → rest ≢ [] → is_over_packets 16777216 input ≡ true
 over packets input rest t n some =
@@ -241,7 +257,7 @@ over packets input rest t n some =
 pub taken_over : (most : ℕ) (held old : Bytes) (start before after : Option Bytes) (packets : List Bytes) → onto_left held after ≡ onto_left old before → most ≡ 0
     → ((rest : Bytes) → onto_left old before ≡ Some rest → rest ≢ []) → HasTaken packets most start (onto_left old before) → Known start after (Stops packets faults.TooLong)
 taken_over most held old start before after packets rest full some c =
-    halted start after held packets faults.TooLong (rw rest c.taken)
+    halted start after held packets faults.TooLong (rw rest c.taken) (λ n. heard_full packets (packets_of held) (omega (arith, c.number, full)))
     (λ x i e. let r = told_here start (onto_left old before) x c.taken i in over packets x r.0 r.2 (omega (arith, c.number, full)) (some r.0 r.1))
 
 -- a prefix of the input was taken
@@ -267,6 +283,7 @@ reader_stopped s c t = told_weaker t (λ x y h. record {
   others = h.others;
   split = h.split;
   all = c.all;
+  heard = h.heard;
   too_long = h.too_long;
 })
 

@@ -42,13 +42,14 @@ pub record HasTaken (packets : List Bytes) (most : ℕ) (start rest : Option Byt
   pub number : length packets + most ≡ MOST_PACKETS
   pub taken : Known start rest (AreTaken packets)
 
--- what was taken of an input when reading stopped: these packets, and perhaps others after them; where it stopped at the limit, the
--- input goes on after that
+-- What was taken of an input when reading stopped: these packets, and perhaps others after them. But for want of memory these are all
+-- that may be taken; where it stopped at the limit, the input goes on after them.
 pub record Stops (packets : List Bytes) (s : InputFault) (input left : Bytes) : Type 0 where
   pub taken : Bytes
   pub whole : input ≡ taken ++ left
   pub others : List Bytes
   pub split : packets_of taken ≡ packets ++ others
+  pub heard : (s ≡ faults.NoMemory → ⊥) → packets ≡ take MOST_PACKETS (packets_of taken)
   pub too_long : s ≡ faults.TooLong → is_over_packets MOST_PACKETS input ≡ true
 
 -- these are all packets of the input, which was read to its end and within the limit
@@ -64,8 +65,8 @@ pub record HasCut (pid : ℕ) (reader : PacketReader) (start left : Option Bytes
   pub taken : Known start (onto_left reader.unread left) (AreTaken packets)
   pub all : candidates pid packets ≡ candidates_so_far
 
--- what was taken of the input when a command stopped: its packets are those of which these are the candidates, and perhaps
--- others after them; where it stopped at the limit, the input goes on after that
+-- What was taken of the input when a command stopped: its packets are those of which these are the candidates, and perhaps
+-- others after them. But for want of memory they are all that may be taken; where it stopped at the limit, the input goes on after them.
 pub record Halts (pid : ℕ) (candidates_so_far : List Bytes) (s : InputFault) (input left : Bytes) : Type 0 where
   pub taken : Bytes
   pub whole : input ≡ taken ++ left
@@ -73,6 +74,7 @@ pub record Halts (pid : ℕ) (candidates_so_far : List Bytes) (s : InputFault) (
   pub others : List Bytes
   pub split : packets_of taken ≡ packets ++ others
   pub all : candidates pid packets ≡ candidates_so_far
+  pub heard : (s ≡ faults.NoMemory → ⊥) → packets ≡ take MOST_PACKETS (packets_of taken)
   pub too_long : s ≡ faults.TooLong → is_over_packets MOST_PACKETS input ≡ true
 
 -- all candidates of the input, which was read to its end and within the limit

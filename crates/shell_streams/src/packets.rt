@@ -100,6 +100,7 @@ pub fn has_next<S: Source>(
 fn has_packet<S: Source>(unread: &mut Unread, source: &mut S) -> Result<bool, Failed>
     ensures whole { IfOk result (λ whole. IsTrue whole ↔ (188 ≤ length unread.new)) }
     ensures ended { result ≡ Ok false → IsDry (S.left source.new) }
+    ensures short { OnErr result (length unread.new < 188) }
     ensures rest { onto_left unread.new (S.left source.new) ≡ onto_left unread.old (S.left source.old) }
     ensures later { S.faults source.old ≤ S.faults source.new }
     ensures cause { OnErr result (Rose (S.faults source.old) (S.faults source.new)) }

@@ -39,6 +39,7 @@ pub fn next_section<S: Source>(unread: &mut Unread, source: &mut S) -> Result<Op
 pub fn goes_on<S: Source>(unread: &mut Unread, source: &mut S) -> Result<bool, Failed>
     ensures more { IfOk result (λ more. (rest : Bytes) → onto_left unread.old (S.left source.old) ≡ Some rest → IsTrue more ↔ (rest ≢ [])) }
     ensures ended { result ≡ Ok false → IsDry (S.left source.new) }
+    ensures none { OnErr result (unread.new ≡ []) }
     ensures rest { onto_left unread.new (S.left source.new) ≡ onto_left unread.old (S.left source.old) }
     ensures later { S.faults source.old ≤ S.faults source.new }
     ensures cause { OnErr result (Rose (S.faults source.old) (S.faults source.new)) }

@@ -67,7 +67,8 @@ pub(crate) fn run_once<F: Folders>(
         { 1 },
     )?;
     let weigh = Weigh::new([1; GREATEST_ID], call);
-    Ok(run_plain(alloc, words, source, sink, folders, weigh))
+    let filters = Vec::new(alloc);
+    Ok(run_plain(alloc, words, source, sink, folders, weigh, filters))
 }
 
 /// Runs a command on an input that comes in pieces of `read` bytes, and with a sink that takes `written`, both at least 1. One call of

@@ -89,6 +89,7 @@ fn outcome<R: Threads + Wait + Sync, G: Gate>(
         &mut folders,
         gate,
         weigh,
+        Vec::new(alloc),
     );
     let code = status.code();
     Ok(Played { code, sink })

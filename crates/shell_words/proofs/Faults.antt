@@ -18,7 +18,7 @@ use Rattle.shell_words.specs.Words.{begins_with_dash}
 use Rattle.shell_words.specs.Counting.{Fits, single, four_app, open_app, publish_app, app_of_keyword}
 use Rattle.shell_words.proofs.Naming.{any_map, same_length}
 use Rattle.shell_words.specs.declared.keyword.Keyword.{Keyword}
-use Rattle.shell_words.specs.declared.keyword.Keyword.TheVariants.{Assemble, Open, Record, List as ListAll, Publish, Rehearse, Session, Big, Find, OpenId, PublishPsi, PublishOn, Mounts}
+use Rattle.shell_words.specs.declared.keyword.Keyword.TheVariants.{Assemble, Open, Record, List as ListAll, Publish, Rehearse, Session, Big, Find, OpenId, PublishPsi, PublishOn, Mounts, Watch}
 
 -- a walk between two words, where the next one goes to the positional at place n
 abbrev between : Held → Bool → ℕ → Walk
@@ -252,6 +252,7 @@ counted OpenId words p = open_0 (codes "open-id") words p
 counted PublishPsi words p = publish_0 (codes "publish-psi") words p
 counted PublishOn words p = four_0 (codes "publish-on") words p
 counted Mounts words p = open_0 (codes "mounts") words p
+counted Watch words p = open_0 (codes "watch") words p
 
 -- no positional has a rule on another, and there are no options
 pub is_free : (keyword : Keyword) → is_simple_and_free (app_of_keyword keyword) ≡ true
@@ -268,6 +269,7 @@ is_free OpenId = refl
 is_free PublishPsi = refl
 is_free PublishOn = refl
 is_free Mounts = refl
+is_free Watch = refl
 
 no_subcommand : (s : Shape) (words : List Text) (stop : Option (Text × List Text))
     → level_fault s [] nothing_held words (is_some (entered (record { top = s; subs = [] }) stop)) (entered_fault (record { top = s; subs = [] }) stop) ≡ faults_from s (between nothing_held false 1) words
@@ -288,6 +290,7 @@ faults_are OpenId first words = no_subcommand (shape (app_of_keyword OpenId)) wo
 faults_are PublishPsi first words = no_subcommand (shape (app_of_keyword PublishPsi)) words _
 faults_are PublishOn first words = no_subcommand (shape (app_of_keyword PublishOn)) words _
 faults_are Mounts first words = no_subcommand (shape (app_of_keyword Mounts)) words _
+faults_are Watch first words = no_subcommand (shape (app_of_keyword Watch)) words _
 
 behind : {A : Type 0} (f : A → Text) (w : A) (ws : List A) → length (w ∷ ws) - 1 ≡ length (map f ws)
 behind f w ws = omega (arith, same_length f ws)

@@ -1,19 +1,25 @@
 -- Words as a name and what stands after it.
-use Rattle.std.proofs.Common.{◌≡◌, ℕ, Bool, cond, subst, ◌-◌, ◌+◌, ◌<◌, ◌≤◌, true, false, ◌||◌, List, [], ◌∷◌, ◌++◌, length, get_or, drop, map, Result, Ok, Err, Option, Some, None, IfSome, refl, arith, ◌∙◌, sym, ap, append_assoc, append-nil, codes}
+use Rattle.std.proofs.Common.{◌≡◌, ℕ, Bool, cond, subst, ◌-◌, ◌+◌, ◌<◌, ◌≤◌, true, false, ◌||◌, nat_le, List, [], ◌∷◌, ◌++◌, length, get_or, drop, map, Result, Ok, Err, Option, Some, None, IfOk, IfSome, refl, arith, ◌∙◌, sym, ap, append_assoc, append-nil, codes}
 use Rattle.std.specs.List.{list_any}
 use Rattle.std.specs.Str.{bytes_eq}
-use Rattle.std.proofs.lemmas.Bool.{cond-true, cond-false}
+use Rattle.std.proofs.lemmas.Bool.{cond-true, cond-false, le-leb, lt-leb}
+use Rattle.std.proofs.lemmas.Option.{same_Some}
 use Rattle.std.proofs.lemmas.List.{drop_more, drop_all}
 use Rattle.std.specs.Option.{option_map}
 use Rattle.oc_bytes.specs.Outcome.{Gives}
+use Rattle.path_tree.specs.Paths.{PathNames}
 use Rattle.shell_words.specs.declared.words.WordsFault.{WordsFault}
 use Rattle.shell_words.specs.declared.words.WordsFault.TheVariants as faults
 use Rattle.shell_words.specs.declared.keyword.Keyword.{Keyword}
 use Rattle.shell_words.specs.declared.keyword.Keyword.TheVariants as keywords
 use Rattle.shell_words.specs.Keywords.{words_by}
 use Rattle.shell_words.specs.Counting.{Fits}
-use Rattle.shell_words.specs.Values.{◌>>=◌, pid_in, any_u32_in, path_in, onto, each_in, paths_in, table_in}
-use Rattle.shell_words.specs.Words.{Named, Open, OpenId, PublishOn, Mounts, Words, begins_with_dash, or_misfit, command_named, command_of, view, cause}
+use Rattle.shell_words.specs.Values.{◌>>=◌, pid_in, any_u32_in, path_in, onto, each_in, paths_in, watched_in, table_in}
+use Rattle.shell_words.specs.Words.{Named, Open, OpenId, PublishOn, Mounts, Watch, Words, begins_with_dash, or_misfit, command_named, command_of, view, cause}
+
+pub same_length : {A : Type 0} (f : A → List ℕ) (words : List A) → length words ≡ length (map f words)
+same_length f [] = refl
+same_length f (w ∷ ws) = omega (arith, same_length f ws)
 
 pub any_map : {A : Type 0} (f : A → List ℕ) (words : List A) → list_any begins_with_dash (map f words) ≡ list_any (λ w. begins_with_dash (f w)) words
 any_map f [] = refl
@@ -83,6 +89,33 @@ module _ {A B : Type 0} (value_in : List ℕ → Option B) (f : A → List ℕ) 
   pub each_ends : length words ≤ i → or_misfit o ≡ Ok xs
   each_ends h = ap or_misfit (so_far ∙ ap (λ ws. prepended xs (each_in value_in (map f ws))) (drop_all i words h) ∙ ap Some (append-nil xs))
 
+-- ---- paths of which there are not too many
+
+pub few_watched : {A : Type 0} (f : A → List ℕ) (words : List A) → length words ≤ 1024 → watched_in (map f words) ≡ paths_in (map f words)
+few_watched f words h = cond-true (nat_le (length (map f words)) 1024) (paths_in (map f words)) None (le-leb (length (map f words)) 1024 (omega (arith, h, same_length f words)))
+
+pub many_watched : {A : Type 0} (f : A → List ℕ) (words : List A) → 1024 < length words → watched_in (map f words) ≡ None
+many_watched f words h = cond-false (nat_le (length (map f words)) 1024) (paths_in (map f words)) None (lt-leb (length (map f words)) 1024 (omega (arith, h, same_length f words)))
+
+-- as many values as words
+each_as_many : {A : Type 0} (value_in : List ℕ → Option A) (words : List (List ℕ)) (xs : List A) → each_in value_in words ≡ Some xs → length xs ≡ length words
+each_as_many value_in [] xs e = ap length (sym (same_Some _ xs e))
+each_as_many {A} value_in (w ∷ ws) xs e = by (value_in w) (each_in value_in ws) (each_as_many value_in ws) e
+  where
+    by : (x : Option A) (o : Option (List A)) → ((ys : List A) → o ≡ Some ys → length ys ≡ length ws) → onto x o ≡ Some xs → length xs ≡ length (w ∷ ws)
+    by (Some x) (Some ys) rest q = omega (arith, ap length (same_Some (x ∷ ys) xs q), rest ys refl)
+    by (Some x) None rest q = absurd (cc)
+    by None o rest q = absurd (cc)
+
+paths_as_many : (words : List (List ℕ)) (xs : List PathNames) → paths_in words ≡ Some xs → length xs ≡ length words
+paths_as_many [] xs e = absurd (cc)
+paths_as_many (w ∷ ws) xs e = each_as_many path_in (w ∷ ws) xs e
+
+pub few_paths : {A P : Type 0} (f : A → List ℕ) (items : P → List PathNames) (words : List A) (r : Result P WordsFault) → length words ≤ 1024
+    → Gives items cause r (or_misfit (paths_in (map f words))) → IfOk r (λ paths. length (items paths) ≤ 1024)
+few_paths f items words (Ok paths) h g = omega (arith, h, same_length f words, paths_as_many (map f words) (items paths) (value_read _ (items paths) g))
+few_paths f items words (Err fault) h g = tt
+
 -- ---- words of which there are too few or too many
 
 -- no value, whatever the source
@@ -148,10 +181,9 @@ misfit_none keywords.PublishOn (a ∷ b ∷ c ∷ d ∷ e ∷ words) h = publish
 misfit_none keywords.Mounts [] h = refl
 misfit_none keywords.Mounts (t ∷ []) h = nowhere Mounts (table_in t)
 misfit_none keywords.Mounts (t ∷ word ∷ words) h = absurd (h (omega arith))
-
-pub same_length : {A : Type 0} (f : A → List ℕ) (words : List A) → length words ≡ length (map f words)
-same_length f [] = refl
-same_length f (w ∷ ws) = omega (arith, same_length f ws)
+misfit_none keywords.Watch [] h = refl
+misfit_none keywords.Watch (pid ∷ []) h = nowhere Watch (pid_in pid)
+misfit_none keywords.Watch (pid ∷ word ∷ words) h = absurd (h (omega arith))
 
 length_behind : {A : Type 0} (f : A → List ℕ) (words : List A) → length (map f (drop 1 words)) ≡ length words - 1
 length_behind f [] = refl

@@ -3,7 +3,7 @@ use Rattle.std.specs.Prelude.{◌≡◌, ◌≤◌, ℕ, Some, true, codes}
 use Rattle.clap.specs.Words.{App, Rule, Text, new_app, new_rule, with_rule}
 use Rattle.clap.specs.declared.builder.ArgAction.TheVariants.{Append}
 use Rattle.shell_words.specs.declared.keyword.Keyword.{Keyword}
-use Rattle.shell_words.specs.declared.keyword.Keyword.TheVariants.{Assemble, Open, Record, List as ListAll, Publish, Rehearse, Session, Big, Find, OpenId, PublishPsi, PublishOn, Mounts}
+use Rattle.shell_words.specs.declared.keyword.Keyword.TheVariants.{Assemble, Open, Record, List as ListAll, Publish, Rehearse, Session, Big, Find, OpenId, PublishPsi, PublishOn, Mounts, Watch}
 
 abbrev pub Fits : Keyword → ℕ → Type 0
 Fits Assemble n = n ≡ 4
@@ -19,6 +19,7 @@ Fits OpenId n = 2 ≤ n
 Fits PublishPsi n = n ≡ 3
 Fits PublishOn n = n ≡ 4
 Fits Mounts n = 2 ≤ n
+Fits Watch n = 2 ≤ n
 
 -- a positional that one word is for
 abbrev pub one : Text → Rule
@@ -58,3 +59,4 @@ app_of_keyword OpenId = open_app (codes "open-id")
 app_of_keyword PublishPsi = publish_app (codes "publish-psi")
 app_of_keyword PublishOn = four_app (codes "publish-on")
 app_of_keyword Mounts = open_app (codes "mounts")
+app_of_keyword Watch = open_app (codes "watch")

@@ -4,7 +4,7 @@ use Rattle.std.specs.List.{All, list_all, slice_split, before_first, after_first
 use Rattle.oc_bytes.specs.Decimals.{is_digit, decimal_in}
 use Rattle.path_tree.specs.Paths.{Bytes, PathNames}
 use Rattle.path_tree.specs.Texts.{path_of, TextFault}
-use Rattle.shell_words.specs.declared.values.TheConstants.{MOST_PID}
+use Rattle.shell_words.specs.declared.values.TheConstants.{MOST_PID, MOST_WATCHED}
 use Rattle.shell_words.specs.declared.table.TheConstants.{MOST_MOUNT_NAME}
 
 infixl 10 ◌>>=◌
@@ -45,6 +45,10 @@ each_in value_in (word ∷ words) = onto (value_in word) (each_in value_in words
 abbrev pub paths_in : List Bytes → Option (List PathNames)
 paths_in [] = None
 paths_in (word ∷ words) = each_in path_in (word ∷ words)
+
+-- at most so many
+abbrev pub watched_in : List Bytes → Option (List PathNames)
+watched_in words = if nat_le (length words) MOST_WATCHED then paths_in words else None
 
 -- ---- a table of carousels
 

@@ -7,14 +7,14 @@ use Rattle.std.specs.String.{string_bytes}
 use Rattle.std.specs.declared.string.String.{String}
 use Rattle.oc_bytes.specs.Decimals.{decimal_in}
 use Rattle.path_tree.specs.Paths.{Bytes, PathNames}
-pub use Rattle.shell_words.specs.Values.{◌>>=◌, pid_in, any_u32_in, folder_in, path_in, paths_in, Entry, table_in, IsTable}
+pub use Rattle.shell_words.specs.Values.{◌>>=◌, pid_in, any_u32_in, folder_in, path_in, paths_in, watched_in, Entry, table_in, IsTable}
 use Rattle.shell_words.specs.declared.words.Command.{Command}
 use Rattle.shell_words.specs.declared.words.Command.TheVariants as code
 use Rattle.shell_words.specs.declared.words.WordsFault.{WordsFault}
 use Rattle.shell_words.specs.declared.words.WordsFault.TheVariants as faults
 use Rattle.block_assembler.specs.declared.TheConstants.{MOST_MODULE_SIZE}
 use Rattle.shell_words.specs.declared.parsing.TheConstants.{MOST_CYCLES, MOST_BIG}
-use Rattle.shell_words.specs.declared.values.TheConstants.{MOST_PID}
+use Rattle.shell_words.specs.declared.values.TheConstants.{MOST_PID, MOST_WATCHED}
 
 pub data Named : Type 0 where
   Assemble : (id version size download : ℕ) → Named
@@ -31,6 +31,7 @@ pub data Named : Type 0 where
   PublishPsi : Bytes → ℕ → ℕ → Named
   PublishOn : ℕ → Bytes → ℕ → ℕ → Named
   Mounts : List Entry → List PathNames → Named
+  Watch : ℕ → List PathNames → Named
 
 abbrev pub view : Command → Named
 view (code.Assemble id version size download) = Assemble id version size download
@@ -47,6 +48,7 @@ view (code.OpenId carousel paths) = OpenId carousel paths.items
 view (code.PublishPsi folder carousel cycles) = PublishPsi (string_bytes folder) carousel cycles
 view (code.PublishOn pid folder carousel cycles) = PublishOn pid (string_bytes folder) carousel cycles
 view (code.Mounts table paths) = Mounts table.items paths.items
+view (code.Watch pid paths) = Watch pid paths.items
 
 -- the words don't fit
 pub data Misfit : Type 0 where
@@ -110,6 +112,11 @@ abbrev pub mounts_by : List Bytes → Option Named
 mounts_by [] = None
 mounts_by (table ∷ words) = table_in table >>= λ t. option_map (Mounts t) (paths_in words)
 
+-- a PID, and the paths that are watched
+abbrev pub watch_by : List Bytes → Option Named
+watch_by [] = None
+watch_by (pid ∷ words) = pid_in pid >>= λ q. option_map (Watch q) (watched_in words)
+
 abbrev pub find_by : List Bytes → Option Named
 find_by (carousel ∷ []) = option_map Find (any_u32_in carousel)
 find_by _ = None
@@ -135,7 +142,7 @@ commands =
     (codes "assemble", assemble_by) ∷ (codes "open", open_by) ∷ (codes "record", record_by) ∷ (codes "list", list_by)
     ∷ (codes "publish", publish_by) ∷ (codes "rehearse", rehearse_by) ∷ (codes "session", session_by) ∷ (codes "big", big_by)
     ∷ (codes "find", find_by) ∷ (codes "open-id", open_id_by) ∷ (codes "publish-psi", publish_psi_by)
-    ∷ (codes "publish-on", publish_on_by) ∷ (codes "mounts", mounts_by) ∷ []
+    ∷ (codes "publish-on", publish_on_by) ∷ (codes "mounts", mounts_by) ∷ (codes "watch", watch_by) ∷ []
 
 abbrev pub command_named : Bytes → List Bytes → Option Named
 command_named word words = find (λ c. bytes_eq word c.0) commands >>= λ c. c.1 words
@@ -173,3 +180,4 @@ IsSized (code.OpenId carousel paths) = Unit {0}
 IsSized (code.PublishPsi folder carousel cycles) = IsPublication (string_bytes folder) cycles
 IsSized (code.PublishOn pid folder carousel cycles) = (pid ≤ MOST_PID) × IsPublication (string_bytes folder) cycles
 IsSized (code.Mounts table paths) = IsTable table.items
+IsSized (code.Watch pid paths) = (pid ≤ MOST_PID) × (length paths.items ≤ MOST_WATCHED)

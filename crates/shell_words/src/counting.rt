@@ -51,6 +51,7 @@ fn syntax<'a>(alloc: Global, keyword: Keyword) -> Result<Command<'a>, AllocError
         Keyword::PublishPsi => publish(alloc, "publish-psi"),
         Keyword::PublishOn => four(alloc, "publish-on"),
         Keyword::Mounts => open(alloc, "mounts"),
+        Keyword::Watch => open(alloc, "watch"),
     }
 }
 

@@ -19,6 +19,7 @@ pub enum Keyword {
     PublishPsi,
     PublishOn,
     Mounts,
+    Watch,
 }
 
 impl Keyword {
@@ -52,6 +53,8 @@ impl Keyword {
             Some(Keyword::PublishOn)
         } else if word == "mounts" {
             Some(Keyword::Mounts)
+        } else if word == "watch" {
+            Some(Keyword::Watch)
         } else {
             None
         }

@@ -25,4 +25,5 @@ mod words;
 pub use parsing::command;
 pub use table::MOST_MOUNT_NAME;
 pub use texts::{answer_text, answered_text, refusal_text};
+pub use values::MOST_WATCHED;
 pub use words::{Command, WordsFault};

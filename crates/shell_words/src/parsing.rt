@@ -26,7 +26,8 @@ pub const MOST_BIG: u32 = 16;
 ///
 /// The first word is the command's, byte for byte. A word that begins with `-` is refused. Numbers are decimal digits
 /// without a sign and without a leading zero, `0` itself excepted, in the ranges that `Command` gives; a folder has at
-/// least one byte; a path is a text that `Path::parse` takes; a table is NAME=PID or several with a comma between each two.
+/// least one byte; a path is a text that `Path::parse` takes; a table is NAME=PID or several with a comma between each two. At most
+/// [`MOST_WATCHED`](crate::MOST_WATCHED) words stand for paths that are watched.
 ///
 /// `WordsFault::Words` comes exactly where the words don't fit that, and `WordsFault::NoMemory` only where no memory was
 /// found.
@@ -88,6 +89,7 @@ fn read(alloc: Global, keyword: Keyword, words: &[String]) -> Result<Command, Wo
         }
         Keyword::PublishOn => publish_on(alloc, words),
         Keyword::Mounts => mounts(alloc, words),
+        Keyword::Watch => watch(alloc, words),
     }
 }
 
@@ -180,6 +182,19 @@ fn mounts(alloc: Global, words: &[String]) -> Result<Command, WordsFault>
     let table = table(alloc, words[0].as_str())?;
     let paths = values::paths(alloc, &words[1..])?;
     Ok(Command::Mounts(table, paths))
+}
+
+/// A PID, and the paths that are watched.
+fn watch(alloc: Global, words: &[String]) -> Result<Command, WordsFault>
+    requires { 2 ≤ length words.now }
+    ensures gives { Gives commands.view commands.cause result (commands.or_misfit (commands.watch_by (map string_bytes words.now))) }
+    ensures sized { IfOk result commands.IsSized }
+{
+    let Some(pid) = values::pid(words[0].as_str()) else {
+        return Err(WordsFault::Words);
+    };
+    let paths = values::watched(alloc, &words[1..])?;
+    Ok(Command::Watch(pid, paths))
 }
 
 fn find(words: &[String]) -> Option<Command>

@@ -1,6 +1,6 @@
 //! The values that single words stand for.
 
-ghost use Rattle.std.specs.Prelude.{◌≡◌, ◌≤◌, ◌<◌, length, map, IfSome};
+ghost use Rattle.std.specs.Prelude.{◌≡◌, ◌≤◌, ◌<◌, length, map, IfOk, IfSome};
 ghost use Rattle.std.specs.String.{string_bytes};
 ghost use Rattle.std.specs.List.{list_all};
 ghost use Rattle.oc_bytes.specs.Outcome.{Gives};
@@ -14,6 +14,9 @@ use std::alloc::Global;
 
 /// The greatest PID of a stream; the one above it is that of stuffing (ISO/IEC 13818-1, 2.4.3.3).
 pub const MOST_PID: u32 = 8_190;
+
+/// The most paths that are watched. This project's own limit.
+pub const MOST_WATCHED: usize = 1_024;
 
 /// The PID that a text spells.
 pub fn pid(text: &str) -> Option<u16>
@@ -82,6 +85,19 @@ pub fn paths(alloc: Global, words: &[String]) -> Result<Vec<Path>, WordsFault>
         paths.push(path(alloc, word)?)?;
     }
     Ok(paths)
+}
+
+/// The paths of 1 to [`MOST_WATCHED`] words.
+pub fn watched(alloc: Global, words: &[String]) -> Result<Vec<Path>, WordsFault>
+    requires { 0 < length words.now }
+    ensures gives { Gives (λ paths. paths.items) commands.cause result (commands.or_misfit (values.watched_in (map string_bytes words.now))) }
+    ensures few { IfOk result (λ paths. length paths.items ≤ MOST_WATCHED) }
+{
+    if words.len() <= MOST_WATCHED {
+        paths(alloc, words)
+    } else {
+        Err(WordsFault::Words)
+    }
 }
 
 fn path(alloc: Global, word: &String) -> Result<Path, WordsFault>

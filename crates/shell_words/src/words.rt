@@ -45,6 +45,9 @@ pub enum Command {
     /// [`MOST_MOUNT_NAME`](crate::MOST_MOUNT_NAME) lower case letters or digits, each with its PID, 0 to 8,190; the first name of a path is one of
     /// them. A name or a PID may stand twice here.
     Mounts(Vec<(Name, u16)>, Vec<Path>),
+    /// `watch PID PATH..`: what changes in the answers to one or more paths while the packets of a PID, 0 to 8,190, come. There are at most
+    /// [`MOST_WATCHED`](crate::MOST_WATCHED) paths, each as often as it stands among the words.
+    Watch(u16, Vec<Path>),
 }
 
 /// Why no command is given.

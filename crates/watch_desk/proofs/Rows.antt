@@ -2,7 +2,7 @@
 use Rattle.std.proofs.Common.{◌≡◌, true, false, [], ◌∷◌, refl}
 use Rattle.path_resolver.specs.Comparing.{same_answer}
 use Rattle.path_resolver.specs.declared.answer.Answer.TheVariants as answers
-use Rattle.watch_desk.specs.Laws.{PremisesMet, a_and_b, root_and_a}
+use Rattle.watch_desk.specs.Laws.{PremisesMet, a_and_b, root_and_b}
 use Rattle.watch_desk.specs.Notices.{notice}
 use Rattle.watch_desk.specs.Showing.{changes, told_to_all}
 use Rattle.watch_desk.specs.Wanting.{is_wanted}
@@ -37,13 +37,13 @@ other_variant = refl
 first : changes [] (answers.NoCarousel ∷ answers.NotYet 1 ∷ []) ≡ false ∷ true ∷ []
 first = refl
 
-second : told_to_all 0 root_and_a a_and_b (changes (answers.NotYet 1 ∷ answers.NotYet 1 ∷ []) (answers.NotYet 2 ∷ answers.NotYet 1 ∷ [])) ≡ notice 0 0 ∷ notice 1 0 ∷ []
+second : told_to_all 0 root_and_b a_and_b (changes (answers.NotYet 1 ∷ answers.NotYet 1 ∷ []) (answers.NotYet 1 ∷ answers.NotYet 2 ∷ [])) ≡ notice 0 1 ∷ notice 1 1 ∷ []
 second = refl
 
 pub premises_met : PremisesMet
 premises_met = record {
   told = refl;
-  due = record { prefix = (97 ∷ []) ∷ []; path = (97 ∷ []) ∷ []; watches = refl; stands = refl; wanted = refl; changed = λ e. cc };
+  due = record { prefix = (98 ∷ []) ∷ []; path = (98 ∷ []) ∷ []; watches = refl; stands = refl; wanted = refl; changed = λ e. cc };
   same = refl;
   other_number = refl;
   nothing = λ e. cc;

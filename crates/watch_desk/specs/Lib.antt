@@ -5,5 +5,6 @@ pub mod Showing
 pub mod Kept
 pub mod Prefixes
 pub mod View
+pub mod Parts
 pub mod Telling
 pub mod Laws

@@ -1,5 +1,5 @@
 -- What is told over a list of candidates, where a shot is shown after each of them (this project's own rules).
-use Rattle.std.specs.Prelude.{◌≡◌, ◌≢◌, ◌⊎◌, ◌↔◌, ℕ, zero, suc, ◌<◌, List, [], ◌∷◌, ◌++◌, length, map, take}
+use Rattle.std.specs.Prelude.{◌≡◌, ◌≢◌, ◌⊎◌, ◌↔◌, ℕ, zero, suc, ◌<◌, true, List, [], ◌∷◌, ◌++◌, length, map, take}
 use Rattle.std.specs.List.{AllPairs, Contains}
 use Rattle.path_tree.specs.Paths.{Bytes, PathNames}
 use Rattle.path_resolver.specs.Resolving.{Held, answer_of}
@@ -10,6 +10,7 @@ use Rattle.tuner_core.specs.Turns.{held_after, answer_after}
 use Rattle.tuner_core.specs.declared.told.Fed.TheVariants.{Changed}
 use Rattle.watch_desk.specs.declared.notice.Notice.{Notice}
 use Rattle.watch_desk.specs.Notices.{ComesBefore, IsDue, notices}
+use Rattle.watch_desk.specs.Parts.{HeldStays, is_of_blocks, whole_after}
 use Rattle.watch_desk.specs.Watching.{answer_on, last_shot}
 
 -- a notice, with the number of candidates that had come by then
@@ -76,7 +77,8 @@ ShotsTellIt = (paths prefixes : List PathNames) (candidates : List Bytes) → to
 abbrev pub AreUpToDate : (shots : List Held) (candidates : List Bytes) → Type 0
 AreUpToDate shots candidates = (path : PathNames) → answer_on (last_shot shots) path ≡ answer_after candidates path
 
--- A shot is needed only after a candidate to which a receiver answers that something changed.
+-- A shot is needed only where what is held changes: after a candidate to which a receiver answers so, unless it is a section of blocks
+-- after which as many modules are whole as before.
 pub record ShotsAreNeededAtChanges : Type 0 where
   -- before any candidate no shot is needed
   pub begun : AreUpToDate [] []
@@ -86,5 +88,8 @@ pub record ShotsAreNeededAtChanges : Type 0 where
       ≡ told_in paths prefixes candidates ++ told_at (suc (length candidates)) (notices prefixes paths (answer_on (last_shot shots)) (answer_of (held_after (map as_heard (candidates ++ c ∷ [])))))
   pub up_to_date : (shots : List Held) (candidates : List Bytes) → AreUpToDate (shots ++ held_after (map as_heard candidates) ∷ []) candidates
   -- a candidate that changes nothing of what is held tells nothing, and the shot before it is still that of all answers
-  pub skipped : (paths prefixes : List PathNames) (candidates : List Bytes) (c : Bytes) → fed_after candidates c ≢ Changed → told_in paths prefixes (candidates ++ c ∷ []) ≡ told_in paths prefixes candidates
-  pub still : (shots : List Held) (candidates : List Bytes) (c : Bytes) → fed_after candidates c ≢ Changed → AreUpToDate shots candidates → AreUpToDate shots (candidates ++ c ∷ [])
+  pub skipped : (paths prefixes : List PathNames) (candidates : List Bytes) (c : Bytes) → HeldStays candidates c → told_in paths prefixes (candidates ++ c ∷ []) ≡ told_in paths prefixes candidates
+  pub still : (shots : List Held) (candidates : List Bytes) (c : Bytes) → HeldStays candidates c → AreUpToDate shots candidates → AreUpToDate shots (candidates ++ c ∷ [])
+  -- which candidates those are
+  pub nothing : (candidates : List Bytes) (c : Bytes) → fed_after candidates c ≢ Changed → HeldStays candidates c
+  pub part : (candidates : List Bytes) (c : Bytes) → is_of_blocks c ≡ true → whole_after (candidates ++ c ∷ []) ≡ whole_after candidates → HeldStays candidates c

@@ -31,6 +31,7 @@ mod filter;
 mod laws;
 mod notice;
 mod notifying;
+mod parts;
 mod watched;
 
 pub use crossing::cross_threads;
@@ -41,6 +42,7 @@ pub use laws::{
     premises_can_be_met, shots_are_needed_at_changes, shots_tell_it,
 };
 pub use notice::Notice;
+pub use parts::{is_of_blocks, whole_modules};
 
 /// The most paths that a desk watches. This project's own limit.
 pub const MOST_WATCHED: usize = 1_024;

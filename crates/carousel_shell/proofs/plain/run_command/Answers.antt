@@ -36,3 +36,9 @@ returns-in-PublishOn-clause-promises g c = rw c.in-PublishOn.is (record { unread
 
 pub returns-in-Mounts-clause-promises : goal.returns-in-Mounts-clause-promises
 returns-in-Mounts-clause-promises g c = rw (c.in-Mounts.is, ← c.deref-in-Mounts.ensures.value) c.mounts.ensures.serves
+
+pub returns-in-Watch-clause-promises : goal.returns-in-Watch-clause-promises
+returns-in-Watch-clause-promises g c = rw (c.in-Watch.is, ← c.deref-in-Watch.ensures.value) c.watch.ensures.watches
+
+pub watch-requires-clause-few : goal.watch-requires-clause-few
+watch-requires-clause-few g c = rw c.deref-in-Watch.ensures.value ((rw c.in-Watch.is at c.requires.sized).1)

@@ -37,7 +37,7 @@ returns-in_err-put_accepted-clause-records g c =
     (puts_then c.loop-reader.invariant.puts (rw c.deref.ensures.value at c.in_err-put_accepted.ensures.puts)) in
     rw (p.1, p.2) (records_put c.args.pid _ _ (c.loop-reader.invariant.candidates ++ map view_bytes c.in-Some.candidates.items) _
     (first_halted c.candidates_grow.ensures (reader_stopped inputs.NoMemory cut
-    (taken_stopped c.next.new.self.most c.next.new.self.unread c.next.new.self.unread _ _ _ cut.packets inputs.NoMemory (λ e. cc) refl (reader_taken cut))))
+    (taken_stopped c.next.new.self.most c.next.new.self.unread c.next.new.self.unread _ _ _ cut.packets inputs.NoMemory (λ e. cc) (λ e. absurd (cc)) refl (reader_taken cut))))
     (λ e. all.cause (ap Err e)) (writes_prefix c.requires all))
 
 pub loop-reader-preserved : goal.loop-reader-preserved

@@ -1,4 +1,4 @@
-use Rattle.std.proofs.Common.{◌≡◌, ◌≤◌, ◌++◌, ◌∷◌, [], take, Ok, ap, ◌∙◌, arith}
+use Rattle.std.proofs.Common.{◌≡◌, ◌++◌, ◌∷◌, [], take, Ok, ap, ◌∙◌, arith}
 use Rattle.std.proofs.lemmas.Result.{err_from_is_err_and}
 use Rattle.shell_streams.specs.declared.input.InputFault.TheVariants as inputs
 use Rattle.shell_streams.proofs.Putting.{rose_last}
@@ -21,7 +21,7 @@ returns-in_err-hear g c =
     let p = err_from_is_err_and c.from_residual-in_err-hear.result c.from_residual-in_err-hear.ensures.1 in
     let inv = c.loop-unread.invariant in
     rw (p.1, p.2) (hears_fault inputs.NoMemory
-    (stops_stopped (taken_stopped c.loop-unread.most c.has_next.new.unread c.loop-unread.unread _ _ _ inv.packets inputs.NoMemory (λ e. cc) c.has_next.ensures.rest inv.taken))
+    (stops_stopped (taken_stopped c.loop-unread.most c.has_next.new.unread c.loop-unread.unread _ _ _ inv.packets inputs.NoMemory (λ e. cc) (λ e. absurd (cc)) c.has_next.ensures.rest inv.taken))
     (omega (arith, inv.later, c.has_next.ensures.later)) (λ e. absurd (cc)))
 
 pub loop-unread-preserved : goal.loop-unread-preserved

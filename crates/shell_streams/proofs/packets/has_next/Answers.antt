@@ -8,7 +8,7 @@ use Rattle.shell_streams.proofs.packets.has_next.Goals as goal
 pub returns-in_err-has_packet-clause-stopped : goal.returns-in_err-has_packet-clause-stopped
 returns-in_err-has_packet-clause-stopped g c =
     let p = err_from_is_err_and c.from_residual.result c.from_residual.ensures.1 in
-    rw (p.1, p.2) (λ start packets h. taken_stopped c.args.most c.has_packet.new.unread c.args.unread.now start _ _ packets faults.Failed (λ e. cc) c.has_packet.ensures.rest h)
+    rw (p.1, p.2) (λ start packets h. taken_stopped c.args.most c.has_packet.new.unread c.args.unread.now start _ _ packets faults.Failed (λ e. cc) (λ e. c.in_err-has_packet.ensures.short) c.has_packet.ensures.rest h)
 
 pub returns-then-most-gt0-clause-ended : goal.returns-then-most-gt0-clause-ended
 returns-then-most-gt0-clause-ended g c = λ e start packets h.
@@ -18,7 +18,7 @@ returns-then-most-gt0-clause-ended g c = λ e start packets h.
 pub returns-in_err-goes_on-clause-stopped : goal.returns-in_err-goes_on-clause-stopped
 returns-in_err-goes_on-clause-stopped g c =
     let p = err_from_is_err_and c.from_residual-in_err-goes_on.result c.from_residual-in_err-goes_on.ensures.1 in
-    rw (p.1, p.2) (λ start packets h. taken_stopped c.args.most c.goes_on.new.unread c.args.unread.now start _ _ packets faults.Failed (λ e. cc) c.goes_on.ensures.rest h)
+    rw (p.1, p.2) (λ start packets h. taken_stopped c.args.most c.goes_on.new.unread c.args.unread.now start _ _ packets faults.Failed (λ e. cc) (λ e. rw c.in_err-goes_on.ensures.none (omega arith)) c.goes_on.ensures.rest h)
 
 pub returns-then-branch-clause-stopped : goal.returns-then-branch-clause-stopped
 returns-then-branch-clause-stopped g c = λ start packets h.

@@ -3,22 +3,19 @@ use Rattle.std.specs.List.{All}
 use Rattle.std.proofs.lemmas.Result.{on_ok_weaker}
 use Rattle.mount_table.specs.declared.receiver.Receiver.{Receiver}
 use Rattle.mount_table.specs.Stands.{MountsState, Receives, CompletesOne}
-use Rattle.mount_table.proofs.Hearing.{mount_in, none_hears, written_back}
+use Rattle.mount_table.proofs.Hearing.{mount_in, written_back}
 use Rattle.mount_table.proofs.mounts.Mounts.hear.Goals as goal
 
-pub returns-in-Some-clause-receives : goal.returns-in-Some-clause-receives
-returns-in-Some-clause-receives c = on_ok_weaker c.hear_on.result (λ k packets all.
+pub returns-clause-receives : goal.returns-clause-receives
+returns-clause-receives c = on_ok_weaker c.hear_on.result (λ k packets all.
     let items = c.self.inside.receivers.items in
     let given : c.deref_mut.result.now ≡ c.args.self.now.receivers = c.deref_mut.ensures.value ∙ ap (λ (m : MountsState). m.receivers) c.self.view_is in
     let kept : length c.hear_on.new.receivers ≡ length items = c.hear_on.auto.receivers ∙ ap (λ (rs : List Receiver). length rs) c.deref_mut.ensures.value in
     subst (All (Receives (packets ++ c.args.packet.now ∷ []))) (sym (written_back c.self.inside.receivers.len items c.hear_on.new.receivers c.self.inside.receivers.ok.0 kept))
     (k packets (subst (All (Receives packets)) (sym given) all))) c.hear_on.ensures.receives
 
-pub returns-in-Some-clause-memory : goal.returns-in-Some-clause-memory
-returns-in-Some-clause-memory c = λ e packets all.
+pub returns-clause-memory : goal.returns-clause-memory
+returns-clause-memory c = λ e packets all.
     let given : c.deref_mut.result.now ≡ c.args.self.now.receivers = c.deref_mut.ensures.value ∙ ap (λ (m : MountsState). m.receivers) c.self.view_is in
     subst (λ (rs : List Receiver). CompletesOne (map mount_in rs) packets c.args.packet.now) given
     (c.hear_on.ensures.memory e packets (subst (All (Receives packets)) (sym given) all))
-
-pub returns-in-None-clause-receives : goal.returns-in-None-clause-receives
-returns-in-None-clause-receives c = none_hears c.args.packet.now c.args.self.now.receivers (sym c.in-None.ensures)

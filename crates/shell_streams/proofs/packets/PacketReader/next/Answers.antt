@@ -17,7 +17,7 @@ pub returns-in_err-sections-clause-stopped : goal.returns-in_err-sections-clause
 returns-in_err-sections-clause-stopped g c =
     let p = err_from_is_err_and c.from_residual-in_err-sections.result c.from_residual-in_err-sections.ensures.1 in
     rw (p.1, p.2) (λ pid start cs h. reader_stopped faults.NoMemory h
-    (taken_stopped c.args.self.now.most c.has_next.new.unread c.args.self.now.unread start _ _ h.packets faults.NoMemory (λ e. cc) c.has_next.ensures.rest (reader_taken h)))
+    (taken_stopped c.args.self.now.most c.has_next.new.unread c.args.self.now.unread start _ _ h.packets faults.NoMemory (λ e. cc) (λ e. absurd (cc)) c.has_next.ensures.rest (reader_taken h)))
 
 pub returns-clause-next : goal.returns-clause-next
 returns-clause-next g c = λ pid start cs h.
