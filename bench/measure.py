@@ -11,9 +11,9 @@ from collections import namedtuple
 Measured = namedtuple("Measured", "taken processor resident written")
 
 
-def measured(words, source=None, counts=False):
-    """Runs a command whose input comes through a pipe from a file, or is empty. Its output is passed over, or
-    counted by `wc` at the other end of a pipe."""
+def measured(words, source=None, counts=False, statuses=(0,)):
+    """Runs a command whose input comes through a pipe from a file, or is empty, and which ends with one of these statuses. Its output
+    is passed over, or counted by `wc` at the other end of a pipe."""
     feeder = subprocess.Popen(["cat", source], stdout=subprocess.PIPE) if source else None
     began = time.monotonic()
     child = subprocess.Popen(words, stdin=feeder.stdout if feeder else subprocess.DEVNULL, stdout=subprocess.PIPE if counts else subprocess.DEVNULL)
@@ -28,7 +28,7 @@ def measured(words, source=None, counts=False):
     if feeder:
         feeder.wait()
     child.returncode = os.waitstatus_to_exitcode(status)
-    if child.returncode:
+    if child.returncode not in statuses:
         raise SystemExit(f"status {child.returncode} of {' '.join(words)[:200]}")
     return Measured(taken, usage.ru_utime + usage.ru_stime, usage.ru_maxrss * 1024, written)
 
