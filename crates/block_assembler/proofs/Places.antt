@@ -1,5 +1,6 @@
 -- The blocks of a buffer, and what a write or a mark changes.
 use Rattle.std.proofs.Common.{◌≡◌, ◌≢◌, ℕ, zero, suc, ◌+◌, ◌-◌, ◌*◌, ◌<◌, ◌≤◌, min, Bool, true, false, cond, List, [], ◌∷◌, ◌++◌, length, take, drop, replicate, Option, Some, None, is_some, if◌then◌else◌, refl, ap, sym, ◌∙◌, subst, arith, get_or, set, get_or-set_other, get_or-set_same, length-append, length-drop, mul-le-mul_left, suc-mul, mul_comm, ◌⊎◌, inl, inr}
+use Rattle.std.proofs.Math.ListN.{get_or-eq_default}
 use Rattle.std.proofs.lemmas.List.{drop-append-le, drop-drop, drop_all, drop_at, take_at, take_all, take-append-le, take-append-drop, append_assoc, length-set, length-take, length-replicate, ext_get_or, set-get_or, get_or_read, append-nil}
 use Rattle.std.proofs.lemmas.Bool.{eq-eqb, ne_eqb, lt-ltb, le-ltb, cases_eq, cases_order}
 use Rattle.std.proofs.lemmas.Grind.{div_ceil_times}
@@ -185,6 +186,19 @@ pub is_wrong_length : (size k : ℕ) (bytes : Bytes) (ts : List Bool) (b : ℕ) 
 is_wrong_length size k bytes ts b new h n ne =
     let below : b < block_count_of size k = omega (arith, n) in
     sym (rw (lt-ltb b (block_count_of size k) below, ne_eqb (length new) (block_span_of size k b) ne) refl)
+
+-- whether a block is there
+pub is_marked : (size k : ℕ) (bytes : Bytes) (ts : List Bool) (place b : ℕ) (mark : Bool) → place ≡ b → b < length ts → mark ≡ get_or ts place mark → mark ≡ is_some (block_in (viewed size k bytes ts).blocks b)
+is_marked size k bytes ts place b mark e h m = by mark (block_if bytes k ts place b mark e h m)
+  where
+    by : (t : Bool) → block_in (blocks_from bytes k 0 ts) b ≡ cond t (Some (block_of bytes k b)) None → t ≡ is_some (block_in (blocks_from bytes k 0 ts) b)
+    by true there = rw there refl
+    by false there = rw there refl
+
+pub is_above : (size k : ℕ) (bytes : Bytes) (ts : List Bool) (b : ℕ) → length ts ≤ b → false ≡ is_some (block_in (viewed size k bytes ts).blocks b)
+is_above size k bytes ts b h =
+    let none : block_in (blocks_from bytes k 0 ts) b ≡ None = get_or-eq_default (blocks_from bytes k 0 ts) None (omega (arith, h, length_blocks bytes k 0 ts)) in
+    rw none refl
 
 -- an offer that isn't taken leaves the state
 pub not_taken : (a : AssemblerState) (b : ℕ) (new : Bytes) (o : Offer) → o ≡ offer_of a b new → is_new o ≡ false → a ≡ after_offer a b new

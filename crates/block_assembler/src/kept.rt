@@ -1,8 +1,8 @@
 ghost use Rattle.std.specs.Prelude.{◌≡◌, ◌<◌, ◌≤◌, ◌⊎◌, ◌++◌, ◌∷◌, [], List, ℕ, Some, None, Ok, IfOk, IfErr, MatchResult, IsErrOf, length};
-ghost use Rattle.std.specs.Option.{option_map, is_none};
+ghost use Rattle.std.specs.Option.{option_map, is_none, is_some};
 ghost use Rattle.std.specs.List.{position};
 ghost use Rattle.ddb_block.specs.Blocks.{block_count_of};
-ghost use Rattle.block_assembler.specs.Blocks.{StandsFor, Call, Offered, Forgotten, empty_of, offer_of, after_offer, after_forget, join_all, refilled, IsAssembled};
+ghost use Rattle.block_assembler.specs.Blocks.{StandsFor, block_in, Call, Offered, Forgotten, empty_of, offer_of, after_offer, after_forget, join_all, refilled, IsAssembled};
 ghost use Rattle.block_assembler.specs.declared.NewFault.TheVariants.{NoMemory as OutOfMemory};
 
 use crate::put::put;
@@ -162,6 +162,17 @@ impl Assembler {
             there: self.there,
         };
         Ok((self.bytes, left))
+    }
+
+    /// Whether block number `block` is there. A module has no block above its last one, so that it isn't there.
+    pub fn is_there(&self, block: u16) -> bool
+        ensures { result ≡ is_some (block_in self.now.blocks block) }
+    {
+        let place = usize::from(block);
+        if place >= self.there.len() {
+            return false;
+        }
+        self.there[place]
     }
 
     /// The least number of a block that is missing, if any is.

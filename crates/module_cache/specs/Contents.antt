@@ -1,8 +1,8 @@
 -- What is there of one module of a held DII.
-use Rattle.std.specs.Prelude.{ℕ, Bool, true, false, not, List, length, Option, Some, None, nat_lt, ◌==◌, slice_set, replicate, if◌then◌else◌}
+use Rattle.std.specs.Prelude.{ℕ, Bool, true, false, not, List, length, Option, Some, None, is_some, nat_lt, ◌==◌, slice_set, replicate, if◌then◌else◌}
 use Rattle.path_tree.specs.Paths.{Bytes}
 use Rattle.ddb_block.specs.Blocks as ddb
-use Rattle.block_assembler.specs.Blocks.{offer_of, join_all}
+use Rattle.block_assembler.specs.Blocks.{offer_of, join_all, block_in}
 use Rattle.block_assembler.specs.declared.Offer.{Offer}
 use Rattle.block_assembler.specs.declared.Offer.TheVariants as offers
 use Rattle.module_cache.specs.declared.taken.Taken.{Taken}
@@ -68,6 +68,12 @@ stored_after s b bytes = record { size = s.size; block_size = s.block_size; cont
 abbrev pub fresh_content : ℕ → ℕ → Bool → Content
 fresh_content size block_size true = Packed
 fresh_content size block_size false = content_of (replicate (ddb.block_count_of size block_size) None)
+
+-- a block of the module is there, for the numbers of its blocks
+abbrev pub has_block : Content → ℕ → Bool
+has_block Packed b = false
+has_block (Blocks blocks) b = is_some (block_in blocks b)
+has_block (Whole bytes) b = true
 
 abbrev pub bytes_of : Content → Option Bytes
 bytes_of (Whole bytes) = Some bytes

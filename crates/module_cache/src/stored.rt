@@ -3,7 +3,9 @@
 ghost use Rattle.std.specs.Prelude.{◌≡◌, ◌≢◌, ◌≤◌, ◌<◌, ℕ, IfOk, IfErr, OnOk, OnErr};
 ghost use Rattle.std.specs.Arc.{arc_value};
 ghost use Rattle.block_assembler.specs.Blocks.{IsAssembled};
-ghost use Rattle.module_cache.specs.Contents.{taken_again, taken_at, taken_in, stored_after, content_after, fresh_content, Blocks};
+ghost use Rattle.module_cache.specs.Contents.{taken_again, taken_at, taken_in, stored_after, content_after, fresh_content, has_block, Blocks};
+ghost use Rattle.ddb_block.specs.Blocks.{block_count_of};
+ghost use Rattle.ddb_block.specs.declared.TheConstants.{MOST_BLOCKS};
 ghost use Rattle.module_cache.specs.StoredView.{view_state, IsShaped, IsState};
 ghost use Rattle.module_cache.specs.Contents as contents;
 ghost use Rattle.module_cache.specs.Slots.{view_slot, slot_of};
@@ -210,6 +212,26 @@ impl Stored {
             State::Empty => Slot::Partial,
             State::Part(_) => Slot::Partial,
             State::Whole(module) => Slot::Whole(module),
+        }
+    }
+
+    /// How many blocks the module has, 0 to 65,536. Takes no memory.
+    pub fn block_count(&self) -> u32
+        ensures count { result ≡ block_count_of self.now.size self.now.block_size }
+        ensures few { result ≤ MOST_BLOCKS }
+    {
+        block_count(self.size, self.block_size)
+    }
+
+    /// Whether block number `block` of the module is there, below the number of its blocks. Takes no memory.
+    pub fn is_there(&self, block: u16) -> bool
+        ensures { result ≡ has_block self.now.content block }
+    {
+        match &self.state {
+            State::Packed => false,
+            State::Empty => false,
+            State::Part(assembler) => assembler.is_there(block),
+            State::Whole(_) => true,
         }
     }
 

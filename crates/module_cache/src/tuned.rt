@@ -172,10 +172,17 @@ impl Tuned {
     }
 
     /// The DII's downloadId.
-    pub(crate) fn download(&self) -> u32
+    pub fn download(&self) -> u32
         ensures { result ≡ self.now.download }
     {
         self.download
+    }
+
+    /// The size of the DII's blocks in bytes, 1 to [`ddb_block::MOST_BLOCK_SIZE`].
+    pub fn block_size(&self) -> u16
+        ensures { result ≡ self.now.block_size }
+    {
+        self.block_size
     }
 
     /// The DII has the block's downloadId and lists its module.

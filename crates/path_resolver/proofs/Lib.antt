@@ -2,3 +2,4 @@ pub mod Finding
 pub mod Named
 pub mod Alike
 pub mod CallerLemmas
+mod Placing

@@ -4,3 +4,4 @@ pub mod Shared
 pub mod Names
 pub mod Targets
 pub mod Comparing
+pub mod Places

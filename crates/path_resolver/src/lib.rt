@@ -29,4 +29,4 @@ pub use answer::{Answer, FileRef, FolderRef};
 pub use comparing::same;
 pub use crossing::cross_threads;
 pub use shot::{Gateway, Held, Shot};
-pub use walking::resolve;
+pub use walking::{home_of, resolve};

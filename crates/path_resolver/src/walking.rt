@@ -1,4 +1,4 @@
-ghost use Rattle.std.specs.Prelude.{◌≡◌, ◌==◌, ◌&&◌, Option, map, IsTrue, IfOk, OnErr, MatchResult};
+ghost use Rattle.std.specs.Prelude.{◌≡◌, ◌==◌, ◌&&◌, Option, Some, map, IsTrue, IfOk, OnErr, MatchResult};
 ghost use Rattle.std.specs.List.{find, list_any};
 ghost use Rattle.std.specs.Option.{option_map};
 ghost use Rattle.std.specs.Arc.{arc_value};
@@ -6,6 +6,8 @@ ghost use Rattle.biop_object.specs.Objects.{view_binding};
 ghost use Rattle.biop_object.specs.ObjectReading.{found_of};
 ghost use Rattle.path_resolver.specs.Resolving as resolving;
 ghost use Rattle.path_resolver.specs.Resolving.{answer_of, last, walk, module_of, is_shared};
+ghost use Rattle.path_resolver.specs.Places as places;
+ghost use Rattle.path_resolver.specs.Places.{last_target, module_at_end};
 ghost use Rattle.path_resolver.specs.Shots.{held_of, view_held};
 ghost use Rattle.path_resolver.specs.Targets.{view_target, BindingGoes, ObjectGoes, StepGoes, IsModuleAt, IsNoModule};
 
@@ -211,6 +213,35 @@ fn walk_from(shot: &Shot, gateway: &Gateway, path: &Path) -> Result<Answer, NoMe
         }
     }
     end_of(shot, carousel, &target)
+}
+
+/// The module of the last location on the walk along all names, where the walk comes so far.
+fn home_from(shot: &Shot, gateway: &Gateway, path: &Path) -> Option<u16>
+    ensures { result ≡ module_at_end (last_target gateway.now.location.carousel (held_of shot.now) path.now (Some (gateway.now.location, gateway.now.delivery))) }
+{
+    let carousel = gateway.location.carousel;
+    let mut target = Target {
+        location: &gateway.location,
+        delivery: gateway.delivery,
+    };
+    for i in 0..path.len() {
+        match leads(shot, carousel, &target, path.name(i)) {
+            Step::On(next) => target = next,
+            Step::Ends(_) => return None,
+        }
+    }
+    Some(target.location.module)
+}
+
+/// The module in which the object of a path lies, or from which it is to come: that of the last location on the walk from the gateway
+/// along all names. None, where the walk ends before, and where no gateway or no DII is held. Takes no memory.
+pub fn home_of(shot: &Shot, path: &Path) -> Option<u16>
+    ensures { result ≡ places.home_of (held_of shot.now) path.now }
+{
+    match (&shot.gateway, shot.label) {
+        (Some(gateway), Some(_)) => home_from(shot, gateway, path),
+        _ => None,
+    }
 }
 
 /// The answer to the whole path on one shot: the walk from the gateway along all names. A file or a folder shares the

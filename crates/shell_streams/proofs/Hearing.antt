@@ -19,3 +19,12 @@ hears_fault fault stopped le cause = record { ok = tt; err = stopped; later = le
 pub map_next : {X : Type 0} (f : X → Bytes) (before : List Bytes) (xs : List X) (i : ℕ) (x : X) → i < length xs → x ≡ get_or xs i x → (before ++ map f (take i xs)) ++ f x ∷ [] ≡ before ++ map f (take (i + 1) xs)
 map_next f before xs i x h e =
     append_assoc before (map f (take i xs)) (f x ∷ []) ∙ ap (λ ys. before ++ ys) (ap (λ y. map f (take i xs) ++ f y ∷ []) e ∙ sym (map_more f xs i x h))
+
+-- the same was heard, whatever is answered beside it
+pub hears_as : {T U : Type 0} {x : T} (y : U) {reading : Reading} {Heard : List Bytes → Type 0} {before after : Option Bytes} {faults later : ℕ} → Hears reading (λ (_ : T). Heard) (Ok x) before after faults later
+    → Hears reading (λ (_ : U). Heard) (Ok y) before after faults later
+hears_as y h = hears_end h.ok h.later
+
+pub hears_fails : {T U : Type 0} {fault : InputFault} {reading : Reading} {Heard : List Bytes → Type 0} {before after : Option Bytes} {faults later : ℕ} → Hears reading (λ (_ : T). Heard) (Err fault) before after faults later
+    → Hears reading (λ (_ : U). Heard) (Err fault) before after faults later
+hears_fails {fault = fault} h = hears_fault fault h.err h.later (λ e. h.cause (cc))

@@ -4,6 +4,7 @@ mod Cutting
 pub mod Packeting
 mod Halting
 mod Hearing
+mod Resting
 mod Gathering
 pub mod CallerLemmas
 pub mod Putting

@@ -1,4 +1,6 @@
-ghost use Rattle.std.specs.Prelude.{◌++◌, ◌∷◌, [], List, OnOk};
+ghost use Rattle.std.specs.Prelude.{◌≡◌, ◌++◌, ◌∷◌, [], List, length, IfOk, OnOk};
+ghost use Rattle.oc_bytes.specs.Outcome.{Known};
+ghost use Rattle.section_stream.specs.Pieces.{rest_of};
 ghost use Rattle.shell_streams.specs.Cuts.{Bytes};
 ghost use Rattle.shell_streams.specs.Carriers.{Hears, all_packets};
 
@@ -34,6 +36,22 @@ pub fn hear_all_packets<S: Source, L: PacketListener>(
     requires { L.heard listener.old listener.old [] }
     ensures { Hears all_packets (λ _. L.heard listener.old listener.new) result (S.left source.old) (S.left source.new) (S.faults source.old) (S.faults source.new) }
 {
+    match hear_packets_and_rest(alloc, source, listener) {
+        Ok(_) => Ok(()),
+        Err(fault) => Err(fault),
+    }
+}
+
+/// The same, and says how many bytes the last piece has, 0 to 187.
+pub fn hear_packets_and_rest<S: Source, L: PacketListener>(
+    alloc: Global,
+    source: &mut S,
+    listener: &mut L,
+) -> Result<usize, InputFault>
+    requires { L.heard listener.old listener.old [] }
+    ensures hears { Hears all_packets (λ _. L.heard listener.old listener.new) result (S.left source.old) (S.left source.new) (S.faults source.old) (S.faults source.new) }
+    ensures rest { IfOk result (λ n. Known (S.left source.old) (S.left source.new) (λ input _. n ≡ length (rest_of input))) }
+{
     let mut unread = Unread::new(alloc)?;
     let mut most = MOST_PACKETS;
     while has_next(&mut unread, most, source)? {
@@ -44,5 +62,5 @@ pub fn hear_all_packets<S: Source, L: PacketListener>(
         unread.pass(PACKET);
         most -= 1;
     }
-    Ok(())
+    Ok(unread.held().len())
 }

@@ -26,7 +26,7 @@ mod unread;
 mod whole;
 
 pub use carrier::{Carrier, Listener, hear_all, hear_each};
-pub use every_packet::{PacketListener, hear_all_packets};
+pub use every_packet::{PacketListener, hear_all_packets, hear_packets_and_rest};
 pub use input::InputFault;
 pub use output::{Buffered, MOST_PENDING, Output, OutputFault, room};
 pub use packets::{MOST_PACKETS, PacketReader};

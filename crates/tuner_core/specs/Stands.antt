@@ -45,6 +45,10 @@ pub record StandsFor (t : TunerState) (candidates : List Bytes) : Type 0 where
   pub label : t.label ≡ label_of (turns_of (map as_heard candidates))
   pub epoch : t.epoch ≡ epoch_of (turns_of (map as_heard candidates))
 
+-- the held DIIs, looking back, each with what is there of its modules
+abbrev pub held_diis : List Bytes → List TunedState
+held_diis candidates = (state_in block_in (turns_of (map as_heard candidates))).held
+
 -- ---- one DSI
 
 abbrev pub same_location : Location → Location → Bool

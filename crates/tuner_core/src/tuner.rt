@@ -6,7 +6,7 @@ ghost use Rattle.path_resolver.specs.Shots as shots;
 ghost use Rattle.module_cache.specs.Contents.{bytes_of};
 ghost use Rattle.tuner_core.specs.Answers.{fed_after};
 ghost use Rattle.tuner_core.specs.Heard.{as_heard};
-ghost use Rattle.tuner_core.specs.Stands.{StandsFor, fresh, step, with_next_mark, after_heard, asks, modules_of, snapshot_of};
+ghost use Rattle.tuner_core.specs.Stands.{StandsFor, fresh, step, with_next_mark, after_heard, asks, held_diis, modules_of, snapshot_of};
 ghost use Rattle.tuner_core.specs.Turns.{snapshot_after};
 
 use crate::gateway::{copy_of_held, take_dsi};
@@ -183,6 +183,14 @@ impl Tuner {
         let fed = self.take(candidate)?;
         self.count();
         Ok(fed)
+    }
+
+    /// The held DIIs in the order in which they were heard, each with what is there of its modules. Takes no memory.
+    pub fn held(&self) -> &[Tuned]
+        ensures held { result.now ≡ self.now.cache.held }
+        ensures looks_back { (candidates : List Bytes) → StandsFor self.now candidates → result.now ≡ held_diis candidates }
+    {
+        self.turns.cache.held()
     }
 
     /// The shot of what is held.
