@@ -2,15 +2,14 @@
 use Rattle.std.proofs.Common.{◌≡◌, ◌⊎◌, ℕ, suc, ◌≤◌, Bool, true, false, ◌&&◌, nat_lt, List, [], ◌∷◌, ◌++◌, length, take, Option, Some, None, Result, Ok, cond, refl, sym, ap, ◌∙◌, inl, inr, arith, append_assoc, append-nil, length-take}
 use Rattle.std.specs.declared.cmp.Ordering.TheVariants.{Less, Equal, Greater}
 use Rattle.std.specs.Ordering.{ordering_reverse}
-use Rattle.std.specs.Cmp.{IsTotalOrder}
 use Rattle.std.specs.BTreeMap.{insert_entry}
 use Rattle.std.specs.List.{AllByRecursion, sum_by}
 use Rattle.std.specs.Map.{lookup}
 use Rattle.std.proofs.lemmas.Bool.{ltb-false}
-use Rattle.std.proofs.lemmas.Cmp.{lists_total, nat_list_cmp_total, tied_itself}
+use Rattle.std.proofs.lemmas.Cmp.{tied_itself}
 use Rattle.std.proofs.lemmas.List.{take_all}
 use Rattle.std.proofs.lemmas.List.Elements.{recursion_from_All}
-use Rattle.path_tree.specs.Paths.{Bytes, PathNames, path_cmp, same_name, same_path}
+use Rattle.path_tree.specs.Paths.{Bytes, PathNames, path_cmp, same_path}
 use Rattle.path_tree.specs.Edits.{apply_all, apply_from, after_edit, fault_of, unless}
 use Rattle.path_tree.specs.Trees.{Tree, is_folder, is_through_file}
 use Rattle.path_tree.specs.declared.tree.Edit.{Edit}

@@ -7,3 +7,4 @@ pub mod Naming
 pub mod RealReads
 pub mod Sorting
 pub mod Walking
+pub mod Storing

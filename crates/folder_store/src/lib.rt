@@ -1,4 +1,4 @@
-//! Folders of the outside as edits.
+//! Folders of the outside as edits, and what is written into them.
 //!
 //! ```
 //! use folder_store::{MemFolders, read_tree};
@@ -17,12 +17,18 @@
 
 mod folders;
 mod laws;
+mod mem_store;
 mod memory;
+mod os_store;
 mod reading;
 mod real;
+mod store;
 
 pub use folders::{EntryKind, FolderEntry, FolderFault, Folders};
 pub use laws::edits_make_the_files;
+pub use mem_store::MemStore;
 pub use memory::MemFolders;
+pub use os_store::{OsStore, PART_NAME};
 pub use reading::{ReadTree, TreeFault, read_tree};
 pub use real::OsFolders;
+pub use store::{Store, StoreFault};

@@ -129,7 +129,7 @@ impl Folders for MemFolders {
 }
 
 /// What follows a folder's text and a slash.
-fn below<'a>(path: &str, text: &'a str) -> Option<&'a str>
+pub(crate) fn below<'a>(path: &str, text: &'a str) -> Option<&'a str>
     ensures { option_copied result ≡ after_prefix (path.now ++ 47 ∷ []) text.now }
 {
     text.strip_prefix(path)?.strip_prefix('/')

@@ -11,7 +11,7 @@ use std::rt::Files;
 use std::{fs, io};
 
 /// How often one call is tried, where a signal interrupts it: once, and 16 times again.
-const TRIES: u32 = 17;
+pub(crate) const TRIES: u32 = 17;
 
 /// The most bytes that one read of a file asks for.
 const PIECE: usize = 65_536;
@@ -98,7 +98,7 @@ impl<R: Files + Clone + Drop> Folders for OsFolders<R> {
 }
 
 /// The program's own allocator had no room, rather than the system.
-fn is_want_of_memory(error: &Error) -> bool {
+pub(crate) fn is_want_of_memory(error: &Error) -> bool {
     matches!(error.kind(), ErrorKind::OutOfMemory) && error.raw_os_error().is_none()
 }
 

@@ -1,0 +1,9 @@
+use Rattle.std.proofs.Common.{◌+◌, ◌-◌, ◌^◌, ◌≤◌, min}
+use Rattle.folder_store.proofs.os_store.OsStore.place.Given as goal
+
+-- each turn before this one raised the count, up to its type's end
+abbrev pub invariant-loop : goal.invariant-loop
+invariant-loop g l = record {
+  later : l.fn.self.faults ≤ l.self.faults;
+  risen : min (l.fn.self.faults + l.counter) (2 ^ 64 - 1) ≤ l.self.faults;
+}

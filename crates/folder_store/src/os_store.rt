@@ -1,0 +1,174 @@
+ghost use Rattle.std.specs.Prelude.{◌≡◌, ◌≤◌, ◌+◌, ◌-◌, ◌^◌, None, min, OnOk, IsErrOf};
+ghost use Rattle.oc_bytes.specs.Outcome.{Rose};
+
+use crate::real::{TRIES, is_want_of_memory};
+use crate::store::{Store, StoreFault};
+use oc_bytes::{NoMemory, Sink, StdSink, WriteFault, write_all};
+use std::alloc::Global;
+use std::fs::File;
+use std::io::{Error, ErrorKind};
+use std::rt::Files;
+use std::{fs, io};
+
+/// The last name of a file while it is written. No file of this name itself can be written.
+pub const PART_NAME: &str = ".carousel-part";
+
+/// Folders of the system as [`Store`]. What stands there isn't known.
+///
+/// Each error that the system answers raises the count of faults. A call that a signal interrupts is repeated at most 16 times. A
+/// path text is the system's, from the current folder on where it doesn't begin with `/`.
+///
+/// A file is written under the name [`PART_NAME`] beside its place, and gets its own name as a second one, which the system gives only
+/// where nothing stands, not even a link. Then the first name is taken away. Where the system can't give a file two names, the file is
+/// renamed once nothing was found in its place. The program waits for no disk: what a machine that stops in between keeps isn't said.
+#[derive(Drop)]
+pub struct OsStore<R: Drop> {
+    rt: R,
+    faults: u64,
+}
+
+impl<R: Files + Drop> OsStore<R> {
+    /// The folders that this runtime reaches, with no fault counted yet.
+    pub fn new(rt: R) -> OsStore<R>
+        ensures { result.faults ≡ 0 }
+    {
+        OsStore { rt, faults: 0 }
+    }
+
+    /// Counts an error, and fails unless a signal interrupted the call.
+    fn note(&mut self, error: &Error) -> Result<(), StoreFault>
+        ensures later { self.old.faults ≤ self.new.faults }
+        ensures again { OnOk result (min (self.old.faults + 1) (2 ^ 64 - 1) ≤ self.new.faults) }
+        ensures cause { IsErrOf result StoreFault.Failed → Rose self.old.faults self.new.faults }
+    {
+        if is_want_of_memory(error) {
+            return Err(StoreFault::NoMemory);
+        }
+        self.faults = self.faults.saturating_add(1);
+        match error.kind() {
+            ErrorKind::Interrupted => Ok(()),
+            _ => Err(StoreFault::Failed),
+        }
+    }
+
+    /// Creates a file, which mustn't be there.
+    fn create(&mut self, path: &str) -> Result<R::File, StoreFault>
+        ensures later { self.old.faults ≤ self.new.faults }
+        ensures cause { IsErrOf result StoreFault.Failed → Rose self.old.faults self.new.faults }
+    {
+        for _ in 0..TRIES {
+            match File::create_new(&self.rt, path) {
+                Ok(file) => return Ok(file),
+                Err(error) => self.note(&error)?,
+            }
+        }
+        Err(StoreFault::Failed)
+    }
+
+    /// Writes the bytes of a file that was created.
+    fn fill(&mut self, file: R::File, bytes: &[u8]) -> Result<(), StoreFault>
+        ensures later { self.old.faults ≤ self.new.faults }
+        ensures cause { IsErrOf result StoreFault.Failed → Rose self.old.faults self.new.faults }
+    {
+        let mut sink = StdSink::new(file);
+        let written = write_all(&mut sink, bytes);
+        self.faults = self.faults.saturating_add(sink.faults());
+        match written {
+            Ok(()) => Ok(()),
+            Err(WriteFault::Failed) => Err(StoreFault::Failed),
+            Err(WriteFault::NoMemory) => Err(StoreFault::NoMemory),
+        }
+    }
+
+    /// Gives the file `part` its own name, where nothing stands under that.
+    fn place(&mut self, part: &str, path: &str) -> Result<(), StoreFault>
+        ensures later { self.old.faults ≤ self.new.faults }
+        ensures cause { IsErrOf result StoreFault.Failed → Rose self.old.faults self.new.faults }
+    {
+        for _ in 0..TRIES {
+            match place_once(&self.rt, part, path) {
+                Ok(()) => return Ok(()),
+                Err(error) => self.note(&error)?,
+            }
+        }
+        Err(StoreFault::Failed)
+    }
+
+    /// Takes the name `part` away, where it is still there. Where that fails a name is left that nobody asked for, and an error more is
+    /// counted.
+    fn clear(&mut self, part: &str)
+        ensures { self.old.faults ≤ self.new.faults }
+    {
+        match fs::remove_file(&self.rt, part) {
+            Err(error) if error.kind() != ErrorKind::NotFound => {
+                self.faults = self.faults.saturating_add(1);
+            }
+            _ => {}
+        }
+    }
+}
+
+impl<R: Files + Drop> Store for OsStore<R> {
+    ghost tree = { λ _. None };
+
+    ghost faults = { λ s. s.faults };
+
+    fn make_folder(&mut self, _alloc: Global, path: &str) -> Result<(), StoreFault> {
+        for _ in 0..TRIES {
+            match fs::create_dir(&self.rt, path) {
+                Ok(()) => return Ok(()),
+                Err(error) => self.note(&error)?,
+            }
+        }
+        Err(StoreFault::Failed)
+    }
+
+    fn write_new(&mut self, alloc: Global, path: &str, bytes: &[u8]) -> Result<(), StoreFault> {
+        let part = part_beside(alloc, path)?;
+        let part = part.as_str();
+        let file = self.create(part)?;
+        let written = match self.fill(file, bytes) {
+            Ok(()) => self.place(part, path),
+            Err(fault) => Err(fault),
+        };
+        self.clear(part);
+        written
+    }
+
+    fn faults(&self) -> u64 {
+        self.faults
+    }
+}
+
+/// The text of the part's name in the folder in which a path stands.
+fn part_beside(alloc: Global, path: &str) -> Result<String, NoMemory> {
+    match path.rsplit_once('/') {
+        Some((folder, _)) => format!(in alloc; "{folder}/{PART_NAME}"),
+        None => String::from_str(alloc, PART_NAME),
+    }
+}
+
+/// Gives a file its second name; where the system has none, renames it, unless something stands there.
+fn place_once<R: Files>(rt: &R, part: &str, path: &str) -> io::Result<()> {
+    match fs::hard_link(rt, part, path) {
+        Err(error) if lacks_links(&error) => rename_new(rt, part, path),
+        linked => linked,
+    }
+}
+
+/// Whether it may be that the system gives no file two names.
+fn lacks_links(error: &Error) -> bool {
+    matches!(
+        error.kind(),
+        ErrorKind::Unsupported | ErrorKind::PermissionDenied
+    )
+}
+
+/// Renames a file, where nothing stands under the new name.
+fn rename_new<R: Files>(rt: &R, part: &str, path: &str) -> io::Result<()> {
+    match fs::symlink_metadata(rt, path) {
+        Ok(_) => Err(Error::from(ErrorKind::AlreadyExists)),
+        Err(error) if error.kind() == ErrorKind::NotFound => fs::rename(rt, part, path),
+        Err(error) => Err(error),
+    }
+}
