@@ -1,19 +1,22 @@
 -- A mount over one packet more.
-use Rattle.std.proofs.Common.{ℕ, ◌≡◌, ◌+◌, ◌<◌, ◌≤◌, ◌==◌, true, false, List, [], ◌∷◌, ◌++◌, length, get_or, map, take, drop, refl, sym, ap, subst, ◌∙◌, add-zero, append_assoc, arith, length-append}
+use Rattle.std.proofs.Common.{ℕ, ◌≡◌, ◌+◌, ◌<◌, ◌⊎◌, ◌==◌, true, false, List, [], ◌∷◌, ◌++◌, length, get_or, map, take, drop, Option, Some, None, inl, inr, refl, sym, ap, subst, ◌∙◌, append_assoc, arith, length-append}
 use Rattle.std.proofs.Math.ListN.{set}
-use Rattle.std.proofs.Math.Seq.{map-set_same}
-use Rattle.std.specs.List.{All, Contains}
-use Rattle.std.proofs.lemmas.Bool.{ne_eqb, eq-eqb}
-use Rattle.std.proofs.lemmas.List.{append-nil, drop_all, length-map, map-append, map_more, get_or-map, take_more_set, drop-set-lt, drop-drop, get_or-drop, take_all}
-use Rattle.std.proofs.lemmas.List.Elements.{All-append, All-cons, All-nil, All-get_or, Contains-get_or}
+use Rattle.std.specs.List.{All, Contains, slice_get}
+use Rattle.std.specs.Option.{option_map}
+use Rattle.std.proofs.lemmas.Bool.{cases_eq, ne_eqb, eq-eqb}
+use Rattle.std.proofs.lemmas.List.{append-nil, drop_all, length-map, length-set, map-append, map_more, get_or-map, get_or-set_same, get_or-set_other, take_all}
+use Rattle.std.proofs.lemmas.List.Elements.{All-append, All-cons, All-nil, Contains-get_or}
+use Rattle.std.proofs.lemmas.Option.{none-some, same_Some, slice_get-get_or, slice_get-map, slice_get_within}
 use Rattle.section_stream.specs.Cuts.{Bytes, candidates}
 use Rattle.section_stream.specs.Rules as streams
 use Rattle.tuner_core.specs.Stands as tuners
 use Rattle.mount_table.specs.declared.mount.Mount.{Mount}
 use Rattle.mount_table.specs.declared.receiver.Receiver.{Receiver}
+use Rattle.mount_table.specs.Places.{pids_of, IsPlaceOf}
 use Rattle.mount_table.specs.Receiving.{header_pid, with_header_pid}
 use Rattle.mount_table.specs.Stands.{Receives, CompletesOne}
 use Rattle.mount_table.proofs.Cutting.{handed_with, handed_without, cuts_more, count_before, count_after, cuts_still}
+use Rattle.mount_table.proofs.Placing.{pid_in}
 
 -- ---- one mount
 
@@ -78,49 +81,69 @@ grows_in_tuner x view new r mine some cuts packets h =
 abbrev pub mount_in : Receiver → Mount
 mount_in r = r.mount
 
--- the receivers after the one at i took the packet
-pub record HeardUpTo (x : Bytes) (before now : List Receiver) (i : ℕ) : Type 0 where
-  pub heard : (packets : List Bytes) → All (Receives packets) before → All (Receives (packets ++ x ∷ [])) (take i now)
-  pub rest : drop i now ≡ drop i before
-  pub mounts : map mount_in now ≡ map mount_in before
+-- its PID stands at its place
+pid_stands : (rs : List Receiver) (k : ℕ) (d : Receiver) → k < length rs → slice_get (pids_of (map mount_in rs)) k ≡ Some (get_or rs k d).mount.pid
+pid_stands rs k d lt =
+    slice_get-map pid_in (map mount_in rs) k ∙ ap (option_map pid_in) (slice_get-map mount_in rs k) ∙ ap (λ (o : Option Receiver). option_map pid_in (option_map mount_in o)) (slice_get-get_or rs k d lt)
 
-pub none_heard : (x : Bytes) (before : List Receiver) → HeardUpTo x before before 0
-none_heard x before = record { heard = λ packets all. All-nil (Receives (packets ++ x ∷ [])); rest = refl; mounts = refl }
+abbrev pub IsAt : Bytes → List Receiver → Option ℕ → Type 0
+IsAt x rs place = IsPlaceOf (header_pid x) (pids_of (map mount_in rs)) place
 
--- the next one is as it was
-same_next : (before now : List Receiver) (i : ℕ) (d : Receiver) → drop i now ≡ drop i before → get_or before i d ≡ get_or now i d
-same_next before now i d rest =
-    ap (λ (k : ℕ). get_or before k d) (sym (add-zero i)) ∙ sym (get_or-drop i before 0 d) ∙ ap (λ (zs : List Receiver). get_or zs 0 d) (sym rest)
-    ∙ get_or-drop i now 0 d ∙ ap (λ (k : ℕ). get_or now k d) (add-zero i)
+-- a place that a packet has
+pub at_place : (x : Bytes) (rs : List Receiver) (place : Option ℕ) (i n : ℕ) → IsAt x rs place → place ≡ Some n → i ≡ n → IsAt x rs (Some i)
+at_place x rs place i n h e f = subst (IsAt x rs) (e ∙ ap (λ (k : ℕ). Some k) (sym f)) h
 
-pub heard_one : (x : Bytes) (before now : List Receiver) (i : ℕ) (d y : Receiver) → i < length before → i < length now
-    → ((packets : List Bytes) → Receives packets (get_or now i d) → Receives (packets ++ x ∷ []) y) → y.mount ≡ (get_or now i d).mount
-    → HeardUpTo x before now i → HeardUpTo x before (set now i y) (i + 1)
-heard_one x before now i d y lt lt_now hear mount h = record {
-  heard = λ packets all.
-      let here : Receives packets (get_or now i d) = subst (Receives packets) (same_next before now i d h.rest) (All-get_or (Receives packets) before i d lt all) in
-      let P : Receiver → Type 0 = Receives (packets ++ x ∷ []) in
-      subst (All P) (sym (take_more_set now i y lt_now)) (All-append P (take i now) (y ∷ []) (h.heard packets all) (All-cons P y [] (hear packets here) (All-nil P)));
-  rest = drop-set-lt (i + 1) now i y (omega arith) ∙ sym (drop-drop 1 i now) ∙ ap (λ (zs : List Receiver). drop 1 zs) h.rest ∙ drop-drop 1 i before;
-  mounts = map-set_same mount_in now i y d mount ∙ h.mounts;
-}
+pub is_within : (x : Bytes) (rs : List Receiver) (i : ℕ) → IsAt x rs (Some i) → i < length rs
+is_within x rs i place =
+    omega (arith, slice_get_within (pids_of (map mount_in rs)) i (header_pid x) ((place i).0 refl), length-map (map mount_in rs) pid_in, length-map rs mount_in)
 
-pub all_heard : (x : Bytes) (before now : List Receiver) (i : ℕ) → length now ≤ i → HeardUpTo x before now i
-    → (packets : List Bytes) → All (Receives packets) before → All (Receives (packets ++ x ∷ [])) now
-all_heard x before now i end h packets all = subst (All (Receives (packets ++ x ∷ []))) (take_all i now end) (h.heard packets all)
+-- the receiver there is on the packet's PID
+pub on_its_pid : (x : Bytes) (rs : List Receiver) (i : ℕ) (d : Receiver) → IsAt x rs (Some i) → header_pid x ≡ (get_or rs i d).mount.pid
+on_its_pid x rs i d place = same_Some (header_pid x) (get_or rs i d).mount.pid (sym ((place i).0 refl) ∙ pid_stands rs i d (is_within x rs i place))
 
--- where one of them found no memory
-pub completes_one : (x : Bytes) (before now : List Receiver) (i : ℕ) (d : Receiver) → i < length before
-    → ((packets : List Bytes) → Receives packets (get_or now i d) → Grows (get_or now i d).mount.pid packets x)
-    → HeardUpTo x before now i → (packets : List Bytes) → All (Receives packets) before → CompletesOne (map mount_in before) packets x
-completes_one x before now i d lt grows h packets all =
-    let r : Receiver = get_or before i d in
-    let same = same_next before now i d h.rest in
-    let found : get_or (map mount_in before) i d.mount ≡ r.mount = get_or-map mount_in before i d d.mount lt in
-    let more : Grows r.mount.pid packets x =
-    subst (λ (s : Receiver). Grows s.mount.pid packets x) (sym same) (grows packets (subst (Receives packets) same (All-get_or (Receives packets) before i d lt all))) in
-    let within : i < length (map mount_in before) = omega (arith, lt, length-map before mount_in) in
-    record { mount = r.mount; among = subst (λ (m : Mount). Contains (map mount_in before) m) found (Contains-get_or (map mount_in before) i d.mount within); more = more }
+-- the others pass it
+passes_at : (x : Bytes) (rs : List Receiver) (k : ℕ) (d : Receiver) (place : Option ℕ) → IsAt x rs place → k < length rs
+    → (place ≡ Some k → ⊥) → (packets : List Bytes) → All (Receives packets) rs → Receives (packets ++ x ∷ []) (get_or rs k d)
+passes_at x rs k d place h lt elsewhere packets all =
+    let r : Receiver = get_or rs k d in
+    let another : header_pid x ≡ r.mount.pid → ⊥ = λ e. elsewhere ((h k).1 (pid_stands rs k d lt ∙ ap (λ (p : ℕ). Some p) (sym e))) in
+    passes x r (other_pid r.mount.pid (header_pid x) x refl another) packets (all k d lt)
+
+-- where the one at the packet's place took it, all have heard it
+pub heard_at : (x : Bytes) (rs : List Receiver) (i : ℕ) (d r : Receiver) → IsAt x rs (Some i)
+    → ((packets : List Bytes) → Receives packets (get_or rs i d) → Receives (packets ++ x ∷ []) r)
+    → (packets : List Bytes) → All (Receives packets) rs → All (Receives (packets ++ x ∷ [])) (set rs i r)
+heard_at x rs i d r place hear packets all k e within = go (cases_eq k i) where
+  lt : k < length rs
+  lt = omega (arith, within, length-set rs i r)
+
+  go : (k ≡ i) ⊎ (k ≡ i → ⊥) → Receives (packets ++ x ∷ []) (get_or (set rs i r) k e)
+  go (inl same) =
+      let here : i < length rs = omega (arith, lt, same) in
+      let its : get_or (set rs i r) k e ≡ r = ap (λ (n : ℕ). get_or (set rs i r) n e) same ∙ get_or-set_same rs i r e here in
+      subst (Receives (packets ++ x ∷ [])) (sym its) (hear packets (all i d here))
+  go (inr other) =
+      subst (Receives (packets ++ x ∷ [])) (sym (get_or-set_other rs i k r e other))
+      (passes_at x rs k e (Some i) place lt (λ f. other (sym (same_Some i k f))) packets all)
+
+-- a packet of no place
+pub heard_nowhere : (x : Bytes) (rs : List Receiver) → IsAt x rs None
+    → (packets : List Bytes) → All (Receives packets) rs → All (Receives (packets ++ x ∷ [])) rs
+heard_nowhere x rs place packets all k e within = passes_at x rs k e None place within (none-some k) packets all
+
+-- where the one at the place found no memory
+pub completes_at : (x : Bytes) (rs : List Receiver) (i : ℕ) (d : Receiver) → i < length rs
+    → ((packets : List Bytes) → Receives packets (get_or rs i d) → Grows (get_or rs i d).mount.pid packets x)
+    → (packets : List Bytes) → All (Receives packets) rs → CompletesOne (map mount_in rs) packets x
+completes_at x rs i d lt grows packets all =
+    let r : Receiver = get_or rs i d in
+    let found : get_or (map mount_in rs) i d.mount ≡ r.mount = get_or-map mount_in rs i d d.mount lt in
+    let within : i < length (map mount_in rs) = omega (arith, lt, length-map rs mount_in) in
+    record {
+      mount = r.mount;
+      among = subst (λ (m : Mount). Contains (map mount_in rs) m) found (Contains-get_or (map mount_in rs) i d.mount within);
+      more = grows packets (all i d lt);
+    }
 
 -- ---- one element after another
 
@@ -149,7 +172,7 @@ one_new mounts rs m r is receives h = record {
 }
 
 -- what a call leaves of a list whose elements it may write: as many as before
-pub written_back : (n : ℕ) (xs ys : List Receiver) → n ≡ length xs → length ys ≡ length xs → take n (ys ++ drop (length ys) xs) ≡ ys
-written_back n xs ys e f =
-    ap (λ (zs : List Receiver). take n (ys ++ zs)) (drop_all (length ys) xs (omega (arith, f))) ∙ ap (λ (zs : List Receiver). take n zs) (append-nil ys)
+pub written_back : {A : Type 0} (n : ℕ) (xs ys : List A) → n ≡ length xs → length ys ≡ length xs → take n (ys ++ drop (length ys) xs) ≡ ys
+written_back {A} n xs ys e f =
+    ap (λ (zs : List A). take n (ys ++ zs)) (drop_all (length ys) xs (omega (arith, f))) ∙ ap (λ (zs : List A). take n zs) (append-nil ys)
     ∙ take_all n ys (omega (arith, e, f))

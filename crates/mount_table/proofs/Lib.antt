@@ -3,6 +3,7 @@ pub mod Hearing
 pub mod Naming
 pub mod Checking
 pub mod Deciding
+pub mod Placing
 pub mod Rows
 pub mod Finding
 pub mod Opening

@@ -1,7 +1,8 @@
 //! Several carousels, each on a PID of its own, under names in one tree.
 //!
 //! The first name of a path is a mount's, and the names behind it are a path on the carousel of the mount's PID, which has a receiver of its
-//! own. Packets of other PIDs never change its answers. (Mounts are this project's own.)
+//! own. Packets of other PIDs never change its answers. Whose a packet is is looked up by its PID, in a table of all of them. (Mounts are
+//! this project's own.)
 //!
 //! ```
 //! use mount_table::{Mount, Mounted, Mounts};
@@ -30,6 +31,7 @@ mod fault;
 mod laws;
 mod mount;
 mod mounts;
+mod places;
 mod receiver;
 mod receiving;
 

@@ -4,11 +4,13 @@ ghost use Rattle.std.specs.Option.{option_map};
 ghost use Rattle.path_tree.specs.Paths.{same_name};
 ghost use Rattle.section_stream.specs.Cuts.{Bytes};
 ghost use Rattle.mount_table.specs.Mounts.{refusal_of, refusal_in, IsTableOf, mounted_after, is_under_mount};
+ghost use Rattle.mount_table.specs.Places.{pids_of, IsPlaceOf};
 ghost use Rattle.mount_table.specs.Receiving as receiving;
 ghost use Rattle.mount_table.specs.Stands.{StandsFor, Receives, CompletesOne, mounts_of};
 
 use crate::fault::TableFault;
 use crate::mount::{Mount, refusal, sort_by_name};
+use crate::places::places_of;
 use crate::receiver::Receiver;
 use crate::receiving::header_pid;
 use oc_bytes::NoMemory;
@@ -33,15 +35,19 @@ pub enum Mounted {
 #[derive(Drop)]
 pub struct Mounts {
     receivers: Vec<Receiver>,
+    /// For each PID the place of the receiver that is on it, if one is.
+    places: Vec<Option<u8>>,
     spent: bool,
 }
 
 impl Model for Mounts {
-    ghost use Rattle.mount_table.specs.Stands.{MountsState, view_mounts};
+    ghost use Rattle.mount_table.specs.Stands.{MountsState, view_mounts, HasPlaces};
 
     ghost Value = { MountsState };
 
     ghost view = { view_mounts };
+
+    ghost invariant = { HasPlaces };
 }
 
 /// The mounts with their receivers, in the same order.
@@ -57,18 +63,23 @@ fn receivers_of(alloc: Global, mounts: Vec<Mount>) -> Result<Vec<Receiver>, NoMe
     Ok(receivers)
 }
 
-/// Each mount takes a packet whose header has the PID `pid`, where that is its own.
-fn hear_on(receivers: &mut [Receiver], pid: u16, packet: &[u8; 188]) -> Result<(), NoMemory>
-    requires { receiving.header_pid packet.now ≡ pid }
+/// The mount at the place of a packet's PID takes the packet. Where the PID has no place, it is no mount's.
+#[inline]
+fn hear_at(
+    receivers: &mut [Receiver],
+    place: Option<u8>,
+    packet: &[u8; 188],
+) -> Result<(), NoMemory>
+    requires { IsPlaceOf (receiving.header_pid packet.now) (pids_of (map (λ r. r.mount) receivers.old)) place }
     ensures receives { OnOk result ((packets : List Bytes) → All (Receives packets) receivers.old → All (Receives (packets ++ packet.now ∷ [])) receivers.new) }
     ensures mounts { map (λ r. r.mount) receivers.new ≡ map (λ r. r.mount) receivers.old }
     ensures memory { IsErr result → (packets : List Bytes) → All (Receives packets) receivers.old
         → CompletesOne (map (λ r. r.mount) receivers.old) packets packet.now }
 {
-    for receiver in receivers.iter_mut() {
-        receiver.hear(pid, packet)?;
+    match place {
+        Some(place) => receivers[usize::from(place)].hear(packet),
+        None => Ok(()),
     }
-    Ok(())
 }
 
 /// The mount of a name, with its receiver.
@@ -87,7 +98,8 @@ impl Mounts {
     /// refused, by its place in `mounts` from 0 on: as `BadName` where its name isn't 1 to [`MOST_NAME`](crate::MOST_NAME) lower case
     /// letters or digits, as `BadPid` where its PID is above [`MOST_PID`](crate::MOST_PID), and as `NameTwice` or `PidTwice` where an
     /// earlier mount has its name or its PID; of several the first in this order. `NoMemory` comes only of mounts that aren't refused. A
-    /// table of no mounts is accepted. (These rules are this project's own.)
+    /// table of no mounts is accepted. (These rules are this project's own.) Besides its receivers a table keeps 16 KiB, by which
+    /// [`feed`](Mounts::feed) finds the mount of a PID.
     pub fn new(alloc: Global, mut mounts: Vec<Mount>) -> Result<Mounts, TableFault>
         ensures refused { IfErr result (λ fault. refusal_of mounts.items ≡ refusal_in fault) }
         ensures accepted { OnOk result (refusal_of mounts.items ≡ None) }
@@ -98,15 +110,17 @@ impl Mounts {
             return Err(fault);
         }
         sort_by_name(&mut mounts);
+        let places = places_of(alloc, &mounts)?;
         let receivers = receivers_of(alloc, mounts)?;
         Ok(Mounts {
             receivers,
+            places,
             spent: false,
         })
     }
 
     /// Takes one packet of the stream, of any PID: the mount of its PID receives it, and no other. A packet that doesn't parse, or whose
-    /// PID no mount has, changes no answer.
+    /// PID no mount has, changes no answer. The mount is found by one look into a table of all PIDs, however many mounts there are.
     ///
     /// `NoMemory` comes only of a packet that completes a section on a mount's PID. After it the table is spent: each later call of this and
     /// of [`open_path`](Mounts::open_path) answers `NoMemory`.
@@ -126,14 +140,16 @@ impl Mounts {
         Ok(())
     }
 
-    /// Each mount takes a packet, where the header has its PID.
+    /// The mount on a packet's PID takes it, if there is one.
+    #[inline]
     fn hear(&mut self, packet: &[u8; 188]) -> Result<(), NoMemory>
         ensures receives { OnOk result ((packets : List Bytes) → All (Receives packets) self.old.receivers → All (Receives (packets ++ packet.now ∷ [])) self.new.receivers) }
         ensures mounts { mounts_of self.new ≡ mounts_of self.old }
         ensures spent { self.new.spent ≡ self.old.spent }
         ensures memory { IsErr result → (packets : List Bytes) → All (Receives packets) self.old.receivers → CompletesOne (mounts_of self.old) packets packet.now }
     {
-        hear_on(&mut self.receivers, header_pid(packet), packet)
+        let place = self.places[usize::from(header_pid(packet))];
+        hear_at(&mut self.receivers, place, packet)
     }
 
     /// The answer to a path by all packets so far: `Root` for the root, `NoMount` where no mount has the first name, and else the mount's PID

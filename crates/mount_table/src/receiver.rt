@@ -58,23 +58,9 @@ impl Receiver {
         })
     }
 
-    /// Takes a packet whose header has the PID `pid`: where it is the mount's, and else nothing changes.
+    /// Takes a packet whose header has the mount's PID.
     #[inline]
-    pub fn hear(&mut self, pid: u16, packet: &[u8; 188]) -> Result<(), NoMemory>
-        requires { header_pid packet.now ≡ pid }
-        ensures receives { OnOk result ((packets : List Bytes) → Receives packets self.old → Receives (packets ++ packet.now ∷ []) self.new) }
-        ensures mount { self.new.mount ≡ self.old.mount }
-        ensures memory { IsErr result → (packets : List Bytes) → Receives packets self.old
-            → length (candidates self.old.mount.pid packets) < length (candidates self.old.mount.pid (packets ++ packet.now ∷ [])) }
-    {
-        if pid != self.mount.pid {
-            return Ok(());
-        }
-        self.take(packet)
-    }
-
-    /// Takes a packet of the mount.
-    fn take(&mut self, packet: &[u8; 188]) -> Result<(), NoMemory>
+    pub fn hear(&mut self, packet: &[u8; 188]) -> Result<(), NoMemory>
         requires { header_pid packet.now ≡ self.old.mount.pid }
         ensures receives { OnOk result ((packets : List Bytes) → Receives packets self.old → Receives (packets ++ packet.now ∷ []) self.new) }
         ensures mount { self.new.mount ≡ self.old.mount }
