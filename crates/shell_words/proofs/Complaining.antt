@@ -17,6 +17,7 @@ use Rattle.shell_words.specs.Complaints.{FitsIsAccepted}
 use Rattle.shell_words.specs.Keywords.{words_by, words_after}
 use Rattle.shell_words.specs.Places.{keyword_table, keyword_of, slot_at, needed, suits, has_value, breaks, complaint_at, complaint_after, complaint_by, complaint_behind, first_breaking, asks_why, complaint_of, plain_complaint_of}
 use Rattle.shell_words.specs.Values.{◌>>=◌, begins_with_dash, pid_in, any_u32_in, folder_in, path_in, onto, each_in, paths_in, watched_in, Entry, table_in}
+use Rattle.shell_words.proofs.Naming.{same_length}
 use Rattle.shell_words.specs.Words as commands
 use Rattle.shell_words.specs.Words.{Named, OpenSections, Open, OpenId, Publish, PublishPsi, PublishOn, Mounts, Watch, Plan, Why, Words, Misfit, command_named, or_misfit, plain_command_of, command_of}
 
@@ -463,10 +464,23 @@ why_of f (w ∷ ws) c h e = cond-true _ _ _ h ∙ ap (λ (x : Complaint). Ok (Wh
 pub plain_of : (words : List Bytes) → asks_why words ≡ false → command_of words ≡ plain_command_of words
 plain_of words h = cond-false _ _ _ h
 
-pub complaint_plain : {A : Type 0} (f : A → Bytes) (words : List A) (d : A) (name : Bytes) → asks_why (map f words) ≡ false → 0 < length words → name ≡ f (get_or words 0 d)
+complaint_plain : {A : Type 0} (f : A → Bytes) (words : List A) (d : A) (name : Bytes) → asks_why (map f words) ≡ false → 0 < length words → name ≡ f (get_or words 0 d)
     → complaint_of (map f words) ≡ complaint_behind (keyword_of name) (map f (drop 1 words))
 complaint_plain f [] d name h n e = absurd (omega arith)
 complaint_plain f (w ∷ ws) d name h n e = cond-false _ _ _ h ∙ ap (λ (x : Bytes). complaint_behind (keyword_of x) (map f ws)) (sym e)
+
+-- a first word that isn't `why`, with what it was read as
+module _ {A : Type 0} (f : A → Bytes) (words : List A) (d : A) (name : Bytes) (o : Option Keyword)
+    (plain : asks_why (map f words) ≡ false) (some : 0 < length words) (is : name ≡ f (get_or words 0 d)) (read : o ≡ keyword_of name) where
+  pub complaint_keyword : (k : Keyword) → o ≡ Some k
+      → complaint_by k (length (drop 1 words)) (first_breaking k (map f (drop 1 words))) ≡ complaint_of (map f words)
+  complaint_keyword k e =
+      ap (λ (n : ℕ). complaint_by k n (first_breaking k (map f (drop 1 words)))) (same_length f (drop 1 words))
+      ∙ ap (λ (p : Option Keyword). complaint_behind p (map f (drop 1 words))) (sym e ∙ read)
+      ∙ sym (complaint_plain f words d name plain some is)
+
+  pub complaint_unknown : o ≡ None → complaints.Unknown ≡ complaint_of (map f words)
+  complaint_unknown e = ap (λ (p : Option Keyword). complaint_behind p (map f (drop 1 words))) (sym e ∙ read) ∙ sym (complaint_plain f words d name plain some is)
 
 pub complaint_none : {A : Type 0} (f : A → Bytes) (words : List A) → length words ≡ 0 → complaint_of (map f words) ≡ complaints.TooFew slots.Command
 complaint_none f [] h = refl

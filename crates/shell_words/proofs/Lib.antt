@@ -3,3 +3,4 @@ pub mod Naming
 pub mod Tabling
 pub mod Faults
 pub mod Complaining
+pub mod Firsts

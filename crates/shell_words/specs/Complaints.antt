@@ -1,5 +1,5 @@
--- The line of a complaint, and the law that says when there is none. Names are those on the pages of help; the texts are this project's own.
-use Rattle.std.specs.Prelude.{◌≡◌, ◌↔◌, ℕ, List, ◌++◌, ◌∷◌, IsOk, Option, Some, None, codes}
+-- The line of a complaint, and the laws that say when there is none, and which word is named. Names are those on the pages of help; the texts are this project's own.
+use Rattle.std.specs.Prelude.{◌≡◌, ◌↔◌, ℕ, ◌-◌, ◌≤◌, List, ◌++◌, ◌∷◌, take, length, IsOk, Option, Some, None, IfSome, codes}
 use Rattle.std.specs.Fmt.{decimal}
 use Rattle.path_tree.specs.Paths.{Bytes}
 use Rattle.shell_words.specs.Places.{range_of, complaint_of}
@@ -58,6 +58,24 @@ complaint_words (complaints.TooFew slot) = codes "too few " ++ slot_name slot
 
 abbrev pub complaint_line : Complaint → Bytes
 complaint_line complaint = line (complaint_words complaint)
+
+-- the number of the word that is named as one that doesn't fit
+abbrev pub named_word : Complaint → Option ℕ
+named_word complaints.Fits = None
+named_word complaints.Unknown = Some 1
+named_word (complaints.Misfit n slot) = Some n
+named_word (complaints.TooMany n) = Some n
+named_word (complaints.TooFew slot) = None
+
+-- This word doesn't fit, whatever follows it, and none of those before it is one that doesn't.
+pub record IsFirst (words : List Bytes) (n : ℕ) : Type 0 where
+  pub among : (1 ≤ n) × (n ≤ length words)
+  pub whatever : (more : List Bytes) → complaint_of (take n words ++ more) ≡ complaint_of words
+  pub before : named_word (complaint_of (take (n - 1) words)) ≡ None
+
+-- the word that is named is the first one
+abbrev pub FirstIsNamed : List Bytes → Type 0
+FirstIsNamed words = IfSome (named_word (complaint_of words)) (IsFirst words)
 
 -- there is nothing to complain of exactly where the words are those of a command
 abbrev pub FitsIsAccepted : List Bytes → Type 0

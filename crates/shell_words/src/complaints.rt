@@ -3,6 +3,7 @@
 ghost use Rattle.std.specs.Prelude.{◌≡◌, IfOk};
 ghost use Rattle.std.specs.String.{string_bytes};
 ghost use Rattle.shell_words.specs.Complaints as complaints;
+ghost use Rattle.shell_words.specs.declared.places.Slot.TheVariants.{Source, Table};
 
 use crate::places::{Complaint, Slot};
 use crate::table::MOST_MOUNT_NAME;
@@ -74,15 +75,28 @@ fn range_text(alloc: Global, least: u32, greatest: u32) -> Result<String, NoMemo
 fn form_text(alloc: Global, slot: Slot) -> Result<String, NoMemory>
     ensures { IfOk result (λ text. string_bytes text ≡ complaints.form_text slot) }
 {
-    let pid = range_text(alloc, 0, MOST_PID)?;
-    let pid = pid.as_str();
     match slot {
-        Slot::Source => format!(in alloc; "{pid}, or sections"),
+        Slot::Source => source_text(alloc),
         Slot::Path => String::from_str(alloc, "/, or / before each of 1 to 16 names"),
         Slot::Folder => String::from_str(alloc, "not empty, and not beginning with -"),
-        Slot::Table => format!(in alloc;
-            "NAME=PID, or several with commas between; NAME 1 to {MOST_MOUNT_NAME} letters a to z or digits, PID {pid}"
-        ),
+        Slot::Table => table_text(alloc),
         _ => String::from_str(alloc, "a command"),
     }
+}
+
+fn source_text(alloc: Global) -> Result<String, NoMemory>
+    ensures { IfOk result (λ text. string_bytes text ≡ complaints.form_text Source) }
+{
+    let pid = range_text(alloc, 0, MOST_PID)?;
+    format!(in alloc; "{pid}, or sections")
+}
+
+fn table_text(alloc: Global) -> Result<String, NoMemory>
+    ensures { IfOk result (λ text. string_bytes text ≡ complaints.form_text Table) }
+{
+    let pid = range_text(alloc, 0, MOST_PID)?;
+    let most = MOST_MOUNT_NAME;
+    format!(in alloc;
+        "NAME=PID, or several with commas between; NAME 1 to {most} letters a to z or digits, PID {pid}"
+    )
 }

@@ -4,7 +4,7 @@ ghost use Rattle.std.specs.Prelude.{◌≡◌, ◌<◌, ◌+◌, ◌^◌, true, 
 ghost use Rattle.std.specs.String.{string_bytes};
 ghost use Rattle.shell_words.specs.Places as places;
 ghost use Rattle.shell_words.specs.Values.{path_in, table_in};
-ghost use Rattle.shell_words.specs.Complaints.{FitsIsAccepted};
+ghost use Rattle.shell_words.specs.Complaints.{FitsIsAccepted, FirstIsNamed};
 
 use crate::keyword::Keyword;
 use crate::parsing::{MOST_BIG, MOST_BITRATE, MOST_CYCLES};
@@ -286,11 +286,12 @@ fn complaint_behind(
 /// [`command`](crate::command) takes it; where the command takes no such word, it is one too many. Where all fit, but the command
 /// needs more, one is missing. What is behind the word `why` may be anything.
 ///
-/// `Fits` comes exactly where `command` takes the words. Out of memory is the only refusal.
-#[tactic(auto, using(crate::proofs::Complaining::fits_is_accepted))]
+/// `Fits` comes exactly where `command` takes the words. A word that is named doesn't fit whatever follows it, and none before it is one that
+/// doesn't. Out of memory is the only refusal.
 pub fn first_complaint(alloc: Global, words: &[String]) -> Result<Complaint, NoMemory>
     ensures gives { IfOk result (λ c. c ≡ places.complaint_of (map string_bytes words.now)) }
     ensures fits { FitsIsAccepted (map string_bytes words.now) }
+    ensures first { FirstIsNamed (map string_bytes words.now) }
 {
     if asks_why(words) {
         return Ok(Complaint::Fits);
