@@ -95,7 +95,11 @@ fn command_text(alloc: Global, command: &Command) -> Result<String, AllocError> 
         }
         Command::Inspect(pid) => format!(in alloc; "inspect {pid}"),
         Command::Extract(pid, folder) => format!(in alloc; "extract {pid} {folder}"),
-        Command::Why(_) => String::from_str(alloc, "why"),
+        Command::Why(complaint) => {
+            let line = complaint_text(alloc, *complaint)?;
+            let line = on_one_line(alloc, line.as_str())?;
+            format!(in alloc; "why {line}")
+        }
     }
 }
 
