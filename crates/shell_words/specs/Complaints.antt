@@ -37,7 +37,7 @@ abbrev pub form_text : Slot → Bytes
 form_text Source = range_text 0 MOST_PID ++ codes ", or sections"
 form_text Path = codes "/, or / before each of 1 to 16 names"
 form_text Folder = codes "not empty, and not beginning with -"
-form_text Table = codes "NAME=PID, or several with commas between; NAME 1 to " ++ decimal MOST_MOUNT_NAME ++ codes " letters a to z or digits, PID " ++ range_text 0 MOST_PID
+form_text Table = codes "NAME=PID, or several with commas between; NAME " ++ range_text 1 MOST_MOUNT_NAME ++ codes " letters a to z or digits, PID " ++ range_text 0 MOST_PID
 form_text _ = codes "a command"
 
 abbrev pub rule_by : Option (ℕ × ℕ) → Slot → Bytes

@@ -3,6 +3,7 @@
 ghost use Rattle.std.specs.Prelude.{◌≡◌, IfOk};
 ghost use Rattle.std.specs.String.{string_bytes};
 ghost use Rattle.shell_words.specs.Complaints as complaints;
+ghost use Rattle.shell_words.specs.declared.places.Complaint.TheVariants.{Misfit};
 ghost use Rattle.shell_words.specs.declared.places.Slot.TheVariants.{Source, Table};
 
 use crate::places::{Complaint, Slot};
@@ -21,18 +22,25 @@ pub fn complaint_text(alloc: Global, complaint: Complaint) -> Result<String, NoM
     match complaint {
         Complaint::Fits => String::from_str(alloc, "fits\n"),
         Complaint::Unknown => String::from_str(alloc, "word 1 COMMAND unknown\n"),
-        Complaint::Misfit(number, slot) => {
-            let name = slot_name(slot);
-            let rule = rule_text(alloc, slot)?;
-            let rule = rule.as_str();
-            format!(in alloc; "word {number} {name} {rule}\n")
-        }
+        Complaint::Misfit(number, slot) => misfit_text(alloc, number, slot),
         Complaint::TooMany(number) => format!(in alloc; "word {number} too many\n"),
         Complaint::TooFew(slot) => {
             let name = slot_name(slot);
             format!(in alloc; "too few {name}\n")
         }
     }
+}
+
+/// The line of a word that doesn't fit.
+fn misfit_text(alloc: Global, number: usize, slot: Slot) -> Result<String, NoMemory>
+    ensures { IfOk result (λ text. string_bytes text ≡ complaints.complaint_line (Misfit number slot)) }
+{
+    let name = slot_name(slot);
+    let rule = rule_text(alloc, slot)?;
+    let mut text = format!(in alloc; "word {number} {name} ")?;
+    text.push_str(rule.as_str())?;
+    text.push('\n')?;
+    Ok(text)
 }
 
 /// The name on the pages of help.
@@ -94,9 +102,9 @@ fn source_text(alloc: Global) -> Result<String, NoMemory>
 fn table_text(alloc: Global) -> Result<String, NoMemory>
     ensures { IfOk result (λ text. string_bytes text ≡ complaints.form_text Table) }
 {
+    let length = range_text(alloc, 1, MOST_MOUNT_NAME as u32)?;
     let pid = range_text(alloc, 0, MOST_PID)?;
-    let most = MOST_MOUNT_NAME;
     format!(in alloc;
-        "NAME=PID, or several with commas between; NAME 1 to {most} letters a to z or digits, PID {pid}"
+        "NAME=PID, or several with commas between; NAME {length} letters a to z or digits, PID {pid}"
     )
 }
