@@ -1,5 +1,5 @@
 -- There is nothing to complain of exactly where the words are those of a command.
-use Rattle.std.proofs.Common.{◌≡◌, ◌↔◌, ℕ, ◌+◌, ◌-◌, ◌≤◌, ◌<◌, ◌⊎◌, inl, inr, Bool, cond, true, false, not, ◌&&◌, ◌||◌, nat_lt, nat_le, List, [], ◌∷◌, length, get_or, drop, map, slice_get, Option, Some, None, Result, Ok, Err, is_some, is_ok, IsOk, refl, sym, ap, ap₂, ◌∙◌, arith, codes}
+use Rattle.std.proofs.Common.{◌≡◌, ℕ, ◌+◌, ◌-◌, ◌≤◌, ◌<◌, ◌⊎◌, inl, inr, Bool, cond, true, false, not, ◌&&◌, ◌||◌, nat_lt, nat_le, List, [], ◌∷◌, length, get_or, drop, map, Option, Some, None, Result, Ok, Err, is_some, is_ok, refl, sym, ap, ◌∙◌, arith, codes}
 use Rattle.std.specs.List.{find, list_any, enumerate_from}
 use Rattle.std.specs.Option.{option_map}
 use Rattle.std.specs.Str.{bytes_eq}
@@ -16,7 +16,7 @@ use Rattle.shell_words.specs.declared.places.Complaint.TheVariants as complaints
 use Rattle.shell_words.specs.Complaints.{FitsIsAccepted}
 use Rattle.shell_words.specs.Keywords.{words_by, words_after}
 use Rattle.shell_words.specs.Places.{keyword_table, keyword_of, slot_at, needed, suits, has_value, breaks, complaint_at, complaint_after, complaint_by, complaint_behind, first_breaking, asks_why, complaint_of, plain_complaint_of}
-use Rattle.shell_words.specs.Values.{◌>>=◌, begins_with_dash, pid_in, any_u32_in, folder_in, path_in, onto, each_in, paths_in, watched_in, Entry, table_in}
+use Rattle.shell_words.specs.Values.{◌>>=◌, begins_with_dash, pid_in, any_u32_in, folder_in, path_in, onto, each_in, watched_in, Entry, table_in}
 use Rattle.shell_words.proofs.Naming.{same_length}
 use Rattle.shell_words.specs.Words as commands
 use Rattle.shell_words.specs.Words.{Named, OpenSections, Open, OpenId, Publish, PublishPsi, PublishOn, Mounts, Watch, Plan, Why, Words, Misfit, command_named, or_misfit, plain_command_of, command_of}
