@@ -4,7 +4,10 @@ use crate::texts::on_one_line;
 use generation_catalogue::Refusal;
 use path_resolver::Answer;
 use path_tree::{EditFault, Name, Path, print_name};
-use shell_words::{Command, WordsFault, answer_text, answered_text, command, refusal_text};
+use shell_words::{
+    Command, WordsFault, answer_text, answered_text, command, complaint_text, first_complaint,
+    refusal_text,
+};
 use std::alloc::{AllocError, Global};
 use test_rows::{Row, RowFault};
 
@@ -12,6 +15,11 @@ use test_rows::{Row, RowFault};
 pub(crate) fn call(alloc: Global, row: &Row<'_>) -> Result<Option<String>, RowFault> {
     match row.name() {
         "command" => Ok(Some(commanded(alloc, row)?)),
+        "complaint" => {
+            let complaint = first_complaint(alloc, &words_of(alloc, row)?)?;
+            let line = complaint_text(alloc, complaint)?;
+            Ok(Some(on_one_line(alloc, line.as_str())?))
+        }
         "words-fault" => Ok(Some(format!(in alloc; "{}", WordsFault::Words)?)),
         "answer" => {
             let answer = answer_of(row, 0)?;
@@ -82,6 +90,16 @@ fn command_text(alloc: Global, command: &Command) -> Result<String, AllocError> 
         }
         Command::Mounts(table, paths) => with_paths(mounts_text(alloc, table)?, paths),
         Command::Watch(pid, paths) => with_paths(format!(in alloc; "watch {pid}")?, paths),
+        Command::Plan(folder, carousel, bitrate) => {
+            format!(in alloc; "plan {folder} {carousel} {bitrate}")
+        }
+        Command::Inspect(pid) => format!(in alloc; "inspect {pid}"),
+        Command::Extract(pid, folder) => format!(in alloc; "extract {pid} {folder}"),
+        Command::Why(complaint) => {
+            let line = complaint_text(alloc, *complaint)?;
+            let line = on_one_line(alloc, line.as_str())?;
+            format!(in alloc; "why {line}")
+        }
     }
 }
 

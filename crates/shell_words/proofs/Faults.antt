@@ -15,10 +15,10 @@ use Rattle.clap.specs.declared.parser.ValueSource.TheVariants.{CommandLine}
 use Rattle.clap.specs.Words.{reading_of}
 use Rattle.clap.specs.declared.builder.ValueParser.TheVariants as parsers
 use Rattle.shell_words.specs.Words.{begins_with_dash}
-use Rattle.shell_words.specs.Counting.{Fits, single, four_app, open_app, publish_app, app_of_keyword}
+use Rattle.shell_words.specs.Counting.{Fits, single, two_app, four_app, open_app, publish_app, app_of_keyword}
 use Rattle.shell_words.proofs.Naming.{any_map, same_length}
 use Rattle.shell_words.specs.declared.keyword.Keyword.{Keyword}
-use Rattle.shell_words.specs.declared.keyword.Keyword.TheVariants.{Assemble, Open, Record, List as ListAll, Publish, Rehearse, Session, Big, Find, OpenId, PublishPsi, PublishOn, Mounts, Watch}
+use Rattle.shell_words.specs.declared.keyword.Keyword.TheVariants.{Assemble, Open, Record, List as ListAll, Publish, Rehearse, Session, Big, Find, OpenId, PublishPsi, PublishOn, Mounts, Watch, Plan, Inspect, Extract}
 
 -- a walk between two words, where the next one goes to the positional at place n
 abbrev between : Held → Bool → ℕ → Walk
@@ -173,6 +173,24 @@ publish_0 name [] p = too_few (shape (publish_app name)) (between nothing_held f
 publish_0 name (a ∷ rest) p =
     one_word (shape (publish_app name)) nothing_held 1 (between (held ([]) (codes "FOLDER") a) false 2) 2 a rest (neither _ _ p).0 refl refl (publish_1 name a rest (neither _ _ p).1)
 
+-- a PID and a folder
+two_2 : (name : Text) (a b : Text) (words : List Text) → list_any begins_with_dash words ≡ false → Counts (shape (two_app name)) (between (held (row (codes "PID") (a ∷ []) ∷ []) (codes "FOLDER") b) false 3) (length words ≡ 0) words
+unfolding walk_fault defaults_fault
+two_2 name a b [] p = record { fits = λ _. refl; only = λ _. refl }
+two_2 name a b (x ∷ rest) p = too_many (shape (two_app name)) (held (row (codes "PID") (a ∷ []) ∷ []) (codes "FOLDER") b) false 3 _ _ _ x rest (λ e. omega arith) (neither _ _ p).0 refl
+
+two_1 : (name : Text) (a : Text) (words : List Text) → list_any begins_with_dash words ≡ false → Counts (shape (two_app name)) (between (held ([]) (codes "PID") a) false 2) (length words ≡ 1) words
+unfolding walk_fault defaults_fault
+two_1 name a [] p = too_few (shape (two_app name)) (between (held ([]) (codes "PID") a) false 2) _ _ _ (λ e. omega arith) refl
+two_1 name a (b ∷ rest) p =
+    one_word (shape (two_app name)) (held ([]) (codes "PID") a) 2 (between (held (row (codes "PID") (a ∷ []) ∷ []) (codes "FOLDER") b) false 3) 0 b rest (neither _ _ p).0 refl refl (two_2 name a b rest (neither _ _ p).1)
+
+two_0 : (name : Text) (words : List Text) → list_any begins_with_dash words ≡ false → Counts (shape (two_app name)) (between nothing_held false 1) (length words ≡ 2) words
+unfolding walk_fault defaults_fault
+two_0 name [] p = too_few (shape (two_app name)) (between nothing_held false 1) _ _ _ (λ e. omega arith) refl
+two_0 name (a ∷ rest) p =
+    one_word (shape (two_app name)) nothing_held 1 (between (held ([]) (codes "PID") a) false 2) 1 a rest (neither _ _ p).0 refl refl (two_1 name a rest (neither _ _ p).1)
+
 -- four words
 four_4 : (name : Text) (a b c d : Text) (words : List Text) → list_any begins_with_dash words ≡ false → Counts (shape (four_app name)) (between (held (row (codes "FIRST") (a ∷ []) ∷ row (codes "SECOND") (b ∷ []) ∷ row (codes "THIRD") (c ∷ []) ∷ []) (codes "FOURTH") d) false 5) (length words ≡ 0) words
 unfolding walk_fault defaults_fault
@@ -253,6 +271,9 @@ counted PublishPsi words p = publish_0 (codes "publish-psi") words p
 counted PublishOn words p = four_0 (codes "publish-on") words p
 counted Mounts words p = open_0 (codes "mounts") words p
 counted Watch words p = open_0 (codes "watch") words p
+counted Plan words p = publish_0 (codes "plan") words p
+counted Inspect words p = single_0 (codes "inspect") words p
+counted Extract words p = two_0 (codes "extract") words p
 
 -- no positional has a rule on another, and there are no options
 pub is_free : (keyword : Keyword) → is_simple_and_free (app_of_keyword keyword) ≡ true
@@ -270,6 +291,9 @@ is_free PublishPsi = refl
 is_free PublishOn = refl
 is_free Mounts = refl
 is_free Watch = refl
+is_free Plan = refl
+is_free Inspect = refl
+is_free Extract = refl
 
 no_subcommand : (s : Shape) (words : List Text) (stop : Option (Text × List Text))
     → level_fault s [] nothing_held words (is_some (entered (record { top = s; subs = [] }) stop)) (entered_fault (record { top = s; subs = [] }) stop) ≡ faults_from s (between nothing_held false 1) words
@@ -291,6 +315,9 @@ faults_are PublishPsi first words = no_subcommand (shape (app_of_keyword Publish
 faults_are PublishOn first words = no_subcommand (shape (app_of_keyword PublishOn)) words _
 faults_are Mounts first words = no_subcommand (shape (app_of_keyword Mounts)) words _
 faults_are Watch first words = no_subcommand (shape (app_of_keyword Watch)) words _
+faults_are Plan first words = no_subcommand (shape (app_of_keyword Plan)) words _
+faults_are Inspect first words = no_subcommand (shape (app_of_keyword Inspect)) words _
+faults_are Extract first words = no_subcommand (shape (app_of_keyword Extract)) words _
 
 behind : {A : Type 0} (f : A → Text) (w : A) (ws : List A) → length (w ∷ ws) - 1 ≡ length (map f ws)
 behind f w ws = omega (arith, same_length f ws)

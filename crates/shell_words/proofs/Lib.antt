@@ -2,3 +2,5 @@ pub mod Numerals
 pub mod Naming
 pub mod Tabling
 pub mod Faults
+pub mod Complaining
+pub mod Firsts

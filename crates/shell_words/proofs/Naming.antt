@@ -15,7 +15,7 @@ use Rattle.shell_words.specs.declared.keyword.Keyword.TheVariants as keywords
 use Rattle.shell_words.specs.Keywords.{words_by}
 use Rattle.shell_words.specs.Counting.{Fits}
 use Rattle.shell_words.specs.Values.{◌>>=◌, pid_in, any_u32_in, path_in, onto, each_in, paths_in, watched_in, table_in}
-use Rattle.shell_words.specs.Words.{Named, Open, OpenId, PublishOn, Mounts, Watch, Words, begins_with_dash, or_misfit, command_named, command_of, view, cause}
+use Rattle.shell_words.specs.Words.{Named, Open, OpenId, PublishOn, Mounts, Watch, Words, begins_with_dash, or_misfit, command_named, plain_command_of, view, cause}
 
 pub same_length : {A : Type 0} (f : A → List ℕ) (words : List A) → length words ≡ length (map f words)
 same_length f [] = refl
@@ -25,16 +25,16 @@ pub any_map : {A : Type 0} (f : A → List ℕ) (words : List A) → list_any be
 any_map f [] = refl
 any_map f (w ∷ ws) = ap (λ b. begins_with_dash (f w) || b) (any_map f ws)
 
-pub command_of-none : {A : Type 0} (f : A → List ℕ) (words : List A) → length words ≡ 0 → command_of (map f words) ≡ Err Words
+pub command_of-none : {A : Type 0} (f : A → List ℕ) (words : List A) → length words ≡ 0 → plain_command_of (map f words) ≡ Err Words
 command_of-none f [] h = refl
 command_of-none f (w ∷ ws) h = absurd (omega arith)
 
-pub command_of-dash : {A : Type 0} (f : A → List ℕ) (words : List A) → list_any (λ w. begins_with_dash (f w)) words ≡ true → command_of (map f words) ≡ Err Words
+pub command_of-dash : {A : Type 0} (f : A → List ℕ) (words : List A) → list_any (λ w. begins_with_dash (f w)) words ≡ true → plain_command_of (map f words) ≡ Err Words
 command_of-dash f [] h = refl
 command_of-dash f (w ∷ ws) h = cond-true _ _ _ (any_map f (w ∷ ws) ∙ h)
 
 pub command_of-named : {A : Type 0} (f : A → List ℕ) (words : List A) (d : A) (name : List ℕ) → 0 < length words → list_any (λ w. begins_with_dash (f w)) words ≡ false → name ≡ f (get_or words 0 d)
-    → command_of (map f words) ≡ or_misfit (command_named name (map f (drop 1 words)))
+    → plain_command_of (map f words) ≡ or_misfit (command_named name (map f (drop 1 words)))
 command_of-named f [] d name n h e = absurd (omega arith)
 command_of-named f (w ∷ ws) d name n h e = cond-false _ _ _ (any_map f (w ∷ ws) ∙ h) ∙ ap (λ m. or_misfit (command_named m (map f ws))) (sym e)
 
@@ -184,6 +184,18 @@ misfit_none keywords.Mounts (t ∷ word ∷ words) h = absurd (h (omega arith))
 misfit_none keywords.Watch [] h = refl
 misfit_none keywords.Watch (pid ∷ []) h = nowhere Watch (pid_in pid)
 misfit_none keywords.Watch (pid ∷ word ∷ words) h = absurd (h (omega arith))
+misfit_none keywords.Plan [] h = refl
+misfit_none keywords.Plan (a ∷ []) h = refl
+misfit_none keywords.Plan (a ∷ b ∷ []) h = refl
+misfit_none keywords.Plan (a ∷ b ∷ c ∷ []) h = absurd (h (omega arith))
+misfit_none keywords.Plan (a ∷ b ∷ c ∷ d ∷ words) h = refl
+misfit_none keywords.Inspect [] h = refl
+misfit_none keywords.Inspect (pid ∷ []) h = absurd (h (omega arith))
+misfit_none keywords.Inspect (pid ∷ word ∷ words) h = refl
+misfit_none keywords.Extract [] h = refl
+misfit_none keywords.Extract (pid ∷ []) h = refl
+misfit_none keywords.Extract (pid ∷ folder ∷ []) h = absurd (h (omega arith))
+misfit_none keywords.Extract (pid ∷ folder ∷ word ∷ words) h = refl
 
 length_behind : {A : Type 0} (f : A → List ℕ) (words : List A) → length (map f (drop 1 words)) ≡ length words - 1
 length_behind f [] = refl

@@ -3,7 +3,7 @@ use Rattle.std.specs.Prelude.{◌≡◌, ◌≤◌, ℕ, Some, true, codes}
 use Rattle.clap.specs.Words.{App, Rule, Text, new_app, new_rule, with_rule}
 use Rattle.clap.specs.declared.builder.ArgAction.TheVariants.{Append}
 use Rattle.shell_words.specs.declared.keyword.Keyword.{Keyword}
-use Rattle.shell_words.specs.declared.keyword.Keyword.TheVariants.{Assemble, Open, Record, List as ListAll, Publish, Rehearse, Session, Big, Find, OpenId, PublishPsi, PublishOn, Mounts, Watch}
+use Rattle.shell_words.specs.declared.keyword.Keyword.TheVariants.{Assemble, Open, Record, List as ListAll, Publish, Rehearse, Session, Big, Find, OpenId, PublishPsi, PublishOn, Mounts, Watch, Plan, Inspect, Extract}
 
 abbrev pub Fits : Keyword → ℕ → Type 0
 Fits Assemble n = n ≡ 4
@@ -20,6 +20,9 @@ Fits PublishPsi n = n ≡ 3
 Fits PublishOn n = n ≡ 4
 Fits Mounts n = 2 ≤ n
 Fits Watch n = 2 ≤ n
+Fits Plan n = n ≡ 3
+Fits Inspect n = n ≡ 1
+Fits Extract n = n ≡ 2
 
 -- a positional that one word is for
 abbrev pub one : Text → Rule
@@ -41,6 +44,10 @@ four_app name = with_rule (with_rule (with_rule (with_rule (new_app name) (one (
 abbrev pub open_app : Text → App
 open_app name = with_rule (with_rule (new_app name) (one (codes "SOURCE"))) (one_or_more (codes "PATH"))
 
+-- one of two words
+abbrev pub two_app : Text → App
+two_app name = with_rule (with_rule (new_app name) (one (codes "PID"))) (one (codes "FOLDER"))
+
 -- one that publishes a folder
 abbrev pub publish_app : Text → App
 publish_app name = with_rule (with_rule (with_rule (new_app name) (one (codes "FOLDER"))) (one (codes "CAROUSEL"))) (one (codes "CYCLES"))
@@ -60,3 +67,6 @@ app_of_keyword PublishPsi = publish_app (codes "publish-psi")
 app_of_keyword PublishOn = four_app (codes "publish-on")
 app_of_keyword Mounts = open_app (codes "mounts")
 app_of_keyword Watch = open_app (codes "watch")
+app_of_keyword Plan = publish_app (codes "plan")
+app_of_keyword Inspect = single (codes "inspect")
+app_of_keyword Extract = two_app (codes "extract")

@@ -4,7 +4,7 @@ use Rattle.path_tree.specs.Paths.{Bytes}
 use Rattle.shell_words.specs.Words as commands
 use Rattle.shell_words.specs.Words.{Named}
 use Rattle.shell_words.specs.declared.keyword.Keyword.{Keyword}
-use Rattle.shell_words.specs.declared.keyword.Keyword.TheVariants.{Assemble, Open, Record, List as ListAll, Publish, Rehearse, Session, Big, Find, OpenId, PublishPsi, PublishOn, Mounts, Watch}
+use Rattle.shell_words.specs.declared.keyword.Keyword.TheVariants.{Assemble, Open, Record, List as ListAll, Publish, Rehearse, Session, Big, Find, OpenId, PublishPsi, PublishOn, Mounts, Watch, Plan, Inspect, Extract}
 
 abbrev pub words_by : Keyword → List Bytes → Option Named
 words_by Assemble words = commands.assemble_by words
@@ -21,6 +21,9 @@ words_by PublishPsi words = commands.publish_psi_by words
 words_by PublishOn words = commands.publish_on_by words
 words_by Mounts words = commands.mounts_by words
 words_by Watch words = commands.watch_by words
+words_by Plan words = commands.plan_by words
+words_by Inspect words = commands.inspect_by words
+words_by Extract words = commands.extract_by words
 
 -- what the words after the first one say, where that is a keyword
 abbrev pub words_after : List Bytes → Option Keyword → Option Named

@@ -1,5 +1,7 @@
 pub mod Values
+pub mod Places
 pub mod Words
 pub mod Keywords
 pub mod Counting
 pub mod Texts
+pub mod Complaints

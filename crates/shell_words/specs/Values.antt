@@ -1,5 +1,5 @@
 -- What single words stand for, and one or more of them.
-use Rattle.std.specs.Prelude.{◌≡◌, ℕ, ◌≤◌, Bool, true, ◌&&◌, ◌||◌, ◌==◌, nat_le, List, [], ◌∷◌, length, Option, Some, None, Result, Ok, Err, if◌then◌else◌}
+use Rattle.std.specs.Prelude.{◌≡◌, ℕ, ◌≤◌, Bool, true, false, ◌&&◌, ◌||◌, ◌==◌, nat_le, List, [], ◌∷◌, length, Option, Some, None, Result, Ok, Err, if◌then◌else◌}
 use Rattle.std.specs.List.{All, list_all, slice_split, before_first, after_first}
 use Rattle.oc_bytes.specs.Decimals.{is_digit, decimal_in}
 use Rattle.path_tree.specs.Paths.{Bytes, PathNames}
@@ -11,6 +11,10 @@ infixl 10 ◌>>=◌
 abbrev pub ◌>>=◌ : {A B : Type 0} → Option A → (A → Option B) → Option B
 (Some x) >>= f = f x
 None >>= f = None
+
+abbrev pub begins_with_dash : Bytes → Bool
+begins_with_dash [] = false
+begins_with_dash (c ∷ cs) = c == 45
 
 abbrev pub pid_in : Bytes → Option ℕ
 pid_in word = decimal_in 0 MOST_PID word

@@ -52,6 +52,9 @@ fn syntax<'a>(alloc: Global, keyword: Keyword) -> Result<Command<'a>, AllocError
         Keyword::PublishOn => four(alloc, "publish-on"),
         Keyword::Mounts => open(alloc, "mounts"),
         Keyword::Watch => open(alloc, "watch"),
+        Keyword::Plan => publish(alloc, "plan"),
+        Keyword::Inspect => single(alloc, "inspect"),
+        Keyword::Extract => two(alloc, "extract"),
     }
 }
 
@@ -64,6 +67,15 @@ fn four<'a>(alloc: Global, name: &'a str) -> Result<Command<'a>, AllocError>
         .arg(one(alloc, "SECOND"))?
         .arg(one(alloc, "THIRD"))?
         .arg(one(alloc, "FOURTH"))
+}
+
+/// Two words.
+fn two<'a>(alloc: Global, name: &'a str) -> Result<Command<'a>, AllocError>
+    ensures { IfOk result (λ c. app_of c ≡ counting.two_app name.entry.now) }
+{
+    Command::new(alloc, name)
+        .arg(one(alloc, "PID"))?
+        .arg(one(alloc, "FOLDER"))
 }
 
 /// One word.

@@ -2,6 +2,7 @@ ghost use Rattle.std.specs.Prelude.{◌≡◌, List};
 ghost use Rattle.path_tree.specs.Paths.{Bytes};
 ghost use Rattle.shell_words.specs.Words.{command_named};
 ghost use Rattle.shell_words.specs.Keywords.{words_after};
+ghost use Rattle.shell_words.specs.Places.{keyword_of};
 
 /// The first word of a command.
 #[derive(Clone, Copy)]
@@ -20,12 +21,16 @@ pub enum Keyword {
     PublishOn,
     Mounts,
     Watch,
+    Plan,
+    Inspect,
+    Extract,
 }
 
 impl Keyword {
     /// The keyword that a word is, byte for byte.
     pub fn parse(word: &str) -> Option<Keyword>
-        ensures { (words : List Bytes) → command_named word.now words ≡ words_after words result }
+        ensures words { (words : List Bytes) → command_named word.now words ≡ words_after words result }
+        ensures keyword { result ≡ keyword_of word.now }
     {
         if word == "assemble" {
             Some(Keyword::Assemble)
@@ -55,6 +60,12 @@ impl Keyword {
             Some(Keyword::Mounts)
         } else if word == "watch" {
             Some(Keyword::Watch)
+        } else if word == "plan" {
+            Some(Keyword::Plan)
+        } else if word == "inspect" {
+            Some(Keyword::Inspect)
+        } else if word == "extract" {
+            Some(Keyword::Extract)
         } else {
             None
         }

@@ -14,15 +14,19 @@
 //! ```
 #![tactic(auto)]
 
+mod complaints;
 mod counting;
 mod keyword;
 mod parsing;
+mod places;
 mod table;
 mod texts;
 mod values;
 mod words;
 
+pub use complaints::complaint_text;
 pub use parsing::command;
+pub use places::{Complaint, Slot, first_complaint};
 pub use table::MOST_MOUNT_NAME;
 pub use texts::{answer_text, answered_text, refusal_text};
 pub use values::MOST_WATCHED;

@@ -9,8 +9,10 @@ ghost use Rattle.shell_words.specs.Counting.{Fits};
 
 use crate::counting::count;
 use crate::keyword::Keyword;
+use crate::places::{asks_why, first_complaint};
 use crate::table::table;
 use crate::values;
+use crate::values::begins_with_dash;
 use crate::words::{Command, WordsFault};
 use block_assembler::MOST_MODULE_SIZE;
 use std::alloc::Global;
@@ -18,13 +20,16 @@ use std::alloc::Global;
 /// The most cycles of one publication.
 pub const MOST_CYCLES: u32 = 1_000;
 
+/// The most bits that are sent in a second.
+pub const MOST_BITRATE: u32 = u32::MAX;
+
 /// The greatest size of a made-up session.
 pub const MOST_BIG: u32 = 16;
 
 /// The command that the words of a command line name, without the program's name, with the values of its words. These are
 /// this project's own rules.
 ///
-/// The first word is the command's, byte for byte. A word that begins with `-` is refused. Numbers are decimal digits
+/// The first word is the command's, byte for byte. Behind `why` any words may stand. Of the other commands a word that begins with `-` is refused. Numbers are decimal digits
 /// without a sign and without a leading zero, `0` itself excepted, in the ranges that `Command` gives; a folder has at
 /// least one byte; a path is a text that `Path::parse` takes; a table is NAME=PID or several with a comma between each two. At most
 /// [`MOST_WATCHED`](crate::MOST_WATCHED) words stand for paths that are watched.
@@ -33,6 +38,18 @@ pub const MOST_BIG: u32 = 16;
 /// found.
 pub fn command(alloc: Global, words: &[String]) -> Result<Command, WordsFault>
     ensures gives { Gives commands.view commands.cause result (commands.command_of (map string_bytes words.now)) }
+    ensures sized { IfOk result commands.IsSized }
+{
+    if asks_why(words) {
+        Ok(Command::Why(first_complaint(alloc, &words[1..])?))
+    } else {
+        plain_command(alloc, words)
+    }
+}
+
+/// The command that the words name, where it isn't `why`.
+fn plain_command(alloc: Global, words: &[String]) -> Result<Command, WordsFault>
+    ensures gives { Gives commands.view commands.cause result (commands.plain_command_of (map string_bytes words.now)) }
     ensures sized { IfOk result commands.IsSized }
 {
     if words.is_empty() || has_dash(words) {
@@ -49,12 +66,6 @@ fn has_dash(words: &[String]) -> bool
     ensures { result ≡ list_any (λ word. commands.begins_with_dash (string_bytes word)) words.now }
 {
     words.iter().any(|word| begins_with_dash(word))
-}
-
-fn begins_with_dash(word: &String) -> bool
-    ensures { result ≡ commands.begins_with_dash (string_bytes word.now) }
-{
-    word.as_bytes().first() == Some(&b'-')
 }
 
 /// The command of this keyword, with the values of the words after it.
@@ -75,7 +86,7 @@ fn read(alloc: Global, keyword: Keyword, words: &[String]) -> Result<Command, Wo
             None => Err(WordsFault::Words),
         },
         Keyword::Publish => {
-            let (folder, carousel, cycles) = publication(alloc, words)?;
+            let (folder, carousel, cycles) = publication(alloc, words, MOST_CYCLES)?;
             Ok(Command::Publish(folder, carousel, cycles))
         }
         Keyword::Rehearse => Ok(Command::Rehearse),
@@ -84,12 +95,21 @@ fn read(alloc: Global, keyword: Keyword, words: &[String]) -> Result<Command, Wo
         Keyword::Find => find(words).ok_or(WordsFault::Words),
         Keyword::OpenId => open_id(alloc, words),
         Keyword::PublishPsi => {
-            let (folder, carousel, cycles) = publication(alloc, words)?;
+            let (folder, carousel, cycles) = publication(alloc, words, MOST_CYCLES)?;
             Ok(Command::PublishPsi(folder, carousel, cycles))
         }
         Keyword::PublishOn => publish_on(alloc, words),
         Keyword::Mounts => mounts(alloc, words),
         Keyword::Watch => watch(alloc, words),
+        Keyword::Plan => {
+            let (folder, carousel, bitrate) = publication(alloc, words, MOST_BITRATE)?;
+            Ok(Command::Plan(folder, carousel, bitrate))
+        }
+        Keyword::Inspect => match only_pid(words) {
+            Some(pid) => Ok(Command::Inspect(pid)),
+            None => Err(WordsFault::Words),
+        },
+        Keyword::Extract => extract(alloc, words),
     }
 }
 
@@ -141,23 +161,27 @@ fn only_pid(words: &[String]) -> Option<u16>
     values::pid(pid.as_str())
 }
 
-/// A folder, the id of a carousel, and a number of cycles.
-fn publication(alloc: Global, words: &[String]) -> Result<(String, u32, u32), WordsFault>
+/// A folder, the id of a carousel, and a number from 1 to `greatest`.
+fn publication(
+    alloc: Global,
+    words: &[String],
+    greatest: u32,
+) -> Result<(String, u32, u32), WordsFault>
     requires { length words.now ≡ 3 }
-    ensures gives { Gives commands.publication_view commands.cause result (commands.or_misfit (commands.publication_in (map string_bytes words.now))) }
-    ensures sized { IfOk result (λ p. commands.IsPublication (string_bytes p.0) p.2) }
+    ensures gives { Gives commands.publication_view commands.cause result (commands.or_misfit (commands.publication_in greatest (map string_bytes words.now))) }
+    ensures sized { IfOk result (λ p. commands.IsPublication greatest (string_bytes p.0) p.2) }
 {
-    let [folder, carousel, cycles] = words else {
+    let [folder, carousel, number] = words else {
         unreachable!();
     };
     let Some(carousel) = values::decimal(carousel, 0, u32::MAX) else {
         return Err(WordsFault::Words);
     };
-    let Some(cycles) = values::decimal(cycles, 1, MOST_CYCLES) else {
+    let Some(number) = values::decimal(number, 1, greatest) else {
         return Err(WordsFault::Words);
     };
     let folder = values::folder(alloc, folder)?;
-    Ok((folder, carousel, cycles))
+    Ok((folder, carousel, number))
 }
 
 /// A PID, and what is published on it.
@@ -169,8 +193,24 @@ fn publish_on(alloc: Global, words: &[String]) -> Result<Command, WordsFault>
     let Some(pid) = values::pid(words[0].as_str()) else {
         return Err(WordsFault::Words);
     };
-    let (folder, carousel, cycles) = publication(alloc, &words[1..])?;
+    let (folder, carousel, cycles) = publication(alloc, &words[1..], MOST_CYCLES)?;
     Ok(Command::PublishOn(pid, folder, carousel, cycles))
+}
+
+/// A PID, and the folder that is made.
+fn extract(alloc: Global, words: &[String]) -> Result<Command, WordsFault>
+    requires { length words.now ≡ 2 }
+    ensures gives { Gives commands.view commands.cause result (commands.or_misfit (commands.extract_by (map string_bytes words.now))) }
+    ensures sized { IfOk result commands.IsSized }
+{
+    let [pid, folder] = words else {
+        unreachable!();
+    };
+    let Some(pid) = values::pid(pid.as_str()) else {
+        return Err(WordsFault::Words);
+    };
+    let folder = values::folder(alloc, folder)?;
+    Ok(Command::Extract(pid, folder))
 }
 
 /// A table of carousels, and paths.

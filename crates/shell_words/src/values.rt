@@ -18,6 +18,13 @@ pub const MOST_PID: u32 = 8_190;
 /// The most paths that are watched. This project's own limit.
 pub const MOST_WATCHED: usize = 1_024;
 
+/// Whether a word begins with `-`.
+pub fn begins_with_dash(word: &String) -> bool
+    ensures { result ≡ values.begins_with_dash (string_bytes word.now) }
+{
+    word.as_bytes().first() == Some(&b'-')
+}
+
 /// The PID that a text spells.
 pub fn pid(text: &str) -> Option<u16>
     ensures value { result ≡ values.pid_in text.now }

@@ -1,3 +1,4 @@
+use crate::places::Complaint;
 use path_tree::{Name, Path};
 use std::alloc::{AllocError, AllocFailed};
 use thiserror::Error;
@@ -48,6 +49,16 @@ pub enum Command {
     /// `watch PID PATH..`: what changes in the answers to one or more paths while the packets of a PID, 0 to 8,190, come. There are at most
     /// [`MOST_WATCHED`](crate::MOST_WATCHED) paths, each as often as it stands among the words.
     Watch(u16, Vec<Path>),
+    /// `plan FOLDER CAROUSEL BITRATE`: what `publish` would send of a folder. The folder's name and the id of the carousel are those of
+    /// `publish`; the rate is 1 to 4,294,967,295 bits a second.
+    Plan(String, u32, u32),
+    /// `inspect PID`: what a receiver holds and passed over of the packets of a PID, 0 to 8,190.
+    Inspect(u16),
+    /// `extract PID FOLDER`: the files that the packets of a PID, 0 to 8,190, bring, into a folder that is made. Its name has at
+    /// least one byte.
+    Extract(u16, String),
+    /// `why WORDS..`: what is wrong with other words, if anything is.
+    Why(Complaint),
 }
 
 /// Why no command is given.
