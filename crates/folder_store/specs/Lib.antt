@@ -3,3 +3,5 @@ pub mod Walk
 pub mod Memory
 pub mod Kept
 pub mod Gathering
+pub mod Surveys
+pub mod Sighting

@@ -20,9 +20,13 @@ mod laws;
 mod memory;
 mod reading;
 mod real;
+mod sights;
+mod surveying;
 
 pub use folders::{EntryKind, FolderEntry, FolderFault, Folders};
 pub use laws::edits_make_the_files;
 pub use memory::MemFolders;
 pub use reading::{ReadTree, TreeFault, read_tree};
 pub use real::OsFolders;
+pub use sights::Standing;
+pub use surveying::{SurveyFault, Surveyed, survey};
