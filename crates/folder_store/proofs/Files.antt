@@ -23,11 +23,11 @@ use Rattle.folder_store.proofs.Sorting.{Climbs, sorted_all, sorted_climbs, sorte
 -- ---- what was walked of what was met
 
 -- without a cut, all of it, and no fault
-abbrev total : List Edit → ℕ
+abbrev pub total : List Edit → ℕ
 total [] = 0
 total (e ∷ es) = size e + total es
 
-total_is : (es : List Edit) → total es ≡ sum_by size es
+pub total_is : (es : List Edit) → total es ≡ sum_by size es
 total_is [] = refl
 total_is (e ∷ es) = ap (λ n. size e + n) (total_is es) ∙ sym (sum_by-cons size e es)
 

@@ -1,5 +1,6 @@
 pub mod Applied
 pub mod Files
+pub mod Marking
 pub mod MemoryLists
 pub mod MemoryTexts
 pub mod MemoryTrees

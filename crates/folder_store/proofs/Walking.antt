@@ -42,7 +42,7 @@ walked_full n [] full = refl
 walked_full n (Ok e ∷ met) full = rw full refl
 walked_full n (Err fault ∷ met) full = rw full refl
 
-walked_file : (n : ℕ) (e : Edit) (met : List Met) → nat_lt 536870912 n ≡ false → walk_edits n (Ok e ∷ met) ≡ onto e (walk_edits (n + size e) met)
+pub walked_file : (n : ℕ) (e : Edit) (met : List Met) → nat_lt 536870912 n ≡ false → walk_edits n (Ok e ∷ met) ≡ onto e (walk_edits (n + size e) met)
 walked_file n e met room = rw room refl
 
 walked_fault : (n : ℕ) (fault : WalkFault) (met : List Met) → nat_lt 536870912 n ≡ false → walk_edits n (Err fault ∷ met) ≡ Err fault
@@ -72,7 +72,7 @@ fault_ends fault edits n room rest = ap (after edits) (walked_fault n fault rest
 file_goes : (e : Edit) (edits : List Edit) (n : ℕ) → nat_lt 536870912 n ≡ false → Goes (Ok e ∷ []) edits n (edits ++ e ∷ []) (n + size e)
 file_goes e edits n room rest = ap (after edits) (walked_file n e rest room) ∙ sym (after_more edits e (walk_edits (n + size e) rest))
 
-content_is : (o : Option Entry) (content found : Bytes) → o ≡ Some (AFile content) → content_of o ≡ Some found → found ≡ content
+pub content_is : (o : Option Entry) (content found : Bytes) → o ≡ Some (AFile content) → content_of o ≡ Some found → found ≡ content
 content_is o content found e f = let g : content_of o ≡ Some content = ap content_of e in cc
 
 -- a file that was read makes its edit
@@ -94,7 +94,7 @@ read_goes t text content bytes path before edits n m read there room edits_is re
 
 -- ---- one entry of a folder
 
-room_left : (path : PathNames) → length path < 16 → 16 - length path ≡ suc (15 - length path)
+pub room_left : (path : PathNames) → length path < 16 → 16 - length path ≡ suc (15 - length path)
 room_left path few = omega (arith, few)
 
 pub file_walks : (t : FolderTree) (path below : PathNames) (text name full : Bytes) (e : Entry) (before edits : List Edit) (n m : ℕ) (result : Result (Unit {0}) ReadTree) → kind_of e ≡ kinds.File → length path < 16 → is_name name ≡ true
@@ -193,11 +193,11 @@ found t path fs i x h within is =
       kind = r.1.2;
     }
 
-one_more : {X Y : Type 0} (f : X → List Y) (xs : List X) (i : ℕ) (x : X) → i < length xs → get_or xs i x ≡ x → flat_map f (take (i + 1) xs) ≡ flat_map f (take i xs) ++ f x
+pub one_more : {X Y : Type 0} (f : X → List Y) (xs : List X) (i : ℕ) (x : X) → i < length xs → get_or xs i x ≡ x → flat_map f (take (i + 1) xs) ≡ flat_map f (take i xs) ++ f x
 one_more f xs i x within is =
     ap (flat_map f) (take_more xs i x within) ∙ ap (λ y. flat_map f (take i xs ++ y ∷ [])) is ∙ flat_map-append f (take i xs) (x ∷ []) ∙ ap (λ ys. flat_map f (take i xs) ++ ys) (append-nil (f x))
 
-whole : {X Y : Type 0} (f : X → List Y) (xs : List X) (i : ℕ) → flat_map f xs ≡ flat_map f (take i xs) ++ flat_map f (drop i xs)
+pub whole : {X Y : Type 0} (f : X → List Y) (xs : List X) (i : ℕ) → flat_map f xs ≡ flat_map f (take i xs) ++ flat_map f (drop i xs)
 whole f xs i = ap (flat_map f) (sym (take-append-drop i xs)) ∙ flat_map-append f (take i xs) (drop i xs)
 
 pub entry_goes : (t : FolderTree) (room : ℕ) (path : PathNames) (text : Bytes) (i : ℕ) (x : FolderEntry) (first second third : List Edit) (k m n : ℕ) → (h : Found t text i x)
@@ -261,7 +261,7 @@ folder_not_other kind e f = let z : kinds.Folder ≡ kinds.Other = sym e ∙ f i
 pub root_is : (root : PathNames) → path_of (47 ∷ []) ≡ Ok root → root ≡ []
 root_is root e = cc
 
-after_all : (edits : List Edit) → after edits (Ok []) ≡ Ok edits
+pub after_all : (edits : List Edit) → after edits (Ok []) ≡ Ok edits
 after_all [] = refl
 after_all (e ∷ edits) = ap (onto e) (after_all edits)
 

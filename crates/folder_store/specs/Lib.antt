@@ -5,3 +5,5 @@ pub mod Kept
 pub mod Gathering
 pub mod Stores
 pub mod Stocks
+pub mod Surveys
+pub mod Sighting

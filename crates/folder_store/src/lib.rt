@@ -22,7 +22,9 @@ mod memory;
 mod os_store;
 mod reading;
 mod real;
+mod sights;
 mod store;
+mod surveying;
 
 pub use folders::{EntryKind, FolderEntry, FolderFault, Folders};
 pub use laws::edits_make_the_files;
@@ -31,4 +33,6 @@ pub use memory::MemFolders;
 pub use os_store::{OsStore, PART_NAME};
 pub use reading::{ReadTree, TreeFault, read_tree};
 pub use real::OsFolders;
+pub use sights::Standing;
 pub use store::{Store, StoreFault};
+pub use surveying::{SurveyFault, Surveyed, survey};

@@ -6,8 +6,12 @@ ghost use Rattle.path_tree.specs.Texts.{is_name};
 ghost use Rattle.folder_store.specs.Folders.{Entry, AFile, FolderTree, IsFolderTree, is_folder_at, kind_of, entry_at, content_of, view_entry, MayFail};
 ghost use Rattle.folder_store.specs.Walk.{PutsFiles, edits_of, met_below, IsTooDeep, IsBadName};
 ghost use Rattle.folder_store.specs.Gathering.{IsSortedListing, Walks, met_one, kind_at};
+ghost use Rattle.folder_store.specs.Surveys.{at_in, marks_below};
+ghost use Rattle.folder_store.specs.Sighting.{Tells, look_in, marks_one, with_file};
 
 use crate::folders::{EntryKind, FolderEntry, FolderFault, Folders};
+use crate::sights::Sights;
+use crate::surveying::survey;
 use generation_catalogue::{MOST_PUT_BYTES, Refusal};
 use oc_bytes::{Blob, NoMemory};
 use path_tree::{Edit, MOST_CONTENT, MOST_NAMES, Path};
@@ -86,9 +90,9 @@ impl From<FolderFault> for ReadTree {
 
 /// Where a file or a folder stands: its path below the folder that is read, and its path text in the outside.
 #[derive(Drop)]
-struct Place {
-    path: Path,
-    text: String,
+pub(crate) struct Place {
+    pub(crate) path: Path,
+    pub(crate) text: String,
 }
 
 impl Place {
@@ -116,11 +120,11 @@ impl Place {
 
 /// What was read so far.
 #[derive(Drop)]
-struct Gathered {
+pub(crate) struct Gathered {
     /// An edit for each file, in the order in which they were met.
-    edits: Vec<Edit>,
+    pub(crate) edits: Vec<Edit>,
     /// How many bytes the files have in all.
-    read: u64,
+    pub(crate) read: u64,
 }
 
 impl Gathered {
@@ -169,30 +173,39 @@ fn read_file<F: Folders>(
     folders: &mut F,
     place: Place,
     gathered: &mut Gathered,
+    sights: &mut Sights,
 ) -> Result<(), ReadTree>
     requires { gathered.old.read ≤ MOST_PUT_BYTES }
     ensures walk { (t : FolderTree) (content : Bytes) → F.tree folders.old ≡ Some t → entry_at t (string_bytes place.text) ≡ Some (AFile content)
         → Walks (Ok (Edit.Put place.path (take MOST_READ content)) ∷ []) gathered.old.edits.items gathered.old.read result gathered.new.edits.items gathered.new.read }
+    ensures look { (t : FolderTree) (content : Bytes) → F.tree folders.old ≡ Some t → entry_at t (string_bytes place.text) ≡ Some (AFile content)
+        → OnOk result (look_in sights.new ≡ with_file (look_in sights.old) (string_bytes place.text) (length (take MOST_READ content))) }
+    ensures not_deep { IsErrOf result ReadTree.TooDeep → ⊥ }
+    ensures not_bad { IsErrOf result ReadTree.BadName → ⊥ }
     ensures fault { IsErrOf result ReadTree.FolderFault → MayFail (Rose (F.faults folders.old) (F.faults folders.new)) (F.tree folders.old) (λ t. content_of (entry_at t (string_bytes place.text)) ≡ None) }
     ensures owed { (t : FolderTree) (content : Bytes) → F.tree folders.old ≡ Some t → entry_at t (string_bytes place.text) ≡ Some (AFile content) → F.strayed folders.new ≡ F.strayed folders.old }
     ensures same { F.tree folders.new ≡ F.tree folders.old }
     ensures later { F.faults folders.old ≤ F.faults folders.new }
 {
     let content = folders.read(alloc, &place.text, MOST_READ)?;
+    sights.note(place.text, content.len());
     gathered.add(alloc, place.path, content)?;
     Ok(())
 }
 
 /// Adds the edits of the files below a folder. A folder lies at most sixteen deep, and so do the calls.
 #[cycle(walk)]
-fn walk_folder<F: Folders>(
+pub(crate) fn walk_folder<F: Folders>(
     alloc: Global,
     folders: &mut F,
     place: &Place,
     gathered: &mut Gathered,
+    sights: &mut Sights,
 ) -> Result<(), ReadTree>
     ensures walk { (t : FolderTree) → F.tree folders.old ≡ Some t
         → Walks (met_below t (MOST_NAMES - length place.now.path) place.now.path (string_bytes place.now.text)) gathered.old.edits.items gathered.old.read result gathered.new.edits.items gathered.new.read }
+    ensures tells { (t : FolderTree) → F.tree folders.old ≡ Some t
+        → Tells (marks_below t (MOST_NAMES - length place.now.path) place.now.path (string_bytes place.now.text)) (look_in sights.old) gathered.old.read result (look_in sights.new) gathered.new.read (at_in sights.new.at) }
     ensures fault { IsErrOf result ReadTree.FolderFault → MayFail (Rose (F.faults folders.old) (F.faults folders.new)) (F.tree folders.old) (λ t. is_folder_at t (string_bytes place.now.text) ≡ false) }
     ensures no_folder { (t : FolderTree) → F.tree folders.old ≡ Some t → is_folder_at t (string_bytes place.now.text) ≡ false
         → (result ≡ Err ReadTree.FolderFault) ⊎ (result ≡ Err ReadTree.NoMemory) }
@@ -202,7 +215,7 @@ fn walk_folder<F: Folders>(
 {
     let entries = sorted_entries(alloc, folders, &place.text)?;
     for entry in &entries {
-        walk_entry(alloc, folders, place, entry, gathered)?;
+        walk_entry(alloc, folders, place, entry, gathered, sights)?;
     }
     Ok(())
 }
@@ -215,9 +228,12 @@ fn walk_entry<F: Folders>(
     place: &Place,
     entry: &FolderEntry,
     gathered: &mut Gathered,
+    sights: &mut Sights,
 ) -> Result<(), ReadTree>
     ensures walk { (t : FolderTree) (e : Entry) → F.tree folders.old ≡ Some t → entry_at t (string_bytes place.now.text ++ 47 ∷ string_bytes entry.now.name) ≡ Some e → kind_of e ≡ entry.now.kind
         → Walks (met_one t (MOST_NAMES - length place.now.path) place.now.path (string_bytes place.now.text) (string_bytes entry.now.name, e)) gathered.old.edits.items gathered.old.read result gathered.new.edits.items gathered.new.read }
+    ensures tells { (t : FolderTree) (e : Entry) → F.tree folders.old ≡ Some t → entry_at t (string_bytes place.now.text ++ 47 ∷ string_bytes entry.now.name) ≡ Some e → kind_of e ≡ entry.now.kind
+        → Tells (marks_one t (MOST_NAMES - length place.now.path) place.now.path (string_bytes place.now.text) (string_bytes entry.now.name, e)) (look_in sights.old) gathered.old.read result (look_in sights.new) gathered.new.read (at_in sights.new.at) }
     ensures fault { IsErrOf result ReadTree.FolderFault → MayFail (Rose (F.faults folders.old) (F.faults folders.new)) (F.tree folders.old)
         (λ t. kind_at t (string_bytes place.now.text ++ 47 ∷ string_bytes entry.now.name) ≡ Some entry.now.kind → ⊥) }
     ensures owed { (t : FolderTree) → F.tree folders.old ≡ Some t → kind_at t (string_bytes place.now.text ++ 47 ∷ string_bytes entry.now.name) ≡ Some entry.now.kind
@@ -230,14 +246,16 @@ fn walk_entry<F: Folders>(
     }
     match entry.kind {
         EntryKind::File => {
+            sights.reach(alloc, &place.path, &entry.name)?;
             let file = place.below(alloc, &entry.name)?;
-            read_file(alloc, folders, file, gathered)
+            read_file(alloc, folders, file, gathered, sights)
         }
         EntryKind::Folder => {
+            sights.reach(alloc, &place.path, &entry.name)?;
             let folder = place.below(alloc, &entry.name)?;
-            walk_folder(alloc, folders, &folder, gathered)
+            walk_folder(alloc, folders, &folder, gathered, sights)
         }
-        EntryKind::Other => Ok(()),
+        EntryKind::Other => Ok(sights.pass(alloc, &place.path, &entry.name)?),
     }
 }
 
@@ -271,14 +289,8 @@ pub fn read_tree<F: Folders>(
     ensures same { F.tree folders.new ≡ F.tree folders.old }
     ensures later { F.faults folders.old ≤ F.faults folders.new }
 {
-    let Ok(path) = Path::parse(alloc, b"/") else {
-        return Err(ReadTree::NoMemory);
-    };
-    let text = String::from_str(alloc, root)?;
-    let mut gathered = Gathered {
-        edits: Vec::new(alloc),
-        read: 0,
-    };
-    walk_folder(alloc, folders, &Place { path, text }, &mut gathered)?;
-    Ok(gathered.edits)
+    match survey(alloc, folders, root) {
+        Ok(survey) => Ok(survey.edits),
+        Err(fault) => Err(fault.cause),
+    }
 }

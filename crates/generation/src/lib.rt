@@ -17,11 +17,13 @@ mod former;
 mod keys;
 mod laws;
 mod limit;
+mod listing;
 mod made;
 mod objects;
 mod spots;
 mod unchanged;
 
 pub use laws::{equal_versions_mean_equal_bytes, generations_are_of_the_lists, layouts_are_lawful};
-pub use limit::{Limit, MOST_OBJECTS, check};
+pub use limit::{Limit, MOST_OBJECTS, check, large_folder_size};
+pub use listing::{Object, ObjectKind};
 pub use made::Generation;

@@ -3,6 +3,8 @@ ghost use Rattle.std.specs.Prelude.{◌≡◌, ◌≤◌, ◌<◌, ◌+◌, List
 ghost use Rattle.std.specs.List.{All, sum_by, find};
 ghost use Rattle.oc_bytes.specs.Outcome.{Gives};
 ghost use Rattle.generation.specs.Limits.{check_of, limit_cause, unless_passed};
+ghost use Rattle.std.specs.Option.{option_map};
+ghost use Rattle.generation.specs.Sizes.{large_size};
 ghost use Rattle.generation.specs.Publication.{Spot as SpotFields, size_of as size_in, is_large_folder, large_folder, binding_size as binding_in, binding_rest as rest_of};
 ghost use Rattle.path_tree.specs.Trees.{Tree, IsTree};
 ghost use Rattle.generation.specs.View.{view_spot, IsSpotIn, AreSpotsOf};
@@ -68,6 +70,34 @@ pub fn check(alloc: Global, tree: &Tree) -> Result<(), Limit>
         return Err(Limit::TooManyModules(modules));
     }
     Ok(())
+}
+
+/// How many bytes the object of a tree's first folder has that has more than [`MOST_FOLDER_SIZE`]: what passes the limit where `check`
+/// answers `FolderTooLarge`. None where no folder has more, or where there are more than [`MOST_OBJECTS`] objects. The only refusal is
+/// out of memory.
+pub fn large_folder_size(alloc: Global, tree: &Tree) -> Result<Option<u32>, NoMemory>
+    ensures { IfOk result (λ n. n ≡ large_size tree.now) }
+{
+    let spots = spots(alloc, tree)?;
+    if spots.len() > MOST_OBJECTS {
+        return Ok(None);
+    }
+    let sizes = sizes(alloc, tree, &spots)?;
+    Ok(first_large(&spots, &sizes))
+}
+
+/// The size of the first folder that is too large, where these are the sizes of a tree's objects.
+fn first_large(spots: &[Spot], sizes: &[u32]) -> Option<u32>
+    requires { length sizes.now ≤ length spots.now }
+    ensures { (t : Tree) → sizes.now ≡ map (size_in (map (view_spot t) spots.now)) (map (view_spot t) spots.now)
+        → result ≡ option_map (size_in (map (view_spot t) spots.now)) (find (is_large_folder (map (view_spot t) spots.now)) (map (view_spot t) spots.now)) }
+{
+    for (index, size) in sizes.iter().enumerate() {
+        if is_large(spots[index], *size) {
+            return Some(*size);
+        }
+    }
+    None
 }
 
 /// Refuses the first folder that is too large.

@@ -10,6 +10,7 @@ ghost use Rattle.dsmcc_section.specs.Sections.{IsFramed};
 ghost use Rattle.generation.specs.Layouts.{GenerationState, first_of, next_of, lines_of, lines_in, items_of, section_of, count_in as count_at, layout_of, module_if_used, greatest, placed_all, keys_of, modules_for};
 ghost use Rattle.generation.specs.Kept.{StandsFor};
 ghost use Rattle.generation.specs.Publication.{limit_of, spots_of};
+ghost use Rattle.generation.specs.Objects.{object_of};
 ghost use Rattle.generation.specs.Stays.{AreAsBefore, AreTheirs};
 ghost use Rattle.generation.specs.View.{view_listed, view_placed, AreReady, AreOld, IsMarked, AreMarked, IsSpotIn, counted_by};
 ghost use Rattle.dsi_dii.specs.declared.TheConstants.{LAST_GENERATION, MOST_TOTAL_SIZE};
@@ -18,6 +19,7 @@ use crate::control::{block_of_module, dii_section, dsi_section};
 use crate::former::{former_of, modules};
 use crate::keys::keys;
 use crate::limit::sizes;
+use crate::listing::{Object, list_objects};
 use crate::objects::{Placed, module_bytes, place_all};
 use crate::spots::{Spot, is_equal, spots};
 use crate::unchanged::{modules_that_stay, named_files};
@@ -184,6 +186,13 @@ impl Generation {
         ensures { result.now ≡ self.now.tree }
     {
         &self.tree
+    }
+
+    /// The objects in the order of paths, each with the module that it lies in. The only refusal is out of memory.
+    pub fn objects(&self) -> Result<Vec<Object>, NoMemory>
+        ensures { IfOk result (λ v. v.items ≡ map object_of self.now.objects) }
+    {
+        list_objects(self.alloc, &self.tree, &self.objects)
     }
 
     /// The modules' ids, from 1 to [`dsi_dii::MOST_MODULES`] and rising, each with its number of blocks of [`BLOCK_SIZE`] bytes. There is at least one, and

@@ -5,6 +5,9 @@ use Rattle.folder_store.specs.declared.reading.ReadTree.TheVariants as refusals
 use Rattle.folder_store.specs.Folders.{FolderTree, is_folder_at, kind_of}
 use Rattle.folder_store.specs.Gathering.{kind_at, met_one}
 use Rattle.folder_store.proofs.Walking.{full_goes, file_walks, folder_walks, place_ends, found, entry_goes, entry_ends, folder_goes, entry_fault, kind_there, file_not_other, folder_not_other, refused_is}
+use Rattle.folder_store.specs.Surveys.{at_in}
+use Rattle.folder_store.specs.Sighting.{look_in}
+use Rattle.folder_store.proofs.Marking.{entry_stops, entry_told, file_tells, folder_tells, folder_told}
 use Rattle.folder_store.proofs.reading.+walk.Goals as goal
 
 pub walk_entry-returns-then-is_full-clause-walk : goal.walk_entry-returns-then-is_full-clause-walk
@@ -15,11 +18,11 @@ walk_entry-returns-then-is_full-clause-walk g t c = λ tree e told there kind re
 pub walk_entry-returns-in_err-file-in-File-clause-walk :
     goal.walk_entry-returns-in_err-file-in-File-clause-walk
 walk_entry-returns-in_err-file-in-File-clause-walk g t c = λ tree e told there kind rest.
-    let p = err_from_is_err_and c.from_residual.result c.from_residual.ensures.1 in
+    let p = err_from_is_err_and c.from_residual-in_err-file-in-File.result c.from_residual-in_err-file-in-File.ensures.1 in
     rw (p.1, p.2)
     (place_ends tree c.args.place.now.path (string_bytes c.args.place.now.text) (string_bytes c.args.entry.now.name) e c.args.gathered.now.edits.items c.args.gathered.now.read c.in_err-file-in-File.field-0.0
     (file_not_other (kind_of e) (kind ∙ c.in-File.is)) (sym c.is_full.ensures ∙ c.if-is_full.false)
-    (λ h. c.in_err-file-in-File.ensures.too_deep (ap Err h)) (λ h. rw c.deref.ensures at (c.in_err-file-in-File.ensures.bad_name (ap Err h))) rest)
+    (λ h. c.in_err-file-in-File.ensures.too_deep (ap Err h)) (λ h. rw c.deref-in-File.ensures at (c.in_err-file-in-File.ensures.bad_name (ap Err h))) rest)
 
 pub walk_entry-returns-in_err-folder-in-Folder-clause-walk :
     goal.walk_entry-returns-in_err-folder-in-Folder-clause-walk
@@ -28,25 +31,44 @@ walk_entry-returns-in_err-folder-in-Folder-clause-walk g t c = λ tree e told th
     rw (p.1, p.2)
     (place_ends tree c.args.place.now.path (string_bytes c.args.place.now.text) (string_bytes c.args.entry.now.name) e c.args.gathered.now.edits.items c.args.gathered.now.read c.in_err-folder-in-Folder.field-0.0
     (folder_not_other (kind_of e) (kind ∙ c.in-Folder.is)) (sym c.is_full.ensures ∙ c.if-is_full.false)
-    (λ h. c.in_err-folder-in-Folder.ensures.too_deep (ap Err h)) (λ h. rw c.deref-in-Folder.ensures at (c.in_err-folder-in-Folder.ensures.bad_name (ap Err h))) rest)
+    (λ h. c.in_err-folder-in-Folder.ensures.too_deep (ap Err h)) (λ h. rw c.deref-in-Folder-2.ensures at (c.in_err-folder-in-Folder.ensures.bad_name (ap Err h))) rest)
 
 pub walk_entry-returns-in_ok-file-in-File-clause-walk :
     goal.walk_entry-returns-in_ok-file-in-File-clause-walk
 walk_entry-returns-in_ok-file-in-File-clause-walk g t c = λ tree e told there kind.
     file_walks tree c.args.place.now.path c.in_ok-file-in-File.file.path (string_bytes c.args.place.now.text) (string_bytes c.args.entry.now.name) (string_bytes c.in_ok-file-in-File.file.text) e
     c.args.gathered.now.edits.items c.read_file.new.gathered.edits.items c.args.gathered.now.read c.read_file.new.gathered.read c.read_file.result
-    (kind ∙ c.in-File.is) c.in_ok-file-in-File.ensures.room (rw c.deref.ensures at c.in_ok-file-in-File.ensures.name)
-    (rw c.deref.ensures at c.in_ok-file-in-File.ensures.path) (rw c.deref.ensures at c.in_ok-file-in-File.ensures.text) there
+    (kind ∙ c.in-File.is) c.in_ok-file-in-File.ensures.room (rw c.deref-in-File.ensures at c.in_ok-file-in-File.ensures.name)
+    (rw c.deref-in-File.ensures at c.in_ok-file-in-File.ensures.path) (rw c.deref-in-File.ensures at c.in_ok-file-in-File.ensures.text) there
     (λ content file. c.read_file.ensures.walk tree content told file)
+
+pub walk_entry-returns-in_ok-file-in-File-clause-tells :
+    goal.walk_entry-returns-in_ok-file-in-File-clause-tells
+walk_entry-returns-in_ok-file-in-File-clause-tells g t c = λ tree e told there kind.
+    file_tells tree c.args.place.now.path (string_bytes c.args.place.now.text) (string_bytes c.args.entry.now.name) (string_bytes c.in_ok-file-in-File.file.text) e
+    (look_in c.args.sights.now) _ (look_in c.read_file.new.sights) c.args.gathered.now.read c.read_file.new.gathered.read c.read_file.result (at_in c.read_file.new.sights.at)
+    (kind ∙ c.in-File.is) c.in_ok-file-in-File.ensures.room (rw c.deref-in-File.ensures at c.in_ok-file-in-File.ensures.name)
+    (rw c.deref-in-File.ensures at c.in_ok-file-in-File.ensures.text) there (sym c.is_full.ensures ∙ c.if-is_full.false)
+    c.read_file.ensures.not_deep c.read_file.ensures.not_bad
+    c.in_ok-reach-in-File.ensures.look (λ content file. c.read_file.ensures.look tree content told file)
 
 pub walk_entry-returns-in_ok-folder-in-Folder-clause-walk :
     goal.walk_entry-returns-in_ok-folder-in-Folder-clause-walk
 walk_entry-returns-in_ok-folder-in-Folder-clause-walk g t c = λ tree e told there kind.
     folder_walks tree c.args.place.now.path c.in_ok-folder-in-Folder.folder.path (string_bytes c.args.place.now.text) (string_bytes c.args.entry.now.name) (string_bytes c.in_ok-folder-in-Folder.folder.text) e
     c.args.gathered.now.edits.items c.walk_folder.new.gathered.edits.items c.args.gathered.now.read c.walk_folder.new.gathered.read c.walk_folder.result
-    (kind ∙ c.in-Folder.is) c.in_ok-folder-in-Folder.ensures.room (rw c.deref-in-Folder.ensures at c.in_ok-folder-in-Folder.ensures.name)
-    (rw c.deref-in-Folder.ensures at c.in_ok-folder-in-Folder.ensures.path) (rw c.deref-in-Folder.ensures at c.in_ok-folder-in-Folder.ensures.text)
+    (kind ∙ c.in-Folder.is) c.in_ok-folder-in-Folder.ensures.room (rw c.deref-in-Folder-2.ensures at c.in_ok-folder-in-Folder.ensures.name)
+    (rw c.deref-in-Folder-2.ensures at c.in_ok-folder-in-Folder.ensures.path) (rw c.deref-in-Folder-2.ensures at c.in_ok-folder-in-Folder.ensures.text)
     (c.walk_folder.ensures.walk tree told)
+
+pub walk_entry-returns-in_ok-folder-in-Folder-clause-tells :
+    goal.walk_entry-returns-in_ok-folder-in-Folder-clause-tells
+walk_entry-returns-in_ok-folder-in-Folder-clause-tells g t c = λ tree e told there kind.
+    folder_tells tree c.args.place.now.path c.in_ok-folder-in-Folder.folder.path (string_bytes c.args.place.now.text) (string_bytes c.args.entry.now.name) (string_bytes c.in_ok-folder-in-Folder.folder.text) e
+    (look_in c.args.sights.now) (look_in c.walk_folder.new.sights) c.args.gathered.now.read c.walk_folder.new.gathered.read c.walk_folder.result (at_in c.walk_folder.new.sights.at)
+    (kind ∙ c.in-Folder.is) c.in_ok-folder-in-Folder.ensures.room (rw c.deref-in-Folder-2.ensures at c.in_ok-folder-in-Folder.ensures.name)
+    (rw c.deref-in-Folder-2.ensures at c.in_ok-folder-in-Folder.ensures.path) (rw c.deref-in-Folder-2.ensures at c.in_ok-folder-in-Folder.ensures.text)
+    (rw c.in_ok-reach-in-Folder.ensures.look at (c.walk_folder.ensures.tells tree told))
 
 pub walk_folder-returns-in_err-walk_entry-clause-walk :
     goal.walk_folder-returns-in_err-walk_entry-clause-walk
@@ -60,6 +82,19 @@ walk_folder-returns-in_err-walk_entry-clause-walk g t c = λ tree told rest.
     (entry_ends tree (16 - length c.args.place.now.path) c.args.place.now.path text c.loop-entry.entry-index c.entry-item.result c.args.gathered.now.edits.items c.loop-entry.gathered.edits.items
     c.args.gathered.now.read c.loop-entry.gathered.read c.in_err-walk_entry.field-0.0 h (inv.walk tree told)
     (c.in_err-walk_entry.ensures.walk tree h.entry (inv.same ∙ told) h.there h.kind) rest)
+
+pub walk_folder-returns-in_err-walk_entry-clause-tells :
+    goal.walk_folder-returns-in_err-walk_entry-clause-tells
+walk_folder-returns-in_err-walk_entry-clause-tells g t c = λ tree told.
+    let p = err_from_is_err_and c.from_residual-in_err-walk_entry.result c.from_residual-in_err-walk_entry.ensures.1 in
+    let inv = c.loop-entry.invariant in
+    let text = string_bytes c.args.place.now.text in
+    let listing = rw c.deref.ensures at (c.in_ok-entries.ensures.entries tree told) in
+    let h = found tree text c.in_ok-entries.entries.items c.loop-entry.entry-index c.entry-item.result listing (omega (arith, ap length c.deref-entry-items.ensures.value)) (rw c.deref-entry-items.ensures.value at c.entry-item.is) in
+    rw (p.1, p.2)
+    (entry_stops tree (16 - length c.args.place.now.path) c.args.place.now.path text c.loop-entry.entry-index c.entry-item.result (look_in c.args.sights.now) (look_in c.loop-entry.sights) (look_in c.walk_entry.new.sights)
+    c.args.gathered.now.read c.loop-entry.gathered.read c.walk_entry.new.gathered.read (at_in c.walk_entry.new.sights.at) c.in_err-walk_entry.field-0.0 h (inv.tells tree told)
+    (c.in_err-walk_entry.ensures.tells tree h.entry (inv.same ∙ told) h.there h.kind))
 
 pub walk_folder-returns-in_err-walk_entry-clause-fault :
     goal.walk_folder-returns-in_err-walk_entry-clause-fault
@@ -100,6 +135,11 @@ walk_folder-loop-entry-preserved g t c =
           let h = found tree text c.in_ok-entries.entries.items c.loop-entry.entry-index c.entry-item.result listing (omega (arith, ap length c.deref-entry-items.ensures.value)) (rw c.deref-entry-items.ensures.value at c.entry-item.is) in
           entry_goes tree (16 - length c.args.place.now.path) c.args.place.now.path text c.loop-entry.entry-index c.entry-item.result c.args.gathered.now.edits.items c.loop-entry.gathered.edits.items c.walk_entry.new.gathered.edits.items
           c.args.gathered.now.read c.loop-entry.gathered.read c.walk_entry.new.gathered.read h (inv.walk tree told) (c.in_ok-walk_entry.ensures.walk tree h.entry (inv.same ∙ told) h.there h.kind);
+      tells = λ tree told.
+          let listing = rw c.deref.ensures at (c.in_ok-entries.ensures.entries tree told) in
+          let h = found tree text c.in_ok-entries.entries.items c.loop-entry.entry-index c.entry-item.result listing (omega (arith, ap length c.deref-entry-items.ensures.value)) (rw c.deref-entry-items.ensures.value at c.entry-item.is) in
+          entry_told tree (16 - length c.args.place.now.path) c.args.place.now.path text c.loop-entry.entry-index c.entry-item.result (look_in c.args.sights.now) (look_in c.loop-entry.sights) (look_in c.walk_entry.new.sights)
+          c.args.gathered.now.read c.loop-entry.gathered.read c.walk_entry.new.gathered.read (at_in c.walk_entry.new.sights.at) h (inv.tells tree told) (c.in_ok-walk_entry.ensures.tells tree h.entry (inv.same ∙ told) h.there h.kind);
       owed = λ tree told folder.
           let listing = rw c.deref.ensures at (c.in_ok-entries.ensures.entries tree told) in
           let h = found tree text c.in_ok-entries.entries.items c.loop-entry.entry-index c.entry-item.result listing (omega (arith, ap length c.deref-entry-items.ensures.value)) (rw c.deref-entry-items.ensures.value at c.entry-item.is) in
@@ -114,3 +154,10 @@ walk_folder-returns-clause-walk g t c = λ tree told.
     let listing = rw c.deref.ensures at (c.in_ok-entries.ensures.entries tree told) in
     folder_goes tree (16 - length c.args.place.now.path) c.args.place.now.path (string_bytes c.args.place.now.text) c.in_ok-entries.entries.items c.loop-entry.entry-index c.args.gathered.now.edits.items c.loop-entry.gathered.edits.items
     c.args.gathered.now.read c.loop-entry.gathered.read listing (omega (arith, ap length c.deref-entry-items.ensures.value)) (inv.walk tree told)
+
+pub walk_folder-returns-clause-tells : goal.walk_folder-returns-clause-tells
+walk_folder-returns-clause-tells g t c = λ tree told.
+    let inv = c.loop-entry.invariant in
+    let listing = rw c.deref.ensures at (c.in_ok-entries.ensures.entries tree told) in
+    folder_told tree (16 - length c.args.place.now.path) c.args.place.now.path (string_bytes c.args.place.now.text) c.in_ok-entries.entries.items c.loop-entry.entry-index (look_in c.args.sights.now) (look_in c.loop-entry.sights)
+    c.args.gathered.now.read c.loop-entry.gathered.read (at_in c.loop-entry.sights.at) listing (omega (arith, ap length c.deref-entry-items.ensures.value)) (inv.tells tree told)

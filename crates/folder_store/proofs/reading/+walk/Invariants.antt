@@ -4,6 +4,8 @@ use Rattle.std.specs.String.{string_bytes}
 use Rattle.folder_store.specs.Folders.{FolderTree, entries_below, is_folder_at}
 use Rattle.folder_store.specs.Walk.{sort_entries}
 use Rattle.folder_store.specs.Gathering.{met_one}
+use Rattle.folder_store.specs.Sighting.{look_in}
+use Rattle.folder_store.proofs.Marking.{Told}
 use Rattle.folder_store.proofs.Walking.{Goes}
 use Rattle.folder_store.proofs.reading.+walk.Given as goal
 
@@ -18,6 +20,8 @@ invariant-walk_folder-loop-entry g l = record {
   walk : (t : FolderTree) → g.F.Folders.tree l.fn.folders ≡ Some t
       → Goes (flat_map (met_one t (16 - length l.place.path) l.place.path (string_bytes l.place.text)) (take l.entry-index (sort_entries (entries_below t (string_bytes l.place.text)))))
       l.fn.gathered.edits.items l.fn.gathered.read l.gathered.edits.items l.gathered.read;
+  tells : (t : FolderTree) → g.F.Folders.tree l.fn.folders ≡ Some t
+      → Told t (16 - length l.place.path) l.place.path (string_bytes l.place.text) l.entry-index (look_in l.fn.sights) l.fn.gathered.read (look_in l.sights) l.gathered.read;
   owed : (t : FolderTree) → g.F.Folders.tree l.fn.folders ≡ Some t → is_folder_at t (string_bytes l.place.text) ≡ true → g.F.Folders.strayed l.folders ≡ g.F.Folders.strayed l.fn.folders;
   same : g.F.Folders.tree l.folders ≡ g.F.Folders.tree l.fn.folders;
   later : g.F.Folders.faults l.fn.folders ≤ g.F.Folders.faults l.folders;

@@ -1,0 +1,99 @@
+ghost use Rattle.std.specs.Prelude.{◌≡◌, ◌≤◌, ◌⊎◌, Some, Ok, Err, false, true, nat_lt, IfOk, IfErr, IsErrAnd};
+ghost use Rattle.oc_bytes.specs.Outcome.{Rose};
+ghost use Rattle.generation_catalogue.specs.History.{put_bytes};
+ghost use Rattle.generation_catalogue.specs.declared.journal.TheConstants.{MOST_PUT_BYTES};
+ghost use Rattle.folder_store.specs.Folders.{FolderTree, is_folder_at, MayFail};
+ghost use Rattle.folder_store.specs.Walk.{edits_of, IsTooDeep, IsBadName};
+ghost use Rattle.folder_store.specs.Surveys.{at_in, survey_of, view_survey};
+
+use crate::folders::Folders;
+use crate::reading::{Gathered, Place, ReadTree, walk_folder};
+use crate::sights::{Sights, Standing};
+use path_tree::{Edit, Path};
+use std::alloc::{AllocError, Global};
+
+/// What a folder holds, as publishing takes it.
+#[derive(Drop)]
+pub struct Surveyed {
+    /// One `Put` for each file, in the order of paths.
+    pub edits: Vec<Edit>,
+    /// What was passed over, links and other kinds, in the order of paths.
+    pub left: Vec<Standing>,
+    /// The path text of the first file that has more than [`path_tree::MOST_CONTENT`] bytes.
+    pub large: Option<String>,
+}
+
+/// Why a folder gives no survey.
+#[derive(Drop)]
+pub struct SurveyFault {
+    /// What [`read_tree`](crate::read_tree) answers.
+    pub cause: ReadTree,
+    /// The file or the folder that breaks the rule or couldn't be read; none where that is the folder itself that is surveyed.
+    pub at: Option<Standing>,
+}
+
+impl From<AllocError> for SurveyFault {
+    ghost use Rattle.std.specs.Prelude.{◌≡◌};
+    ghost use Rattle.folder_store.specs.declared.reading.ReadTree.TheVariants.{NoMemory};
+
+    ghost from_gives = { λ _ f. f.cause ≡ NoMemory };
+
+    fn from(_error: AllocError) -> SurveyFault {
+        SurveyFault {
+            cause: ReadTree::NoMemory,
+            at: None,
+        }
+    }
+}
+
+/// Reads a folder of the outside as edits, as [`read_tree`](crate::read_tree) does, and tells beside them what was passed over and which file
+/// is too large, or else which file or folder is at fault.
+///
+/// Where no more than [`generation_catalogue::MOST_PUT_BYTES`] are read, all that is passed over below `root` is told, and the
+/// first file of more than [`path_tree::MOST_CONTENT`] bytes. Where a rule is broken, `at` is the first entry in the order of paths that
+/// breaks one. After a `FolderFault` it is what the walk came to last. These rules are this project's own.
+pub fn survey<F: Folders>(
+    alloc: Global,
+    folders: &mut F,
+    root: &str,
+) -> Result<Surveyed, SurveyFault>
+    ensures edits { IfOk result (λ s. (t : FolderTree) → F.tree folders.old ≡ Some t → edits_of t root.now ≡ Ok s.edits.items) }
+    ensures look { IfOk result (λ s. (t : FolderTree) → F.tree folders.old ≡ Some t → nat_lt MOST_PUT_BYTES (put_bytes s.edits.items) ≡ false → survey_of t root.now ≡ Ok (view_survey s)) }
+    ensures too_deep { IfErr result (λ f. f.cause ≡ ReadTree.TooDeep → (t : FolderTree) → F.tree folders.old ≡ Some t → (edits_of t root.now ≡ Err IsTooDeep) × (survey_of t root.now ≡ Err (at_in f.at))) }
+    ensures bad_name { IfErr result (λ f. f.cause ≡ ReadTree.BadName → (t : FolderTree) → F.tree folders.old ≡ Some t → (edits_of t root.now ≡ Err IsBadName) × (survey_of t root.now ≡ Err (at_in f.at))) }
+    ensures fault { IfErr result (λ f. f.cause ≡ ReadTree.FolderFault → MayFail (Rose (F.faults folders.old) (F.faults folders.new)) (F.tree folders.old) (λ t. is_folder_at t root.now ≡ false)) }
+    ensures no_folder { (t : FolderTree) → F.tree folders.old ≡ Some t → is_folder_at t root.now ≡ false
+        → IsErrAnd result (λ f. (f.cause ≡ ReadTree.FolderFault) ⊎ (f.cause ≡ ReadTree.NoMemory)) }
+    ensures owed { (t : FolderTree) → F.tree folders.old ≡ Some t → is_folder_at t root.now ≡ true → F.strayed folders.new ≡ F.strayed folders.old }
+    ensures same { F.tree folders.new ≡ F.tree folders.old }
+    ensures later { F.faults folders.old ≤ F.faults folders.new }
+{
+    let Ok(path) = Path::parse(alloc, b"/") else {
+        return Err(SurveyFault {
+            cause: ReadTree::NoMemory,
+            at: None,
+        });
+    };
+    let text = String::from_str(alloc, root)?;
+    let mut gathered = Gathered {
+        edits: Vec::new(alloc),
+        read: 0,
+    };
+    let mut sights = Sights {
+        left: Vec::new(alloc),
+        large: None,
+        at: None,
+    };
+    let place = Place { path, text };
+    match walk_folder(alloc, folders, &place, &mut gathered, &mut sights) {
+        Ok(()) => Ok(Surveyed {
+            edits: gathered.edits,
+            left: sights.left,
+            large: sights.large,
+        }),
+        Err(cause) => Err(SurveyFault {
+            cause,
+            at: sights.at,
+        }),
+    }
+}
