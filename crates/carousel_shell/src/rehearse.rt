@@ -6,7 +6,7 @@ ghost use Rattle.carousel_shell.specs.Rehearse.{Rehearses};
 use crate::status::Status;
 use cycle_planner::Weigh;
 use oc_bytes::Source;
-use session_script::parse;
+use session_script::read_parts;
 use shell_streams::{Output, read_all};
 use std::alloc::Global;
 
@@ -38,13 +38,13 @@ pub fn rehearse<S: Source, O: Output>(
         Ok(text) => text,
         Err(fault) => return Status::from(fault),
     };
-    let script = match parse(alloc, &text) {
-        Ok(script) => script,
+    let parts = match read_parts(alloc, &text) {
+        Ok(parts) => parts,
         Err(fault) => return Status::from(fault),
     };
     // The text is of no use any more, and may be large.
     drop(text);
-    match rehearsal::rehearse(alloc, script, weigh, out) {
+    match rehearsal::rehearse(alloc, parts, weigh, out) {
         Ok(()) => Status::Done,
         Err(fault) => Status::from(fault),
     }

@@ -7,7 +7,7 @@ use Rattle.std.specs.declared.vec.Vec.{Vec}
 use Rattle.std.specs.declared.alloc.Global.{Global}
 use Rattle.path_tree.specs.declared.tree.Edit.{Edit}
 use Rattle.rehearsal.specs.Lines.{Pending, with_edit, without}
-use Rattle.rehearsal.specs.Steps.{edits_in}
+use Rattle.rehearsal.specs.Happening.{edits_in}
 
 pub added : (p : Pending) (editor : ℕ) (edit : Edit) (mid new : BTreeMap ℕ (Vec Edit Global)) (took pushed : Vec Edit Global) → took.items ≡ p editor
     → ((e : ℕ) → edits_in (get nat_cmp mid e) ≡ without p editor e) → pushed.items ≡ took.items ++ edit ∷ [] → Updates nat_cmp mid new editor (Some pushed)

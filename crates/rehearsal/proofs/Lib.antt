@@ -2,7 +2,6 @@ mod Adding
 mod Digits
 mod Examples
 mod FilledBytes
-mod Lining
 mod Nothing
 mod Running
 mod Texts

@@ -1,7 +1,7 @@
 -- Events one after another, and their report.
 use Rattle.std.proofs.Common.{◌≡◌, ℕ, List, [], ◌∷◌, ◌++◌, Result, Ok, Err, refl, sym, ap, ◌∙◌, append-nil, append_assoc, subst}
 use Rattle.std.specs.Prelude.{OnOk}
-use Rattle.session_script.specs.Scripts.{Act, Fields, LineFields}
+use Rattle.session_script.specs.Scripts.{Fields, LineFields}
 use Rattle.path_tree.specs.Paths.{Bytes}
 use Rattle.shell_streams.specs.Sending.{OutputState, Puts}
 use Rattle.shell_streams.specs.declared.output.OutputFault.{OutputFault}
@@ -115,14 +115,12 @@ runs_as {ws = ws} {r = r} {a = a} {b = b} before e p = let P : List Step → Typ
 pub stands_as : {X : _} {F : _} {g : _} {ws : List ℕ} {r : Rehearsal X F g} {a b : List Step} {p : Pending} → a ≡ b → Stands r ws a p → Stands r ws b p
 stands_as {ws = ws} {r = r} {p = p} e st = let P : List Step → Type 0 = λ es. Stands r ws es p in subst P e st
 
--- the line of an action
-pub runs_line_of : {ws : List ℕ} {T : Type 0} {r : Result T OutputFault} {a b : OutputState} (before : List Step) (p : Pending) {x y : Act} → x ≡ y
-    → Runs r a b ws before (events_of_line p y) → Runs r a b ws before (events_of_line p x)
-runs_line_of {ws = ws} {r = r} {a = a} {b = b} before p e ran = let P : Act → Type 0 = λ x. Runs r a b ws before (events_of_line p x) in subst P (sym e) ran
+-- the events of a line in other words
+pub stands_more : {X : _} {F : _} {g : _} {ws : List ℕ} {r : Rehearsal X F g} (before : List Step) {a b : List Step} {p : Pending} → a ≡ b → Stands r ws (before ++ a) p → Stands r ws (before ++ b) p
+stands_more before e st = stands_as (ap (λ (es : List Step). before ++ es) e) st
 
-pub stands_line_of : {X : _} {F : _} {g : _} {ws : List ℕ} {r : Rehearsal X F g} (before : List Step) (p : Pending) {x y : Act} → x ≡ y
-    → Stands r ws (before ++ events_of_line p y) (pending_after p y) → Stands r ws (before ++ events_of_line p x) (pending_after p x)
-stands_line_of {ws = ws} {r = r} before p e st = let P : Act → Type 0 = λ x. Stands r ws (before ++ events_of_line p x) (pending_after p x) in subst P (sym e) st
+pub stands_still : {X : _} {F : _} {g : _} {ws : List ℕ} {r : Rehearsal X F g} (before : List Step) {p : Pending} → Stands r ws before p → Stands r ws (before ++ []) p
+stands_still before st = stands_as (sym (append-nil before)) st
 
 -- an event more in the world
 pub world_more : (k : Kept) (ws : List ℕ) (before : List Step) (e : Step) → StandsFor k (happens (world_after 1 ws before) e) → StandsFor k (world_after 1 ws (before ++ e ∷ []))

@@ -1,4 +1,5 @@
 pub mod Lines
+pub mod Happening
 pub mod Reports
 pub mod Rehearsals
 pub mod Steps

@@ -1,21 +1,17 @@
 -- What the steps of a rehearsal say of each other.
-use Rattle.std.specs.Prelude.{◌≡◌, ℕ, List, [], ◌++◌, Option, Some, None, Result, OnOk}
+use Rattle.std.specs.Prelude.{◌≡◌, ℕ, List, [], ◌++◌, Result, Ok, Err, OnOk}
 use Rattle.std.specs.String.{string_bytes}
-use Rattle.std.specs.Ordering.{nat_cmp}
-use Rattle.std.specs.BTreeMap.{get}
-use Rattle.std.specs.declared.vec.Vec.{Vec}
-use Rattle.std.specs.declared.alloc.Global.{Global}
-use Rattle.path_tree.specs.declared.tree.Edit.{Edit}
-use Rattle.session_script.specs.Scripts.{LineFields}
+use Rattle.session_script.specs.Scripts.{LineFields, Fields}
 use Rattle.shell_streams.specs.Sending.{OutputState, Puts, HasPut}
 use Rattle.shell_streams.specs.declared.output.OutputFault.{OutputFault}
 use Rattle.carousel_world.specs.Events.{Step}
 use Rattle.carousel_world.specs.Promises.{MeetsHeadline, world_after}
 use Rattle.carousel_world.specs.View.{kept_in, StandsFor}
-use Rattle.rehearsal.specs.declared.pending.PendingEdits.{PendingEdits}
 use Rattle.rehearsal.specs.declared.subject.Subject.{Subject}
 use Rattle.rehearsal.specs.declared.rehearsal.Rehearsal.{Rehearsal}
+use Rattle.rehearsal.specs.Happening.{Holds}
 use Rattle.rehearsal.specs.Lines.{Pending, none_pending, events_from}
+use Rattle.rehearsal.specs.Rehearsals.{Rehearses}
 use Rattle.rehearsal.specs.Reports.{subject_words, path_words, report_in, report_of}
 
 -- a subject is that of the event
@@ -23,19 +19,11 @@ pub record Tells (s : Subject) (event : Step) : Type 0 where
   pub words : string_bytes s.words ≡ subject_words event
   pub path : string_bytes s.path ≡ path_words event
 
-abbrev pub edits_in : Option (Vec Edit Global) → List Edit
-edits_in (Some edits) = edits.items
-edits_in None = []
-
--- of each editor, its edits
-abbrev pub Holds : PendingEdits → Pending → Type 0
-Holds e p = (editor : ℕ) → edits_in (get nat_cmp e.by_editor editor) ≡ p editor
-
 -- these events happened in the rehearsal's world, and these edits are pending
 pub record Stands {X : _} {F : _} {g : _} (r : Rehearsal X F g) (weights : List ℕ) (before : List Step) (p : Pending) : Type 0 where
   pub world : StandsFor (kept_in r.world) (world_after 1 weights before)
   pub headline : MeetsHeadline 1 weights before
-  pub pending : Holds r.pending p
+  pub pending : Holds r.interpreter p
 
 -- below these events, those happened that a line has, or on a fault the first of them, and their report was put
 pub record Runs {T : Type 0} (outcome : Result T OutputFault) (old new : OutputState) (weights : List ℕ) (before events : List Step) : Type 0 where
@@ -53,3 +41,8 @@ pub record HasRun {X : _} {F : _} {g : _} (r : Rehearsal X F g) (weights : List 
   pub split : events_from none_pending all ≡ happened ++ events_from pending left
   pub stands : Stands r weights happened pending
   pub puts : HasPut old new (report_of weights happened)
+
+-- so far goes the script's rehearsal: lines of it are left, or a fault ended it
+abbrev pub GoesOn : {T : Type 0} {X : _} {F : _} {g : _} → Result T OutputFault → Rehearsal X F g → List ℕ → Fields → List LineFields → OutputState → OutputState → Type 0
+GoesOn (Ok _) r weights script left old new = HasRun r weights script.lines left old new
+GoesOn {T = T} (Err fault) r weights script left old new = Rehearses {T = T} (Err fault) old new weights script

@@ -9,7 +9,7 @@ use std::alloc::Global;
 /// A file of `size` bytes, at most 16,777,217, of which byte i is `from` + 7i + i/256 modulo 256, the quotient rounded down.
 ///
 /// Out of memory is the only refusal.
-pub fn filled(alloc: Global, size: u32, from: u8) -> Result<Blob, NoMemory>
+pub(crate) fn filled(alloc: Global, size: u32, from: u8) -> Result<Blob, NoMemory>
     requires { size ≤ MOST_FILLED }
     ensures { IfOk result (λ content. content ≡ lines.filled_bytes size from) }
 {

@@ -7,11 +7,11 @@
 //! use cycle_planner::{GREATEST_ID, Weigh};
 //! use oc_bytes::MemSink;
 //! use rehearsal::rehearse;
-//! use session_script::parse;
+//! use session_script::read_parts;
 //! use shell_streams::{Buffered, room};
 //!
 //! let weigh = Weigh::new([1; GREATEST_ID], Box::new(alloc, |_: u16| -> u8 ensures { result ≡ 1 } { 1 })?);
-//! let script = parse(alloc, b"put 1 /a 6869\ncommit 1\ndraw 3\nopen 2 /a\n")?;
+//! let script = read_parts(alloc, b"put 1 /a 6869\ncommit 1\ndraw 3\nopen 2 /a\n")?;
 //! let (mut sink, mut pending) = (MemSink::new(alloc, Vec::new(alloc), 100), room(alloc)?);
 //! rehearse(alloc, script, weigh, &mut Buffered::new(&mut sink, &mut pending))?;
 //! let report = b"commit 1 generation 1\ndraw 1 0 3\nopen 2 1 /a file 2 6869\n";
@@ -20,13 +20,12 @@
 #![tactic(auto)]
 
 mod filling;
-mod pending;
+mod interpreter;
 mod rehearsal;
 mod report;
 mod subject;
 mod told;
 
-pub use filling::filled;
-pub use pending::PendingEdits;
+pub use interpreter::{Happening, Interpreter};
 pub use rehearsal::rehearse;
 pub use told::put_report;

@@ -1,21 +1,24 @@
-ghost use Rattle.std.specs.Prelude.{◌++◌, ◌∷◌, [], List, ℕ, IfOk, OnOk};
-ghost use Rattle.session_script.specs.Scripts.{view, view_action};
+ghost use Rattle.std.specs.Prelude.{◌++◌, ◌∷◌, [], List, ℕ, IfOk, OnOk, map};
+ghost use Rattle.std.specs.List.{All};
+ghost use Rattle.session_script.specs.declared.parts.TaskLine.{TaskLine as TaskLines};
+ghost use Rattle.session_script.specs.declared.script.Stage.{Stage};
+ghost use Rattle.session_script.specs.Scripts.{Fields, LineFields};
+ghost use Rattle.session_script.specs.Parts.{act_of, task_line, settle_lines, finale_line, script_of_parts};
 ghost use Rattle.session_script.specs.Ranges.{IsActor, IsInRange, IsInRanges};
+ghost use Rattle.shell_streams.specs.Sending.{OutputState};
 ghost use Rattle.carousel_world.specs.Events as events;
 ghost use Rattle.carousel_world.specs.Events.{Step};
 ghost use Rattle.carousel_world.specs.World.{InRange};
-ghost use Rattle.rehearsal.specs.Lines.{Pending, none_pending, without, settling_step, events_of_line, pending_after};
+ghost use Rattle.rehearsal.specs.Lines.{Pending, none_pending, settling_step, events_of_line, pending_after};
 ghost use Rattle.rehearsal.specs.Rehearsals.{Rehearses};
 
-use crate::filling::filled;
-use crate::pending::PendingEdits;
+use crate::interpreter::Interpreter;
 use crate::report::put_line;
 use crate::subject::Subject;
 use carousel_world::{Event, World, every_run_meets_the_headline};
 use cycle_planner::{MOST_DRAWN, Weigh};
 use oc_bytes::NoMemory;
-use path_tree::{Edit, Edits};
-use session_script::{Action, Script};
+use session_script::{Finale, Parts, Task, TaskLine};
 use shell_streams::{Output, OutputFault};
 use std::alloc::Global;
 
@@ -29,22 +32,30 @@ const SETTLING: u32 = MOST_DRAWN;
 /// the line is met, and after each event its line of the report is put. `settle` is two draws of [`cycle_planner::MOST_DRAWN`] sections all of whose packets
 /// arrive. Edits that no commit line of their editor follows are given up.
 ///
-/// The script's numbers are within their ranges, as those of each script that `session_script::parse` gives. After `Failed` and
+/// The script's numbers are within their ranges, as those of each script that `session_script::read_parts` gives. After `Failed` and
 /// `NoMemory` some of the events happened, and a prefix of their report was written.
 pub fn rehearse<O: Output>(
     alloc: Global,
-    script: Script,
+    parts: Parts,
     weigh: Weigh,
     out: &mut O,
 ) -> Result<(), OutputFault>
-    requires { IsInRanges (view script) }
-    ensures { Rehearses result (O.state out.old) (O.state out.new) weigh.weights (view script) }
+    requires { IsInRanges (script_of_parts parts) }
+    ensures { Rehearses result (O.state out.old) (O.state out.new) weigh.weights (script_of_parts parts) }
 {
     every_run_meets_the_headline();
+    let Parts {
+        before,
+        during,
+        settle,
+        finales,
+        ..
+    } = parts;
     let mut rehearsal = Rehearsal::new(alloc, weigh)?;
-    for line in script.lines {
-        rehearsal.run(line.action, out)?;
-    }
+    rehearsal.run_all(before, out)?;
+    rehearsal.run_all(during, out)?;
+    rehearsal.settle_so(settle, out)?;
+    rehearsal.open_all(finales, out)?;
     out.flush()
 }
 
@@ -53,11 +64,11 @@ pub fn rehearse<O: Output>(
 struct Rehearsal {
     alloc: Global,
     world: World,
-    pending: PendingEdits,
+    interpreter: Interpreter,
 }
 
 impl Rehearsal {
-    ghost use Rattle.rehearsal.specs.Steps.{Stands, Runs};
+    ghost use Rattle.rehearsal.specs.Steps.{Stands, Runs, HasRun, GoesOn};
 
     /// One in which no line was run.
     fn new(alloc: Global, weigh: Weigh) -> Result<Rehearsal, NoMemory>
@@ -68,44 +79,63 @@ impl Rehearsal {
         Ok(Rehearsal {
             alloc,
             world,
-            pending: PendingEdits::new(alloc),
+            interpreter: Interpreter::new(alloc),
         })
     }
 
-    /// Runs one line more. After a fault the rehearsal is of no use any more.
-    fn run<O: Output>(&mut self, action: Action, out: &mut O) -> Result<(), OutputFault>
-        requires { IsInRange (view_action action) }
-        ensures runs { (weights : List ℕ) (before : List Step) (p : Pending) → Stands self.old weights before p
-            → Runs result (O.state out.old) (O.state out.new) weights before (events_of_line p (view_action action)) }
-        ensures stands { OnOk result ((weights : List ℕ) (before : List Step) (p : Pending) → Stands self.old weights before p
-            → Stands self.new weights (before ++ events_of_line p (view_action action)) (pending_after p (view_action action))) }
+    /// Runs these tasks, which come next. After a fault the rehearsal is of no use any more.
+    fn run_all<O: Output>(&mut self, tasks: Vec<TaskLine>, out: &mut O) -> Result<(), OutputFault>
+        requires { All (λ (line : TaskLines). IsInRange (act_of line.task)) tasks.items }
+        ensures { (weights : List ℕ) (script : Fields) (stage : Stage) (left : List LineFields) (first : OutputState)
+            → HasRun self.old weights script.lines (map (task_line stage) tasks.items ++ left) first (O.state out.old)
+            → GoesOn result self.new weights script left first (O.state out.new) }
     {
-        match action {
-            Action::Put(editor, path, content) => Ok(
-                self.pending.add(editor, Edit::Put(path, content))?,
-            ),
-            Action::Fill(editor, path, size, from) => {
-                let content = filled(self.alloc, size, from)?;
-                Ok(self.pending.add(editor, Edit::Put(path, content))?)
-            }
-            Action::Remove(editor, path) => Ok(self.pending.add(editor, Edit::Remove(path))?),
-            Action::Commit(editor) => self.commit(editor, out),
-            Action::Draw(asked, fates) => self.happen(Event::Draw { asked, fates }, out),
-            Action::Open(reader, path) => self.happen(Event::Open { reader, path }, out),
-            Action::Settle => self.settle(out),
+        for line in tasks {
+            self.run(line.task, out)?;
+        }
+        Ok(())
+    }
+
+    /// Opens these paths, which come next, and last. After a fault the rehearsal is of no use any more.
+    fn open_all<O: Output>(&mut self, finales: Vec<Finale>, out: &mut O) -> Result<(), OutputFault>
+        requires { All (λ last. IsActor last.reader) finales.items }
+        ensures { (weights : List ℕ) (script : Fields) (left : List LineFields) (first : OutputState)
+            → HasRun self.old weights script.lines (map finale_line finales.items ++ left) first (O.state out.old)
+            → GoesOn result self.new weights script left first (O.state out.new) }
+    {
+        for last in finales {
+            self.run(Task::Open(last.reader, last.path), out)?;
+        }
+        Ok(())
+    }
+
+    /// Runs one task more. After a fault the rehearsal is of no use any more.
+    fn run<O: Output>(&mut self, task: Task, out: &mut O) -> Result<(), OutputFault>
+        requires { IsInRange (act_of task) }
+        ensures runs { (weights : List ℕ) (before : List Step) (p : Pending) → Stands self.old weights before p
+            → Runs result (O.state out.old) (O.state out.new) weights before (events_of_line p (act_of task)) }
+        ensures stands { OnOk result ((weights : List ℕ) (before : List Step) (p : Pending) → Stands self.old weights before p
+            → Stands self.new weights (before ++ events_of_line p (act_of task)) (pending_after p (act_of task))) }
+    {
+        match self.interpreter.read(task)? {
+            Some(what) => self.happen(what.into_event(), out),
+            None => Ok(()),
         }
     }
 
-    /// Commits the editor's pending edits.
-    fn commit<O: Output>(&mut self, editor: u32, out: &mut O) -> Result<(), OutputFault>
-        requires { IsActor editor }
-        ensures runs { (weights : List ℕ) (before : List Step) (p : Pending) → Stands self.old weights before p
-            → Runs result (O.state out.old) (O.state out.new) weights before (events.Commit editor (p editor) ∷ []) }
-        ensures stands { OnOk result ((weights : List ℕ) (before : List Step) (p : Pending) → Stands self.old weights before p
-            → Stands self.new weights (before ++ events.Commit editor (p editor) ∷ []) (without p editor)) }
+    /// Settles, where there is a line that says so, which comes next. After a fault the rehearsal is of no use any more.
+    fn settle_so<O: Output>(&mut self, line: Option<u32>, out: &mut O) -> Result<(), OutputFault>
+        ensures { (weights : List ℕ) (script : Fields) (left : List LineFields) (first : OutputState)
+            → HasRun self.old weights script.lines (settle_lines line ++ left) first (O.state out.old)
+            → GoesOn result self.new weights script left first (O.state out.new) }
     {
-        let edits = Edits::new(self.pending.take(editor));
-        self.happen(Event::Commit { editor, edits }, out)
+        match line {
+            Some(_) => {
+                self.settle(out)?;
+                Ok(())
+            }
+            None => Ok(()),
+        }
     }
 
     /// Two settling draws.

@@ -1,9 +1,14 @@
 -- From what a session begins with to what its threads and its end ask for.
-use Rattle.std.proofs.Common.{◌≡◌, ◌≤◌, ◌+◌, ℕ, zero, suc, List, [], ◌∷◌, ◌++◌, map, length, Option, Some, refl, sym, ap, ◌∙◌, subst, arith}
+use Rattle.std.proofs.Common.{◌≡◌, ◌≤◌, ◌+◌, ℕ, zero, suc, List, [], ◌∷◌, ◌++◌, map, length, Bool, Option, Some, refl, sym, ap, ◌∙◌, subst, arith}
 use Rattle.std.specs.Prelude.{slice_get, slice_index_or}
 use Rattle.std.specs.Option.{option_to_list}
+use Rattle.std.specs.declared.vec.Vec.{Vec}
+use Rattle.std.specs.declared.alloc.Global.{Global}
 use Rattle.std.specs.List.{All, Contains}
 use Rattle.std.proofs.lemmas.List.{length-map}
+use Rattle.path_tree.specs.Paths.{PathNames}
+use Rattle.path_tree.specs.declared.tree.Edit.{Edit}
+use Rattle.ts_packet.specs.declared.Fate.{Fate}
 use Rattle.path_resolver.specs.declared.shot.Shot.{Shot}
 use Rattle.path_resolver.specs.Shots.{view}
 use Rattle.tuner_core.specs.LookBack.{snapshot_after}
@@ -16,26 +21,30 @@ use Rattle.logbook.specs.Pages.{Book}
 use Rattle.shot_board.specs.declared.viewer.Viewer.{Viewer}
 use Rattle.shot_board.specs.Viewers.{known_of, told_of, most_of, viewer_board}
 use Rattle.shot_board.specs.Shots.{Each}
-use Rattle.session_script.specs.Scripts.{Fields}
+use Rattle.session_script.specs.Parts.{script_of_parts}
+use Rattle.session_script.specs.Ranges.{AreListed, IsInRanges}
 use Rattle.carousel_world.specs.DownView.{DownlinkStands, DownlinkState}
 use Rattle.carousel_world.specs.Events.{Step, Commit, Draw, Open}
 use Rattle.session_history.specs.Merges.{candidates_after}
-use Rattle.rehearsal.specs.Lines.{none_pending}
-use Rattle.session_actors.specs.Shown.{AreShots, HasShown}
-use Rattle.session_actors.specs.Seats.{IsDrawLine, IsEditorSeat, draw_of}
-use Rattle.session_actors.specs.declared.feeder.FeederSeat.{FeederSeat}
+use Rattle.session.specs.Chains.{DrawFields}
+use Rattle.session.specs.ByActor.{lists_of}
+use Rattle.session.specs.Shown.{AreShots, HasShown}
+use Rattle.session.specs.Seats.{IsDrawLine, IsEditorSeat, draw_of, edits_of}
+use Rattle.session.specs.declared.feeder.DrawLine.{DrawLine}
 use Rattle.session.specs.declared.cast.Cast.{Cast}
-use Rattle.session.specs.declared.plan.Staged.{Staged}
+use Rattle.session.specs.declared.plan.Plan.{Plan}
 use Rattle.session.specs.declared.whole.Start.{Start}
-use Rattle.session.specs.Lines.{staged_events}
-use Rattle.session.specs.Acting.{AreApart, EditorsStand, FeederStands, IsViewerOf, ReadersStand, Setting, draws_of, is_after, numbers_of, readers_of, steps_where, view_staged}
-use Rattle.session.specs.Casting.{AllMentionedIn, CastStands, IsCast, IsMentionedIn}
-use Rattle.session.specs.Threads.{CastDone, done_in}
-use Rattle.session.specs.Ending.{AreDone, EditorsDone, IsToEnd, steps}
+use Rattle.session.specs.Lines.{commits_by, draws_in, opens_by}
+use Rattle.session.specs.Plans.{IsPlanOf, before_steps, during_steps, end_steps, settling_lines, steps}
+use Rattle.session.specs.Acting.{AreApart, EditorPlan, EditorsStand, IsViewerOf, ReaderPlan, ReadersStand, Setting, asked_for, done_in, draws_of, editor_plan, numbers_of, planned_for, reader_plan, readers_of, view_happening}
+use Rattle.session.specs.Casting.{AllMentionedIn, AreSameActors, CastStands, HasWork, IsCast, IsMentionedIn}
+use Rattle.session.specs.Threads.{CastDone}
+use Rattle.session.specs.Ending.{AreDone, EditorsDone}
 use Rattle.session.specs.Playing.{IsBegun}
+use Rattle.session.proofs.Casting.{numbers_in, numbers_planned, readers_in, readers_planned}
 use Rattle.session.proofs.Opened.{apart_numbers}
-use Rattle.session.proofs.Parted.{IsNamed, all_named}
-use Rattle.session.proofs.Parting.{is_to_end}
+use Rattle.session.proofs.Parted.{IsNamed, before_named, draws_at_end, opens_at_end}
+use Rattle.session.proofs.Staged.{count_all, count_done, draws_more}
 
 -- ---- the first shot
 
@@ -69,73 +78,137 @@ pub popped_pass : {X : _} {F : _} {g : _} (s : Station X F g) (all rest : List (
 popped_pass s all rest o p is some h =
     last_pass s 0 rest p (subst (AreNewPasses s 0) (is ∙ ap (λ (x : Option (Pass Kept KeptItem)). rest ++ option_to_list x) some) h)
 
+-- ---- the plan
+
+-- all draws were counted
+pub draws_counted : (setting : Setting) (plan : Plan) → IsPlanOf setting.parts plan
+    → length (draws_in (map view_happening plan.before.items)) + length plan.work.draws.items + length (settling_lines plan.settles) ≡ draws_of setting
+draws_counted setting plan h =
+    let a = ap (λ (es : List Step). length (draws_in es)) h.before in
+    let b = ap (λ (ds : List DrawFields). length ds) h.work.draws in
+    let l = length-map plan.work.draws.items draw_of in
+    let c = ap (λ (b : Bool). length (settling_lines b)) h.settles in
+    let e = ap (λ (ds : List DrawFields). length ds) (draws_at_end setting.parts) in
+    let first = count_done draws_in draws_more setting in
+    let all = count_all draws_in draws_more setting in
+    omega (arith, a, b, c, e, l, first, all)
+
 -- ---- the start
 
-module _ (script : Fields) (setting : Setting) (shots : List Shot) (start : Start) (u : IsBegun script setting shots start) where
-  pub few_editors : length start.editors.items ≤ 64
-  few_editors = let m = u.arranged.ranges.editors.most in let e = ap length u.editors_are in omega (arith, m, e)
+module _ (setting : Setting) (shots : List Shot) (start : Start) (u : IsBegun setting shots start) where
+  abbrev plan : Plan
+  plan = start.plan
 
-  pub few_readers : length start.readers.items ≤ 64
-  few_readers = let m = u.arranged.ranges.readers.most in let e = ap length u.readers_are in omega (arith, m, e)
+  pub few_editors : length plan.editors.items ≤ 64
+  few_editors = let m = u.ranges.editors.most in let e = ap (λ (v : Vec ℕ Global). length v.items) u.planned.editors in omega (arith, m, e)
 
-  module _ {X : _} {F : _} {g : _} (s : Station X F g) (cast : Cast) (numbers : numbers_of cast.editors.items ≡ start.editors.items) (watchers : readers_of cast.readers.items ≡ start.readers.items) where
-    pub new_cast : All (IsEditorSeat s) cast.editors.items → IsCast s cast
-    new_cast passes = record {
-      editors = subst AreApart (sym (numbers ∙ u.editors_are)) (apart_numbers script.editors u.arranged.ranges.editors.once);
-      readers = subst AreApart (sym (watchers ∙ u.readers_are)) (apart_numbers script.readers u.arranged.ranges.readers.once);
+  pub few_readers : length plan.readers.items ≤ 64
+  few_readers = let m = u.ranges.readers.most in let e = ap (λ (v : Vec ℕ Global). length v.items) u.planned.readers in omega (arith, m, e)
+
+  pub apart_editors : (ns : List ℕ) → ns ≡ plan.editors.items → AreApart ns
+  apart_editors ns is = subst AreApart (sym (is ∙ ap (λ (v : Vec ℕ Global). v.items) u.planned.editors)) (apart_numbers setting.parts.editors.items u.ranges.editors.once)
+
+  pub apart_readers : (ns : List ℕ) → ns ≡ plan.readers.items → AreApart ns
+  apart_readers ns is = subst AreApart (sym (is ∙ ap (λ (v : Vec ℕ Global). v.items) u.planned.readers)) (apart_numbers setting.parts.readers.items u.ranges.readers.once)
+
+  pub finales_are : (n : ℕ) → lists_of plan.finales n ≡ opens_by n (end_steps setting.parts)
+  finales_are n = u.planned.finales n ∙ sym (opens_at_end n setting.parts)
+
+  module _ (cast : Cast) (editors readers : List ℕ) (editors_are : editors ≡ plan.editors.items) (readers_are : readers ≡ plan.readers.items)
+      (commits : map editor_plan cast.editors.items ≡ map (planned_for (λ n. map edits_of (lists_of plan.work.commits n))) editors)
+      (paths : map reader_plan cast.readers.items ≡ map (asked_for (lists_of plan.work.paths) (lists_of plan.finales)) readers) where
+    numbers : numbers_of cast.editors.items ≡ setting.parts.editors.items
+    numbers = numbers_planned cast.editors.items _ commits ∙ of_plan editors ∙ editors_are ∙ ap (λ (v : Vec ℕ Global). v.items) u.planned.editors
+      where
+        of_plan : (ns : List ℕ) → numbers_in (map (planned_for (λ n. map edits_of (lists_of plan.work.commits n))) ns) ≡ ns
+        of_plan [] = refl
+        of_plan (n ∷ ns) = ap (λ (ms : List ℕ). n ∷ ms) (of_plan ns)
+
+    watchers : readers_of cast.readers.items ≡ setting.parts.readers.items
+    watchers = readers_planned cast.readers.items _ paths ∙ of_plan readers ∙ readers_are ∙ ap (λ (v : Vec ℕ Global). v.items) u.planned.readers
+      where
+        of_plan : (ns : List ℕ) → readers_in (map (asked_for (lists_of plan.work.paths) (lists_of plan.finales)) ns) ≡ ns
+        of_plan [] = refl
+        of_plan (n ∷ ns) = ap (λ (ms : List ℕ). n ∷ ms) (of_plan ns)
+
+    pub new_cast : {X : _} {F : _} {g : _} (s : Station X F g) → All (IsEditorSeat s) cast.editors.items → IsCast s cast
+    new_cast s passes = record {
+      editors = subst AreApart (sym numbers) (apart_numbers setting.parts.editors.items u.ranges.editors.once);
+      readers = subst AreApart (sym watchers) (apart_numbers setting.parts.readers.items u.ranges.readers.once);
       passes = passes;
     }
 
-    pub mentioned : AllMentionedIn cast (map view_staged start.events.items)
+    pub mentioned : AllMentionedIn cast (map view_happening plan.before.items)
     mentioned =
-        subst (AllMentionedIn cast) (sym u.events_are)
-        (λ k d lt. named_in (slice_index_or (staged_events script) k d).1 (all_named script.editors script.readers none_pending script.lines u.arranged.mentioned k d lt))
+        subst (AllMentionedIn cast) (sym u.planned.before)
+        (λ k d lt. named_in (slice_index_or (before_steps setting.parts) k d) (before_named setting.parts u.listed k d lt))
       where
-        named_in : (e : Step) → IsNamed script.editors script.readers e → IsMentionedIn cast e
-        named_in (Commit editor edits) m = subst (λ (ns : List ℕ). Contains ns editor) (sym (numbers ∙ u.editors_are)) m
+        named_in : (e : Step) → IsNamed setting.parts.editors.items setting.parts.readers.items e → IsMentionedIn cast e
+        named_in (Commit editor edits) m = subst (λ (ns : List ℕ). Contains ns editor) (sym numbers) m
         named_in (Draw asked fates) m = m
-        named_in (Open reader path) m = subst (λ (ns : List ℕ). Contains ns reader) (sym (watchers ∙ u.readers_are)) m
+        named_in (Open reader path) m = subst (λ (ns : List ℕ). Contains ns reader) (sym watchers) m
 
-    -- once the threads are done
-    pub are_done : (now : List Shot) (given : List ℕ) → given ≡ start.editors.items → carousel_of s ≡ 1 → pass_count s ≡ length start.editors.items + 1 → CastDone setting s now cast
-        → AreDone script setting (done_in setting) s given cast.editors.items cast.feeder cast.readers.items now
-    are_done now given same carousel count h = record {
-      carousel = carousel;
-      passes = let e = ap length numbers in let l = length-map cast.editors.items (λ seat. seat.number) in omega (arith, count, e, l);
-      numbers_are = same ∙ u.editors_are;
-      committed = subst (λ (ns : List ℕ). EditorsDone s ns (steps (done_in setting)) cast.editors.items) (numbers ∙ sym same) h.committed;
-      fed = h.fed;
-      readers_are = watchers ∙ u.readers_are;
-      read = h.read;
+    pub has_work : cast.feeder.draws ≡ plan.work.draws → HasWork setting cast
+    has_work draws = record {
+      editors = commits ∙ planned (editors_are ∙ ap (λ (v : Vec ℕ Global). v.items) u.planned.editors);
+      draws = ap (λ (v : Vec DrawLine Global). map draw_of v.items) draws ∙ u.planned.work.draws;
+      in_range = subst (λ (v : Vec DrawLine Global). All IsDrawLine v.items) (sym draws) u.planned.work.in_range;
+      readers = paths ∙ asked (readers_are ∙ ap (λ (v : Vec ℕ Global). v.items) u.planned.readers);
     }
+      where
+        each_planned : (ns : List ℕ) → map (planned_for (λ n. map edits_of (lists_of plan.work.commits n))) ns ≡ map (planned_for (λ n. commits_by n (during_steps setting.parts))) ns
+        each_planned [] = refl
+        each_planned (n ∷ ns) = λ i. record { editor = n; commits = u.planned.work.commits n i } ∷ each_planned ns i
 
-  new_feeder : {X : _} {F : _} {g : _} (s : Station X F g) (seat : FeederSeat) → IsStationPass s seat.pass → entries_seen seat.pass ≡ [] → own_entries seat.pass ≡ [] → seat.downlink ≡ start.downlink
-      → seat.draws.items ≡ [] → seat.fates.items ≡ [] → FeederStands s [] shots seat
-  new_feeder s seat pass entries own same draws fates = record {
-    fed = record {
-      pass = pass;
-      drawings = [];
-      draws = λ i. record { entries = entries i; own = own i };
-      shown = subst (λ (d : DownlinkState). HasShown [] d shots) (sym same) u.shown;
-      fates = ap (map (λ f. f.items)) fates;
-    };
-    to_come = ap (map draw_of) draws;
-    in_range = subst (All IsDrawLine) (sym draws) (λ k d lt. absurd (omega (arith, lt)));
-  }
+        planned : {ns ms : List ℕ} → ns ≡ ms → map (planned_for (λ n. map edits_of (lists_of plan.work.commits n))) ns ≡ map (planned_for (λ n. commits_by n (during_steps setting.parts))) ms
+        planned {ns} e = each_planned ns ∙ ap (map (planned_for (λ n. commits_by n (during_steps setting.parts)))) e
+
+        each_asked : (ns : List ℕ) → map (asked_for (lists_of plan.work.paths) (lists_of plan.finales)) ns
+            ≡ map (asked_for (λ n. opens_by n (during_steps setting.parts)) (λ n. opens_by n (end_steps setting.parts))) ns
+        each_asked [] = refl
+        each_asked (n ∷ ns) = λ i. record { reader = n; paths = u.planned.work.paths n i; finales = finales_are n i } ∷ each_asked ns i
+
+        asked : {ns ms : List ℕ} → ns ≡ ms → map (asked_for (lists_of plan.work.paths) (lists_of plan.finales)) ns
+            ≡ map (asked_for (λ n. opens_by n (during_steps setting.parts)) (λ n. opens_by n (end_steps setting.parts))) ms
+        asked {ns} e = each_asked ns ∙ ap (map (asked_for (λ n. opens_by n (during_steps setting.parts)) (λ n. opens_by n (end_steps setting.parts)))) e
 
   -- before any event
-  pub stands_first : {X : _} {F : _} {g : _} (s : Station X F g) (cast : Cast) (events : List Staged) → events ≡ start.events.items → EditorsStand s [] cast.editors.items
+  pub stands_first : {X : _} {F : _} {g : _} (s : Station X F g) (cast : Cast) → EditorsStand s [] cast.editors.items
       → IsStationPass s cast.feeder.pass × (entries_seen cast.feeder.pass ≡ []) × (own_entries cast.feeder.pass ≡ []) → cast.feeder.downlink ≡ start.downlink
-      → cast.feeder.draws.items ≡ [] → cast.feeder.fates.items ≡ []
-      → ((setting : Setting) (shots : List Shot) → setting.events ≡ map view_staged events → length shots ≡ 1 → Each (IsViewerOf setting shots) start.viewers.items → ReadersStand setting [] shots cast.readers.items)
-      → CastStands setting s [] shots cast
-  stands_first s cast events same editors pass downlink draws fates readers = record {
+      → cast.feeder.fates.items ≡ [] → ReadersStand setting [] shots cast.readers.items → CastStands setting s [] shots cast
+  stands_first s cast editors pass downlink fates readers = record {
     editors = editors;
-    feeder = new_feeder s cast.feeder pass.0 pass.1 pass.2 downlink draws fates;
-    readers = readers setting shots (u.setting_is ∙ ap (map view_staged) (sym same)) u.shown.shown.count u.viewers_are;
+    feeder = record {
+      pass = pass.0;
+      drawings = [];
+      draws = λ i. record { entries = pass.1 i; own = pass.2 i };
+      shown = subst (λ (d : DownlinkState). HasShown [] d shots) (sym downlink) u.shown;
+      fates = ap (map (λ (f : Vec Fate Global). f.items)) fates;
+    };
+    readers = readers;
   }
 
-  -- what is left for the end
-  pub to_end : (ends : List Step) → ends ≡ steps_where is_after (map view_staged start.events.items) → IsToEnd script setting (done_in setting) ends
-  to_end ends late =
-      subst (IsToEnd script setting (done_in setting)) (ap (steps_where is_after) u.setting_is ∙ sym late) (is_to_end script u.arranged setting (u.setting_is ∙ u.events_are))
+  -- what is before the threads is there after the lines above `start`
+  pub work_stays : (old new : Cast) → AreSameActors old new → HasWork setting old → HasWork setting new
+  work_stays old new same work = record {
+    editors = same.editors ∙ work.editors;
+    draws = ap (λ (v : Vec DrawLine Global). map draw_of v.items) same.draws ∙ work.draws;
+    in_range = subst (λ (v : Vec DrawLine Global). All IsDrawLine v.items) (sym same.draws) work.in_range;
+    readers = same.readers ∙ work.readers;
+  }
+
+  -- once the threads are done
+  pub are_done : {X : _} {F : _} {g : _} (s : Station X F g) (cast : Cast) (now : List Shot) (given : List ℕ) → given ≡ plan.editors.items → carousel_of s ≡ 1 → pass_count s ≡ length plan.editors.items + 1
+      → CastDone setting s now cast → AreDone setting plan.settles s given cast.editors.items cast.feeder cast.readers.items now
+  are_done s cast now given same carousel count h = record {
+    ranges = u.ranges;
+    listed = u.listed;
+    settled = u.planned.settles;
+    carousel = carousel;
+    passes = let e = ap (λ (v : Vec ℕ Global). length v.items) u.planned.editors in let l = h.committed.0 in omega (arith, count, e, l);
+    numbers_are = same ∙ ap (λ (v : Vec ℕ Global). v.items) u.planned.editors;
+    committed = subst (λ (ns : List ℕ). EditorsDone s ns (steps (done_in setting)) cast.editors.items) (sym (same ∙ ap (λ (v : Vec ℕ Global). v.items) u.planned.editors)) h.committed;
+    fed = h.fed;
+    readers_are = h.readers_are;
+    read = h.read;
+  }

@@ -1,13 +1,12 @@
 -- The catalogue once all passes are back, and the draws that come then.
-use Rattle.std.proofs.Common.{◌≡◌, ℕ, suc, ◌+◌, ◌<◌, ◌≤◌, Bool, true, false, cond, nat_le, List, [], ◌∷◌, ◌++◌, map, length, take, drop, get_or, Ok, Err, refl, ap, sym, ◌∙◌, subst, arith, append_assoc, append-nil, length-append}
+use Rattle.std.proofs.Common.{◌≡◌, ℕ, suc, ◌+◌, ◌<◌, ◌≤◌, Bool, true, false, cond, nat_le, List, [], ◌∷◌, ◌++◌, map, length, Ok, Err, refl, ap, sym, ◌∙◌, subst, arith, append_assoc, append-nil}
 use Rattle.std.specs.Prelude.{slice_index_or}
 use Rattle.std.specs.List.{All}
 use Rattle.std.specs.declared.vec.Vec.{Vec}
 use Rattle.std.specs.declared.alloc.Global.{Global}
 use Rattle.std.proofs.lemmas.Bool.Decides.{nat_tests}
-use Rattle.std.proofs.lemmas.List.{map-append, take-append-drop, take_more}
+use Rattle.std.proofs.lemmas.List.{map-append}
 use Rattle.path_resolver.specs.declared.shot.Shot.{Shot}
-use Rattle.path_tree.specs.Paths.{PathNames}
 use Rattle.path_tree.specs.declared.tree.Edit.{Edit}
 use Rattle.ts_packet.specs.declared.Fate.{Fate}
 use Rattle.history_lock.specs.History.{Begins, total, times, once_within}
@@ -23,22 +22,18 @@ use Rattle.generation_catalogue.specs.Calls.{IsDrawn, BatchFields, view_batch}
 use Rattle.generation_catalogue.specs.declared.entry.Batch.{Batch}
 use Rattle.generation_catalogue.specs.declared.entry.Entry.{Entry}
 use Rattle.carousel_world.specs.DownView.{DownlinkState}
-use Rattle.carousel_world.specs.Events.{Step, Commit, Draw, Open}
+use Rattle.carousel_world.specs.Events.{Step}
 use Rattle.carousel_world.specs.World.{Drawing, drawing_of}
 use Rattle.session_history.specs.Merges.{fates_view}
-use Rattle.session_actors.specs.Chains.{Seen, seen_in, Commits, Draws, DrawFields, nothing_seen}
-use Rattle.session_actors.specs.Shown.{HasShown}
-use Rattle.session_actors.specs.Seats.{HasCommitted, HasFed, drawing_in}
-use Rattle.session_actors.specs.declared.editor.EditorSeat.{EditorSeat}
-use Rattle.session_actors.specs.declared.feeder.FeederSeat.{FeederSeat}
-use Rattle.session.specs.declared.ending.LastOpen.{LastOpen}
-use Rattle.session.specs.declared.plan.Deed.{Deed}
-use Rattle.session.specs.declared.plan.Deed.TheVariants as deeds
-use Rattle.session.specs.Lines.{commits_by, draws_in}
+use Rattle.session.specs.Chains.{Seen, seen_in, Commits, Draws, DrawFields, nothing_seen}
+use Rattle.session.specs.Shown.{HasShown}
+use Rattle.session.specs.Seats.{HasCommitted, HasFed, drawing_in}
+use Rattle.session.specs.declared.editor.EditorSeat.{EditorSeat}
+use Rattle.session.specs.declared.feeder.FeederSeat.{FeederSeat}
+use Rattle.session.specs.Lines.{commits_by}
+use Rattle.session.specs.Plans.{settling_lines}
 use Rattle.session.specs.Gathering.{AllCommitted, ActorsGather, GatherGrows, IsGathered}
-use Rattle.session.specs.Acting.{view_deed}
-use Rattle.session.specs.Ending.{ClosedFields, EditorsDone, HasGathered, IsEnd, drawn_all, open_step, opens_in, steps_of}
-use Rattle.session.proofs.Staged.{draws_more}
+use Rattle.session.specs.Ending.{ClosedFields, EditorsDone, HasGathered, drawn_all}
 
 -- ---- the passes
 
@@ -140,56 +135,41 @@ one_more law old c downlink earlier kept asked fates given_fates b before after 
           ∙ (λ i. (sym had ∙ g.fates) i ++ fates.items ∷ []) ∙ sym (map-append (λ (l : DrawFields). l.fates) draws (line ∷ []));
     }
 
--- ---- all draws at the end
+-- ---- the draws of `settle`
 
-pub opens_after : (xs ys : List Step) → opens_in (xs ++ ys) ≡ opens_in xs ++ opens_in ys
-opens_after [] ys = refl
-opens_after (Commit editor edits ∷ xs) ys = opens_after xs ys
-opens_after (Draw asked fates ∷ xs) ys = opens_after xs ys
-opens_after (Open reader path ∷ xs) ys = ap (λ (zs : List Step). Open reader path ∷ zs) (opens_after xs ys)
+-- there are none
+module _ (b : Bool) (is : b ≡ false) where
+  pub none_counted : (n : ℕ) → n ≡ n + length (settling_lines b)
+  none_counted n = let e = ap (λ (x : Bool). length (settling_lines x)) is in omega (arith, e)
 
-pub steps_after : (xs ys : List Deed) → steps_of (xs ++ ys) ≡ steps_of xs ++ steps_of ys
-steps_after xs ys = map-append view_deed xs ys
+  pub none_drawn : (c : CatalogueState) → c ≡ drawn_all c (settling_lines b)
+  none_drawn c = ap (λ (x : Bool). drawn_all c (settling_lines x)) (sym is)
 
-pub draws_next : (xs : List Deed) (x : Deed) → draws_in (steps_of (xs ++ x ∷ [])) ≡ draws_in (steps_of xs) ++ draws_in (view_deed x ∷ [])
-draws_next xs x = ap draws_in (steps_after xs (x ∷ [])) ∙ draws_more (steps_of xs) (view_deed x ∷ [])
+  pub none_gathered : (e : ClosedFields) (shots : List Shot) (id : ℕ) (weights : List ℕ) (commits : List (List (List Edit))) (draws : List DrawFields) → HasGathered id weights commits draws shots e
+      → HasGathered id weights commits (draws ++ settling_lines b) shots e
+  none_gathered e shots id weights commits draws h =
+      subst (λ (ds : List DrawFields). HasGathered id weights commits ds shots e) (sym (ap (λ (x : Bool). draws ++ settling_lines x) is ∙ append-nil draws)) h
 
-pub opens_next : (xs : List Deed) (x : Deed) → opens_in (steps_of (xs ++ x ∷ [])) ≡ opens_in (steps_of xs) ++ opens_in (view_deed x ∷ [])
-opens_next xs x = ap opens_in (steps_after xs (x ∷ [])) ∙ opens_after (steps_of xs) (view_deed x ∷ [])
+-- there are two
+module _ (b : Bool) (is : b ≡ true) where
+  pub one_has_room : (shots most : ℕ) → shots + length (settling_lines b) ≤ most + 1 → shots + 1 ≤ most
+  one_has_room shots most room = let e = ap (λ (x : Bool). length (settling_lines x)) is in omega (arith, e, room)
 
-pub drawn_next : (c : CatalogueState) (lines : List DrawFields) (line : DrawFields) → drawn_all c (lines ++ line ∷ []) ≡ with_draw (drawn_all c lines) line.asked
-drawn_next c [] line = refl
-drawn_next c (l ∷ lines) line = drawn_next (with_draw c l.asked) lines line
+  pub two_counted : (first mid last : ℕ) → mid ≡ first + 1 → last ≡ mid + 1 → last ≡ first + length (settling_lines b)
+  two_counted first mid last one two = let e = ap (λ (x : Bool). length (settling_lines x)) is in omega (arith, e, one, two)
 
--- where a list was gone through up to an element
-pub split_at : {A : Type 0} (all xs : List A) (x : A) → xs ≡ take (length xs) all → length xs < length all → x ≡ get_or all (length xs) x
-    → (left : List A) × (all ≡ xs ++ x ∷ left)
-split_at {A} all xs x far lt at' =
-    let k = length xs in (
-      drop (k + 1) all,
-      sym (take-append-drop (k + 1) all) ∙ ap (λ (ys : List A). ys ++ drop (k + 1) all) (take_more all k x lt ∙ (λ i. sym far i ++ sym at' i ∷ []))
-          ∙ append_assoc xs (x ∷ []) (drop (k + 1) all),
-    )
+  pub two_drawn : (c d e : CatalogueState) → d ≡ with_draw c 1048576 → e ≡ with_draw d 1048576 → e ≡ drawn_all c (settling_lines b)
+  two_drawn c d e one two = two ∙ ap (λ (x : CatalogueState). with_draw x 1048576) one ∙ ap (λ (x : Bool). drawn_all c (settling_lines x)) (sym is)
 
--- there is room for a draw that comes next
-pub draw_has_room : (all xs : List Deed) (asked : ℕ) (fates : Vec Fate Global) → (left : List Deed) × (all ≡ xs ++ deeds.Draw asked fates ∷ left)
-    → length (draws_in (steps_of xs)) < length (draws_in (steps_of all))
-draw_has_room all xs asked fates (left, is) =
-    let e : draws_in (steps_of all) ≡ draws_in (steps_of xs) ++ record { asked = asked; fates = fates.items } ∷ draws_in (steps_of left) =
-    ap (λ (ds : List Deed). draws_in (steps_of ds)) is ∙ ap draws_in (steps_after xs (deeds.Draw asked fates ∷ left)) ∙ draws_more (steps_of xs) (steps_of (deeds.Draw asked fates ∷ left)) in
-    let l = ap length e in
-    let m = length-append (draws_in (steps_of xs)) (record { asked = asked; fates = fates.items } ∷ draws_in (steps_of left)) in
-    omega (arith, l, m)
-
-pub is_end : (all xs : List Deed) (x : Deed) → (left : List Deed) × (all ≡ xs ++ x ∷ left) → All IsEnd (steps_of all) → IsEnd (view_deed x)
-is_end all xs x (left, is) h =
-    let e : steps_of all ≡ steps_of xs ++ view_deed x ∷ steps_of left = ap steps_of is ∙ steps_after xs (x ∷ left) in
-    let P : List Step → Type 0 = All IsEnd in
-    among (steps_of xs) (view_deed x) (steps_of left) (subst P e h)
-  where
-    among : (before : List Step) (y : Step) (after : List Step) → All IsEnd (before ++ y ∷ after) → IsEnd y
-    among [] y after all = all 0 y (omega arith)
-    among (z ∷ before) y after all = among before y after (λ k d lt. all (suc k) d (omega (arith, lt)))
+  pub two_gathered : (e0 e1 e2 : ClosedFields) (before mid after : List Shot) (first second : List Fate) → first ≡ [] → second ≡ []
+      → ((id : ℕ) (weights : List ℕ) (commits : List (List (List Edit))) (draws : List DrawFields) → HasGathered id weights commits draws before e0 → HasGathered id weights commits (draws ++ record { asked = 1048576; fates = first } ∷ []) mid e1)
+      → ((id : ℕ) (weights : List ℕ) (commits : List (List (List Edit))) (draws : List DrawFields) → HasGathered id weights commits draws mid e1 → HasGathered id weights commits (draws ++ record { asked = 1048576; fates = second } ∷ []) after e2)
+      → (id : ℕ) (weights : List ℕ) (commits : List (List (List Edit))) (draws : List DrawFields) → HasGathered id weights commits draws before e0 → HasGathered id weights commits (draws ++ settling_lines b) after e2
+  two_gathered e0 e1 e2 before mid after first second f g one two id weights commits draws h =
+      let line : List Fate → DrawFields = λ fates. record { asked = 1048576; fates = fates } in
+      subst (λ (ds : List DrawFields). HasGathered id weights commits ds after e2)
+      (append_assoc draws (line first ∷ []) (line second ∷ []) ∙ (λ i. draws ++ line (f i) ∷ line (g i) ∷ []) ∙ ap (λ (x : Bool). draws ++ settling_lines x) (sym is))
+      (two id weights commits (draws ++ line first ∷ []) (one id weights commits draws h))
 
 -- the passes that go back are all of the station
 pub all_passes : {X : _} {F : _} {g : _} (s : Station X F g) (editors : List EditorSeat) (feeder : FeederSeat) (passes : List (Pass Kept KeptItem)) → passes ≡ map pass_in editors ++ feeder.pass ∷ []
@@ -208,64 +188,3 @@ all_passes s editors feeder passes is count each last =
 
     all_counted : length (map pass_in editors ++ feeder.pass ∷ []) ≡ pass_count s
     all_counted = counted editors ∙ sym count
-
--- ---- one deed after another
-
-module _ (xs : List Deed) (x : Deed) where
-  module _ (asked : ℕ) (fates : Vec Fate Global) (is : x ≡ deeds.Draw asked fates) where
-    abbrev its_line : DrawFields
-    its_line = record { asked = asked; fates = fates.items }
-
-    pub draws_with : draws_in (steps_of (xs ++ x ∷ [])) ≡ draws_in (steps_of xs) ++ its_line ∷ []
-    draws_with = draws_next xs x ∙ ap (λ (y : Deed). draws_in (steps_of xs) ++ draws_in (view_deed y ∷ [])) is
-
-    pub count_with : (first old new : ℕ) → old ≡ first + length (draws_in (steps_of xs)) → new ≡ old + 1 → new ≡ first + length (draws_in (steps_of (xs ++ x ∷ [])))
-    count_with first old new h e =
-        let a = ap (λ (ds : List DrawFields). length ds) draws_with in let b = length-append (draws_in (steps_of xs)) (its_line ∷ []) in omega (arith, h, e, a, b)
-
-    pub opens_without : opens_in (steps_of (xs ++ x ∷ [])) ≡ opens_in (steps_of xs)
-    opens_without = opens_next xs x ∙ ap (λ (y : Deed). opens_in (steps_of xs) ++ opens_in (view_deed y ∷ [])) is ∙ append-nil (opens_in (steps_of xs))
-
-    pub drawn_with : (c d e : CatalogueState) → d ≡ drawn_all c (draws_in (steps_of xs)) → e ≡ with_draw d asked → e ≡ drawn_all c (draws_in (steps_of (xs ++ x ∷ [])))
-    drawn_with c d e h more =
-        more ∙ ap (λ (y : CatalogueState). with_draw y asked) h ∙ sym (drawn_next c (draws_in (steps_of xs)) its_line) ∙ ap (drawn_all c) (sym draws_with)
-
-    pub made_with : (e0 e1 e2 : ClosedFields) (before mid after : List Shot)
-        → ((id : ℕ) (weights : List ℕ) (commits : List (List (List Edit))) (draws : List DrawFields) → HasGathered id weights commits draws before e0 → HasGathered id weights commits (draws ++ draws_in (steps_of xs)) mid e1)
-        → ((id : ℕ) (weights : List ℕ) (commits : List (List (List Edit))) (draws : List DrawFields) → HasGathered id weights commits draws mid e1 → HasGathered id weights commits (draws ++ its_line ∷ []) after e2)
-        → (id : ℕ) (weights : List ℕ) (commits : List (List (List Edit))) (draws : List DrawFields) → HasGathered id weights commits draws before e0 → HasGathered id weights commits (draws ++ draws_in (steps_of (xs ++ x ∷ []))) after e2
-    made_with e0 e1 e2 before mid after h more id weights commits draws g =
-        subst (λ (ds : List DrawFields). HasGathered id weights commits ds after e2) (append_assoc draws (draws_in (steps_of xs)) (its_line ∷ []) ∙ ap (λ (ds : List DrawFields). draws ++ ds) (sym draws_with))
-        (more id weights commits (draws ++ draws_in (steps_of xs)) (h id weights commits draws g))
-
-  module _ (reader : ℕ) (path : PathNames) (is : x ≡ deeds.Open reader path) where
-    pub draws_without : draws_in (steps_of (xs ++ x ∷ [])) ≡ draws_in (steps_of xs)
-    draws_without = draws_next xs x ∙ ap (λ (y : Deed). draws_in (steps_of xs) ++ draws_in (view_deed y ∷ [])) is ∙ append-nil (draws_in (steps_of xs))
-
-    pub opens_with : (old new : List LastOpen) (o : LastOpen) → map open_step old ≡ opens_in (steps_of xs) → new ≡ old ++ o ∷ [] → open_step o ≡ Open reader path
-        → map open_step new ≡ opens_in (steps_of (xs ++ x ∷ []))
-    opens_with old new o h pushed e =
-        ap (map open_step) pushed ∙ map-append open_step old (o ∷ []) ∙ (λ i. h i ++ e i ∷ [])
-        ∙ sym (opens_next xs x ∙ ap (λ (y : Deed). opens_in (steps_of xs) ++ opens_in (view_deed y ∷ [])) is)
-
--- where a loop over deeds has got to
-pub left_at : (all xs : List Deed) (x : Deed) → map (λ (y : Deed). y) xs ≡ take (length xs) all → length xs < length all → x ≡ get_or all (length xs) x → (left : List Deed) × (all ≡ xs ++ x ∷ left)
-left_at all xs x far lt at' = split_at all xs x (sym (same xs) ∙ far) lt at'
-  where
-    same : (ys : List Deed) → map (λ (y : Deed). y) ys ≡ ys
-    same [] = refl
-    same (y ∷ ys) = ap (λ (zs : List Deed). y ∷ zs) (same ys)
-
--- as it comes next in a loop
-pub draw_in_range : (all xs : List Deed) (x : Deed) (asked : ℕ) (fates : Vec Fate Global) → x ≡ deeds.Draw asked fates → (left : List Deed) × (all ≡ xs ++ x ∷ left) → All IsEnd (steps_of all)
-    → (1 ≤ asked) × (asked ≤ 1048576)
-draw_in_range all xs x asked fates is left h = let P : Deed → Type 0 = λ y. IsEnd (view_deed y) in subst P is (is_end all xs x left h)
-
-pub no_commit_comes : (all xs : List Deed) (x : Deed) (editor : ℕ) (edits : Vec Edit Global) → x ≡ deeds.Commit editor edits → (left : List Deed) × (all ≡ xs ++ x ∷ left) → All IsEnd (steps_of all) → ⊥
-no_commit_comes all xs x editor edits is left h = let P : Deed → Type 0 = λ y. IsEnd (view_deed y) in subst P is (is_end all xs x left h)
-
-pub room_for_draw : (all xs : List Deed) (x : Deed) (asked : ℕ) (fates : Vec Fate Global) → x ≡ deeds.Draw asked fates → (left : List Deed) × (all ≡ xs ++ x ∷ left)
-    → (first now most now_most : ℕ) → first + length (draws_in (steps_of all)) ≤ most + 1 → now ≡ first + length (draws_in (steps_of xs)) → now_most ≡ most → now ≤ now_most
-room_for_draw all xs x asked fates is (left, split) first now most now_most room count same =
-    let few = draw_has_room all xs asked fates (left, split ∙ ap (λ (y : Deed). xs ++ y ∷ left) is) in
-    omega (arith, few, room, count, same)

@@ -3,15 +3,12 @@ use Rattle.std.proofs.Common.{◌≡◌, ◌≢◌, ℕ, suc, ◌+◌, ◌<◌, 
 use Rattle.std.specs.Prelude.{slice_index_or, if◌then◌else◌}
 use Rattle.std.proofs.lemmas.List.{length-map, length-take-le, map-append, take_more}
 use Rattle.path_tree.specs.Paths.{PathNames}
-use Rattle.session_script.specs.declared.script.Stage.{Stage}
 use Rattle.carousel_world.specs.Events.{Step, Commit, Draw, Open}
-use Rattle.session_actors.specs.Chains.{DrawFields}
-use Rattle.session.specs.declared.plan.Deed.{Deed}
-use Rattle.session.specs.declared.plan.Deed.TheVariants as deeds
-use Rattle.session.specs.declared.plan.Staged.{Staged}
+use Rattle.session.specs.Chains.{DrawFields}
+use Rattle.rehearsal.specs.declared.interpreter.Happening.{Happening}
+use Rattle.rehearsal.specs.declared.interpreter.Happening.TheVariants as deeds
 use Rattle.session.specs.Lines.{draws_in, opens_by}
-use Rattle.session.specs.Acting.{view_deed, view_staged}
-use Rattle.session.specs.Ending.{steps}
+use Rattle.session.specs.Acting.{view_happening}
 use Rattle.session.proofs.Staged.{draws_more, opens_more}
 
 -- ---- there are no more than events
@@ -34,29 +31,25 @@ few_opens r (Open reader path ∷ xs) = by_test (reader == r) (few_opens r xs)
 
 -- ---- one event
 
-one_draw : (d : Deed) (asked : ℕ) (fates : _) → d ≡ deeds.Draw asked fates → length (draws_in (view_deed d ∷ [])) ≡ 1
-one_draw d asked fates is = ap (λ (x : Deed). length (draws_in (view_deed x ∷ []))) is
+one_draw : (d : Happening) (asked : ℕ) (fates : _) → d ≡ deeds.Draw asked fates → length (draws_in (view_happening d ∷ [])) ≡ 1
+one_draw d asked fates is = ap (λ (x : Happening). length (draws_in (view_happening x ∷ []))) is
 
-no_draw : (d : Deed) → ((asked : ℕ) (fates : _) → d ≢ deeds.Draw asked fates) → length (draws_in (view_deed d ∷ [])) ≡ 0
+no_draw : (d : Happening) → ((asked : ℕ) (fates : _) → d ≢ deeds.Draw asked fates) → length (draws_in (view_happening d ∷ [])) ≡ 0
 no_draw (deeds.Commit editor edits) h = omega arith
 no_draw (deeds.Draw asked fates) h = absurd (h asked fates refl)
 no_draw (deeds.Open reader path) h = omega arith
 
 -- ---- the first events and one more
 
-module _ (events : List Staged) (i : ℕ) (e : Staged) (lt : i < length events) where
+module _ (events : List Happening) (i : ℕ) (e : Happening) (lt : i < length events) where
   abbrev first : List Step
-  first = steps (map view_staged (take i events))
+  first = map view_happening (take i events)
 
   abbrev more : List Step
-  more = steps (map view_staged (take (i + 1) events))
+  more = map view_happening (take (i + 1) events)
 
   first_few : length first ≤ i
-  first_few =
-      let a = length-map (map view_staged (take i events)) (λ (x : Stage × Step). x.1) in
-      let b = length-map (take i events) view_staged in
-      let n = length-take-le i events (omega (arith, lt)) in
-      omega (arith, a, b, n)
+  first_few = let b = length-map (take i events) view_happening in let n = length-take-le i events (omega (arith, lt)) in omega (arith, b, n)
 
   pub draws_few : length (draws_in first) ≤ i
   draws_few = let a = few_draws first in let b = first_few in omega (arith, a, b)
@@ -65,27 +58,26 @@ module _ (events : List Staged) (i : ℕ) (e : Staged) (lt : i < length events) 
   opens_few r = let a = few_opens r first in let b = first_few in omega (arith, a, b)
 
   module _ (is : e ≡ slice_index_or events i e) where
-    one_more : more ≡ first ++ view_deed e.deed ∷ []
+    one_more : more ≡ first ++ view_happening e ∷ []
     one_more =
-        ap (λ (xs : List Staged). steps (map view_staged xs)) (take_more events i e lt)
-        ∙ ap steps (map-append view_staged (take i events) (slice_index_or events i e ∷ []))
-        ∙ map-append (λ (x : Stage × Step). x.1) (map view_staged (take i events)) (view_staged (slice_index_or events i e) ∷ [])
-        ∙ ap (λ (x : Staged). first ++ view_deed x.deed ∷ []) (sym is)
+        ap (map view_happening) (take_more events i e lt)
+        ∙ map-append view_happening (take i events) (slice_index_or events i e ∷ [])
+        ∙ ap (λ (x : Happening). first ++ view_happening x ∷ []) (sym is)
 
-    draws_now : length (draws_in more) ≡ length (draws_in first) + length (draws_in (view_deed e.deed ∷ []))
-    draws_now = ap (λ (xs : List Step). length (draws_in xs)) one_more ∙ ap (λ (xs : List DrawFields). length xs) (draws_more first (view_deed e.deed ∷ [])) ∙ length-append (draws_in first) (draws_in (view_deed e.deed ∷ []))
+    draws_now : length (draws_in more) ≡ length (draws_in first) + length (draws_in (view_happening e ∷ []))
+    draws_now = ap (λ (xs : List Step). length (draws_in xs)) one_more ∙ ap (λ (xs : List DrawFields). length xs) (draws_more first (view_happening e ∷ [])) ∙ length-append (draws_in first) (draws_in (view_happening e ∷ []))
 
-    opens_now : (r : ℕ) → length (opens_by r more) ≡ length (opens_by r first) + length (opens_by r (view_deed e.deed ∷ []))
-    opens_now r = ap (λ (xs : List Step). length (opens_by r xs)) one_more ∙ ap (λ (xs : List PathNames). length xs) (opens_more r first (view_deed e.deed ∷ [])) ∙ length-append (opens_by r first) (opens_by r (view_deed e.deed ∷ []))
+    opens_now : (r : ℕ) → length (opens_by r more) ≡ length (opens_by r first) + length (opens_by r (view_happening e ∷ []))
+    opens_now r = ap (λ (xs : List Step). length (opens_by r xs)) one_more ∙ ap (λ (xs : List PathNames). length xs) (opens_more r first (view_happening e ∷ [])) ∙ length-append (opens_by r first) (opens_by r (view_happening e ∷ []))
 
-    pub draw_counted : (asked : ℕ) (fates : _) (was now : ℕ) → e.deed ≡ deeds.Draw asked fates → now ≡ was + 1 → was ≡ length (draws_in first) → now ≡ length (draws_in more)
-    draw_counted asked fates was now d step h = let a = one_draw e.deed asked fates d in let b = draws_now in omega (arith, a, b, step, h)
+    pub draw_counted : (asked : ℕ) (fates : _) (was now : ℕ) → e ≡ deeds.Draw asked fates → now ≡ was + 1 → was ≡ length (draws_in first) → now ≡ length (draws_in more)
+    draw_counted asked fates was now d step h = let a = one_draw e asked fates d in let b = draws_now in omega (arith, a, b, step, h)
 
-    pub draw_passed : (was now : ℕ) → ((asked : ℕ) (fates : _) → e.deed ≢ deeds.Draw asked fates) → now ≡ was → was ≡ length (draws_in first) → now ≡ length (draws_in more)
-    draw_passed was now d step h = let a = no_draw e.deed d in let b = draws_now in omega (arith, a, b, step, h)
+    pub draw_passed : (was now : ℕ) → ((asked : ℕ) (fates : _) → e ≢ deeds.Draw asked fates) → now ≡ was → was ≡ length (draws_in first) → now ≡ length (draws_in more)
+    draw_passed was now d step h = let a = no_draw e d in let b = draws_now in omega (arith, a, b, step, h)
 
-    pub open_counted : (r : ℕ) (t : Bool) (was now : ℕ) → length (opens_by r (view_deed e.deed ∷ [])) ≡ (if t then 1 else 0) → t ≡ true → now ≡ was + 1 → was ≡ length (opens_by r first) → now ≡ length (opens_by r more)
+    pub open_counted : (r : ℕ) (t : Bool) (was now : ℕ) → length (opens_by r (view_happening e ∷ [])) ≡ (if t then 1 else 0) → t ≡ true → now ≡ was + 1 → was ≡ length (opens_by r first) → now ≡ length (opens_by r more)
     open_counted r t was now one is step h = let a = one ∙ ap (λ (b : Bool). if b then 1 else 0) is in let b = opens_now r in omega (arith, a, b, step, h)
 
-    pub open_passed : (r : ℕ) (t : Bool) (was now : ℕ) → length (opens_by r (view_deed e.deed ∷ [])) ≡ (if t then 1 else 0) → t ≡ false → now ≡ was → was ≡ length (opens_by r first) → now ≡ length (opens_by r more)
+    pub open_passed : (r : ℕ) (t : Bool) (was now : ℕ) → length (opens_by r (view_happening e ∷ [])) ≡ (if t then 1 else 0) → t ≡ false → now ≡ was → was ≡ length (opens_by r first) → now ≡ length (opens_by r more)
     open_passed r t was now one is step h = let a = one ∙ ap (λ (b : Bool). if b then 1 else 0) is in let b = opens_now r in omega (arith, a, b, step, h)

@@ -6,40 +6,41 @@ use Rattle.std.specs.declared.vec.Vec.{Vec}
 use Rattle.std.proofs.lemmas.Bool.{both_ways}
 use Rattle.std.proofs.lemmas.List.Recursion.{is_count_by}
 use Rattle.std.proofs.lemmas.List.Sums.{AllPass-from_list_all, list_all-from_AllPass}
-use Rattle.std.proofs.lemmas.List.{length-append, length-map, with_items_is}
+use Rattle.std.proofs.lemmas.List.{length-map, with_items_is}
 use Rattle.path_tree.specs.Paths.{PathNames}
 use Rattle.path_resolver.specs.declared.shot.Shot.{Shot}
 use Rattle.station.specs.declared.station.Station.{Station}
 use Rattle.session_script.specs.declared.script.Stage.{Stage}
 use Rattle.session_script.specs.declared.script.Stage.TheVariants.{Before, During, After}
 use Rattle.carousel_world.specs.Events.{Step, Commit, Draw, Open}
-use Rattle.session_actors.specs.Chains.{DrawFields}
-use Rattle.session_actors.specs.Seats.{DidEdit, DidFeed, DidRead, IsReaderSeat, draw_of}
-use Rattle.session_actors.specs.declared.editor.EditorSeat.{EditorSeat}
-use Rattle.session_actors.specs.declared.feeder.FeederSeat.{FeederSeat}
-use Rattle.session_actors.specs.declared.reader.ReaderSeat.{ReaderSeat}
+use Rattle.session.specs.Chains.{DrawFields}
+use Rattle.session.specs.Seats.{DidEdit, DidFeed, DidRead, IsReaderSeat, draw_of}
+use Rattle.session.specs.declared.editor.EditorSeat.{EditorSeat}
+use Rattle.session.specs.declared.reader.ReaderSeat.{ReaderSeat}
 use Rattle.session.specs.declared.cast.Cast.{Cast}
-use Rattle.session.specs.Lines.{asked_from, draws_in, is_before, is_draw_before, opens_by}
-use Rattle.session.specs.Acting.{FeederStands, ReaderStands, Setting, draws_before, draws_of, is_during, numbers_of, staged_where, steps_where}
-use Rattle.session.specs.Casting.{AreSameActors, CastStands}
+use Rattle.session.specs.Lines.{asked_from, draws_in, is_draw_before, opens_by}
+use Rattle.session.specs.Plans.{above, at_end, before_steps, below, during_steps, end_steps}
+use Rattle.session.specs.Acting.{ReaderStands, Setting, asked_for, draws_before, draws_of, events_in, readers_of}
+use Rattle.session.specs.Casting.{CastStands, HasWork}
 use Rattle.std.specs.Vec.{with_items}
-use Rattle.session.specs.Ending.{steps}
 use Rattle.session.specs.Threads.{CastDone, IsWhole, MayEnd}
-use Rattle.session.proofs.Handed.{editors_done, feeder_done, readers_done}
-use Rattle.session.proofs.Staged.{draws_more, opens_more}
-use Rattle.session.proofs.Casting.{shots_count}
+use Rattle.session.proofs.Handed.{editors_done, feeder_done, reader_at, readers_done}
+use Rattle.session.proofs.Staged.{count_all, count_done, draws_more, opens_more, unstaged}
+use Rattle.session.proofs.Casting.{readers_in, readers_planned, shots_count}
 use Rattle.session.proofs.Reading.{asked_count, opened_count}
 
--- ---- what is asked of the threads
+-- ---- how many draws are above the start
 
-abbrev draw_count : List (Stage × Step) → ℕ
-draw_count es = length (draws_in (steps es))
+abbrev befores : List (Stage × Step) → List Step
+befores [] = []
+befores ((Before, e) ∷ es) = e ∷ befores es
+befores ((During, e) ∷ es) = befores es
+befores ((After, e) ∷ es) = befores es
 
--- how many draws are before the start
-before_is : (es : List (Stage × Step)) → draw_count (staged_where is_before es) ≡ count_by is_draw_before es
-before_is = is_count_by (λ (es : List (Stage × Step)). draw_count (staged_where is_before es)) is_draw_before refl one
+before_is : (es : List (Stage × Step)) → length (draws_in (befores es)) ≡ count_by is_draw_before es
+before_is = is_count_by (λ (es : List (Stage × Step)). length (draws_in (befores es))) is_draw_before refl one
   where
-    one : (e : Stage × Step) (es : List (Stage × Step)) → draw_count (staged_where is_before (e ∷ es)) ≡ cond (is_draw_before e) (1 + draw_count (staged_where is_before es)) (draw_count (staged_where is_before es))
+    one : (e : Stage × Step) (es : List (Stage × Step)) → length (draws_in (befores (e ∷ es))) ≡ cond (is_draw_before e) (1 + length (draws_in (befores es))) (length (draws_in (befores es)))
     one (Before, Commit editor edits) es = refl
     one (Before, Draw asked fates) es = omega arith
     one (Before, Open reader path) es = refl
@@ -50,62 +51,80 @@ before_is = is_count_by (λ (es : List (Stage × Step)). draw_count (staged_wher
     one (After, Draw asked fates) es = refl
     one (After, Open reader path) es = refl
 
--- a shot was shown before the first draw, and one after each draw before the start
-pub shots_before : {X : _} {F : _} {g : _} (setting : Setting) (s : Station X F g) (shots : List Shot) (seat : FeederSeat) → FeederStands s setting.events shots seat → length shots ≡ draws_before setting + 1
-shots_before setting s shots seat st =
-    let count = shots_count s setting.events shots seat st in let before = before_is setting.events in omega (arith, count, before)
+befores_are : (xs ys zs : List Step) → befores ((above xs ++ below ys) ++ at_end zs) ≡ xs
+befores_are [] ys zs = none ys
+  where
+    last : (es : List Step) → befores (at_end es) ≡ []
+    last [] = refl
+    last (e ∷ es) = last es
 
-both_of : (f : List Step → ℕ) → f [] ≡ 0 → ((xs ys : List Step) → f (xs ++ ys) ≡ f xs + f ys) → (es : List (Stage × Step)) → f (steps_where is_before es) + f (steps_where is_during es) ≤ f (steps es)
-both_of f none more [] = omega (arith, none)
-both_of f none more ((Before, e) ∷ es) = let r = both_of f none more es in let x = more (e ∷ []) (steps_where is_before es) in let y = more (e ∷ []) (steps es) in omega (arith, r, x, y)
-both_of f none more ((During, e) ∷ es) = let r = both_of f none more es in let x = more (e ∷ []) (steps_where is_during es) in let y = more (e ∷ []) (steps es) in omega (arith, r, x, y)
-both_of f none more ((After, e) ∷ es) = let r = both_of f none more es in let y = more (e ∷ []) (steps es) in omega (arith, r, y)
+    none : (es : List Step) → befores (below es ++ at_end zs) ≡ []
+    none [] = last zs
+    none (e ∷ es) = none es
+befores_are (x ∷ xs) ys zs = ap (λ (es : List Step). x ∷ es) (befores_are xs ys zs)
 
-pub reader_ready : (setting : Setting) (shots : List Shot) (seat : ReaderSeat) → ReaderStands setting setting.events shots seat → IsReaderSeat seat
-reader_ready setting shots seat st =
+draws_before_are : (setting : Setting) → draws_before setting ≡ length (draws_in (before_steps setting.parts))
+draws_before_are setting =
+    sym (before_is (events_in setting)) ∙ ap (λ (es : List Step). length (draws_in es)) (befores_are (before_steps setting.parts) (during_steps setting.parts) (end_steps setting.parts))
+
+-- ---- what is asked of the threads
+
+reader_ready : (setting : Setting) (shots : List Shot) (seat : ReaderSeat) → seat.paths.items ≡ opens_by seat.pass.reader (during_steps setting.parts)
+    → ReaderStands setting (before_steps setting.parts) shots seat → IsReaderSeat seat
+reader_ready setting shots seat laid st =
     let r = seat.pass.reader in
-    let opened = opened_count (asked_from r (draws_before setting) (draws_of setting) 0 (staged_where is_before setting.events)) seat.pass.opens st.opened.opened in
-    let asked = asked_count r (draws_before setting) (draws_of setting) 0 (staged_where is_before setting.events) in
-    let paths = ap (λ (ps : List PathNames). length ps) st.to_come in
-    let all = both_of (λ (es : List Step). length (opens_by r es)) refl (λ xs ys. ap (λ (ps : List PathNames). length ps) (opens_more r xs ys) ∙ length-append (opens_by r xs) (opens_by r ys)) setting.events in
+    let opened = opened_count (asked_from r (draws_before setting) (draws_of setting) 0 (above (before_steps setting.parts))) seat.pass.opens st.opened.opened in
+    let asked = asked_count r (draws_before setting) (draws_of setting) 0 (above (before_steps setting.parts)) in
+    let plain = ap (λ (es : List Step). length (opens_by r es)) (unstaged Before (before_steps setting.parts)) in
+    let paths = ap (λ (ps : List PathNames). length ps) laid in
+    let first = count_done (opens_by r) (opens_more r) setting in
+    let all = count_all (opens_by r) (opens_more r) setting in
     let room = st.room in
-    omega (arith, opened, asked, paths, all, room)
+    omega (arith, opened, asked, plain, paths, first, all, room)
 
-pub feeder_ready : {X : _} {F : _} {g : _} (setting : Setting) (s : Station X F g) (shots : List Shot) (seat : FeederSeat) (most : ℕ) → FeederStands s setting.events shots seat → most ≡ draws_of setting → length shots + length seat.draws.items ≤ most + 1
-feeder_ready setting s shots seat most st same =
-    let count = shots_count s setting.events shots seat st in
-    let draws = sym (length-map seat.draws.items draw_of) ∙ ap (λ (ds : List DrawFields). length ds) st.to_come in
-    let all = both_of (λ (es : List Step). length (draws_in es)) refl (λ xs ys. ap (λ (ds : List DrawFields). length ds) (draws_more xs ys) ∙ length-append (draws_in xs) (draws_in ys)) setting.events in
-    omega (arith, count, draws, all, same)
+pub readers_ready : {X : _} {F : _} {g : _} (setting : Setting) (s : Station X F g) (shots : List Shot) (cast : Cast) → HasWork setting cast → CastStands setting s (before_steps setting.parts) shots cast
+    → (k : ℕ) (d : ReaderSeat) → k < length cast.readers.items → IsReaderSeat (slice_index_or cast.readers.items k d)
+readers_ready setting s shots cast work st k d lt =
+    let its = reader_at (λ n. opens_by n (during_steps setting.parts)) (λ n. opens_by n (end_steps setting.parts)) setting.parts.readers.items cast.readers.items work.readers k d lt in
+    reader_ready setting shots (slice_index_or cast.readers.items k d) its.0 (st.readers k d lt)
+
+pub feeder_ready : {X : _} {F : _} {g : _} (setting : Setting) (s : Station X F g) (shots : List Shot) (cast : Cast) (most : ℕ) → HasWork setting cast → CastStands setting s (before_steps setting.parts) shots cast
+    → most ≡ draws_of setting → length shots + length cast.feeder.draws.items ≤ most + 1
+feeder_ready setting s shots cast most work st same =
+    let count = shots_count s (before_steps setting.parts) shots cast.feeder st.feeder in
+    let draws = sym (length-map cast.feeder.draws.items draw_of) ∙ ap (λ (ds : List DrawFields). length ds) work.draws in
+    let first = count_done draws_in draws_more setting in
+    let all = count_all draws_in draws_more setting in
+    omega (arith, count, draws, first, all, same)
 
 -- ---- what they did
 
--- the same actors
-pub same_actors : {X : _} {F : _} {g : _} (s : Station X F g) (old new : Cast) → length new.editors.items ≡ length old.editors.items
-    → ((i : ℕ) (d : EditorSeat) → i < length old.editors.items → DidEdit s (slice_index_or old.editors.items i d) (slice_index_or new.editors.items i d))
-    → length new.readers.items ≡ length old.readers.items → ((i : ℕ) (d : ReaderSeat) → i < length old.readers.items → DidRead (slice_index_or old.readers.items i d) (slice_index_or new.readers.items i d))
-    → AreSameActors old new
-same_actors s old new editors edit readers read = record {
-  editors = map_alike (λ (seat : EditorSeat). seat.number) old.editors.items new.editors.items editors (λ i d lt. (edit i d lt).editor);
-  readers = map_alike (λ (seat : ReaderSeat). seat.pass.reader) old.readers.items new.readers.items readers (λ i d lt. (read i d lt).same.0);
-}
-  where
-    map_alike : {A : Type 0} (f : A → ℕ) (xs ys : List A) → length ys ≡ length xs → ((i : ℕ) (d : A) → i < length xs → f (slice_index_or ys i d) ≡ f (slice_index_or xs i d)) → map f ys ≡ map f xs
-    map_alike f [] [] count same = refl
-    map_alike f (x ∷ xs) (y ∷ ys) count same = ap (λ (n : ℕ). n ∷ map f ys) (same 0 x (omega arith)) ∙ ap (λ (ns : List ℕ). f x ∷ ns) (map_alike f xs ys (omega (arith, count)) (λ i d lt. same (suc i) d (omega (arith, lt))))
-    map_alike f [] (y ∷ ys) count same = absurd (omega (arith, count))
-    map_alike f (x ∷ xs) [] count same = absurd (omega (arith, count))
+same_readers : (olds news : List ReaderSeat) → length news ≡ length olds → ((i : ℕ) (d : ReaderSeat) → i < length olds → DidRead (slice_index_or olds i d) (slice_index_or news i d)) → readers_of news ≡ readers_of olds
+same_readers [] [] count did = refl
+same_readers (x ∷ xs) (y ∷ ys) count did =
+    ap (λ (n : ℕ). n ∷ readers_of ys) (did 0 x (omega arith)).same.0
+    ∙ ap (λ (ns : List ℕ). x.pass.reader ∷ ns) (same_readers xs ys (omega (arith, count)) (λ i d lt. did (suc i) d (omega (arith, lt))))
+same_readers [] (y ∷ ys) count did = absurd (omega (arith, count))
+same_readers (x ∷ xs) [] count did = absurd (omega (arith, count))
 
-pub cast_done : {X : _} {F : _} {g : _} (setting : Setting) (s : Station X F g) (shots shown : List Shot) (old new : Cast) → CastStands setting s setting.events shots old
+pub cast_done : {X : _} {F : _} {g : _} (setting : Setting) (s : Station X F g) (shots shown : List Shot) (old new : Cast) → HasWork setting old → CastStands setting s (before_steps setting.parts) shots old
     → length new.editors.items ≡ length old.editors.items → ((i : ℕ) (d : EditorSeat) → i < length old.editors.items → DidEdit s (slice_index_or old.editors.items i d) (slice_index_or new.editors.items i d))
     → DidFeed s old.feeder new.feeder shots shown
     → length new.readers.items ≡ length old.readers.items → ((i : ℕ) (d : ReaderSeat) → i < length old.readers.items → DidRead (slice_index_or old.readers.items i d) (slice_index_or new.readers.items i d))
     → IsWhole new → CastDone setting s shown new
-cast_done setting s shots shown old new st editors edit feed readers read whole = record {
-  committed = editors_done setting s (numbers_of new.editors.items) old.editors.items new.editors.items (sym (same_actors s old new editors edit readers read).editors) editors st.editors edit whole.editors;
-  fed = feeder_done setting s old.feeder new.feeder shots shown st.feeder feed whole.feeder;
-  read = readers_done setting shots old.readers.items new.readers.items (shots_before setting s shots old.feeder st.feeder) readers st.readers read whole.readers;
-}
+cast_done setting s shots shown old new work st editors edit feed readers read whole =
+    let count = shots_count s (before_steps setting.parts) shots old.feeder st.feeder in
+    let before = draws_before_are setting in
+    record {
+      committed = editors_done setting s old new work editors st.editors edit whole.editors;
+      fed = feeder_done setting s old new shots shown work st.feeder feed whole.feeder;
+      readers_are = same_readers old.readers.items new.readers.items readers read ∙ readers_planned old.readers.items _ work.readers ∙ of_plan setting.parts.readers.items;
+      read = readers_done setting shots old new work (omega (arith, count, before)) readers st.readers read whole.readers;
+    }
+  where
+    of_plan : (ns : List ℕ) → readers_in (map (asked_for (λ n. opens_by n (during_steps setting.parts)) (λ n. opens_by n (end_steps setting.parts))) ns) ≡ ns
+    of_plan [] = refl
+    of_plan (n ∷ ns) = ap (λ (ms : List ℕ). n ∷ ms) (of_plan ns)
 
 pub may_end : {X : _} {F : _} {g : _} (s : Station X F g) (shots shown : List Shot) (old new : Cast) → length new.editors.items ≡ length old.editors.items
     → ((i : ℕ) (d : EditorSeat) → i < length old.editors.items → DidEdit s (slice_index_or old.editors.items i d) (slice_index_or new.editors.items i d)) → DidFeed s old.feeder new.feeder shots shown → MayEnd s new

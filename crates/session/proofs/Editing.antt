@@ -1,5 +1,5 @@
 -- The seats of the editors, after one event more.
-use Rattle.std.proofs.Common.{◌≡◌, ◌≢◌, arith, ℕ, zero, suc, ◌+◌, ◌<◌, Bool, List, [], ◌∷◌, ◌++◌, map, take, length, refl, sym, ap, ◌∙◌, subst, ne_eqb, eq-eqb}
+use Rattle.std.proofs.Common.{◌≡◌, ◌≢◌, arith, ℕ, zero, suc, ◌+◌, ◌<◌, Bool, List, [], ◌∷◌, ◌++◌, map, take, length, refl, sym, ap, ◌∙◌, subst, ne_eqb, eq-eqb, append-nil}
 use Rattle.std.specs.Prelude.{slice_set, slice_index_or, if◌then◌else◌}
 use Rattle.std.proofs.lemmas.List.{get_or-map, get_or-set_other, length-set, length-map}
 use Rattle.std.proofs.lemmas.Grind.{get_or-set_at}
@@ -11,39 +11,28 @@ use Rattle.station.specs.Passes.{IsStationPass, AreNewPasses, entries_seen, own_
 use Rattle.history_lock.specs.Passes.{number_of}
 use Rattle.std.proofs.lemmas.List.{take_more, take_all, length-append}
 use Rattle.path_tree.specs.declared.tree.Edit.{Edit}
-use Rattle.session_script.specs.declared.script.Stage.{Stage}
-use Rattle.session_script.specs.declared.script.Stage.TheVariants.{Before, During, After}
 use Rattle.carousel_world.specs.Events.{Step, Commit}
 use Rattle.station.specs.declared.station.Station.{Station}
 use Rattle.station.specs.declared.kept.Kept.{Kept}
 use Rattle.station.specs.declared.kept.KeptItem.{KeptItem}
 use Rattle.history_lock.specs.declared.pass.Pass.{Pass}
-use Rattle.session_actors.specs.Seats.{HasCommitted, IsEditorSeat, edits_of}
-use Rattle.session_actors.specs.declared.editor.EditorSeat.{EditorSeat}
-use Rattle.session.specs.Lines.{commits_by, is_before}
-use Rattle.session.specs.Acting.{EditorStands, EditorsStand, AreApart, steps_where, is_during, numbers_of}
-use Rattle.session.proofs.Staged.{commits_more, next_of, other_of, idle_of}
+use Rattle.session.specs.Seats.{HasCommitted, IsEditorSeat, edits_of}
+use Rattle.session.specs.declared.editor.EditorSeat.{EditorSeat}
+use Rattle.session.specs.Lines.{commits_by}
+use Rattle.session.specs.Acting.{AreApart, EditorStands, EditorsStand, editor_plan, numbers_of, planned_for}
+use Rattle.session.proofs.Staged.{commits_more}
 
 -- an event that is no commit of the editor
-pub editor_idles : {X : _} {F : _} {g : _} (s : Station X F g) (place : ℕ) (done : List (Stage × Step)) (seat : EditorSeat) (e : Stage × Step) → commits_by seat.number (e.1 ∷ []) ≡ []
+pub editor_idles : {X : _} {F : _} {g : _} (s : Station X F g) (place : ℕ) (done : List Step) (seat : EditorSeat) (e : Step) → commits_by seat.number (e ∷ []) ≡ []
     → EditorStands s place done seat → EditorStands s place (done ++ e ∷ []) seat
-editor_idles s place done seat e none st = record {
-  committed = subst (λ (lines : List (List Edit)). HasCommitted s place lines seat.pass) (sym (idle_of (commits_by seat.number) refl (commits_more seat.number) is_before done e none)) st.committed;
-  to_come = st.to_come ∙ sym (idle_of (commits_by seat.number) refl (commits_more seat.number) is_during done e none);
-}
+editor_idles s place done seat e none st =
+    let n = seat.number in
+    subst (λ (lines : List (List Edit)). HasCommitted s place lines seat.pass)
+    (sym (commits_more n done (e ∷ []) ∙ ap (λ (xs : List (List Edit)). commits_by n done ++ xs) none ∙ append-nil (commits_by n done))) st
 
-pub editors_idle : {X : _} {F : _} {g : _} (s : Station X F g) (done : List (Stage × Step)) (seats : List EditorSeat) (e : Stage × Step) → ((n : ℕ) → commits_by n (e.1 ∷ []) ≡ [])
+pub editors_idle : {X : _} {F : _} {g : _} (s : Station X F g) (done : List Step) (seats : List EditorSeat) (e : Step) → ((n : ℕ) → commits_by n (e ∷ []) ≡ [])
     → EditorsStand s done seats → EditorsStand s (done ++ e ∷ []) seats
 editors_idle s done seats e none st = λ place d lt. editor_idles s place done (slice_index_or seats place d) e (none (slice_index_or seats place d).number) (st place d lt)
-
--- an event after all actors
-pub after_editors : {X : _} {F : _} {g : _} (s : Station X F g) (done : List (Stage × Step)) (seats : List EditorSeat) (e : Step) → EditorsStand s done seats → EditorsStand s (done ++ (After, e) ∷ []) seats
-after_editors s done seats e st = λ place d lt.
-    let seat = slice_index_or seats place d in
-    record {
-      committed = subst (λ (lines : List (List Edit)). HasCommitted s place lines seat.pass) (sym (other_of (commits_by seat.number) refl (commits_more seat.number) is_before done (After, e) refl)) (st place d lt).committed;
-      to_come = (st place d lt).to_come ∙ sym (other_of (commits_by seat.number) refl (commits_more seat.number) is_during done (After, e) refl);
-    }
 
 its : (n : ℕ) (edits : List Edit) → commits_by n (Commit n edits ∷ []) ≡ edits ∷ []
 its n edits = ap (λ (t : Bool). (if t then edits ∷ [] else []) ++ []) (eq-eqb n n refl)
@@ -51,38 +40,14 @@ its n edits = ap (λ (t : Bool). (if t then edits ∷ [] else []) ++ []) (eq-eqb
 pub not_its : (n m : ℕ) (edits : List Edit) → m ≢ n → commits_by n (Commit m edits ∷ []) ≡ []
 not_its n m edits ne = ap (λ (t : Bool). (if t then edits ∷ [] else []) ++ []) (ne_eqb m n ne)
 
--- a commit of the editor before the start, which it made
-pub editor_committed : {X : _} {F : _} {g : _} (s : Station X F g) (place : ℕ) (done : List (Stage × Step)) (old new : EditorSeat) (edits : List Edit) → new.number ≡ old.number → new.commits ≡ old.commits
-    → EditorStands s place done old → HasCommitted s place (commits_by old.number (steps_where is_before done) ++ edits ∷ []) new.pass
-    → EditorStands s place (done ++ (Before, Commit old.number edits) ∷ []) new
-editor_committed s place done old new edits same laid st made =
-    let e : Stage × Step = (Before, Commit old.number edits) in
-    record {
-      committed = subst (λ (lines : List (List Edit)). HasCommitted s place lines new.pass)
-          (ap (λ (xs : List (List Edit)). commits_by old.number (steps_where is_before done) ++ xs) (sym (its old.number edits))
-          ∙ sym (next_of (commits_by old.number) refl (commits_more old.number) is_before done e refl)
-          ∙ ap (λ (n : ℕ). commits_by n (steps_where is_before (done ++ e ∷ []))) (sym same)) made;
-      to_come = ap (λ cs. map edits_of cs.items) laid ∙ st.to_come
-          ∙ sym (other_of (commits_by old.number) refl (commits_more old.number) is_during done e refl)
-          ∙ ap (λ (n : ℕ). commits_by n (steps_where is_during (done ++ e ∷ []))) (sym same);
-    }
-
--- a commit of the editor after it, which was laid before it
-pub editor_laid : {X : _} {F : _} {g : _} (s : Station X F g) (place : ℕ) (done : List (Stage × Step)) (old new : EditorSeat) (edits : List Edit) → new.number ≡ old.number → new.pass ≡ old.pass
-    → map edits_of new.commits.items ≡ map edits_of old.commits.items ++ edits ∷ []
-    → EditorStands s place done old → EditorStands s place (done ++ (During, Commit old.number edits) ∷ []) new
-editor_laid s place done old new edits same pass laid st =
-    let e : Stage × Step = (During, Commit old.number edits) in
-    record {
-      committed = subst (λ (p : _). HasCommitted s place (commits_by new.number (steps_where is_before (done ++ e ∷ []))) p) (sym pass)
-          (subst (λ (lines : List (List Edit)). HasCommitted s place lines old.pass)
-          (sym (other_of (commits_by old.number) refl (commits_more old.number) is_before done e refl)
-          ∙ ap (λ (n : ℕ). commits_by n (steps_where is_before (done ++ e ∷ []))) (sym same)) st.committed);
-      to_come = laid ∙ ap (λ (xs : List (List Edit)). xs ++ edits ∷ []) st.to_come
-          ∙ ap (λ (xs : List (List Edit)). commits_by old.number (steps_where is_during done) ++ xs) (sym (its old.number edits))
-          ∙ sym (next_of (commits_by old.number) refl (commits_more old.number) is_during done e refl)
-          ∙ ap (λ (n : ℕ). commits_by n (steps_where is_during (done ++ e ∷ []))) (sym same);
-    }
+-- a commit of the editor, which it made
+pub editor_committed : {X : _} {F : _} {g : _} (s : Station X F g) (place : ℕ) (done : List Step) (old new : EditorSeat) (edits : List Edit) → new.number ≡ old.number
+    → HasCommitted s place (commits_by old.number done ++ edits ∷ []) new.pass → EditorStands s place (done ++ Commit old.number edits ∷ []) new
+editor_committed s place done old new edits same made =
+    let n = old.number in
+    subst (λ (lines : List (List Edit)). HasCommitted s place lines new.pass)
+    (ap (λ (xs : List (List Edit)). commits_by n done ++ xs) (sym (its n edits)) ∙ sym (commits_more n done (Commit n edits ∷ []))
+    ∙ ap (λ (m : ℕ). commits_by m (done ++ Commit n edits ∷ [])) (sym same)) made
 
 -- ---- one seat of all
 
@@ -97,7 +62,7 @@ any_default (x ∷ xs) (suc k) d e lt = any_default xs k d e (omega (arith, lt))
 module _ {X : _} {F : _} {g : _} (s : Station X F g) (seats : List EditorSeat) (place : ℕ) (was new : EditorSeat) (there : place < length seats) (is : was ≡ slice_index_or seats place was) (apart : AreApart (numbers_of seats))
     (same : new.number ≡ was.number) where
   -- a seat is put in the place of one of the same number, and nothing changes for the others
-  pub seat_set : (done after : List (Stage × Step)) → EditorStands s place after new
+  pub seat_set : (done after : List Step) → EditorStands s place after new
       → ((k : ℕ) (seat : EditorSeat) → seat.number ≢ was.number → EditorStands s k done seat → EditorStands s k after seat)
       → EditorsStand s done seats → EditorsStand s after (slice_set seats place new)
   seat_set done after its others st = λ k d lt.
@@ -111,8 +76,10 @@ module _ {X : _} {F : _} {g : _} (s : Station X F g) (seats : List EditorSeat) (
       ne (apart k place (omega (arith, l, below)) (omega (arith, l, there)) (number_at seats k d below ∙ e ∙ ap (λ (seat : EditorSeat). seat.number) is ∙ sym (number_at seats place was there))))
       (st k d below)))
 
-  pub numbers_set : numbers_of (slice_set seats place new) ≡ numbers_of seats
-  numbers_set = map-set_same (λ (seat : EditorSeat). seat.number) seats place new was (same ∙ ap (λ (seat : EditorSeat). seat.number) is)
+  pub plans_set : new.commits ≡ was.commits → map editor_plan (slice_set seats place new) ≡ map editor_plan seats
+  plans_set laid =
+      let alike : editor_plan new ≡ editor_plan was = λ i. record { editor = same i; commits = map edits_of (laid i).items } in
+      map-set_same editor_plan seats place new was (alike ∙ ap editor_plan is)
 
   pub passes_set : IsStationPass s new.pass → All (IsEditorSeat s) seats → All (IsEditorSeat s) (slice_set seats place new)
   passes_set its all = λ k d lt.
@@ -121,97 +88,89 @@ module _ {X : _} {F : _} {g : _} (s : Station X F g) (seats : List EditorSeat) (
       (λ e. subst (λ (seat : EditorSeat). IsEditorSeat s seat) (sym (get_or-set_at seats place k new d e there)) its)
       (λ ne. subst (λ (seat : EditorSeat). IsEditorSeat s seat) (sym (get_or-set_other seats place k new d ne)) (all k d below))
 
-  stands_was : (done : List (Stage × Step)) → EditorsStand s done seats → EditorStands s place done was
+  stands_was : (done : List Step) → EditorsStand s done seats → EditorStands s place done was
   stands_was done st = subst (EditorStands s place done) (sym is) (st place was there)
 
-  -- the editor made a commit before the start
-  pub committed_now : (editor : ℕ) (edits : List Edit) → was.number ≡ editor → new.commits ≡ was.commits
+  -- the editor made a commit
+  pub committed_now : (editor : ℕ) (edits : List Edit) → was.number ≡ editor
       → ((place' : ℕ) (lines : List (List Edit)) → HasCommitted s place' lines was.pass → HasCommitted s place' (lines ++ edits ∷ []) new.pass)
-      → (done : List (Stage × Step)) → EditorsStand s done seats → EditorsStand s (done ++ (Before, Commit editor edits) ∷ []) (slice_set seats place new)
-  committed_now editor edits its laid made done st =
-      seat_set done (done ++ (Before, Commit editor edits) ∷ [])
-      (subst (λ (n : ℕ). EditorStands s place (done ++ (Before, Commit n edits) ∷ []) new) its
-      (editor_committed s place done was new edits same laid (stands_was done st) (made place (commits_by was.number (steps_where is_before done)) (stands_was done st).committed)))
-      (λ k seat ne stands. editor_idles s k done seat (Before, Commit editor edits) (not_its seat.number editor edits (λ e. ne (sym e ∙ sym its))) stands)
+      → (done : List Step) → EditorsStand s done seats → EditorsStand s (done ++ Commit editor edits ∷ []) (slice_set seats place new)
+  committed_now editor edits its made done st =
+      seat_set done (done ++ Commit editor edits ∷ [])
+      (subst (λ (n : ℕ). EditorStands s place (done ++ Commit n edits ∷ []) new) its
+      (editor_committed s place done was new edits same (made place (commits_by was.number done) (stands_was done st))))
+      (λ k seat ne stands. editor_idles s k done seat (Commit editor edits) (not_its seat.number editor edits (λ e. ne (sym e ∙ sym its))) stands)
       st
 
-  -- a commit was laid before the editor
-  pub committed_later : (editor : ℕ) (edits : List Edit) → was.number ≡ editor → new.pass ≡ was.pass → map edits_of new.commits.items ≡ map edits_of was.commits.items ++ edits ∷ []
-      → (done : List (Stage × Step)) → EditorsStand s done seats → EditorsStand s (done ++ (During, Commit editor edits) ∷ []) (slice_set seats place new)
-  committed_later editor edits its pass laid done st =
-      seat_set done (done ++ (During, Commit editor edits) ∷ [])
-      (subst (λ (n : ℕ). EditorStands s place (done ++ (During, Commit n edits) ∷ []) new) its (editor_laid s place done was new edits same pass laid (stands_was done st)))
-      (λ k seat ne stands. editor_idles s k done seat (During, Commit editor edits) (not_its seat.number editor edits (λ e. ne (sym e ∙ sym its))) stands)
-      st
+-- seats with these numbers and passes, before which these commits of their numbers lie
+abbrev pub AreNewSeats : (ℕ → List (List Edit)) → List ℕ → List (Pass Kept KeptItem) → List EditorSeat → Type 0
+AreNewSeats f [] [] [] = Unit {0}
+AreNewSeats f (n ∷ ns) (p ∷ ps) (s ∷ ss) = (s.number ≡ n) × (s.pass ≡ p) × (map edits_of s.commits.items ≡ f n) × AreNewSeats f ns ps ss
+AreNewSeats f _ _ _ = ⊥
 
--- seats with these numbers and passes, before which nothing lies
-abbrev pub AreNewSeats : List ℕ → List (Pass Kept KeptItem) → List EditorSeat → Type 0
-AreNewSeats [] [] [] = Unit {0}
-AreNewSeats (n ∷ ns) (p ∷ ps) (s ∷ ss) = (s.number ≡ n) × (s.pass ≡ p) × (s.commits.items ≡ []) × AreNewSeats ns ps ss
-AreNewSeats _ _ _ = ⊥
+module _ (f : ℕ → List (List Edit)) where
+  pub new_seats_count : (ns : List ℕ) (ps : List (Pass Kept KeptItem)) (ss : List EditorSeat) → AreNewSeats f ns ps ss → length ss ≡ length ps
+  new_seats_count [] [] [] h = refl
+  new_seats_count (n ∷ ns) (p ∷ ps) (s ∷ ss) h = ap suc (new_seats_count ns ps ss h.3)
+  new_seats_count [] [] (s ∷ ss) h = absurd h
+  new_seats_count [] (p ∷ ps) ss h = absurd h
+  new_seats_count (n ∷ ns) [] ss h = absurd h
+  new_seats_count (n ∷ ns) (p ∷ ps) [] h = absurd h
 
-pub new_seats_count : (ns : List ℕ) (ps : List (Pass Kept KeptItem)) (ss : List EditorSeat) → AreNewSeats ns ps ss → length ss ≡ length ps
-new_seats_count [] [] [] h = refl
-new_seats_count (n ∷ ns) (p ∷ ps) (s ∷ ss) h = ap suc (new_seats_count ns ps ss h.3)
-new_seats_count [] [] (s ∷ ss) h = absurd h
-new_seats_count [] (p ∷ ps) ss h = absurd h
-new_seats_count (n ∷ ns) [] ss h = absurd h
-new_seats_count (n ∷ ns) (p ∷ ps) [] h = absurd h
+  seat_pushed : (ns : List ℕ) (ps : List (Pass Kept KeptItem)) (ss : List EditorSeat) (n : ℕ) (p : Pass Kept KeptItem) (s : EditorSeat) → s.number ≡ n → s.pass ≡ p → map edits_of s.commits.items ≡ f n
+      → AreNewSeats f ns ps ss → AreNewSeats f (ns ++ n ∷ []) (ps ++ p ∷ []) (ss ++ s ∷ [])
+  seat_pushed [] [] [] n p s a b c h = (a, b, c, tt)
+  seat_pushed (m ∷ ns) (q ∷ ps) (t ∷ ss) n p s a b c h = (h.0, h.1, h.2, seat_pushed ns ps ss n p s a b c h.3)
+  seat_pushed [] [] (t ∷ ss) n p s a b c h = absurd h
+  seat_pushed [] (q ∷ ps) ss n p s a b c h = absurd h
+  seat_pushed (m ∷ ns) [] ss n p s a b c h = absurd h
+  seat_pushed (m ∷ ns) (q ∷ ps) [] n p s a b c h = absurd h
 
-seat_pushed : (ns : List ℕ) (ps : List (Pass Kept KeptItem)) (ss : List EditorSeat) (n : ℕ) (p : Pass Kept KeptItem) (s : EditorSeat) → s.number ≡ n → s.pass ≡ p → s.commits.items ≡ []
-    → AreNewSeats ns ps ss → AreNewSeats (ns ++ n ∷ []) (ps ++ p ∷ []) (ss ++ s ∷ [])
-seat_pushed [] [] [] n p s a b c h = (a, b, c, tt)
-seat_pushed (m ∷ ns) (q ∷ ps) (t ∷ ss) n p s a b c h = (h.0, h.1, h.2, seat_pushed ns ps ss n p s a b c h.3)
-seat_pushed [] [] (t ∷ ss) n p s a b c h = absurd h
-seat_pushed [] (q ∷ ps) ss n p s a b c h = absurd h
-seat_pushed (m ∷ ns) [] ss n p s a b c h = absurd h
-seat_pushed (m ∷ ns) (q ∷ ps) [] n p s a b c h = absurd h
+  pub seats_more : (numbers : List ℕ) (ps : List (Pass Kept KeptItem)) (ss : List EditorSeat) (p : Pass Kept KeptItem) (s : EditorSeat) → length ps < length numbers
+      → s.number ≡ slice_index_or numbers (length ss) s.number → s.pass ≡ p → map edits_of s.commits.items ≡ f s.number
+      → AreNewSeats f (take (length ps) numbers) ps ss → AreNewSeats f (take (length (ps ++ p ∷ [])) numbers) (ps ++ p ∷ []) (ss ++ s ∷ [])
+  seats_more numbers ps ss p s lt number pass laid h =
+      let count = new_seats_count (take (length ps) numbers) ps ss h in
+      let e : take (length (ps ++ p ∷ [])) numbers ≡ take (length ps) numbers ++ s.number ∷ [] =
+      ap (λ (k : ℕ). take k numbers) (length-append ps (p ∷ [])) ∙ take_more numbers (length ps) s.number lt
+      ∙ ap (λ (n : ℕ). take (length ps) numbers ++ n ∷ []) (sym (number ∙ ap (λ (k : ℕ). slice_index_or numbers k s.number) count)) in
+      subst (λ (ns : List ℕ). AreNewSeats f ns (ps ++ p ∷ []) (ss ++ s ∷ [])) (sym e) (seat_pushed (take (length ps) numbers) ps ss s.number p s refl pass laid h)
 
-pub seats_more : (numbers : List ℕ) (ps : List (Pass Kept KeptItem)) (ss : List EditorSeat) (p : Pass Kept KeptItem) (s : EditorSeat) → length ps < length numbers
-    → s.number ≡ slice_index_or numbers (length ss) s.number → s.pass ≡ p → s.commits.items ≡ []
-    → AreNewSeats (take (length ps) numbers) ps ss → AreNewSeats (take (length (ps ++ p ∷ [])) numbers) (ps ++ p ∷ []) (ss ++ s ∷ [])
-seats_more numbers ps ss p s lt number pass none h =
-    let count = new_seats_count (take (length ps) numbers) ps ss h in
-    let e : take (length (ps ++ p ∷ [])) numbers ≡ take (length ps) numbers ++ s.number ∷ [] =
-    ap (λ (k : ℕ). take k numbers) (length-append ps (p ∷ [])) ∙ take_more numbers (length ps) s.number lt
-    ∙ ap (λ (n : ℕ). take (length ps) numbers ++ n ∷ []) (sym (number ∙ ap (λ (k : ℕ). slice_index_or numbers k s.number) count)) in
-    subst (λ (ns : List ℕ). AreNewSeats ns (ps ++ p ∷ []) (ss ++ s ∷ [])) (sym e) (seat_pushed (take (length ps) numbers) ps ss s.number p s refl pass none h)
+  pub new_plans : (ns : List ℕ) (ps : List (Pass Kept KeptItem)) (ss : List EditorSeat) → AreNewSeats f ns ps ss → map editor_plan ss ≡ map (planned_for f) ns
+  new_plans [] [] [] h = refl
+  new_plans (n ∷ ns) (p ∷ ps) (s ∷ ss) h =
+      let first : editor_plan s ≡ planned_for f n = λ i. record { editor = h.0 i; commits = h.2 i } in
+      (λ i. first i ∷ new_plans ns ps ss h.3 i)
+  new_plans [] [] (s ∷ ss) h = absurd h
+  new_plans [] (p ∷ ps) ss h = absurd h
+  new_plans (n ∷ ns) [] ss h = absurd h
+  new_plans (n ∷ ns) (p ∷ ps) [] h = absurd h
 
-pub new_numbers : (ns : List ℕ) (ps : List (Pass Kept KeptItem)) (ss : List EditorSeat) → AreNewSeats ns ps ss → numbers_of ss ≡ ns
-new_numbers [] [] [] h = refl
-new_numbers (n ∷ ns) (p ∷ ps) (s ∷ ss) h = ap (λ (m : ℕ). m ∷ numbers_of ss) h.0 ∙ ap (λ (ms : List ℕ). n ∷ ms) (new_numbers ns ps ss h.3)
-new_numbers [] [] (s ∷ ss) h = absurd h
-new_numbers [] (p ∷ ps) ss h = absurd h
-new_numbers (n ∷ ns) [] ss h = absurd h
-new_numbers (n ∷ ns) (p ∷ ps) [] h = absurd h
+  new_stands : {X : _} {F : _} {g : _} (station : Station X F g) (place : ℕ) (p : Pass Kept KeptItem) (s : EditorSeat) → s.pass ≡ p → IsStationPass station p → number_of p ≡ place → entries_seen p ≡ [] → own_entries p ≡ []
+      → EditorStands station place [] s
+  new_stands station place p s same pass number entries own =
+      subst (λ (q : Pass Kept KeptItem). HasCommitted station place [] q) (sym same)
+      (record { pass = pass; number = number; commits = λ i. record { entries = entries i; own = own i } })
 
-new_stands : {X : _} {F : _} {g : _} (station : Station X F g) (place : ℕ) (p : Pass Kept KeptItem) (s : EditorSeat) → s.pass ≡ p → s.commits.items ≡ [] → IsStationPass station p → number_of p ≡ place → entries_seen p ≡ [] → own_entries p ≡ []
-    → EditorStands station place [] s
-new_stands station place p s same none pass number entries own = record {
-  committed = subst (λ (q : Pass Kept KeptItem). HasCommitted station place [] q) (sym same)
-      (record { pass = pass; number = number; commits = λ i. record { entries = entries i; own = own i } });
-  to_come = ap (map edits_of) none;
-}
+  -- seats with the passes that a station is made with
+  pub new_at : {X : _} {F : _} {g : _} (station : Station X F g) (first : ℕ) (ns : List ℕ) (ps : List (Pass Kept KeptItem)) (ss : List EditorSeat) → AreNewPasses station first ps → AreNewSeats f ns ps ss
+      → (k : ℕ) (d : EditorSeat) → k < length ss → EditorStands station (first + k) [] (slice_index_or ss k d)
+  new_at station first [] [] [] news h k d lt = absurd (omega (arith, lt))
+  new_at station first (n ∷ ns) (p ∷ ps) (s ∷ ss) news h zero d lt =
+      subst (λ (m : ℕ). EditorStands station m [] s) (omega arith) (new_stands station first p s h.1 news.0 news.1 news.2 news.3)
+  new_at station first (n ∷ ns) (p ∷ ps) (s ∷ ss) news h (suc k) d lt =
+      subst (λ (m : ℕ). EditorStands station m [] (slice_index_or ss k d)) (omega arith) (new_at station (suc first) ns ps ss news.4 h.3 k d (omega (arith, lt)))
+  new_at station first [] [] (s ∷ ss) news h k d lt = absurd h
+  new_at station first [] (p ∷ ps) ss news h k d lt = absurd h
+  new_at station first (n ∷ ns) [] ss news h k d lt = absurd h
+  new_at station first (n ∷ ns) (p ∷ ps) [] news h k d lt = absurd h
 
--- seats with the passes that a station is made with
-pub new_at : {X : _} {F : _} {g : _} (station : Station X F g) (first : ℕ) (ns : List ℕ) (ps : List (Pass Kept KeptItem)) (ss : List EditorSeat) → AreNewPasses station first ps → AreNewSeats ns ps ss
-    → (k : ℕ) (d : EditorSeat) → k < length ss → EditorStands station (first + k) [] (slice_index_or ss k d)
-new_at station first [] [] [] news h k d lt = absurd (omega (arith, lt))
-new_at station first (n ∷ ns) (p ∷ ps) (s ∷ ss) news h zero d lt =
-    subst (λ (m : ℕ). EditorStands station m [] s) (omega arith) (new_stands station first p s h.1 h.2 news.0 news.1 news.2 news.3)
-new_at station first (n ∷ ns) (p ∷ ps) (s ∷ ss) news h (suc k) d lt =
-    subst (λ (m : ℕ). EditorStands station m [] (slice_index_or ss k d)) (omega arith) (new_at station (suc first) ns ps ss news.4 h.3 k d (omega (arith, lt)))
-new_at station first [] [] (s ∷ ss) news h k d lt = absurd h
-new_at station first [] (p ∷ ps) ss news h k d lt = absurd h
-new_at station first (n ∷ ns) [] ss news h k d lt = absurd h
-new_at station first (n ∷ ns) (p ∷ ps) [] news h k d lt = absurd h
-
--- when all passes were given out
-pub all_new : (numbers : List ℕ) (passes yielded : List (Pass Kept KeptItem)) (ss : List EditorSeat) → yielded ≡ passes → length passes ≡ length numbers → AreNewSeats (take (length yielded) numbers) yielded ss
-    → AreNewSeats numbers passes ss
-all_new numbers passes yielded ss e count h =
-    let all : take (length yielded) numbers ≡ numbers = take_all (length yielded) numbers (let l = ap length e in omega (arith, count, l)) in
-    subst (λ (ps : List (Pass Kept KeptItem)). AreNewSeats numbers ps ss) e (subst (λ (ns : List ℕ). AreNewSeats ns yielded ss) all h)
+  -- when all passes were given out
+  pub all_new : (numbers : List ℕ) (passes yielded : List (Pass Kept KeptItem)) (ss : List EditorSeat) → yielded ≡ passes → length passes ≡ length numbers → AreNewSeats f (take (length yielded) numbers) yielded ss
+      → AreNewSeats f numbers passes ss
+  all_new numbers passes yielded ss e count h =
+      let all : take (length yielded) numbers ≡ numbers = take_all (length yielded) numbers (let l = ap length e in omega (arith, count, l)) in
+      subst (λ (ps : List (Pass Kept KeptItem)). AreNewSeats f numbers ps ss) e (subst (λ (ns : List ℕ). AreNewSeats f ns yielded ss) all h)
 
 pub map_same : {A : Type 0} (xs : List A) → map (λ (x : A). x) xs ≡ xs
 map_same [] = refl

@@ -8,7 +8,7 @@ use Rattle.generation_catalogue.specs.declared.entry.Refusal.{Refusal}
 use Rattle.generation_catalogue.specs.declared.entry.Entry.{Entry}
 use Rattle.generation_catalogue.specs.declared.entry.Entry.TheVariants as entries
 use Rattle.session_history.specs.Merged.{is_commit_at}
-use Rattle.session_actors.specs.Chains.{Seen, GoesOnWith, Commits}
+use Rattle.session.specs.Chains.{Seen, GoesOnWith, Commits}
 use Rattle.session.specs.Gathering.{IsFullAfter, AreEntered, entries_to_next}
 use Rattle.session.proofs.Lists.{cancel, get_below, get_behind, get_front, none_pass, first_fails, begins_on, times_append, times_other}
 use Rattle.session.proofs.Entering.{seen_with, seen_of, Commits1, first_commit, commits_enter, enters_begins, enters_keeps}

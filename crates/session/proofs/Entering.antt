@@ -10,7 +10,7 @@ use Rattle.generation_catalogue.specs.declared.entry.Entry.TheVariants as entrie
 use Rattle.carousel_world.specs.World.{Drawing}
 use Rattle.session_history.specs.Merging.{Each}
 use Rattle.session_history.specs.Merged.{is_commit_at}
-use Rattle.session_actors.specs.Chains.{Seen, seen_after, Commits, Draws, DrawFields}
+use Rattle.session.specs.Chains.{Seen, seen_after, Commits, Draws, DrawFields}
 use Rattle.session.proofs.Lists.{begins_self, begins_more, begins_on, begins_le, begins_get, get_at, times_append, times_other}
 
 -- all that came before, and one entry of one's own

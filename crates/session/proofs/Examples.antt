@@ -9,8 +9,8 @@ use Rattle.session_script.specs.declared.script.Stage.TheVariants.{Before, Durin
 use Rattle.session_script.specs.Scripts.{Act, LineFields, Fields}
 use Rattle.session_script.specs.Scripts as acts
 use Rattle.rehearsal.specs.Lines.{events_of}
-use Rattle.session_actors.specs.Chains.{DrawFields}
-use Rattle.session_actors.specs.Opened.{Asked}
+use Rattle.session.specs.Chains.{DrawFields}
+use Rattle.session.specs.Opened.{Asked}
 use Rattle.session.specs.Lines.{commits_by, draws_in, asked_of, draws_before_start, settles}
 
 abbrev file : PathNames

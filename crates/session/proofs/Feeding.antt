@@ -7,7 +7,7 @@ use Rattle.generation_catalogue.specs.declared.entry.Entry.{Entry}
 use Rattle.generation_catalogue.specs.declared.entry.Entry.TheVariants as entries
 use Rattle.carousel_world.specs.World.{Drawing, drawing_of}
 use Rattle.session_history.specs.Merges.{state_of, drawings_after}
-use Rattle.session_actors.specs.Chains.{Seen, GoesOnWith, Draws, DrawFields}
+use Rattle.session.specs.Chains.{Seen, GoesOnWith, Draws, DrawFields}
 use Rattle.session.specs.Gathering.{asked_in}
 use Rattle.session.proofs.Lists.{get_behind, none_pass, first_fails, begins_on, times_append, times_other}
 use Rattle.session.proofs.Entering.{seen_with, first_draw, draws_enter, draw_entry, enters_begins, enters_keeps}

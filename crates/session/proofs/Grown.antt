@@ -12,7 +12,7 @@ use Rattle.carousel_world.specs.World.{drawing_of}
 use Rattle.session_history.specs.Merging.{Each}
 use Rattle.session_history.specs.Merged.{IsPlaced, is_commit_at}
 use Rattle.session_history.specs.Merges.{state_of, drawings_after}
-use Rattle.session_actors.specs.Chains.{DrawFields}
+use Rattle.session.specs.Chains.{DrawFields}
 use Rattle.session.specs.Gathering.{AreEntered, IsFullAfter, entries_to_next, asked_in, GatherGrows}
 use Rattle.session.proofs.Rooms.{full_later}
 use Rattle.session.proofs.Feeding.{fates_in, asked_by}

@@ -1,52 +1,14 @@
 -- The last shot, and what the readers open on it.
-use Rattle.std.proofs.Common.{◌≡◌, ◌≢◌, ◌⊎◌, inr, ℕ, ◌+◌, ◌<◌, ◌≤◌, Bool, List, [], ◌∷◌, ◌++◌, map, length, take, drop, get_or, ap, sym, ◌∙◌, subst, arith, append_assoc, append-nil, length-append, eq-eqb, ne_eqb}
-use Rattle.std.specs.Prelude.{if◌then◌else◌}
+use Rattle.std.proofs.Common.{◌≡◌, ◌⊎◌, inr, ℕ, ◌+◌, ◌<◌, ◌≤◌, List, [], ◌∷◌, ◌++◌, map, length, refl, ap, sym, ◌∙◌, subst, arith, append_assoc, append-nil, length-append}
 use mathlib.Core.List.{IsPrefix}
-use Rattle.std.proofs.lemmas.List.{map-append, take-append-drop, take_more}
+use Rattle.std.proofs.lemmas.List.{map-append}
 use Rattle.path_tree.specs.Paths.{PathNames}
 use Rattle.path_resolver.specs.declared.shot.Shot.{Shot}
 use Rattle.open_history.specs.Opens.{ReaderView, IsSameReader}
 use Rattle.open_history.specs.declared.entry.OpenEntry.{OpenEntry}
-use Rattle.session_actors.specs.Opened.{Asked, AreOpened, HasOpened, Rises}
-use Rattle.session_actors.specs.Seats.{asked_at}
-use Rattle.session.specs.declared.ending.LastOpen.{LastOpen}
-use Rattle.session.specs.Lines.{opens_by}
-use Rattle.session.specs.Ending.{HasOpenedLast, open_step, paths_of}
-use Rattle.session.proofs.Staged.{opens_more}
-
--- ---- the paths of a reader
-
-paths_after : (r : ℕ) (xs ys : List LastOpen) → paths_of r (xs ++ ys) ≡ paths_of r xs ++ paths_of r ys
-paths_after r xs ys = ap (opens_by r) (map-append open_step xs ys) ∙ opens_more r (map open_step xs) (map open_step ys)
-
-paths_next : (r : ℕ) (opens : List LastOpen) (i : ℕ) (d : LastOpen) → i < length opens
-    → paths_of r (take (i + 1) opens) ≡ paths_of r (take i opens) ++ paths_of r (get_or opens i d ∷ [])
-paths_next r opens i d lt = ap (paths_of r) (take_more opens i d lt) ∙ paths_after r (take i opens) (get_or opens i d ∷ [])
-
-its : (r : ℕ) (o : LastOpen) → o.reader ≡ r → paths_of r (o ∷ []) ≡ o.path ∷ []
-its r o e = ap (λ (t : Bool). (if t then o.path ∷ [] else []) ++ []) (eq-eqb o.reader r e)
-
-pub paths_taken : (r : ℕ) (opens : List LastOpen) (i : ℕ) (d : LastOpen) → i < length opens → (get_or opens i d).reader ≡ r
-    → paths_of r (take (i + 1) opens) ≡ paths_of r (take i opens) ++ (get_or opens i d).path ∷ []
-paths_taken r opens i d lt e = paths_next r opens i d lt ∙ ap (λ (ps : List PathNames). paths_of r (take i opens) ++ ps) (its r (get_or opens i d) e)
-
-pub paths_passed : (r : ℕ) (opens : List LastOpen) (i : ℕ) (d : LastOpen) → i < length opens → (get_or opens i d).reader ≢ r
-    → paths_of r (take (i + 1) opens) ≡ paths_of r (take i opens)
-paths_passed r opens i d lt ne =
-    let o = get_or opens i d in
-    paths_next r opens i d lt ∙ ap (λ (t : Bool). paths_of r (take i opens) ++ ((if t then o.path ∷ [] else []) ++ [])) (ne_eqb o.reader r ne) ∙ append-nil (paths_of r (take i opens))
-
--- there is room for a path that comes next
-pub open_has_room : (r : ℕ) (opens : List LastOpen) (i : ℕ) (d : LastOpen) → i < length opens → (get_or opens i d).reader ≡ r
-    → length (paths_of r (take i opens)) < length (paths_of r opens)
-open_has_room r opens i d lt e =
-    let all : paths_of r opens ≡ (paths_of r (take i opens) ++ (get_or opens i d).path ∷ []) ++ paths_of r (drop (i + 1) opens) =
-    ap (paths_of r) (sym (take-append-drop (i + 1) opens)) ∙ paths_after r (take (i + 1) opens) (drop (i + 1) opens)
-    ∙ ap (λ (ps : List PathNames). ps ++ paths_of r (drop (i + 1) opens)) (paths_taken r opens i d lt e) in
-    let l = ap length all in
-    let m = length-append (paths_of r (take i opens) ++ (get_or opens i d).path ∷ []) (paths_of r (drop (i + 1) opens)) in
-    let n = length-append (paths_of r (take i opens)) ((get_or opens i d).path ∷ []) in
-    omega (arith, l, m, n)
+use Rattle.session.specs.Opened.{Asked, AreOpened, HasOpened, Rises}
+use Rattle.session.specs.Seats.{asked_at}
+use Rattle.session.specs.Ending.{HasOpenedLast}
 
 -- ---- one reader
 
@@ -100,35 +62,14 @@ opened_on shots paths first old new g h = record {
   count = let a = g.count in let b = h.count in omega (arith, a, b);
 }
 
--- ---- one open after another
+pub opened_none : (r : ReaderView) → HasOpenedLast r.known [] r r
+opened_none r = record {
+  same = (refl, refl, refl, refl);
+  known = refl;
+  opened = λ asked h. subst (λ (all : List Asked). HasOpened all r) (sym (append-nil asked)) h;
+  count = omega arith;
+}
 
-module _ (shots : List Shot) (first old : ReaderView) (opens : List LastOpen) (i reader : ℕ) (x : LastOpen) (lt : i < length opens) (is : x ≡ get_or opens i x)
-    (own : reader ≡ first.reader) (h : HasOpenedLast shots (paths_of first.reader (take i opens)) first old) where
-  abbrev of_reader : x.reader ≡ reader → (get_or opens i x).reader ≡ first.reader
-  of_reader e = ap (λ (o : LastOpen). o.reader) (sym is) ∙ e ∙ own
-
-  pub room_now : x.reader ≡ reader → length first.opens + length (paths_of first.reader opens) ≤ first.room → length old.opens < old.room
-  room_now e room =
-      let few = open_has_room first.reader opens i x lt (of_reader e) in
-      let made = h.count in
-      let same = h.same.1 in
-      omega (arith, few, made, same, room)
-
-  pub read_next : (new : ReaderView) (path : PathNames) → x.reader ≡ reader → path ≡ x.path → length shots ≡ first.most + 1
-      → IsSameReader old new → IsPrefix old.known new.known → length new.known ≤ new.most + 1
-      → ((least : ℕ) (asked : List Asked) → (least + 1 ≤ length old.told) ⊎ (least + 1 ≤ length old.known) → HasOpened asked old → HasOpened (asked ++ asked_at least path ∷ []) new)
-      → length new.opens ≡ length old.opens + 1 → HasOpenedLast shots (paths_of first.reader (take (i + 1) opens)) first new
-  read_next new path e p last same known few made count =
-      subst (λ (ps : List PathNames). HasOpenedLast shots ps first new)
-      (ap (λ (q : PathNames). paths_of first.reader (take i opens) ++ q ∷ []) (p ∙ ap (λ (o : LastOpen). o.path) is) ∙ sym (paths_taken first.reader opens i x lt (of_reader e)))
-      (opened_next shots (paths_of first.reader (take i opens)) first old new path last h same known few made count)
-
-  pub read_past : x.reader ≢ reader → HasOpenedLast shots (paths_of first.reader (take (i + 1) opens)) first old
-  read_past ne =
-      subst (λ (ps : List PathNames). HasOpenedLast shots ps first old)
-      (sym (paths_passed first.reader opens i x lt (λ e. ne (ap (λ (o : LastOpen). o.reader) is ∙ e ∙ sym own)))) h
-
-pub opened_next_on : (shots : List Shot) (first old new : ReaderView) (opens : List LastOpen) → HasOpenedLast shots [] first old
-    → HasOpenedLast old.known (paths_of old.reader opens) old new → HasOpenedLast shots (paths_of first.reader opens) first new
-opened_next_on shots first old new opens g h =
-    opened_on shots (paths_of first.reader opens) first old new g (subst (λ (r : ℕ). HasOpenedLast old.known (paths_of r opens) old new) g.same.0 h)
+-- there is room for a path that comes next
+pub room_now : (shots : List Shot) (paths : List PathNames) (first old : ReaderView) (all : ℕ) → HasOpenedLast shots paths first old → length paths < all → length first.opens + all ≤ first.room → length old.opens < old.room
+room_now shots paths first old all h lt room = let made = h.count in let same = h.same.1 in omega (arith, lt, made, same, room)

@@ -1,4 +1,8 @@
 mod Lists
+pub mod Linking
+pub mod Showing
+pub mod Opening
+pub mod Turning
 mod Entering
 mod Rooms
 mod Entered
@@ -12,21 +16,20 @@ mod Opened
 mod Settled
 mod InPlace
 mod Session
-mod Arranged
 mod Examples
 mod Staged
+mod Parted
+mod Taking
 mod Planning
+mod Counting
 mod Editing
 mod Reading
 mod Casting
+mod Seated
 mod Events
+mod Handed
 mod Doing
-mod Parted
 mod Closing
 mod Lasting
 mod Finale
-mod Handed
-mod Parting
-mod Counting
-mod Seated
 mod Begun

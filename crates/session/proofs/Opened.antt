@@ -19,10 +19,10 @@ use Rattle.session_history.specs.Merges.{ReaderFields, opened_of, session_merge,
 use Rattle.session_history.specs.Merged.{AreNumbers, IsInOrder, AreApart}
 use Rattle.session_script.specs.Scripts.{Fields}
 use Rattle.session_script.specs.Ranges.{IsActor, AreActors}
-use Rattle.session_actors.specs.Shown.{AreShots}
-use Rattle.session_actors.specs.Opened.{Asked, AreOpened, Rises, HasOpened}
+use Rattle.session.specs.Shown.{AreShots}
+use Rattle.session.specs.Opened.{Asked, AreOpened, Rises, HasOpened}
 use Rattle.session.specs.Lines.{asked_of}
-use Rattle.session.specs.Sessions.{AreKnown}
+use Rattle.session.specs.Sessions.{AreKnown, AreOnShots}
 use Rattle.session.specs.Played.{open_of, opens_of, AllRead}
 use Rattle.session.proofs.Committed.{HasNone}
 
@@ -112,6 +112,22 @@ module _ (script : Fields) (drawings : List Drawing) (shots : List Shot) (are : 
       let here = (heard.0).draws in
       let least = h.1 in
       (ap (λ path. (opened_of reader (record { draws = e.draws; label = e.label; path = path; answer = e.answer })).0) h.0, omega (arith, here, least), told_opens reader asked es h.2 heard.1)
+
+  -- and stands on the shot of so many draws as are before it
+  on_shots : (reader : ℕ) (es : List OpenEntry) → AllAnswered shots es → AreOnShots shots (map (λ (o : Open). (o.draws, opened_of reader o)) (map open_of es))
+  on_shots reader [] h = tt
+  on_shots reader (e ∷ es) h =
+      let s = h.0 in
+      ((s.0, ap (slice_get shots) ((heard_on drawings shots e are s).draws) ∙ s.1, s.4, s.5), on_shots reader es h.1)
+
+  pub reader_on_shots : (rs : List ℕ) (vs : List ReaderView) → AllRead script shots rs vs → (p : ℕ) → p < length rs
+      → (v : ReaderView) × (slice_get (map opens_of vs) p ≡ Some (opens_of v)) × (v.reader ≡ get_or rs p 0)
+      × AreOnShots shots (map (λ (o : Open). (o.draws, opened_of (get_or rs p 0) o)) (map open_of v.opens))
+  reader_on_shots [] [] h p less = absurd (omega (arith, less))
+  reader_on_shots [] (v ∷ vs) h p less = absurd h
+  reader_on_shots (r ∷ rs) [] h p less = absurd h
+  reader_on_shots (r ∷ rs) (v ∷ vs) h zero less = (v, refl, h.0, on_shots r v.opens (subst (λ (l : List Shot). AllAnswered l v.opens) h.2 h.3))
+  reader_on_shots (r ∷ rs) (v ∷ vs) h (suc p) less = reader_on_shots rs vs h.4 p (omega (arith, less))
 
   pub reader_told : (rs : List ℕ) (vs : List ReaderView) → AllRead script shots rs vs → (p : ℕ) → p < length rs
       → (v : ReaderView) × (slice_get (map opens_of vs) p ≡ Some (opens_of v)) × (v.reader ≡ get_or rs p 0)

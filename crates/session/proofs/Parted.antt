@@ -1,13 +1,145 @@
--- Whom a script's events are of.
-use Rattle.std.proofs.Common.{ℕ, List, [], ◌∷◌, arith}
-use Rattle.std.specs.List.{All, Contains}
-use Rattle.std.proofs.lemmas.List.Elements.{All-head, All-tail, All-cons, All-append}
+-- The events of a script that parts make, part by part.
+use Rattle.std.proofs.Common.{◌≡◌, ℕ, List, [], ◌∷◌, ◌++◌, map, Bool, true, false, Option, Some, None, refl, sym, ap, ◌∙◌, append_assoc}
+use Rattle.std.specs.Prelude.{is_some, ◌||◌}
+use Rattle.std.specs.List.{All, Contains, list_any}
+use Rattle.std.proofs.lemmas.List.{map-append}
+use Rattle.std.proofs.lemmas.List.Elements.{All-nil, All-head, All-tail, All-cons, All-append}
+use Rattle.session_script.specs.declared.parts.Task.{Task}
+use Rattle.session_script.specs.declared.parts.Task.TheVariants as tasks
+use Rattle.session_script.specs.declared.parts.TaskLine.{TaskLine}
+use Rattle.session_script.specs.declared.parts.Finale.{Finale}
+use Rattle.session_script.specs.declared.parts.Parts.{Parts}
 use Rattle.session_script.specs.declared.script.Stage.{Stage}
+use Rattle.session_script.specs.declared.script.Stage.TheVariants.{Before, During, After}
 use Rattle.session_script.specs.Scripts.{Act, LineFields}
 use Rattle.session_script.specs.Scripts as acts
+use Rattle.session_script.specs.Parts.{act_of, task_line, settle_lines, finale_line, script_of_parts}
+use Rattle.session_script.specs.Ranges.{AreListed, IsMentioned}
 use Rattle.carousel_world.specs.Events.{Step, Commit, Draw, Open}
-use Rattle.rehearsal.specs.Lines.{Pending, pending_after, settling_step}
-use Rattle.session.specs.Lines.{IsMentioned, staged_from, staged_of}
+use Rattle.rehearsal.specs.Lines.{Pending, none_pending, pending_after, events_of, events_of_line, events_from, settling_step}
+use Rattle.session.specs.Chains.{DrawFields}
+use Rattle.session.specs.Lines.{commits_by, draws_in, is_settle, opens_by, staged_events, staged_from, settles}
+use Rattle.session.specs.Plans.{above, at_end, before_steps, below, during_steps, end_steps, events_at, finale_step, settling, settling_lines, steps, waiting_below}
+use Rattle.session.proofs.Scripted.{EndsDrawn}
+use Rattle.session.proofs.Staged.{draws_more, steps_more, unstaged}
+
+-- ---- with their stages
+
+tasks_staged : (stage : Stage) (p : Pending) (ts : List TaskLine) (rest : List LineFields)
+    → staged_from p (map (task_line stage) ts ++ rest) ≡ map (λ (e : Step). (stage, e)) (events_at p ts) ++ staged_from (waiting_below p ts) rest
+tasks_staged stage p [] rest = refl
+tasks_staged stage p (t ∷ ts) rest =
+    let here = events_of_line p (act_of t.task) in
+    let next = pending_after p (act_of t.task) in
+    let put : Step → Stage × Step = λ e. (stage, e) in
+    ap (λ (es : List (Stage × Step)). map put here ++ es) (tasks_staged stage next ts rest)
+    ∙ sym (append_assoc (map put here) (map put (events_at next ts)) (staged_from (waiting_below next ts) rest))
+    ∙ ap (λ (es : List (Stage × Step)). es ++ staged_from (waiting_below next ts) rest) (sym (map-append put here (events_at next ts)))
+
+finales_staged : (p : Pending) (fs : List Finale) → staged_from p (map finale_line fs) ≡ at_end (map finale_step fs)
+finales_staged p [] = refl
+finales_staged p (f ∷ fs) = ap (λ (es : List (Stage × Step)). (After, finale_step f) ∷ es) (finales_staged p fs)
+
+ends_staged : (p : Pending) (settle : Option ℕ) (fs : List Finale) → staged_from p (settle_lines settle ++ map finale_line fs) ≡ at_end (settling (is_some settle) ++ map finale_step fs)
+ends_staged p (Some number) fs = ap (λ (es : List (Stage × Step)). (After, settling_step) ∷ (After, settling_step) ∷ es) (finales_staged p fs)
+ends_staged p None fs = finales_staged p fs
+
+pub staged_parts : (p : Parts) → staged_events (script_of_parts p) ≡ (above (before_steps p) ++ below (during_steps p)) ++ at_end (end_steps p)
+staged_parts p =
+    let last = settle_lines p.settle ++ map finale_line p.finales.items in
+    let mid = waiting_below none_pending p.before.items in
+    tasks_staged Before none_pending p.before.items (map (task_line During) p.during.items ++ last)
+    ∙ ap (λ (es : List (Stage × Step)). above (before_steps p) ++ es)
+    (tasks_staged During mid p.during.items last ∙ ap (λ (es : List (Stage × Step)). below (during_steps p) ++ es) (ends_staged (waiting_below mid p.during.items) p.settle p.finales.items))
+    ∙ sym (append_assoc (above (before_steps p)) (below (during_steps p)) (at_end (end_steps p)))
+
+second : (stage : Stage) (xs : List Step) (ys : List (Stage × Step)) → steps (map (λ (e : Step). (stage, e)) xs ++ ys) ≡ xs ++ steps ys
+second stage [] ys = refl
+second stage (x ∷ xs) ys = ap (λ (zs : List Step). x ∷ zs) (second stage xs ys)
+
+steps_from : (p : Pending) (lines : List LineFields) → steps (staged_from p lines) ≡ events_from p lines
+steps_from p [] = refl
+steps_from p (l ∷ lines) =
+    second l.stage (events_of_line p l.act) (staged_from (pending_after p l.act) lines) ∙ ap (λ (zs : List Step). events_of_line p l.act ++ zs) (steps_from (pending_after p l.act) lines)
+
+-- without them
+pub events_parts : (p : Parts) → events_of (script_of_parts p) ≡ (before_steps p ++ during_steps p) ++ end_steps p
+events_parts p =
+    let b = before_steps p in let d = during_steps p in let e = end_steps p in
+    sym (steps_from none_pending (script_of_parts p).lines) ∙ ap steps (staged_parts p) ∙ steps_more (above b ++ below d) (at_end e)
+    ∙ (λ i. (steps_more (above b) (below d) ∙ (λ j. unstaged Before b j ++ unstaged During d j)) i ++ unstaged After e i)
+
+-- ---- those at the end
+
+finales_draw_nothing : (fs : List Finale) → draws_in (map finale_step fs) ≡ []
+finales_draw_nothing [] = refl
+finales_draw_nothing (f ∷ fs) = finales_draw_nothing fs
+
+finales_commit_nothing : (n : ℕ) (fs : List Finale) → commits_by n (map finale_step fs) ≡ []
+finales_commit_nothing n [] = refl
+finales_commit_nothing n (f ∷ fs) = finales_commit_nothing n fs
+
+pub draws_at_end : (p : Parts) → draws_in (end_steps p) ≡ settling_lines (is_some p.settle)
+draws_at_end p = by p.settle
+  where
+    by : (s : Option ℕ) → draws_in (settling (is_some s) ++ map finale_step p.finales.items) ≡ settling_lines (is_some s)
+    by (Some number) = ap (λ (ds : List DrawFields). record { asked = 1048576; fates = [] } ∷ record { asked = 1048576; fates = [] } ∷ ds) (finales_draw_nothing p.finales.items)
+    by None = finales_draw_nothing p.finales.items
+
+pub commits_at_end : (n : ℕ) (p : Parts) → commits_by n (end_steps p) ≡ []
+commits_at_end n p = by p.settle
+  where
+    by : (s : Option ℕ) → commits_by n (settling (is_some s) ++ map finale_step p.finales.items) ≡ []
+    by (Some number) = finales_commit_nothing n p.finales.items
+    by None = finales_commit_nothing n p.finales.items
+
+pub opens_at_end : (n : ℕ) (p : Parts) → opens_by n (end_steps p) ≡ opens_by n (map finale_step p.finales.items)
+opens_at_end n p = by p.settle
+  where
+    by : (s : Option ℕ) → opens_by n (settling (is_some s) ++ map finale_step p.finales.items) ≡ opens_by n (map finale_step p.finales.items)
+    by (Some number) = refl
+    by None = refl
+
+-- ---- whether the script settles
+
+abbrev any_settles : List LineFields → Bool
+any_settles ls = list_any (λ (l : LineFields). is_settle l.act) ls
+
+no_task_settles : (t : Task) → is_settle (act_of t) ≡ false
+no_task_settles (tasks.Put editor path content) = refl
+no_task_settles (tasks.Fill editor path size from) = refl
+no_task_settles (tasks.Remove editor path) = refl
+no_task_settles (tasks.Commit editor) = refl
+no_task_settles (tasks.Draw asked fates) = refl
+no_task_settles (tasks.Open reader path) = refl
+
+after_tasks : (stage : Stage) (ts : List TaskLine) (rest : List LineFields) → any_settles (map (task_line stage) ts ++ rest) ≡ any_settles rest
+after_tasks stage [] rest = refl
+after_tasks stage (t ∷ ts) rest = ap (λ (b : Bool). b || any_settles (map (task_line stage) ts ++ rest)) (no_task_settles t.task) ∙ after_tasks stage ts rest
+
+no_finale_settles : (fs : List Finale) → any_settles (map finale_line fs) ≡ false
+no_finale_settles [] = refl
+no_finale_settles (f ∷ fs) = no_finale_settles fs
+
+-- then there is a line that says so
+pub settle_there : (p : Parts) → settles (script_of_parts p) ≡ true → is_some p.settle ≡ true
+settle_there p s =
+    let last = settle_lines p.settle ++ map finale_line p.finales.items in
+    by p.settle (sym (after_tasks Before p.before.items (map (task_line During) p.during.items ++ last) ∙ after_tasks During p.during.items last) ∙ s)
+  where
+    by : (o : Option ℕ) → any_settles (settle_lines o ++ map finale_line p.finales.items) ≡ true → is_some o ≡ true
+    by (Some number) h = refl
+    by None h = absurd (let e : true ≡ false = sym h ∙ no_finale_settles p.finales.items in cc)
+
+-- and its last two draws are those of `settle`
+pub settles_last : (p : Parts) → settles (script_of_parts p) ≡ true → EndsDrawn (draws_in (events_of (script_of_parts p)))
+settles_last p s =
+    let first = before_steps p ++ during_steps p in (
+      draws_in first,
+      ap draws_in (events_parts p) ∙ draws_more first (end_steps p) ∙ ap (λ (ds : List DrawFields). draws_in first ++ ds) (draws_at_end p ∙ ap settling_lines (settle_there p s)),
+    )
+
+-- ---- whom the events above `start` are of
 
 -- whom the event is of is among the script's editors or readers
 abbrev pub IsNamed : List ℕ → List ℕ → Step → Type 0
@@ -15,23 +147,29 @@ IsNamed editors readers (Commit editor edits) = Contains editors editor
 IsNamed editors readers (Draw asked fates) = Unit {0}
 IsNamed editors readers (Open reader path) = Contains readers reader
 
-pub all_named : (editors readers : List ℕ) (p : Pending) (ls : List LineFields) → All (λ (l : LineFields). IsMentioned editors readers l.act) ls
-    → All (λ (e : Stage × Step). IsNamed editors readers e.1) (staged_from p ls)
-all_named editors readers p [] h = λ k d lt. absurd (omega (arith, lt))
-all_named editors readers p (l ∷ ls) h =
-    let P : Stage × Step → Type 0 = λ e. IsNamed editors readers e.1 in
-    let M : LineFields → Type 0 = λ l. IsMentioned editors readers l.act in
-    All-append P (staged_of p l.stage l.act) (staged_from (pending_after p l.act) ls) (one p l.stage l.act (All-head M l ls h)) (all_named editors readers (pending_after p l.act) ls (All-tail M l ls h))
-  where
-    none : {A : Type 0} (Q : A → Type 0) → All Q []
-    none Q = λ k d lt. absurd (omega (arith, lt))
+module _ (editors readers : List ℕ) where
+  abbrev Named : Step → Type 0
+  Named = IsNamed editors readers
 
-    one : (p : Pending) (stage : Stage) (act : Act) → IsMentioned editors readers act → All (λ (e : Stage × Step). IsNamed editors readers e.1) (staged_of p stage act)
-    one p stage (acts.Put editor path content) m = none _
-    one p stage (acts.Fill editor path size from) m = none _
-    one p stage (acts.Remove editor path) m = none _
-    one p stage (acts.Commit editor) m = All-cons (λ (e : Stage × Step). IsNamed editors readers e.1) (stage, Commit editor (p editor)) [] m (none _)
-    one p stage (acts.Draw asked fates) m = All-cons (λ (e : Stage × Step). IsNamed editors readers e.1) (stage, Draw asked fates) [] tt (none _)
-    one p stage (acts.Open reader path) m = All-cons (λ (e : Stage × Step). IsNamed editors readers e.1) (stage, Open reader path) [] m (none _)
-    one p stage acts.Settle m = All-cons (λ (e : Stage × Step). IsNamed editors readers e.1) (stage, settling_step) ((stage, settling_step) ∷ []) tt
-        (All-cons (λ (e : Stage × Step). IsNamed editors readers e.1) (stage, settling_step) [] tt (none _))
+  one : (p : Pending) (act : Act) → IsMentioned editors readers act → All Named (events_of_line p act)
+  one p (acts.Put editor path content) m = All-nil Named
+  one p (acts.Fill editor path size from) m = All-nil Named
+  one p (acts.Remove editor path) m = All-nil Named
+  one p (acts.Commit editor) m = All-cons Named (Commit editor (p editor)) [] m (All-nil Named)
+  one p (acts.Draw asked fates) m = All-cons Named (Draw asked fates) [] tt (All-nil Named)
+  one p (acts.Open reader path) m = All-cons Named (Open reader path) [] m (All-nil Named)
+  one p acts.Settle m = All-cons Named settling_step (settling_step ∷ []) tt (All-cons Named settling_step [] tt (All-nil Named))
+
+  tasks_named : (p : Pending) (ts : List TaskLine) (rest : List LineFields) → All (λ (l : LineFields). IsMentioned editors readers l.act) (map (task_line Before) ts ++ rest)
+      → All Named (events_at p ts)
+  tasks_named p [] rest h = All-nil Named
+  tasks_named p (t ∷ ts) rest h =
+      let M : LineFields → Type 0 = λ l. IsMentioned editors readers l.act in
+      let line = task_line Before t in
+      let left = map (task_line Before) ts ++ rest in
+      All-append Named (events_of_line p (act_of t.task)) (events_at (pending_after p (act_of t.task)) ts)
+      (one p (act_of t.task) (All-head M line left h)) (tasks_named (pending_after p (act_of t.task)) ts rest (All-tail M line left h))
+
+pub before_named : (p : Parts) → AreListed (script_of_parts p) → All (IsNamed p.editors.items p.readers.items) (before_steps p)
+before_named p h =
+    tasks_named p.editors.items p.readers.items none_pending p.before.items (map (task_line During) p.during.items ++ (settle_lines p.settle ++ map finale_line p.finales.items)) h

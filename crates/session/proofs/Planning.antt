@@ -1,72 +1,127 @@
--- The events of lines, one line after another.
-use Rattle.std.proofs.Common.{◌≡◌, ℕ, zero, suc, ◌<◌, List, [], ◌∷◌, ◌++◌, length, map, drop, get_or, Result, Ok, Err, refl, sym, ap, ◌∙◌, subst, arith, append-nil, append_assoc}
-use Rattle.std.specs.Prelude.{OnOk}
+-- Tasks, one after another, and whose they are.
+use Rattle.std.proofs.Common.{◌≡◌, ℕ, ◌==◌, Bool, true, false, List, [], ◌∷◌, ◌++◌, map, Result, Ok, Err, refl, sym, ap, ◌∙◌, subst, append-nil, append_assoc}
+use Rattle.std.specs.Prelude.{OnOk, OnErr, IfOk, if◌then◌else◌}
 use Rattle.std.specs.List.{All}
-use Rattle.std.proofs.lemmas.List.{drop-map, length-append}
-use Rattle.std.proofs.lemmas.List.Elements.{All-head, All-tail}
-use Rattle.std.proofs.Math.Seq.{drop-cons, drop-length}
-use Rattle.session_script.specs.declared.script.Stage.{Stage}
-use Rattle.session_script.specs.Scripts.{Act, LineFields, view_line, view_action}
-use Rattle.session_script.specs.Ranges.{IsInRange}
-use Rattle.session_script.specs.declared.script.Line.{Line}
-use Rattle.carousel_world.specs.Events.{Step}
-use Rattle.rehearsal.specs.Lines.{Pending, none_pending, pending_after}
-use Rattle.session.specs.declared.plan.Staging.{Staging}
-use Rattle.session.specs.Lines.{staged_from, staged_of}
-use Rattle.session.specs.Acting.{Stages}
+use Rattle.std.specs.declared.vec.Vec.{Vec}
+use Rattle.std.specs.declared.alloc.Global.{Global}
+use Rattle.std.proofs.lemmas.List.{map-append}
+use Rattle.std.proofs.lemmas.List.Elements.{All-push}
+use Rattle.path_tree.specs.Paths.{PathNames}
+use Rattle.path_tree.specs.declared.tree.Edit.{Edit}
+use Rattle.session_script.specs.declared.parts.TaskLine.{TaskLine}
+use Rattle.session_script.specs.Parts.{act_of}
+use Rattle.carousel_world.specs.Events.{Step, Commit, Draw, Open}
+use Rattle.carousel_world.specs.World.{InRange}
+use Rattle.rehearsal.specs.declared.interpreter.Happening.{Happening}
+use Rattle.rehearsal.specs.declared.interpreter.Happening.TheVariants as deeds
+use Rattle.rehearsal.specs.Happening.{view_happening}
+use Rattle.rehearsal.specs.Lines.{Pending, pending_after, events_of_line}
+use Rattle.session.specs.declared.by_actor.ByActor.{ByActor}
+use Rattle.session.specs.declared.editor.CommitLine.{CommitLine}
+use Rattle.session.specs.declared.feeder.DrawLine.{DrawLine}
+use Rattle.session.specs.declared.plan.Work.{Work}
+use Rattle.session.specs.ByActor.{lists_of}
+use Rattle.session.specs.Chains.{DrawFields}
+use Rattle.session.specs.Lines.{commits_by, draws_in, opens_by}
+use Rattle.session.specs.Seats.{edits_of, draw_of, IsDrawLine}
+use Rattle.session.specs.Plans.{HasSplit, events_at, waiting_below}
+use Rattle.session.proofs.Staged.{commits_more, draws_more, opens_more}
+use Rattle.session.proofs.Taking.{either_side}
 
 pub on_ok_map : {T E A B : Type 0} (r : Result T E) → (A → B) → OnOk r A → OnOk r B
 on_ok_map (Ok x) f a = f a
 on_ok_map (Err e) f a = tt
 
--- a line whose action is known
-pub stages_line : {s : Staging} (before : List (Stage × Step)) (p : Pending) (stage : Stage) {x y : Act} → x ≡ y
-    → Stages s (before ++ staged_of p stage y) (pending_after p y) → Stages s (before ++ staged_of p stage x) (pending_after p x)
-stages_line {s} before p stage e st =
-    let P : Act → Type 0 = λ act. Stages s (before ++ staged_of p stage act) (pending_after p act) in subst P (sym e) st
+pub if_ok_map : {T E : Type 0} {P Q : T → Type 0} (r : Result T E) → ((x : T) → P x → Q x) → IfOk r P → IfOk r Q
+if_ok_map (Ok x) f h = f x h
+if_ok_map (Err e) f h = tt
 
--- one that has no event
-pub stages_none : {s : Staging} (before : List (Stage × Step)) (p : Pending) → Stages s before p → Stages s (before ++ []) p
-stages_none {s} before p st = subst (λ (es : List (Stage × Step)). Stages s es p) (sym (append-nil before)) st
+pub on_err_map : {T E A B : Type 0} (r : Result T E) → (A → B) → OnErr r A → OnErr r B
+on_err_map (Ok x) f a = tt
+on_err_map (Err e) f a = f a
 
--- these lines were added, and the others are left
-pub record HasStaged (s : Staging) (all left : List LineFields) : Type 0 where
-  pub before : List (Stage × Step)
-  pub pending : Pending
-  pub split : staged_from none_pending all ≡ before ++ staged_from pending left
-  pub stands : Stages s before pending
+pub on_ok_always : {T E A : Type 0} (r : Result T E) → A → OnOk r A
+on_ok_always (Ok x) a = a
+on_ok_always (Err e) a = tt
 
-pub staged_first : (s : Staging) (lines : List LineFields) → Stages s [] none_pending → HasStaged s lines lines
-staged_first s lines st = record { before = []; pending = none_pending; split = refl; stands = st }
+-- ---- one task more
 
-pub staged_next : {s t : Staging} (all lines : List LineFields) (l : LineFields) (h : HasStaged s all (l ∷ lines))
-    → Stages t (h.before ++ staged_of h.pending l.stage l.act) (pending_after h.pending l.act) → HasStaged t all lines
-staged_next all lines l h st = record {
-  before = h.before ++ staged_of h.pending l.stage l.act;
-  pending = pending_after h.pending l.act;
-  split = h.split ∙ sym (append_assoc h.before (staged_of h.pending l.stage l.act) (staged_from (pending_after h.pending l.act) lines));
-  stands = st;
-}
+pub events_more : (p : Pending) (ts : List TaskLine) (t : TaskLine) → events_at p (ts ++ t ∷ []) ≡ events_at p ts ++ events_of_line (waiting_below p ts) (act_of t.task)
+events_more p [] t = append-nil (events_of_line p (act_of t.task))
+events_more p (x ∷ ts) t =
+    let here = events_of_line p (act_of x.task) in
+    let next = pending_after p (act_of x.task) in
+    ap (λ (es : List Step). here ++ es) (events_more next ts t) ∙ sym (append_assoc here (events_at next ts) (events_of_line (waiting_below next ts) (act_of t.task)))
 
-pub has_staged_as : {s : Staging} {all left others : List LineFields} → left ≡ others → HasStaged s all left → HasStaged s all others
-has_staged_as {s} {all} e h = let P : List LineFields → Type 0 = λ ls. HasStaged s all ls in subst P e h
+pub waiting_more : (p : Pending) (ts : List TaskLine) (t : TaskLine) → waiting_below p (ts ++ t ∷ []) ≡ pending_after (waiting_below p ts) (act_of t.task)
+waiting_more p [] t = refl
+waiting_more p (x ∷ ts) t = waiting_more (pending_after p (act_of x.task)) ts t
 
--- a line stands first of those that are left, and those after it are left then
-pub line_at : (lines yielded : List Line) (x : Line) → length yielded < length lines → x ≡ get_or lines (length yielded) x
-    → drop (length yielded) (map view_line lines) ≡ view_line x ∷ drop (length (yielded ++ x ∷ [])) (map view_line lines)
-line_at lines yielded x lt at' =
-    let k = length yielded in
-    let next : suc k ≡ length (yielded ++ x ∷ []) = let e = length-append yielded (x ∷ []) in omega (arith, e) in
-    drop-map view_line k lines ∙ ap (map view_line) (drop-cons lines k x lt) ∙ ap (λ (y : Line). view_line y ∷ map view_line (drop (suc k) lines)) (sym at')
-    ∙ ap (λ (ls : List LineFields). view_line x ∷ ls) (sym (drop-map view_line (suc k) lines) ∙ ap (λ n. drop n (map view_line lines)) next)
+-- the same work, of the events in other words
+pub split_as : {work : Work} {es others : List Step} → es ≡ others → HasSplit work es → HasSplit work others
+split_as {work} e h = subst (HasSplit work) e h
 
-pub none_left : (lines yielded : List Line) → length yielded ≡ length lines → drop (length yielded) (map view_line lines) ≡ []
-none_left lines yielded e =
-    drop-map view_line (length yielded) lines ∙ ap (map view_line) (ap (λ n. drop n lines) e ∙ drop-length lines)
+-- ---- one event more
 
-pub in_range : (lines : List Line) (k : ℕ) (x : Line) → All (λ (l : LineFields). IsInRange l.act) (map view_line lines) → k < length lines → x ≡ get_or lines k x → IsInRange (view_action x.action)
-in_range [] k x all lt at' = absurd (omega (arith, lt))
-in_range (l ∷ ls) zero x all lt at' =
-    let P : Line → Type 0 = λ y. IsInRange (view_action y.action) in
-    subst P (sym at') (All-head (λ (l : LineFields). IsInRange l.act) (view_line l) (map view_line ls) all)
-in_range (l ∷ ls) (suc k) x all lt at' = in_range ls k x (All-tail (λ (l : LineFields). IsInRange l.act) (view_line l) (map view_line ls) all) (omega (arith, lt)) at'
+one_commit : (line : CommitLine) (t u : Bool) → t ≡ u → (l : List CommitLine) (cs : List (List Edit)) → map edits_of l ≡ cs
+    → map edits_of (if t then l ++ line ∷ [] else l) ≡ cs ++ ((if u then edits_of line ∷ [] else []) ++ [])
+one_commit line true true e l cs h = map-append edits_of l (line ∷ []) ∙ ap (λ (xs : List (List Edit)). xs ++ edits_of line ∷ []) h
+one_commit line false false e l cs h = h ∙ sym (append-nil cs)
+one_commit line true false e l cs h = absurd (cc)
+one_commit line false true e l cs h = absurd (cc)
+
+pub one_path : {A : Type 0} (x : A) (t u : Bool) → t ≡ u → (l ps : List A) → l ≡ ps → (if t then l ++ x ∷ [] else l) ≡ ps ++ ((if u then x ∷ [] else []) ++ [])
+one_path x true true e l ps h = ap (λ (xs : List _). xs ++ x ∷ []) h
+one_path x false false e l ps h = h ∙ sym (append-nil ps)
+one_path x true false e l ps h = absurd (cc)
+one_path x false true e l ps h = absurd (cc)
+
+module _ (old new : Work) (done : List Step) (h : HasSplit old done) where
+  pub split_commit : (what : Happening) (line : CommitLine) (editor : ℕ) (edits : Vec Edit Global) → what ≡ deeds.Commit editor edits → line.edits ≡ edits
+      → ((n : ℕ) → lists_of new.commits n ≡ (if n == editor then lists_of old.commits n ++ line ∷ [] else lists_of old.commits n))
+      → new.draws ≡ old.draws → new.paths ≡ old.paths → HasSplit new (done ++ view_happening what ∷ [])
+  split_commit what line editor edits of_it is commits draws paths =
+      let e = Commit editor edits.items in
+      split_as (ap (λ (x : Happening). done ++ view_happening x ∷ []) (sym of_it))
+      (record {
+        commits = λ n. ap (map edits_of) (commits n) ∙ one_commit line (n == editor) (editor == n) (either_side n editor) (lists_of old.commits n) (commits_by n done) (h.commits n)
+            ∙ ap (λ (x : Vec Edit Global). commits_by n done ++ ((if editor == n then x.items ∷ [] else []) ++ [])) is
+            ∙ sym (commits_more n done (e ∷ []));
+        draws = ap (λ (v : Vec DrawLine Global). map draw_of v.items) draws ∙ h.draws ∙ sym (draws_more done (e ∷ []) ∙ append-nil (draws_in done));
+        in_range = subst (λ (v : Vec DrawLine Global). All IsDrawLine v.items) (sym draws) h.in_range;
+        paths = λ n. ap (λ (b : ByActor PathNames). lists_of b n) paths ∙ h.paths n ∙ sym (opens_more n done (e ∷ []) ∙ append-nil (opens_by n done));
+      })
+
+  pub split_draw : (what : Happening) (line : DrawLine) → what ≡ deeds.Draw line.asked line.fates → InRange (view_happening what) → new.draws.items ≡ old.draws.items ++ line ∷ [] → new.commits ≡ old.commits
+      → new.paths ≡ old.paths → HasSplit new (done ++ view_happening what ∷ [])
+  split_draw what line of_it ranged pushed commits paths =
+      let e = Draw line.asked line.fates.items in
+      let within : IsDrawLine line = subst (λ (x : Happening). InRange (view_happening x)) of_it ranged in
+      split_as (ap (λ (x : Happening). done ++ view_happening x ∷ []) (sym of_it))
+      (record {
+        commits = λ n. ap (λ (b : ByActor CommitLine). map edits_of (lists_of b n)) commits ∙ h.commits n ∙ sym (commits_more n done (e ∷ []) ∙ append-nil (commits_by n done));
+        draws = ap (map draw_of) pushed ∙ map-append draw_of old.draws.items (line ∷ []) ∙ ap (λ (ds : List DrawFields). ds ++ draw_of line ∷ []) h.draws ∙ sym (draws_more done (e ∷ []));
+        in_range = subst (All IsDrawLine) (sym pushed) (All-push IsDrawLine old.draws.items line h.in_range within);
+        paths = λ n. ap (λ (b : ByActor PathNames). lists_of b n) paths ∙ h.paths n ∙ sym (opens_more n done (e ∷ []) ∙ append-nil (opens_by n done));
+      })
+
+  pub split_open : (what : Happening) (reader : ℕ) (path : PathNames) → what ≡ deeds.Open reader path
+      → ((n : ℕ) → lists_of new.paths n ≡ (if n == reader then lists_of old.paths n ++ path ∷ [] else lists_of old.paths n))
+      → new.commits ≡ old.commits → new.draws ≡ old.draws → HasSplit new (done ++ view_happening what ∷ [])
+  split_open what reader path of_it paths commits draws =
+      let e = Open reader path in
+      split_as (ap (λ (x : Happening). done ++ view_happening x ∷ []) (sym of_it))
+      (record {
+        commits = λ n. ap (λ (b : ByActor CommitLine). map edits_of (lists_of b n)) commits ∙ h.commits n ∙ sym (commits_more n done (e ∷ []) ∙ append-nil (commits_by n done));
+        draws = ap (λ (v : Vec DrawLine Global). map draw_of v.items) draws ∙ h.draws ∙ sym (draws_more done (e ∷ []) ∙ append-nil (draws_in done));
+        in_range = subst (λ (v : Vec DrawLine Global). All IsDrawLine v.items) (sym draws) h.in_range;
+        paths = λ n. paths n ∙ one_path path (n == reader) (reader == n) (either_side n reader) (lists_of old.paths n) (opens_by n done) (h.paths n) ∙ sym (opens_more n done (e ∷ []));
+      })
+
+  pub split_same : new.commits ≡ old.commits → new.draws ≡ old.draws → new.paths ≡ old.paths → HasSplit new done
+  split_same commits draws paths = record {
+    commits = λ n. ap (λ (b : ByActor CommitLine). map edits_of (lists_of b n)) commits ∙ h.commits n;
+    draws = ap (λ (v : Vec DrawLine Global). map draw_of v.items) draws ∙ h.draws;
+    in_range = subst (λ (v : Vec DrawLine Global). All IsDrawLine v.items) (sym draws) h.in_range;
+    paths = λ n. ap (λ (b : ByActor PathNames). lists_of b n) paths ∙ h.paths n;
+  }

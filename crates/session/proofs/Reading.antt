@@ -1,5 +1,5 @@
 -- The seats of the readers, after one event more.
-use Rattle.std.proofs.Common.{◌≡◌, ◌≢◌, ◌⊎◌, inl, arith, ℕ, suc, ◌+◌, ◌<◌, ◌≤◌, ◌==◌, Bool, true, false, List, [], ◌∷◌, ◌++◌, length, refl, sym, ap, ◌∙◌, subst, append-nil, ne_eqb, eq-eqb}
+use Rattle.std.proofs.Common.{◌≡◌, ◌≢◌, ◌⊎◌, inl, arith, ℕ, suc, ◌+◌, ◌<◌, ◌≤◌, ◌==◌, Bool, true, false, List, [], ◌∷◌, ◌++◌, map, length, refl, sym, ap, ◌∙◌, subst, append-nil, ne_eqb, eq-eqb}
 use Rattle.std.specs.Prelude.{slice_set, slice_index_or, if◌then◌else◌}
 use mathlib.Core.List.{IsPrefix}
 use mathlib.Core.Logic.{dite}
@@ -9,22 +9,23 @@ use Rattle.std.proofs.lemmas.Grind.{get_or-set_at}
 use Rattle.std.proofs.Math.Seq.{map-set_same}
 use Rattle.path_tree.specs.Paths.{PathNames}
 use Rattle.path_resolver.specs.declared.shot.Shot.{Shot}
-use Rattle.open_history.specs.Opens.{ReaderView, IsSameReader}
+use Rattle.open_history.specs.Opens.{IsSameReader}
 use Rattle.open_history.specs.declared.entry.OpenEntry.{OpenEntry}
 use Rattle.session_script.specs.declared.script.Stage.{Stage}
-use Rattle.session_script.specs.declared.script.Stage.TheVariants.{Before, During, After}
+use Rattle.session_script.specs.declared.script.Stage.TheVariants.{Before}
 use Rattle.carousel_world.specs.Events.{Step, Commit, Draw, Open}
-use Rattle.session_actors.specs.Opened.{Asked, AreOpened, HasOpened}
-use Rattle.session_actors.specs.Seats.{asked_at}
-use Rattle.session_actors.specs.declared.reader.ReaderSeat.{ReaderSeat}
-use Rattle.session.specs.Lines.{draws_in, opens_by, asked_from, is_before, least_for}
-use Rattle.session.specs.Acting.{AreApart, IsNext, ReaderStands, ReadersStand, Setting, draws_before, draws_of, is_during, readers_of, staged_where, steps_where}
-use Rattle.session.proofs.Staged.{asked_more, idle_of, next_of, opens_more, other_of, steps, where_more}
+use Rattle.session.specs.Opened.{Asked, AreOpened, HasOpened}
+use Rattle.session.specs.Seats.{asked_at}
+use Rattle.session.specs.declared.reader.ReaderSeat.{ReaderSeat}
+use Rattle.session.specs.Lines.{draws_in, opens_by, asked_from, least_for}
+use Rattle.session.specs.Plans.{above, before_steps, steps}
+use Rattle.session.specs.Acting.{AreApart, IsNext, ReaderStands, ReadersStand, Setting, draws_before, draws_of, events_in, reader_plan, readers_of}
+use Rattle.session.proofs.Staged.{above_more, asked_more, count_all, count_done, opens_more, unstaged}
 
 -- ---- what is asked of a reader
 
-abbrev asked_in : ℕ → Setting → List (Stage × Step) → List Asked
-asked_in reader setting done = asked_from reader (draws_before setting) (draws_of setting) 0 (staged_where is_before done)
+abbrev asked_in : ℕ → Setting → List Step → List Asked
+asked_in reader setting done = asked_from reader (draws_before setting) (draws_of setting) 0 (above done)
 
 asked_none : (reader before all above : ℕ) (e : Stage × Step) → opens_by reader (e.1 ∷ []) ≡ [] → asked_from reader before all above (e ∷ []) ≡ []
 asked_none reader before all above (stage, Commit editor edits) none = refl
@@ -35,73 +36,44 @@ asked_none reader before all above (stage, Open r path) none = by_test (r == rea
     by_test true h = absurd (cc)
     by_test false h = refl
 
-where_one : (test : Stage → Bool) (done : List (Stage × Step)) (e : Stage × Step) → staged_where test (done ++ e ∷ []) ≡ staged_where test done ++ (if test e.0 then e ∷ [] else [])
-where_one test done e = where_more test done (e ∷ [])
-
-asked_if : (reader before all above : ℕ) (t : Bool) (e : Stage × Step) → opens_by reader (e.1 ∷ []) ≡ [] → asked_from reader before all above (if t then e ∷ [] else []) ≡ []
-asked_if reader before all above true e none = asked_none reader before all above e none
-asked_if reader before all above false e none = refl
+asked_one : (reader : ℕ) (setting : Setting) (done : List Step) (e : Step)
+    → asked_in reader setting (done ++ e ∷ []) ≡ asked_in reader setting done ++ asked_from reader (draws_before setting) (draws_of setting) (0 + length (draws_in (steps (above done)))) ((Before, e) ∷ [])
+asked_one reader setting done e =
+    ap (asked_from reader (draws_before setting) (draws_of setting) 0) (above_more done (e ∷ [])) ∙ asked_more reader (draws_before setting) (draws_of setting) 0 (above done) ((Before, e) ∷ [])
 
 -- an event that is no open of the reader
-asked_idle : (reader : ℕ) (setting : Setting) (done : List (Stage × Step)) (e : Stage × Step) → opens_by reader (e.1 ∷ []) ≡ [] → asked_in reader setting (done ++ e ∷ []) ≡ asked_in reader setting done
+asked_idle : (reader : ℕ) (setting : Setting) (done : List Step) (e : Step) → opens_by reader (e ∷ []) ≡ [] → asked_in reader setting (done ++ e ∷ []) ≡ asked_in reader setting done
 asked_idle reader setting done e none =
-    let b = draws_before setting in let a = draws_of setting in let xs = staged_where is_before done in
-    ap (asked_from reader b a 0) (where_one is_before done e)
-    ∙ asked_more reader b a 0 xs (if is_before e.0 then e ∷ [] else [])
-    ∙ ap (λ (zs : List Asked). asked_from reader b a 0 xs ++ zs) (asked_if reader b a (0 + length (draws_in (steps xs))) (is_before e.0) e none)
-    ∙ append-nil (asked_from reader b a 0 xs)
+    asked_one reader setting done e
+    ∙ ap (λ (zs : List Asked). asked_in reader setting done ++ zs) (asked_none reader (draws_before setting) (draws_of setting) (0 + length (draws_in (steps (above done)))) (Before, e) none)
+    ∙ append-nil (asked_in reader setting done)
 
--- one that stands in another part of the script
-asked_apart : (reader : ℕ) (setting : Setting) (done : List (Stage × Step)) (e : Stage × Step) → is_before e.0 ≡ false → asked_in reader setting (done ++ e ∷ []) ≡ asked_in reader setting done
-asked_apart reader setting done e other =
-    let b = draws_before setting in let a = draws_of setting in let xs = staged_where is_before done in
-    ap (asked_from reader b a 0) (where_one is_before done e ∙ ap (λ (t : Bool). xs ++ (if t then e ∷ [] else [])) other ∙ append-nil xs)
-
--- an open of the reader before the start
-asked_next : (reader : ℕ) (setting : Setting) (done : List (Stage × Step)) (path : PathNames)
-    → asked_in reader setting (done ++ (Before, Open reader path) ∷ []) ≡ asked_in reader setting done ++ asked_at (length (draws_in (steps_where is_before done))) path ∷ []
+-- an open of the reader
+asked_next : (reader : ℕ) (setting : Setting) (done : List Step) (path : PathNames)
+    → asked_in reader setting (done ++ Open reader path ∷ []) ≡ asked_in reader setting done ++ asked_at (length (draws_in done)) path ∷ []
 asked_next reader setting done path =
-    let b = draws_before setting in let a = draws_of setting in let xs = staged_where is_before done in
-    let n = length (draws_in (steps xs)) in
-    ap (asked_from reader b a 0) (where_one is_before done (Before, Open reader path))
-    ∙ asked_more reader b a 0 xs ((Before, Open reader path) ∷ [])
-    ∙ ap (λ (zs : List Asked). asked_from reader b a 0 xs ++ zs)
-    (ap (λ (t : Bool). (if t then record { path = path; least = 0 + n } ∷ [] else []) ++ []) (eq-eqb reader reader refl) ∙ ap (λ (m : ℕ). asked_at m path ∷ []) (omega arith))
+    let n = length (draws_in (steps (above done))) in
+    let same : 0 + n ≡ length (draws_in done) = let e = ap (λ (es : List Step). length (draws_in es)) (unstaged Before done) in omega (arith, e) in
+    asked_one reader setting done (Open reader path)
+    ∙ ap (λ (zs : List Asked). asked_in reader setting done ++ zs)
+    (ap (λ (t : Bool). (if t then record { path = path; least = 0 + n } ∷ [] else []) ++ []) (eq-eqb reader reader refl) ∙ ap (λ (m : ℕ). asked_at m path ∷ []) same)
 
 -- ---- one seat
 
-stands_idle : (setting : Setting) (done : List (Stage × Step)) (shots : List Shot) (seat : ReaderSeat) (e : Stage × Step) → opens_by seat.pass.reader (e.1 ∷ []) ≡ []
+stands_idle : (setting : Setting) (done : List Step) (shots : List Shot) (seat : ReaderSeat) (e : Step) → opens_by seat.pass.reader (e ∷ []) ≡ []
     → ReaderStands setting done shots seat → ReaderStands setting (done ++ e ∷ []) shots seat
 stands_idle setting done shots seat e none st = record {
   board_is = st.board_is;
   most_is = st.most_is;
   few = st.few;
   opened = subst (λ (asked : List Asked). HasOpened asked seat.pass) (sym (asked_idle seat.pass.reader setting done e none)) st.opened;
-  to_come = st.to_come ∙ sym (idle_of (opens_by seat.pass.reader) refl (opens_more seat.pass.reader) is_during done e none);
   told = st.told;
   room = st.room;
 }
 
-pub readers_idle : (setting : Setting) (done : List (Stage × Step)) (shots : List Shot) (seats : List ReaderSeat) (e : Stage × Step) → ((r : ℕ) → opens_by r (e.1 ∷ []) ≡ [])
+pub readers_idle : (setting : Setting) (done : List Step) (shots : List Shot) (seats : List ReaderSeat) (e : Step) → ((r : ℕ) → opens_by r (e ∷ []) ≡ [])
     → ReadersStand setting done shots seats → ReadersStand setting (done ++ e ∷ []) shots seats
 readers_idle setting done shots seats e none st = λ k d lt. stands_idle setting done shots (slice_index_or seats k d) e (none (slice_index_or seats k d).pass.reader) (st k d lt)
-
--- an event after all actors
-pub after_readers : (setting : Setting) (done : List (Stage × Step)) (shots : List Shot) (seats : List ReaderSeat) (e : Step) → ReadersStand setting done shots seats → ReadersStand setting (done ++ (After, e) ∷ []) shots seats
-after_readers setting done shots seats e stands = λ k d lt.
-    let seat = slice_index_or seats k d in let st = stands k d lt in
-    record {
-      board_is = st.board_is;
-      most_is = st.most_is;
-      few = st.few;
-      opened = subst (λ (asked : List Asked). HasOpened asked seat.pass) (sym (asked_apart seat.pass.reader setting done (After, e) refl)) st.opened;
-      to_come = st.to_come ∙ sym (other_of (opens_by seat.pass.reader) refl (opens_more seat.pass.reader) is_during done (After, e) refl);
-      told = st.told;
-      room = st.room;
-    }
-
-its : (r : ℕ) (path : PathNames) → opens_by r (Open r path ∷ []) ≡ path ∷ []
-its r path = ap (λ (t : Bool). (if t then path ∷ [] else []) ++ []) (eq-eqb r r refl)
 
 not_its : (r m : ℕ) (path : PathNames) → m ≢ r → opens_by r (Open m path ∷ []) ≡ []
 not_its r m path ne = ap (λ (t : Bool). (if t then path ∷ [] else []) ++ []) (ne_eqb m r ne)
@@ -124,87 +96,44 @@ asked_count reader before all above ((stage, Open r path) ∷ es) = by_test (r =
     by_test true rest = ap suc rest
     by_test false rest = rest
 
-some_of : (reader : ℕ) (test : Stage → Bool) (es : List (Stage × Step)) → length (opens_by reader (steps_where test es)) ≤ length (opens_by reader (steps es))
-some_of reader test [] = omega arith
-some_of reader test (e ∷ es) = by_test (test e.0) (one_more e) (some_of reader test es)
-  where
-    one_more : (e : Stage × Step) → (n : ℕ) × ((xs : List Step) → length (opens_by reader (e.1 ∷ xs)) ≡ n + length (opens_by reader xs))
-    one_more (stage, Commit editor edits) = (0, λ xs. omega arith)
-    one_more (stage, Draw asked fates) = (0, λ xs. omega arith)
-    one_more (stage, Open r path) = (length (if r == reader then path ∷ [] else []), λ xs. length-append (if r == reader then path ∷ [] else []) (opens_by reader xs))
-
-    by_test : (t : Bool) → (n : ℕ) × ((xs : List Step) → length (opens_by reader (e.1 ∷ xs)) ≡ n + length (opens_by reader xs))
-        → length (opens_by reader (steps_where test es)) ≤ length (opens_by reader (steps es))
-        → length (opens_by reader (steps (if t then e ∷ staged_where test es else staged_where test es))) ≤ length (opens_by reader (steps (e ∷ es)))
-    by_test true h r = let a = h.1 (steps (staged_where test es)) in let b = h.1 (steps es) in omega (arith, a, b, r)
-    by_test false h r = let b = h.1 (steps es) in omega (arith, b, r)
-
 -- there is room for an open that comes next
-pub has_room : (setting : Setting) (done : List (Stage × Step)) (shots : List Shot) (seat : ReaderSeat) (path : PathNames) → ReaderStands setting done shots seat
-    → IsNext setting done (Before, Open seat.pass.reader path) → length seat.pass.opens < seat.pass.room
+pub has_room : (setting : Setting) (done : List Step) (shots : List Shot) (seat : ReaderSeat) (path : PathNames) → ReaderStands setting done shots seat
+    → IsNext setting done (Open seat.pass.reader path) → length seat.pass.opens < seat.pass.room
 has_room setting done shots seat path st next =
     let r = seat.pass.reader in
     let opened = opened_count (asked_in r setting done) seat.pass.opens st.opened.opened in
-    let asked = asked_count r (draws_before setting) (draws_of setting) 0 (staged_where is_before done) in
-    let few = some_of r is_before done in
-    let all : length (opens_by r (steps setting.events)) ≡ length (opens_by r (steps done)) + length (opens_by r (Open r path ∷ steps next.0)) =
-    ap (λ (es : List (Stage × Step)). length (opens_by r (steps es))) next.1
-    ∙ ap (λ (xs : List Step). length (opens_by r xs)) (steps_more done ((Before, Open r path) ∷ next.0))
-    ∙ ap (λ (xs : List PathNames). length xs) (opens_more r (steps done) (Open r path ∷ steps next.0))
-    ∙ length-append (opens_by r (steps done)) (opens_by r (Open r path ∷ steps next.0)) in
-    let one : length (opens_by r (Open r path ∷ steps next.0)) ≡ suc (length (opens_by r (steps next.0))) =
-    ap (λ (t : Bool). length ((if t then path ∷ [] else []) ++ opens_by r (steps next.0))) (eq-eqb r r refl) in
+    let asked = asked_count r (draws_before setting) (draws_of setting) 0 (above done) in
+    let plain = ap (λ (es : List Step). length (opens_by r es)) (unstaged Before done) in
+    let before : length (opens_by r (before_steps setting.parts)) ≡ length (opens_by r done) + length (opens_by r (Open r path ∷ next.0)) =
+    ap (λ (es : List Step). length (opens_by r es)) next.1 ∙ ap (λ (xs : List PathNames). length xs) (opens_more r done (Open r path ∷ next.0))
+    ∙ length-append (opens_by r done) (opens_by r (Open r path ∷ next.0)) in
+    let one : length (opens_by r (Open r path ∷ next.0)) ≡ suc (length (opens_by r next.0)) =
+    ap (λ (t : Bool). length ((if t then path ∷ [] else []) ++ opens_by r next.0)) (eq-eqb r r refl) in
+    let first = count_done (opens_by r) (opens_more r) setting in
+    let all = count_all (opens_by r) (opens_more r) setting in
     let room = st.room in
-    omega (arith, opened, asked, few, all, one, room)
-  where
-    steps_more : (xs ys : List (Stage × Step)) → steps (xs ++ ys) ≡ steps xs ++ steps ys
-    steps_more [] ys = refl
-    steps_more (x ∷ xs) ys = ap (λ (zs : List Step). x.1 ∷ zs) (steps_more xs ys)
+    omega (arith, opened, asked, plain, before, one, first, all, room)
 
 pub prefix_length : {A : Type 0} (xs ys : List A) → IsPrefix xs ys → length xs ≤ length ys
 prefix_length xs ys p = let e = ap length p.1 in let l = length-append xs p.0 in omega (arith, e, l)
 
--- the reader opened a path before the start
-stands_opened : (setting : Setting) (done : List (Stage × Step)) (shots : List Shot) (old new : ReaderSeat) (path : PathNames) → IsSameReader old.pass new.pass → new.pass.told ≡ old.pass.told → new.paths ≡ old.paths → length new.pass.known ≤ new.pass.most + 1
-    → length shots ≡ length (draws_in (steps_where is_before done)) + 1
+-- the reader opened a path
+stands_opened : (setting : Setting) (done : List Step) (shots : List Shot) (old new : ReaderSeat) (path : PathNames) → IsSameReader old.pass new.pass → new.pass.told ≡ old.pass.told → length new.pass.known ≤ new.pass.most + 1
+    → length shots ≡ length (draws_in done) + 1
     → ((least : ℕ) (asked : List Asked) → (least + 1 ≤ length old.pass.told) ⊎ (least + 1 ≤ length old.pass.known) → HasOpened asked old.pass → HasOpened (asked ++ asked_at least path ∷ []) new.pass)
-    → ReaderStands setting done shots old → ReaderStands setting (done ++ (Before, Open old.pass.reader path) ∷ []) shots new
-stands_opened setting done shots old new path same told paths few count opens st =
+    → ReaderStands setting done shots old → ReaderStands setting (done ++ Open old.pass.reader path ∷ []) shots new
+stands_opened setting done shots old new path same told few count opens st =
     let r = old.pass.reader in
-    let e : Stage × Step = (Before, Open r path) in
-    let least = length (draws_in (steps_where is_before done)) in
+    let least = length (draws_in done) in
     let known = prefix_length shots old.pass.told st.told in
     record {
       board_is = same.2 ∙ st.board_is;
       most_is = same.3 ∙ st.most_is;
       few = few;
-      opened = subst (λ (asked : List Asked). HasOpened asked new.pass) (sym (asked_next r setting done path) ∙ ap (λ (n : ℕ). asked_in n setting (done ++ e ∷ [])) (sym same.0))
+      opened = subst (λ (asked : List Asked). HasOpened asked new.pass) (sym (asked_next r setting done path) ∙ ap (λ (n : ℕ). asked_in n setting (done ++ Open r path ∷ [])) (sym same.0))
           (opens least (asked_in r setting done) (inl (omega (arith, count, known))) st.opened);
-      to_come = ap (λ ps. ps.items) paths ∙ st.to_come ∙ sym (other_of (opens_by r) refl (opens_more r) is_during done e refl)
-          ∙ ap (λ (n : ℕ). opens_by n (steps_where is_during (done ++ e ∷ []))) (sym same.0);
       told = subst (λ (xs : List Shot). IsPrefix shots xs) (sym told) st.told;
-      room = same.1 ∙ st.room ∙ ap (λ (n : ℕ). length (opens_by n (steps setting.events))) (sym same.0);
-    }
-
--- a path was laid before the reader
-stands_laid : (setting : Setting) (done : List (Stage × Step)) (shots : List Shot) (old new : ReaderSeat) (path : PathNames) → new.pass ≡ old.pass → new.paths.items ≡ old.paths.items ++ path ∷ []
-    → ReaderStands setting done shots old → ReaderStands setting (done ++ (During, Open old.pass.reader path) ∷ []) shots new
-stands_laid setting done shots old new path pass laid st =
-    let r = old.pass.reader in
-    let e : Stage × Step = (During, Open r path) in
-    let same : new.pass.reader ≡ r = ap (λ (p : ReaderView). p.reader) pass in
-    record {
-      board_is = ap (λ (p : ReaderView). p.board) pass ∙ st.board_is;
-      most_is = ap (λ (p : ReaderView). p.most) pass ∙ st.most_is;
-      few = subst (λ (p : ReaderView). length p.known ≤ p.most + 1) (sym pass) st.few;
-      opened = subst (λ (p : ReaderView). HasOpened (asked_in p.reader setting (done ++ e ∷ [])) p) (sym pass)
-          (subst (λ (asked : List Asked). HasOpened asked old.pass) (sym (asked_apart r setting done e refl)) st.opened);
-      to_come = laid ∙ ap (λ (ps : List PathNames). ps ++ path ∷ []) st.to_come
-          ∙ ap (λ (ps : List PathNames). opens_by r (steps_where is_during done) ++ ps) (sym (its r path))
-          ∙ sym (next_of (opens_by r) refl (opens_more r) is_during done e refl)
-          ∙ ap (λ (n : ℕ). opens_by n (steps_where is_during (done ++ e ∷ []))) (sym same);
-      told = subst (λ (p : ReaderView). IsPrefix shots p.told) (sym pass) st.told;
-      room = ap (λ (p : ReaderView). p.room) pass ∙ st.room ∙ ap (λ (n : ℕ). length (opens_by n (steps setting.events))) (sym same);
+      room = same.1 ∙ st.room ∙ ap (λ (n : ℕ). length (opens_by n (steps (events_in setting)))) (sym same.0);
     }
 
 -- ---- one seat of all
@@ -213,11 +142,13 @@ reader_at : (seats : List ReaderSeat) (k : ℕ) (d : ReaderSeat) → k < length 
 reader_at seats k d lt = get_or-map (λ (seat : ReaderSeat). seat.pass.reader) seats k d 0 lt
 
 module _ (seats : List ReaderSeat) (place : ℕ) (was new : ReaderSeat) (there : place < length seats) (is : was ≡ slice_index_or seats place was) (same : new.pass.reader ≡ was.pass.reader) where
-  pub readers_set : readers_of (slice_set seats place new) ≡ readers_of seats
-  readers_set = map-set_same (λ (seat : ReaderSeat). seat.pass.reader) seats place new was (same ∙ ap (λ (seat : ReaderSeat). seat.pass.reader) is)
+  pub plans_set : new.paths ≡ was.paths → new.finales ≡ was.finales → map reader_plan (slice_set seats place new) ≡ map reader_plan seats
+  plans_set paths finales =
+      let alike : reader_plan new ≡ reader_plan was = λ i. record { reader = same i; paths = (paths i).items; finales = (finales i).items } in
+      map-set_same reader_plan seats place new was (alike ∙ ap reader_plan is)
 
-  seat_set : (setting : Setting) (done : List (Stage × Step)) (shots : List Shot) (e : Stage × Step) → AreApart (readers_of seats) → ReaderStands setting (done ++ e ∷ []) shots new
-      → ((r : ℕ) → r ≢ was.pass.reader → opens_by r (e.1 ∷ []) ≡ []) → ReadersStand setting done shots seats → ReadersStand setting (done ++ e ∷ []) shots (slice_set seats place new)
+  seat_set : (setting : Setting) (done : List Step) (shots : List Shot) (e : Step) → AreApart (readers_of seats) → ReaderStands setting (done ++ e ∷ []) shots new
+      → ((r : ℕ) → r ≢ was.pass.reader → opens_by r (e ∷ []) ≡ []) → ReadersStand setting done shots seats → ReadersStand setting (done ++ e ∷ []) shots (slice_set seats place new)
   seat_set setting done shots e apart its others st = λ k d lt.
       let below : k < length seats = let l = length-set seats place new in omega (arith, l, lt) in
       dite (ℕ_discrete k place)
@@ -229,23 +160,15 @@ module _ (seats : List ReaderSeat) (place : ℕ) (was new : ReaderSeat) (there :
       (reader_at seats k d below ∙ eq ∙ ap (λ (seat : ReaderSeat). seat.pass.reader) is ∙ sym (reader_at seats place was there)))))
       (st k d below)))
 
-  stands_was : (setting : Setting) (done : List (Stage × Step)) (shots : List Shot) → ReadersStand setting done shots seats → ReaderStands setting done shots was
+  stands_was : (setting : Setting) (done : List Step) (shots : List Shot) → ReadersStand setting done shots seats → ReaderStands setting done shots was
   stands_was setting done shots st = subst (ReaderStands setting done shots) (sym is) (st place was there)
 
-  pub opened_now : (reader : ℕ) (path : PathNames) → was.pass.reader ≡ reader → AreApart (readers_of seats) → IsSameReader was.pass new.pass → new.pass.told ≡ was.pass.told → new.paths ≡ was.paths → length new.pass.known ≤ new.pass.most + 1
+  pub opened_now : (reader : ℕ) (path : PathNames) → was.pass.reader ≡ reader → AreApart (readers_of seats) → IsSameReader was.pass new.pass → new.pass.told ≡ was.pass.told → length new.pass.known ≤ new.pass.most + 1
       → ((least : ℕ) (asked : List Asked) → (least + 1 ≤ length was.pass.told) ⊎ (least + 1 ≤ length was.pass.known) → HasOpened asked was.pass → HasOpened (asked ++ asked_at least path ∷ []) new.pass)
-      → (setting : Setting) (done : List (Stage × Step)) (shots : List Shot) → ReadersStand setting done shots seats → length shots ≡ length (draws_in (steps_where is_before done)) + 1
-      → ReadersStand setting (done ++ (Before, Open reader path) ∷ []) shots (slice_set seats place new)
-  opened_now reader path its apart all told paths few opens setting done shots st count =
-      seat_set setting done shots (Before, Open reader path) apart
-      (subst (λ (n : ℕ). ReaderStands setting (done ++ (Before, Open n path) ∷ []) shots new) its
-      (stands_opened setting done shots was new path all told paths few count opens (stands_was setting done shots st)))
-      (λ r ne. not_its r reader path (λ eq. ne (sym eq ∙ sym its))) st
-
-  pub opened_later : (reader : ℕ) (path : PathNames) → was.pass.reader ≡ reader → AreApart (readers_of seats) → new.pass ≡ was.pass → new.paths.items ≡ was.paths.items ++ path ∷ []
-      → (setting : Setting) (done : List (Stage × Step)) (shots : List Shot) → ReadersStand setting done shots seats
-      → ReadersStand setting (done ++ (During, Open reader path) ∷ []) shots (slice_set seats place new)
-  opened_later reader path its apart pass laid setting done shots st =
-      seat_set setting done shots (During, Open reader path) apart
-      (subst (λ (n : ℕ). ReaderStands setting (done ++ (During, Open n path) ∷ []) shots new) its (stands_laid setting done shots was new path pass laid (stands_was setting done shots st)))
+      → (setting : Setting) (done : List Step) (shots : List Shot) → ReadersStand setting done shots seats → length shots ≡ length (draws_in done) + 1
+      → ReadersStand setting (done ++ Open reader path ∷ []) shots (slice_set seats place new)
+  opened_now reader path its apart all told few opens setting done shots st count =
+      seat_set setting done shots (Open reader path) apart
+      (subst (λ (n : ℕ). ReaderStands setting (done ++ Open n path ∷ []) shots new) its
+      (stands_opened setting done shots was new path all told few count opens (stands_was setting done shots st)))
       (λ r ne. not_its r reader path (λ eq. ne (sym eq ∙ sym its))) st

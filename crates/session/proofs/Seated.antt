@@ -1,29 +1,42 @@
 -- The seats of the readers, before any event.
-use Rattle.std.proofs.Common.{◌≡◌, ℕ, suc, ◌<◌, List, [], ◌∷◌, ◌++◌, take, length, refl, sym, ap, ◌∙◌, subst, arith, append-nil, length-append}
+use Rattle.std.proofs.Common.{◌≡◌, ℕ, suc, ◌+◌, ◌<◌, List, [], ◌∷◌, ◌++◌, map, take, length, refl, sym, ap, ◌∙◌, subst, arith, append-nil, length-append}
 use Rattle.std.specs.Prelude.{slice_index_or}
 use Rattle.std.proofs.lemmas.List.{take_more, take_all}
 use Rattle.std.proofs.lemmas.List.Elements.{All-cons}
+use Rattle.path_tree.specs.Paths.{PathNames}
 use Rattle.path_resolver.specs.declared.shot.Shot.{Shot}
 use Rattle.open_history.specs.Opens.{ReaderView}
 use Rattle.open_history.specs.declared.entry.OpenEntry.{OpenEntry}
 use Rattle.shot_board.specs.declared.viewer.Viewer.{Viewer}
 use Rattle.shot_board.specs.Shots.{Each}
-use Rattle.session_script.specs.declared.script.Stage.{Stage}
 use Rattle.carousel_world.specs.Events.{Step}
-use Rattle.session_actors.specs.Opened.{AreOpened, Rises}
-use Rattle.session_actors.specs.declared.reader.ReaderSeat.{ReaderSeat}
+use Rattle.session.specs.Opened.{AreOpened, Rises}
+use Rattle.session.specs.declared.reader.ReaderSeat.{ReaderSeat}
 use Rattle.session.specs.Lines.{opens_by}
-use Rattle.session.specs.Acting.{IsNewSeat, IsViewerOf, ReaderStands, ReadersStand, Setting, readers_of}
-use Rattle.session.specs.Ending.{steps}
+use Rattle.session.specs.Plans.{before_steps, during_steps, end_steps, steps}
+use Rattle.session.specs.Acting.{IsNewSeat, IsViewerOf, ReaderStands, ReadersStand, Setting, asked_for, events_in, reader_plan}
+use Rattle.session.proofs.Staged.{count_all, count_done, opens_more}
 
--- seats with these numbers and viewers, each with room for the reader's opens among these events
-abbrev pub AreNewReaders : List (Stage × Step) → List ℕ → List (Viewer Shot) → List ReaderSeat → Type 0
-AreNewReaders events [] [] [] = Unit {0}
-AreNewReaders events (n ∷ ns) (v ∷ vs) (s ∷ ss) = IsNewSeat n (length (opens_by n (steps events))) v s × AreNewReaders events ns vs ss
-AreNewReaders events _ _ _ = ⊥
+-- seats with these numbers and viewers, each with room for so many opens, and before which these paths of their numbers lie
+abbrev pub AreNewReaders : (ℕ → ℕ) → (paths finales : ℕ → List PathNames) → List ℕ → List (Viewer Shot) → List ReaderSeat → Type 0
+AreNewReaders room paths finales [] [] [] = Unit {0}
+AreNewReaders room paths finales (n ∷ ns) (v ∷ vs) (s ∷ ss) = IsNewSeat n (room n) v (paths n) (finales n) s × AreNewReaders room paths finales ns vs ss
+AreNewReaders room paths finales _ _ _ = ⊥
 
-module _ (events : List (Stage × Step)) where
-  pub new_readers_count : (ns : List ℕ) (vs : List (Viewer Shot)) (ss : List ReaderSeat) → AreNewReaders events ns vs ss → length ss ≡ length vs
+-- room for the opens among these events and of these paths
+abbrev pub room_for : List Step → (paths finales : ℕ → List PathNames) → ℕ → ℕ
+room_for before paths finales n = length (opens_by n before) + length (paths n) + length (finales n)
+
+-- a seat that was made with these counts and paths
+pub seat_of : (before : List Step) (paths finales : ℕ → List PathNames) (n : ℕ) (v : Viewer Shot) (s : ReaderSeat) (opens : ℕ) (its last : List PathNames) → opens ≡ length (opens_by n before) → its ≡ paths n → last ≡ finales n
+    → IsNewSeat n (opens + length its + length last) v its last s → IsNewSeat n (room_for before paths finales n) v (paths n) (finales n) s
+seat_of before paths finales n v s opens its last a b c h =
+    subst (λ (ps : List PathNames). IsNewSeat n (length (opens_by n before) + length (paths n) + length ps) v (paths n) ps s) c
+    (subst (λ (ps : List PathNames). IsNewSeat n (length (opens_by n before) + length ps + length last) v ps last s) b
+    (subst (λ (k : ℕ). IsNewSeat n (k + length its + length last) v its last s) a h))
+
+module _ (room : ℕ → ℕ) (paths finales : ℕ → List PathNames) where
+  pub new_readers_count : (ns : List ℕ) (vs : List (Viewer Shot)) (ss : List ReaderSeat) → AreNewReaders room paths finales ns vs ss → length ss ≡ length vs
   new_readers_count [] [] [] h = refl
   new_readers_count (n ∷ ns) (v ∷ vs) (s ∷ ss) h = ap suc (new_readers_count ns vs ss h.1)
   new_readers_count [] [] (s ∷ ss) h = absurd h
@@ -31,8 +44,8 @@ module _ (events : List (Stage × Step)) where
   new_readers_count (n ∷ ns) [] ss h = absurd h
   new_readers_count (n ∷ ns) (v ∷ vs) [] h = absurd h
 
-  reader_pushed : (ns : List ℕ) (vs : List (Viewer Shot)) (ss : List ReaderSeat) (n : ℕ) (v : Viewer Shot) (s : ReaderSeat) → IsNewSeat n (length (opens_by n (steps events))) v s
-      → AreNewReaders events ns vs ss → AreNewReaders events (ns ++ n ∷ []) (vs ++ v ∷ []) (ss ++ s ∷ [])
+  reader_pushed : (ns : List ℕ) (vs : List (Viewer Shot)) (ss : List ReaderSeat) (n : ℕ) (v : Viewer Shot) (s : ReaderSeat) → IsNewSeat n (room n) v (paths n) (finales n) s
+      → AreNewReaders room paths finales ns vs ss → AreNewReaders room paths finales (ns ++ n ∷ []) (vs ++ v ∷ []) (ss ++ s ∷ [])
   reader_pushed [] [] [] n v s new h = (new, tt)
   reader_pushed (m ∷ ns) (w ∷ vs) (t ∷ ss) n v s new h = (h.0, reader_pushed ns vs ss n v s new h.1)
   reader_pushed [] [] (t ∷ ss) n v s new h = absurd h
@@ -42,54 +55,65 @@ module _ (events : List (Stage × Step)) where
 
   -- one seat more
   pub readers_more : (numbers : List ℕ) (vs : List (Viewer Shot)) (ss : List ReaderSeat) (v : Viewer Shot) (s : ReaderSeat) (n : ℕ) → length vs < length numbers → n ≡ slice_index_or numbers (length ss) n
-      → IsNewSeat n (length (opens_by n (steps events))) v s
-      → AreNewReaders events (take (length vs) numbers) vs ss → AreNewReaders events (take (length (vs ++ v ∷ [])) numbers) (vs ++ v ∷ []) (ss ++ s ∷ [])
+      → IsNewSeat n (room n) v (paths n) (finales n) s
+      → AreNewReaders room paths finales (take (length vs) numbers) vs ss → AreNewReaders room paths finales (take (length (vs ++ v ∷ [])) numbers) (vs ++ v ∷ []) (ss ++ s ∷ [])
   readers_more numbers vs ss v s n lt number new h =
       let count = new_readers_count (take (length vs) numbers) vs ss h in
       let e : take (length (vs ++ v ∷ [])) numbers ≡ take (length vs) numbers ++ n ∷ [] =
       ap (λ (k : ℕ). take k numbers) (length-append vs (v ∷ [])) ∙ take_more numbers (length vs) n lt
       ∙ ap (λ (m : ℕ). take (length vs) numbers ++ m ∷ []) (sym (number ∙ ap (λ (k : ℕ). slice_index_or numbers k n) count)) in
-      subst (λ (ns : List ℕ). AreNewReaders events ns (vs ++ v ∷ []) (ss ++ s ∷ [])) (sym e) (reader_pushed (take (length vs) numbers) vs ss n v s new h)
+      subst (λ (ns : List ℕ). AreNewReaders room paths finales ns (vs ++ v ∷ []) (ss ++ s ∷ [])) (sym e) (reader_pushed (take (length vs) numbers) vs ss n v s new h)
 
   -- when each viewer has its seat
   pub all_readers : (numbers : List ℕ) (viewers yielded : List (Viewer Shot)) (ss : List ReaderSeat) → yielded ≡ viewers → length viewers ≡ length numbers
-      → AreNewReaders events (take (length yielded) numbers) yielded ss → AreNewReaders events numbers viewers ss
+      → AreNewReaders room paths finales (take (length yielded) numbers) yielded ss → AreNewReaders room paths finales numbers viewers ss
   all_readers numbers viewers yielded ss e count h =
       let all : take (length yielded) numbers ≡ numbers = take_all (length yielded) numbers (let l = ap length e in omega (arith, count, l)) in
-      subst (λ (vs : List (Viewer Shot)). AreNewReaders events numbers vs ss) e (subst (λ (ns : List ℕ). AreNewReaders events ns yielded ss) all h)
+      subst (λ (vs : List (Viewer Shot)). AreNewReaders room paths finales numbers vs ss) e (subst (λ (ns : List ℕ). AreNewReaders room paths finales ns yielded ss) all h)
 
-  pub new_readers : (ns : List ℕ) (vs : List (Viewer Shot)) (ss : List ReaderSeat) → AreNewReaders events ns vs ss → readers_of ss ≡ ns
+  pub new_readers : (ns : List ℕ) (vs : List (Viewer Shot)) (ss : List ReaderSeat) → AreNewReaders room paths finales ns vs ss → map reader_plan ss ≡ map (asked_for paths finales) ns
   new_readers [] [] [] h = refl
-  new_readers (n ∷ ns) (v ∷ vs) (s ∷ ss) h = ap (λ (p : ReaderView). p.reader ∷ readers_of ss) h.0.0 ∙ ap (λ (ms : List ℕ). n ∷ ms) (new_readers ns vs ss h.1)
+  new_readers (n ∷ ns) (v ∷ vs) (s ∷ ss) h =
+      let first : reader_plan s ≡ asked_for paths finales n = λ i. record { reader = (h.0.0 i).reader; paths = h.0.1 i; finales = h.0.2 i } in
+      λ i. first i ∷ new_readers ns vs ss h.1 i
   new_readers [] [] (s ∷ ss) h = absurd h
   new_readers [] (v ∷ vs) ss h = absurd h
   new_readers (n ∷ ns) [] ss h = absurd h
   new_readers (n ∷ ns) (v ∷ vs) [] h = absurd h
 
-  module _ (setting : Setting) (shots : List Shot) (same : setting.events ≡ events) (one : length shots ≡ 1) where
-    new_stands : (n : ℕ) (v : Viewer Shot) (s : ReaderSeat) → IsNewSeat n (length (opens_by n (steps events))) v s → IsViewerOf setting shots v → ReaderStands setting [] shots s
-    new_stands n v s h w =
-        let reader : s.pass.reader ≡ n = ap (λ (p : ReaderView). p.reader) h.0 in
-        let known : s.pass.known ≡ shots = ap (λ (p : ReaderView). p.known) h.0 ∙ w.2 in
-        let told : s.pass.told ≡ shots = ap (λ (p : ReaderView). p.told) h.0 ∙ w.3 in
-        let opens : s.pass.opens ≡ [] = ap (λ (p : ReaderView). p.opens) h.0 in
-        record {
-          board_is = ap (λ (p : ReaderView). p.board) h.0 ∙ w.0;
-          most_is = ap (λ (p : ReaderView). p.most) h.0 ∙ w.1;
-          few = let l = ap length known in omega (arith, l, one);
-          opened = record {
-            opened = subst (λ (es : List OpenEntry). AreOpened [] es) (sym opens) tt;
-            rises = subst (λ (es : List OpenEntry). Rises 0 es (length s.pass.known)) (sym opens) (omega arith);
-          };
-          to_come = h.1;
-          told = ([], append-nil shots ∙ sym told);
-          room = ap (λ (p : ReaderView). p.room) h.0 ∙ (λ i. length (opens_by (sym reader i) (steps (sym same i))));
-        }
+module _ (before : List Step) (paths finales : ℕ → List PathNames) (setting : Setting) (shots : List Shot) (above_is : before ≡ before_steps setting.parts)
+    (below_is : (n : ℕ) → paths n ≡ opens_by n (during_steps setting.parts)) (last_is : (n : ℕ) → finales n ≡ opens_by n (end_steps setting.parts)) (one : length shots ≡ 1) where
+  all_opens : (n : ℕ) → room_for before paths finales n ≡ length (opens_by n (steps (events_in setting)))
+  all_opens n =
+      let a = ap (λ (es : List Step). length (opens_by n es)) above_is in
+      let b = ap (λ (ps : List PathNames). length ps) (below_is n) in
+      let c = ap (λ (ps : List PathNames). length ps) (last_is n) in
+      let first = count_done (opens_by n) (opens_more n) setting in
+      let all = count_all (opens_by n) (opens_more n) setting in
+      omega (arith, a, b, c, first, all)
 
-    pub readers_stand : (ns : List ℕ) (vs : List (Viewer Shot)) (ss : List ReaderSeat) → AreNewReaders events ns vs ss → Each (IsViewerOf setting shots) vs → ReadersStand setting [] shots ss
-    readers_stand [] [] [] h w = λ k d lt. absurd (omega (arith, lt))
-    readers_stand (n ∷ ns) (v ∷ vs) (s ∷ ss) h w = All-cons (ReaderStands setting [] shots) s ss (new_stands n v s h.0 w.0) (readers_stand ns vs ss h.1 w.1)
-    readers_stand [] [] (s ∷ ss) h w = absurd h
-    readers_stand [] (v ∷ vs) ss h w = absurd h
-    readers_stand (n ∷ ns) [] ss h w = absurd h
-    readers_stand (n ∷ ns) (v ∷ vs) [] h w = absurd h
+  new_stands : (n : ℕ) (v : Viewer Shot) (s : ReaderSeat) → IsNewSeat n (room_for before paths finales n) v (paths n) (finales n) s → IsViewerOf setting shots v → ReaderStands setting [] shots s
+  new_stands n v s h w =
+      let reader : s.pass.reader ≡ n = ap (λ (p : ReaderView). p.reader) h.0 in
+      let known : s.pass.known ≡ shots = ap (λ (p : ReaderView). p.known) h.0 ∙ w.2 in
+      let told : s.pass.told ≡ shots = ap (λ (p : ReaderView). p.told) h.0 ∙ w.3 in
+      let opens : s.pass.opens ≡ [] = ap (λ (p : ReaderView). p.opens) h.0 in
+      record {
+        board_is = ap (λ (p : ReaderView). p.board) h.0 ∙ w.0;
+        most_is = ap (λ (p : ReaderView). p.most) h.0 ∙ w.1;
+        few = let l = ap length known in omega (arith, l, one);
+        opened = record {
+          opened = subst (λ (es : List OpenEntry). AreOpened [] es) (sym opens) tt;
+          rises = subst (λ (es : List OpenEntry). Rises 0 es (length s.pass.known)) (sym opens) (omega arith);
+        };
+        told = ([], append-nil shots ∙ sym told);
+        room = ap (λ (p : ReaderView). p.room) h.0 ∙ all_opens n ∙ ap (λ (m : ℕ). length (opens_by m (steps (events_in setting)))) (sym reader);
+      }
+
+  pub readers_stand : (ns : List ℕ) (vs : List (Viewer Shot)) (ss : List ReaderSeat) → AreNewReaders (room_for before paths finales) paths finales ns vs ss → Each (IsViewerOf setting shots) vs → ReadersStand setting [] shots ss
+  readers_stand [] [] [] h w = λ k d lt. absurd (omega (arith, lt))
+  readers_stand (n ∷ ns) (v ∷ vs) (s ∷ ss) h w = All-cons (ReaderStands setting [] shots) s ss (new_stands n v s h.0 w.0) (readers_stand ns vs ss h.1 w.1)
+  readers_stand [] [] (s ∷ ss) h w = absurd h
+  readers_stand [] (v ∷ vs) ss h w = absurd h
+  readers_stand (n ∷ ns) [] ss h w = absurd h
+  readers_stand (n ∷ ns) (v ∷ vs) [] h w = absurd h

@@ -22,17 +22,21 @@ use Rattle.session_history.specs.Merged.{is_draw_step, is_open_by, IsPlaced, IsI
 use Rattle.session_history.proofs.CallerLemmas.{merged_is_published, count_more, count_same}
 use Rattle.session_script.specs.Scripts.{Fields}
 use Rattle.rehearsal.specs.Lines.{events_of}
-use Rattle.session_actors.specs.Chains.{DrawFields}
-use Rattle.session.specs.Lines.{IsArranged, commits_by, draws_in, asked_of, settles}
+use Rattle.session.specs.Chains.{DrawFields}
+use Rattle.session.specs.Shown.{AreShots}
+use Rattle.session_script.specs.Parts.{script_of_parts}
+use Rattle.session_script.specs.Ranges.{AreListed, IsInRanges}
+use Rattle.session.specs.Lines.{commits_by, draws_in, asked_of, settles}
 use Rattle.session.specs.Gathering.{asked_in}
-use Rattle.session.specs.Sessions.{AreCommitted, AreKnown, EndsSettled, IsSession}
+use Rattle.session.specs.Sessions.{AreCommitted, AreKnown, AreOnShots, IsShown, EndsSettled, IsSession}
 use Rattle.session.specs.Played.{open_of, opens_of, IsPlayed, fates_of, PlayedIsASession}
 use Rattle.session.proofs.Feeding.{fates_in, asked_by}
 use Rattle.session.proofs.Telling.{Told, Tells, merge_tells, none_of_other}
 use Rattle.session.proofs.Committed.{committed, HasPlace, HasNone, find_place, place_mapped}
-use Rattle.session.proofs.Scripted.{none_of_editor, none_of_reader, EndsDrawn, settles_last}
+use Rattle.session.proofs.Parted.{settles_last}
+use Rattle.session.proofs.Scripted.{none_of_editor, none_of_reader, EndsDrawn}
 use Rattle.session.proofs.InPlace.{opens_in_place}
-use Rattle.session.proofs.Opened.{in_order, are_answered, are_apart, are_numbers, actor_at, reader_told, none_opened}
+use Rattle.session.proofs.Opened.{in_order, are_answered, are_apart, are_numbers, actor_at, reader_told, reader_on_shots, none_opened}
 use Rattle.session.proofs.Settled.{steps, ends_settled, ends_whole, ends_answered}
 
 -- ---- draws
@@ -67,7 +71,8 @@ drawings_count id ws before fates (entries.Draw asked generation first count ∷
 
 -- ---- the parts of what was played
 
-module _ (script : Fields) (c : CatalogueState) (drawings : List Drawing) (shots : List Shot) (readers : List ReaderView) (a : IsArranged script) (p : IsPlayed script c drawings shots readers) where
+module _ (script : Fields) (c : CatalogueState) (drawings : List Drawing) (shots : List Shot) (readers : List ReaderView) (ranges : IsInRanges script) (listed : AreListed script)
+    (last : settles script ≡ true → EndsDrawn (draws_in (events_of script))) (p : IsPlayed script c drawings shots readers) where
   abbrev lines : List DrawFields
   lines = draws_in (events_of script)
 
@@ -90,15 +95,15 @@ module _ (script : Fields) (c : CatalogueState) (drawings : List Drawing) (shots
   parts = record {
     drawn = length-map lines (λ (d : DrawFields). d.fates) ∙ line_count;
     placed = are_placed;
-    in_order = subst (λ (n : ℕ). Each (IsInOrder n) opened) drawn_count (in_order script drawings shots p.shown script.readers readers p.read (actor_at script.readers (a.ranges).readers));
-    apart = are_apart script shots script.readers readers p.read ((a.ranges).readers).once;
+    in_order = subst (λ (n : ℕ). Each (IsInOrder n) opened) drawn_count (in_order script drawings shots p.shown script.readers readers p.read (actor_at script.readers ranges.readers));
+    apart = are_apart script shots script.readers readers p.read (ranges.readers).once;
   }
 
   ready : IsReady c script.editors (fates_of script) opened
   ready = record {
     history = (p.gathered).history;
     parts = parts;
-    numbers = are_numbers script.editors (a.ranges).editors;
+    numbers = are_numbers script.editors ranges.editors;
     answered = subst (λ (ds : List Drawing). AreAnswered ds opened) (sym (p.gathered).drawn) (are_answered script drawings shots p.shown script.readers readers p.read);
   }
 
@@ -114,7 +119,7 @@ module _ (script : Fields) (c : CatalogueState) (drawings : List Drawing) (shots
           (committed script.editors ready.numbers h.0 h.1 (commits_by (get_or script.editors h.0 0) (events_of script)) [] c.entries [] merge refl tells
           ((p.gathered).commits h.0 (commits_by (get_or script.editors h.0 0) (events_of script)) (place_mapped (λ (e : ℕ). commits_by e (events_of script)) script.editors h.0 h.1)))
       by (inr lacks) =
-          subst (λ (ls : List (List Edit)). AreCommitted editor [] ls merge) (sym (none_of_editor script a editor lacks)) (none_of_other script.editors editor lacks c.entries merge tells)
+          subst (λ (ls : List (List Edit)). AreCommitted editor [] ls merge) (sym (none_of_editor script listed editor lacks)) (none_of_other script.editors editor lacks c.entries merge tells)
 
   module _ (m : IsMerged c script.editors (fates_of script) opened merge) where
     draws : draws_in (steps merge) ≡ lines
@@ -138,11 +143,36 @@ module _ (script : Fields) (c : CatalogueState) (drawings : List Drawing) (shots
         by (inr lacks) =
             let none : with_draws_before (λ (x : Told). is_open_by reader x.0) (λ (x : Told). is_draw_step x.0) 0 merge ≡ [] =
             m.opens reader some most ∙ ap (map (λ (o : OpenFields). (o.draws, opened_of reader o))) (none_opened script shots script.editors script.readers readers reader p.read lacks) in
-            subst (λ asked. AreKnown reader asked (with_draws_before (λ (x : Told). is_open_by reader x.0) (λ (x : Told). is_draw_step x.0) 0 merge)) (sym (none_of_reader script a reader lacks))
+            subst (λ asked. AreKnown reader asked (with_draws_before (λ (x : Told). is_open_by reader x.0) (λ (x : Told). is_draw_step x.0) 0 merge)) (sym (none_of_reader script listed reader lacks))
             (subst (AreKnown reader []) (sym none) tt)
 
+    drawn : drawings ≡ (world_after 1 c.weights (steps merge)).drawings
+    drawn = sym (m.drawings ∙ (p.gathered).drawn) ∙ ap (λ (n : ℕ). (world_after n c.weights (steps merge)).drawings) p.carousel
+
+    on_shots : (reader : ℕ) → 1 ≤ reader → reader ≤ 64
+        → AreOnShots shots (with_draws_before (λ (x : Told). is_open_by reader x.0) (λ (x : Told). is_draw_step x.0) 0 merge)
+    on_shots reader some most = by (find_place script.readers reader)
+      where
+        by : HasPlace script.readers reader ⊎ HasNone script.readers reader
+            → AreOnShots shots (with_draws_before (λ (x : Told). is_open_by reader x.0) (λ (x : Told). is_draw_step x.0) 0 merge)
+        by (inl h) =
+            let r = reader_on_shots script drawings shots p.shown script.readers readers p.read h.0 h.1 in
+            let v : ReaderView = r.0 in
+            let its : opens_by (session_merge script.editors) reader opened ≡ map open_of v.opens =
+            ap (λ (n : ℕ). opens_by (session_merge script.editors) n opened) (sym (r.2 ∙ h.2)) ∙ m.own h.0 (opens_of v) r.1 in
+            let on : AreOnShots shots (map (λ (o : OpenFields). (o.draws, opened_of reader o)) (map open_of v.opens)) =
+            subst (λ (n : ℕ). AreOnShots shots (map (λ (o : OpenFields). (o.draws, opened_of n o)) (map open_of v.opens))) h.2 r.3 in
+            subst (AreOnShots shots) (ap (map (λ (o : OpenFields). (o.draws, opened_of reader o))) (sym its) ∙ sym (m.opens reader some most)) on
+        by (inr lacks) =
+            let none : with_draws_before (λ (x : Told). is_open_by reader x.0) (λ (x : Told). is_draw_step x.0) 0 merge ≡ [] =
+            m.opens reader some most ∙ ap (map (λ (o : OpenFields). (o.draws, opened_of reader o))) (none_opened script shots script.editors script.readers readers reader p.read lacks) in
+            subst (AreOnShots shots) (sym none) tt
+
+    shown : IsShown c.weights merge
+    shown = record { shots = shots; are = subst (λ (ds : List Drawing). AreShots ds shots) drawn p.shown; opens = on_shots }
+
     settled : settles script ≡ true → EndsSettled (steps merge)
-    settled s = ends_settled script.editors c merge tells (p.settled s) (subst EndsDrawn (sym draws) (settles_last script a s))
+    settled s = ends_settled script.editors c merge tells (p.settled s) (subst EndsDrawn (sym draws) (last s))
 
     few : length (draws_in (steps merge)) ≤ 16777216
     few = let n = ap length draws in let k = line_count in let most = ((p.gathered).history).draws in omega (arith, n, k, most)
@@ -163,6 +193,7 @@ module _ (script : Fields) (c : CatalogueState) (drawings : List Drawing) (shots
       commits = λ editor some most. commits editor;
       draws = draws;
       opens = opens;
+      shown = shown;
       in_place = opens_in_place script.editors opened (fates_of script) c.entries;
       settled = settled;
       whole = λ s. ends_whole grow whole c.weights (steps merge) ((p.gathered).history).weights (settled s) published few;
@@ -173,4 +204,4 @@ module _ (script : Fields) (c : CatalogueState) (drawings : List Drawing) (shots
   all merges grow whole opening = (parts, session (merges c script.editors (fates_of script) opened ready) grow whole opening)
 
 pub played : EveryMergeIsMerged → HistoriesGrow → EverySettledRunIsWhole → EverySettledRunOpens → PlayedIsASession
-played merges grow whole opening script c drawings shots readers a p = all script c drawings shots readers a p merges grow whole opening
+played merges grow whole opening parts c drawings shots readers ranges listed p = all (script_of_parts parts) c drawings shots readers ranges listed (settles_last parts) p merges grow whole opening

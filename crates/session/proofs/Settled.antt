@@ -23,13 +23,14 @@ use Rattle.rehearsal.specs.Lines.{settling_step}
 use Rattle.session_history.specs.Merging.{Each}
 use Rattle.session_history.specs.Merged.{is_draw_step}
 use Rattle.session_history.specs.Merges.{IsRunOfWorld}
-use Rattle.session_actors.specs.Chains.{DrawFields}
+use Rattle.session.specs.Chains.{DrawFields}
 use Rattle.session.specs.Lines.{draws_in}
 use Rattle.session.specs.Played.{IsSettled}
 use Rattle.session.specs.Sessions.{EndsSettled, EndsWhole, EndsAnswered}
 use Rattle.session.proofs.Lists.{count_append}
 use Rattle.session.proofs.Telling.{Told, IsOpenTold, Tells, tells_cut, only_opens}
-use Rattle.session.proofs.Scripted.{draws_append, settling_draw, EndsDrawn}
+use Rattle.session.proofs.Scripted.{settling_draw, EndsDrawn}
+use Rattle.session.proofs.Staged.{draws_more}
 
 -- ---- a draw adds no tree, and one to the draws
 
@@ -105,7 +106,7 @@ settles_so grow ws events ends published few =
     let twice : w ≡ happens (happens (world_after 1 ws before) settling_step) settling_step = after_all-append (initial_world 1 ws) before (settling_step ∷ settling_step ∷ []) in
     let IsGood : WorldState → Type 0 = λ v. ArePublishable v.catalogue.carousel (trees_of v.catalogue) in
     let parts : draws_in events ≡ draws_in before ++ settling_draw ∷ (draws_in ends.1 ++ settling_draw ∷ draws_in ends.2) =
-    ap draws_in ends.3 ∙ draws_append before (settling_step ∷ (ends.1 ++ settling_step ∷ ends.2)) ∙ ap (λ l. draws_in before ++ settling_draw ∷ l) (draws_append ends.1 (settling_step ∷ ends.2)) in
+    ap draws_in ends.3 ∙ draws_more before (settling_step ∷ (ends.1 ++ settling_step ∷ ends.2)) ∙ ap (λ l. draws_in before ++ settling_draw ∷ l) (draws_more ends.1 (settling_step ∷ ends.2)) in
     let counted = ap length parts in
     let outer = length-append (draws_in before) (settling_draw ∷ (draws_in ends.1 ++ settling_draw ∷ draws_in ends.2)) in
     let inner = length-append (draws_in ends.1) (settling_draw ∷ draws_in ends.2) in
@@ -149,7 +150,7 @@ opens_last [] z [] a reader path h opens none = absurd (cc)
 opens_last [] z (y ∷ b) a reader path h opens none = let e : z ≡ b ++ Open reader path ∷ a = cc in all_behind b a (Open reader path) (subst (All IsOpening) e opens)
 opens_last (x ∷ xs) z [] a reader path h opens none =
     let e : xs ++ settling_step ∷ z ≡ a = cc in
-    let some = ap length (sym (draws_append xs (settling_step ∷ z)) ∙ ap draws_in e ∙ none) in
+    let some = ap length (sym (draws_more xs (settling_step ∷ z)) ∙ ap draws_in e ∙ none) in
     let size = length-append (draws_in xs) (settling_draw ∷ draws_in z) in
     absurd (omega (arith, some, size))
 opens_last (x ∷ xs) z (y ∷ b) a reader path h opens none = opens_last xs z b a reader path (cc) opens none
@@ -192,8 +193,8 @@ draw_of fates = record { asked = 1048576; fates = fates }
 -- the draws of such events, and that the fates of the last two are those of `settle`
 drawn_at_end : (a b z : List Step) (f g : List Fate) → All IsOpening b → All IsOpening z → draws_in (a ++ Draw 1048576 f ∷ b ++ Draw 1048576 g ∷ z) ≡ (draws_in a ++ draw_of f ∷ []) ++ draw_of g ∷ []
 drawn_at_end a b z f g opens later =
-    draws_append (a ++ Draw 1048576 f ∷ b) (Draw 1048576 g ∷ z)
-    ∙ ap (λ l. l ++ draw_of g ∷ draws_in z) (draws_append a (Draw 1048576 f ∷ b))
+    draws_more (a ++ Draw 1048576 f ∷ b) (Draw 1048576 g ∷ z)
+    ∙ ap (λ l. l ++ draw_of g ∷ draws_in z) (draws_more a (Draw 1048576 f ∷ b))
     ∙ (λ i. (draws_in a ++ draw_of f ∷ no_open_draws b opens i) ++ draw_of g ∷ no_open_draws z later i)
 
 ends_by : (a b z events : List Step) (f g : List Fate) → events ≡ a ++ Draw 1048576 f ∷ b ++ Draw 1048576 g ∷ z → All IsOpening b → All IsOpening z

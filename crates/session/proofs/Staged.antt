@@ -1,15 +1,17 @@
 -- Events, and what each actor has to do in them, in parts.
-use Rattle.std.proofs.Common.{◌≡◌, ℕ, suc, ◌+◌, ◌==◌, Bool, true, false, if◌then◌else◌, List, [], ◌∷◌, ◌++◌, map, length, refl, sym, ap, ◌∙◌, arith, append-nil, append_assoc}
-use Rattle.std.proofs.lemmas.List.{map-append}
+use Rattle.std.proofs.Common.{◌≡◌, ℕ, suc, ◌+◌, ◌==◌, if◌then◌else◌, List, [], ◌∷◌, ◌++◌, map, length, refl, sym, ap, ◌∙◌, arith, append-nil, append_assoc}
+use Rattle.std.proofs.lemmas.List.{map-append, length-append}
 use Rattle.path_tree.specs.Paths.{PathNames}
 use Rattle.path_tree.specs.declared.tree.Edit.{Edit}
 use Rattle.session_script.specs.declared.script.Stage.{Stage}
+use Rattle.session_script.specs.declared.script.Stage.TheVariants.{Before, During, After}
 use Rattle.carousel_world.specs.Events.{Step, Commit, Draw, Open}
-use Rattle.session_actors.specs.Chains.{DrawFields}
-use Rattle.session_actors.specs.Opened.{Asked}
+use Rattle.session.specs.Chains.{DrawFields}
+use Rattle.session.specs.Opened.{Asked}
 use Rattle.session.specs.Lines.{commits_by, draws_in, opens_by, asked_from, least_for}
-use Rattle.session.specs.Acting.{staged_where, steps_where}
-pub use Rattle.session.specs.Ending.{steps}
+use Rattle.session.specs.Acting.{Setting, done_in, events_in}
+use Rattle.session.specs.Plans.{above, at_end, before_steps, below, during_steps, end_steps}
+pub use Rattle.session.specs.Plans.{steps}
 
 pub commits_more : (n : ℕ) (xs ys : List Step) → commits_by n (xs ++ ys) ≡ commits_by n xs ++ commits_by n ys
 commits_more n [] ys = refl
@@ -29,17 +31,6 @@ opens_more r (Commit m edits ∷ xs) ys = opens_more r xs ys
 opens_more r (Draw asked fates ∷ xs) ys = opens_more r xs ys
 opens_more r (Open reader path ∷ xs) ys = ap (λ (zs : List PathNames). (if reader == r then path ∷ [] else []) ++ zs) (opens_more r xs ys) ∙ sym (append_assoc (if reader == r then path ∷ [] else []) (opens_by r xs) (opens_by r ys))
 
-where_if : (test : Stage → Bool) (t : Bool) (e : Stage × Step) (xs ys : List (Stage × Step)) → (zs : List (Stage × Step)) → zs ≡ xs ++ ys → (if t then e ∷ zs else zs) ≡ (if t then e ∷ xs else xs) ++ ys
-where_if test true e xs ys zs same = ap (λ (ws : List (Stage × Step)). e ∷ ws) same
-where_if test false e xs ys zs same = same
-
-pub where_more : (test : Stage → Bool) (xs ys : List (Stage × Step)) → staged_where test (xs ++ ys) ≡ staged_where test xs ++ staged_where test ys
-where_more test [] ys = refl
-where_more test (e ∷ xs) ys = where_if test (test e.0) e (staged_where test xs) (staged_where test ys) (staged_where test (xs ++ ys)) (where_more test xs ys)
-
-pub steps_more : (test : Stage → Bool) (xs ys : List (Stage × Step)) → steps_where test (xs ++ ys) ≡ steps_where test xs ++ steps_where test ys
-steps_more test xs ys = ap (map (λ (e : Stage × Step). e.1)) (where_more test xs ys) ∙ map-append (λ (e : Stage × Step). e.1) (staged_where test xs) (staged_where test ys)
-
 pub asked_more : (r before all above : ℕ) (xs ys : List (Stage × Step))
     → asked_from r before all above (xs ++ ys) ≡ asked_from r before all above xs ++ asked_from r before all (above + length (draws_in (steps xs))) ys
 asked_more r before all above [] ys = ap (λ (n : ℕ). asked_from r before all n ys) (omega arith)
@@ -50,26 +41,40 @@ asked_more r before all above ((stage, Open reader path) ∷ xs) ys =
     let one : List Asked = if reader == r then record { path = path; least = least_for above before all stage } ∷ [] else [] in
     ap (λ (zs : List Asked). one ++ zs) (asked_more r before all above xs ys) ∙ sym (append_assoc one (asked_from r before all above xs) (asked_from r before all (above + length (draws_in (steps xs))) ys))
 
--- ---- one event more, of what is gathered of each event
+-- ---- events by their stages
 
-module _ {A : Type 0} (f : List Step → List A) (none : f [] ≡ []) (more : (xs ys : List Step) → f (xs ++ ys) ≡ f xs ++ f ys) where
-  one_if : (test : Stage → Bool) (done : List (Stage × Step)) (e : Stage × Step)
-      → f (steps_where test (done ++ e ∷ [])) ≡ f (steps_where test done) ++ f (steps (if test e.0 then e ∷ [] else []))
-  one_if test done e = ap f (steps_more test done (e ∷ [])) ∙ more (steps_where test done) (steps_where test (e ∷ []))
+pub unstaged : (stage : Stage) (es : List Step) → steps (map (λ (e : Step). (stage, e)) es) ≡ es
+unstaged stage [] = refl
+unstaged stage (e ∷ es) = ap (λ (zs : List Step). e ∷ zs) (unstaged stage es)
 
-  -- it is of the stage
-  pub next_of : (test : Stage → Bool) (done : List (Stage × Step)) (e : Stage × Step) → test e.0 ≡ true → f (steps_where test (done ++ e ∷ [])) ≡ f (steps_where test done) ++ f (e.1 ∷ [])
-  next_of test done e is = one_if test done e ∙ ap (λ (t : Bool). f (steps_where test done) ++ f (steps (if t then e ∷ [] else []))) is
+pub steps_more : (xs ys : List (Stage × Step)) → steps (xs ++ ys) ≡ steps xs ++ steps ys
+steps_more xs ys = map-append (λ (e : Stage × Step). e.1) xs ys
 
-  -- it is of another
-  pub other_of : (test : Stage → Bool) (done : List (Stage × Step)) (e : Stage × Step) → test e.0 ≡ false → f (steps_where test (done ++ e ∷ [])) ≡ f (steps_where test done)
-  other_of test done e isnt = one_if test done e ∙ ap (λ (t : Bool). f (steps_where test done) ++ f (steps (if t then e ∷ [] else []))) isnt
-      ∙ ap (λ (xs : List A). f (steps_where test done) ++ xs) none ∙ append-nil (f (steps_where test done))
+pub above_more : (xs ys : List Step) → above (xs ++ ys) ≡ above xs ++ above ys
+above_more xs ys = map-append (λ (e : Step). (Before, e)) xs ys
 
-  -- nothing is gathered of it
-  pub idle_of : (test : Stage → Bool) (done : List (Stage × Step)) (e : Stage × Step) → f (e.1 ∷ []) ≡ [] → f (steps_where test (done ++ e ∷ [])) ≡ f (steps_where test done)
-  idle_of test done e idle = one_if test done e ∙ ap (λ (xs : List A). f (steps_where test done) ++ xs) (by_test (test e.0)) ∙ append-nil (f (steps_where test done))
-    where
-      by_test : (t : Bool) → f (steps (if t then e ∷ [] else [])) ≡ []
-      by_test true = idle
-      by_test false = none
+pub steps_done : (setting : Setting) → steps (done_in setting) ≡ before_steps setting.parts ++ during_steps setting.parts
+steps_done setting =
+    steps_more (above (before_steps setting.parts)) (below (during_steps setting.parts))
+    ∙ (λ i. unstaged Before (before_steps setting.parts) i ++ unstaged During (during_steps setting.parts) i)
+
+pub steps_all : (setting : Setting) → steps (events_in setting) ≡ steps (done_in setting) ++ end_steps setting.parts
+steps_all setting =
+    steps_more (done_in setting) (at_end (end_steps setting.parts)) ∙ ap (λ (zs : List Step). steps (done_in setting) ++ zs) (unstaged After (end_steps setting.parts))
+
+-- ---- how many of them there are, part by part
+
+module _ {A : Type 0} (f : List Step → List A) (more : (xs ys : List Step) → f (xs ++ ys) ≡ f xs ++ f ys) (setting : Setting) where
+  pub count_done : length (f (steps (done_in setting))) ≡ length (f (before_steps setting.parts)) + length (f (during_steps setting.parts))
+  count_done =
+      ap (λ (es : List Step). length (f es)) (steps_done setting) ∙ ap (λ (xs : List A). length xs) (more (before_steps setting.parts) (during_steps setting.parts))
+      ∙ length-append (f (before_steps setting.parts)) (f (during_steps setting.parts))
+
+  pub count_all : length (f (steps (events_in setting))) ≡ length (f (steps (done_in setting))) + length (f (end_steps setting.parts))
+  count_all =
+      ap (λ (es : List Step). length (f es)) (steps_all setting) ∙ ap (λ (xs : List A). length xs) (more (steps (done_in setting)) (end_steps setting.parts))
+      ∙ length-append (f (steps (done_in setting))) (f (end_steps setting.parts))
+
+-- nothing is gathered of one event more
+pub idle_of : {A : Type 0} (f : List Step → List A) → ((xs ys : List Step) → f (xs ++ ys) ≡ f xs ++ f ys) → (done : List Step) (e : Step) → f (e ∷ []) ≡ [] → f (done ++ e ∷ []) ≡ f done
+idle_of f more done e idle = more done (e ∷ []) ∙ ap (λ (xs : List _). f done ++ xs) idle ∙ append-nil (f done)

@@ -1,5 +1,5 @@
--- All seats of a session, after some of its events.
-use Rattle.std.specs.Prelude.{◌≡◌, List}
+-- All seats of a session, after some of its events above `start`.
+use Rattle.std.specs.Prelude.{◌≡◌, ℕ, List, map}
 use Rattle.std.specs.List.{All, Contains}
 use Rattle.path_resolver.specs.declared.shot.Shot.{Shot}
 use Rattle.shot_board.specs.declared.shower.Shower.{Shower}
@@ -7,11 +7,12 @@ use Rattle.shot_board.specs.declared.shown.Shown.{Shown}
 use Rattle.shot_board.specs.Showers.{shower_board, most_by}
 use Rattle.left_right.specs.declared.Absorb.{Ghosts}
 use Rattle.station.specs.declared.station.Station.{Station}
-use Rattle.session_script.specs.declared.script.Stage.{Stage}
 use Rattle.carousel_world.specs.Events.{Step, Commit, Draw, Open}
-use Rattle.session_actors.specs.Seats.{IsEditorSeat}
+use Rattle.session.specs.Seats.{HasFed, IsDrawLine, IsEditorSeat, draw_of}
 use Rattle.session.specs.declared.cast.Cast.{Cast}
-use Rattle.session.specs.Acting.{AreApart, EditorsStand, FeederStands, ReadersStand, Setting, draws_of, numbers_of, readers_of}
+use Rattle.session.specs.Lines.{commits_by, draws_in, opens_by}
+use Rattle.session.specs.Plans.{during_steps, end_steps}
+use Rattle.session.specs.Acting.{AreApart, EditorsStand, ReadersStand, Setting, asked_for, draws_of, editor_plan, numbers_of, planned_for, reader_plan, readers_of}
 
 -- no two editors and no two readers share a number, and each editor's pass is one of the station
 pub record IsCast {X : _} {F : _} {g : _} (s : Station X F g) (cast : Cast) : Type 0 where
@@ -25,19 +26,28 @@ IsMentionedIn cast (Commit editor edits) = Contains (numbers_of cast.editors.ite
 IsMentionedIn cast (Draw asked fates) = Unit {0}
 IsMentionedIn cast (Open reader path) = Contains (readers_of cast.readers.items) reader
 
-abbrev pub AllMentionedIn : Cast → List (Stage × Step) → Type 0
-AllMentionedIn cast events = All (λ (e : Stage × Step). IsMentionedIn cast e.1) events
+abbrev pub AllMentionedIn : Cast → List Step → Type 0
+AllMentionedIn cast events = All (IsMentionedIn cast) events
 
--- after these of the setting's events: those before `start` happened, after each draw a shot was shown, and those after it lie before their actors
-pub record CastStands {X : _} {F : _} {g : _} (setting : Setting) (s : Station X F g) (done : List (Stage × Step)) (shots : List Shot) (cast : Cast) : Type 0 where
+-- before each actor of the script lies what it has to do below `start`, and before each reader what it opens at the end
+pub record HasWork (setting : Setting) (cast : Cast) : Type 0 where
+  pub editors : map editor_plan cast.editors.items ≡ map (planned_for (λ n. commits_by n (during_steps setting.parts))) setting.parts.editors.items
+  pub draws : map draw_of cast.feeder.draws.items ≡ draws_in (during_steps setting.parts)
+  pub in_range : All IsDrawLine cast.feeder.draws.items
+  pub readers : map reader_plan cast.readers.items
+      ≡ map (asked_for (λ n. opens_by n (during_steps setting.parts)) (λ n. opens_by n (end_steps setting.parts))) setting.parts.readers.items
+
+-- after these of the setting's events above `start`, after each draw of which a shot was shown
+pub record CastStands {X : _} {F : _} {g : _} (setting : Setting) (s : Station X F g) (done : List Step) (shots : List Shot) (cast : Cast) : Type 0 where
   pub editors : EditorsStand s done cast.editors.items
-  pub feeder : FeederStands s done shots cast.feeder
+  pub feeder : HasFed s (draws_in done) cast.feeder shots
   pub readers : ReadersStand setting done shots cast.readers.items
 
--- the same actors
+-- the same actors, before whom the same lies
 pub record AreSameActors (old new : Cast) : Type 0 where
-  pub editors : numbers_of new.editors.items ≡ numbers_of old.editors.items
-  pub readers : readers_of new.readers.items ≡ readers_of old.readers.items
+  pub editors : map editor_plan new.editors.items ≡ map editor_plan old.editors.items
+  pub draws : new.feeder.draws ≡ old.feeder.draws
+  pub readers : map reader_plan new.readers.items ≡ map reader_plan old.readers.items
 
 -- the setting's board, which has room for a shot after each draw
 pub record IsBoardOf {X : Type 0} {takes : Ghosts (Shown Shot) (Shown Shot) X} (setting : Setting) (shower : Shower Shot X takes) : Type 0 where

@@ -12,7 +12,7 @@ use Rattle.carousel_world.specs.World.{Drawing, drawing_of}
 use Rattle.session_history.specs.Merging.{Each}
 use Rattle.session_history.specs.Merges.{drawings_of}
 use Rattle.session_history.specs.Merged.{IsPlaced, is_commit_at}
-use Rattle.session_actors.specs.Chains.{Seen, nothing_seen, Commits, Draws, DrawFields}
+use Rattle.session.specs.Chains.{Seen, nothing_seen, Commits, Draws, DrawFields}
 use Rattle.cycle_planner.specs.declared.TheConstants.{MOST_DRAWN}
 use Rattle.dsi_dii.specs.declared.TheConstants.{LAST_GENERATION}
 use Rattle.generation_catalogue.specs.declared.journal.TheConstants.{MOST_DRAWS, MOST_PUT_BYTES}

@@ -1,8 +1,13 @@
+pub mod Chains
+pub mod Shown
+pub mod Opened
+pub mod Seats
+pub mod ByActor
 pub mod Lines
+pub mod Plans
 pub mod Sessions
 pub mod Gathering
 pub mod Played
-pub mod Texts
 pub mod Acting
 pub mod Casting
 pub mod Threads

@@ -1,17 +1,16 @@
 -- From a script to what each actor of its session is asked for. The language of scripts is this project's own.
-use Rattle.std.specs.Prelude.{◌≡◌, ◌⊎◌, ℕ, suc, ◌==◌, Bool, true, false, List, [], ◌∷◌, ◌++◌, map, length, if◌then◌else◌}
-use Rattle.std.specs.List.{All, Contains, list_any, count_by}
+use Rattle.std.specs.Prelude.{ℕ, suc, ◌==◌, Bool, true, false, List, [], ◌∷◌, ◌++◌, map, length, if◌then◌else◌}
+use Rattle.std.specs.List.{list_any, count_by}
 use Rattle.path_tree.specs.Paths.{PathNames}
 use Rattle.path_tree.specs.declared.tree.Edit.{Edit}
 use Rattle.session_script.specs.declared.script.Stage.{Stage}
 use Rattle.session_script.specs.declared.script.Stage.TheVariants.{Before, During, After}
 use Rattle.session_script.specs.Scripts.{Act, LineFields, Fields}
 use Rattle.session_script.specs.Scripts as acts
-use Rattle.session_script.specs.Ranges.{IsInRanges}
 use Rattle.carousel_world.specs.Events.{Step, Commit, Draw, Open}
 use Rattle.rehearsal.specs.Lines.{Pending, none_pending, pending_after, events_of_line}
-use Rattle.session_actors.specs.Chains.{DrawFields}
-use Rattle.session_actors.specs.Opened.{Asked}
+use Rattle.session.specs.Chains.{DrawFields}
+use Rattle.session.specs.Opened.{Asked}
 
 -- ---- events
 
@@ -82,7 +81,7 @@ draws_before_start script = count_by is_draw_before (staged_events script)
 abbrev pub asked_of : ℕ → Fields → List Asked
 asked_of reader script = asked_from reader (draws_before_start script) (all_draws script) 0 (staged_events script)
 
--- ---- what is true of each script that a text gives
+-- ---- whether it settles
 
 abbrev pub is_settle : Act → Bool
 is_settle acts.Settle = true
@@ -90,38 +89,3 @@ is_settle _ = false
 
 abbrev pub settles : Fields → Bool
 settles script = list_any (λ (l : LineFields). is_settle l.act) script.lines
-
--- who a line is of stands among these
-abbrev pub IsMentioned : List ℕ → List ℕ → Act → Type 0
-IsMentioned editors readers (acts.Put editor path content) = Contains editors editor
-IsMentioned editors readers (acts.Fill editor path size from) = Contains editors editor
-IsMentioned editors readers (acts.Remove editor path) = Contains editors editor
-IsMentioned editors readers (acts.Commit editor) = Contains editors editor
-IsMentioned editors readers (acts.Draw asked fates) = Unit {0}
-IsMentioned editors readers (acts.Open reader path) = Contains readers reader
-IsMentioned editors readers acts.Settle = Unit {0}
-
--- a line before `start`, or after it, that doesn't settle
-abbrev pub IsLineOf : Stage → LineFields → Type 0
-IsLineOf stage l = (l.stage ≡ stage) × (is_settle l.act ≡ false)
-
--- a line at the end: an open
-abbrev pub IsFinale : LineFields → Type 0
-IsFinale l = (l.stage ≡ After) × (reader : ℕ) × (path : PathNames) × (l.act ≡ acts.Open reader path)
-
--- at the end first the one line that settles, if there is one
-abbrev pub AreEnds : List LineFields → Type 0
-AreEnds [] = Unit {0}
-AreEnds (l ∷ ls) = ((l.stage ≡ After) × (l.act ≡ acts.Settle) × All IsFinale ls) ⊎ (IsFinale l × All IsFinale ls)
-
--- a script's lines stand by their stages; its numbers are within their ranges; and it lists each editor and reader that a line names
-pub record IsArranged (script : Fields) : Type 0 where
-  pub ranges : IsInRanges script
-  pub mentioned : All (λ (l : LineFields). IsMentioned script.editors script.readers l.act) script.lines
-  pub before : List LineFields
-  pub during : List LineFields
-  pub ends : List LineFields
-  pub lines : script.lines ≡ before ++ during ++ ends
-  pub are_before : All (IsLineOf Before) before
-  pub are_during : All (IsLineOf During) during
-  pub are_ends : AreEnds ends

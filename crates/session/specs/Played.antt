@@ -10,12 +10,15 @@ use Rattle.session_history.specs.declared.opens.Open.{Open}
 use Rattle.session_history.specs.Merging.{merge_of}
 use Rattle.session_history.specs.Merges.{ReaderFields, session_merge}
 use Rattle.session_history.specs.Merged.{AreParts}
+use Rattle.session_script.specs.declared.parts.Parts.{Parts}
+use Rattle.session_script.specs.Parts.{script_of_parts}
+use Rattle.session_script.specs.Ranges.{AreListed, IsInRanges}
 use Rattle.session_script.specs.Scripts.{Fields}
 use Rattle.rehearsal.specs.Lines.{events_of}
-use Rattle.session_actors.specs.Chains.{DrawFields}
-use Rattle.session_actors.specs.Shown.{AreShots}
-use Rattle.session_actors.specs.Opened.{HasOpened}
-use Rattle.session.specs.Lines.{IsArranged, commits_by, draws_in, asked_of, settles}
+use Rattle.session.specs.Chains.{DrawFields}
+use Rattle.session.specs.Shown.{AreShots}
+use Rattle.session.specs.Opened.{HasOpened}
+use Rattle.session.specs.Lines.{commits_by, draws_in, asked_of, settles}
 use Rattle.session.specs.Gathering.{IsGathered}
 use Rattle.session.specs.Sessions.{IsSession}
 use Rattle.cycle_planner.specs.declared.TheConstants.{MOST_DRAWN}
@@ -51,8 +54,12 @@ abbrev pub fates_of : Fields → List (List Fate)
 fates_of script = map (λ (d : DrawFields). d.fates) (draws_in (events_of script))
 
 -- the parts of what was played fit together, and their merge is a session of the script
-abbrev pub PlayedIsASession : Type 0
-PlayedIsASession = (script : Fields) (c : CatalogueState) (drawings : List Drawing) (shots : List Shot) (readers : List ReaderView)
-    → IsArranged script → IsPlayed script c drawings shots readers
-    → AreParts c.entries (fates_of script) script.editors (map opens_of readers)
+abbrev pub IsItsSession : Fields → CatalogueState → List ReaderView → Type 0
+IsItsSession script c readers =
+    AreParts c.entries (fates_of script) script.editors (map opens_of readers)
     × IsSession c.weights script (merge_of (session_merge script.editors) (map opens_of readers) (fates_of script) c.entries)
+
+abbrev pub PlayedIsASession : Type 0
+PlayedIsASession = (parts : Parts) (c : CatalogueState) (drawings : List Drawing) (shots : List Shot) (readers : List ReaderView)
+    → IsInRanges (script_of_parts parts) → AreListed (script_of_parts parts) → IsPlayed (script_of_parts parts) c drawings shots readers
+    → IsItsSession (script_of_parts parts) c readers

@@ -1,10 +1,13 @@
 -- What a session is: a history of its script's commits, draws and opens. The order in which a script's actors run is this project's own.
-use Rattle.std.specs.Prelude.{◌≡◌, ◌⊎◌, ℕ, ◌+◌, ◌<◌, ◌≤◌, Bool, true, false, List, [], ◌∷◌, ◌++◌, map, length, if◌then◌else◌}
+use Rattle.std.specs.Prelude.{◌≡◌, ◌⊎◌, ℕ, ◌+◌, ◌<◌, ◌≤◌, Bool, true, false, List, [], ◌∷◌, ◌++◌, map, length, Some, slice_get, if◌then◌else◌}
 use Rattle.std.specs.List.{All, filter, count_by, sum_by}
 use Rattle.path_tree.specs.Paths.{PathNames}
 use Rattle.path_tree.specs.Trees.{node_at}
 use Rattle.path_tree.specs.declared.tree.Edit.{Edit}
 use Rattle.generation.specs.Lawful.{tree_at}
+use Rattle.path_resolver.specs.declared.shot.Shot.{Shot}
+use Rattle.path_resolver.specs.Resolving.{answer_of}
+use Rattle.path_resolver.specs.Shots.{held_of}
 use Rattle.generation_catalogue.specs.History.{put_bytes, trees_of}
 use Rattle.carousel_world.specs.Events.{Step, Commit, Draw, Open}
 use Rattle.carousel_world.specs.World.{InRange, candidates_in}
@@ -18,7 +21,8 @@ use Rattle.session_history.specs.Merged.{is_draw_step, is_commit_of, is_open_by}
 use Rattle.session_history.specs.Merges.{IsRunOfWorld}
 use Rattle.session_script.specs.Scripts.{Fields}
 use Rattle.rehearsal.specs.Lines.{events_of, settling_step}
-use Rattle.session_actors.specs.Opened.{Asked}
+use Rattle.session.specs.Opened.{Asked}
+use Rattle.session.specs.Shown.{AreShots}
 use Rattle.session.specs.Lines.{commits_by, draws_in, asked_of, settles}
 use Rattle.dsi_dii.specs.declared.TheConstants.{LAST_GENERATION}
 use Rattle.generation_catalogue.specs.declared.journal.TheConstants.{MOST_PUT_BYTES}
@@ -100,9 +104,33 @@ EndsAnswered weights told =
     → filter (λ (x : Step × Reply). is_draw_step x.0) after ≡ []
     → Answers reply (node_at (tree_at (broadcast_of w).trees (length (trees_of w.catalogue))) path)
 
+-- ---- shots
+
+-- an open that was answered on the shot of this number
+abbrev pub IsOnShot : List Shot → ℕ → Step × Reply → Type 0
+IsOnShot shots k (Open reader path, replies.Opened label answer) =
+    (shot : Shot) × (slice_get shots k ≡ Some shot) × (label ≡ shot.label) × (answer ≡ answer_of (held_of shot) path)
+IsOnShot shots k _ = ⊥
+
+-- each of them, with so many draws before it, was answered on the shot of that number
+abbrev pub AreOnShots : List Shot → List (ℕ × (Step × Reply)) → Type 0
+AreOnShots shots [] = Unit {0}
+AreOnShots shots (x ∷ xs) = IsOnShot shots x.0 x.1 × AreOnShots shots xs
+
+-- There were these shots: one before the first draw, and one after each. That of number k is what is held after the first k draws, and
+-- each open is answered on the one whose number is that of the draws before it.
+pub record IsShown (weights : List ℕ) (told : List (Step × Reply)) : Type 0 where
+  pub shots : List Shot
+  pub are : AreShots (world_after 1 weights (map (λ (x : Step × Reply). x.0) told)).drawings shots
+  pub opens : (reader : ℕ) → 1 ≤ reader → reader ≤ 64
+      → AreOnShots shots (with_draws_before (λ (x : Step × Reply). is_open_by reader x.0) (λ (x : Step × Reply). is_draw_step x.0) 0 told)
+
+-- ---- all of it
+
 -- The events are those of the script: each editor's commits in written order, but for those that found no room; the draws in written
 -- order; each reader's opens in written order, an open above `start` after the draws above it, one below `start` after those above
--- `start`, and a finale after all. Each open stands right after the draw that it answers by, in the order of the readers' numbers. The
+-- `start`, and a finale after all. Each open stands right after the draw that it answers by, in the order of the readers' numbers, and is
+-- answered on the shot that was shown after that draw, which is what is held then. The
 -- draws of `settle` are the last events but opens. Together they are one run of a world of carousel 1 with these weights, which keeps
 -- what is promised of every run; and after `settle` the last generation was heard whole, and finales answer it.
 pub record IsSession (weights : List ℕ) (script : Fields) (told : List (Step × Reply)) : Type 0 where
@@ -113,6 +141,7 @@ pub record IsSession (weights : List ℕ) (script : Fields) (told : List (Step �
   pub draws : draws_in (map (λ (x : Step × Reply). x.0) told) ≡ draws_in (events_of script)
   pub opens : (reader : ℕ) → 1 ≤ reader → reader ≤ 64
       → AreKnown reader (asked_of reader script) (with_draws_before (λ (x : Step × Reply). is_open_by reader x.0) (λ (x : Step × Reply). is_draw_step x.0) 0 told)
+  pub shown : IsShown weights told
   pub in_place : OpensInPlace 0 (map (λ (x : Step × Reply). x.0) told)
   pub settled : settles script ≡ true → EndsSettled (map (λ (x : Step × Reply). x.0) told)
   pub whole : settles script ≡ true → EndsWhole weights (map (λ (x : Step × Reply). x.0) told)

@@ -7,36 +7,42 @@ ghost use Rattle.open_history.specs.Opens.{AllAnswered};
 ghost use Rattle.station.specs.Passes.{IsStationPass, carousel_of, pass_count, weights_of};
 ghost use Rattle.generation_catalogue.specs.History.{with_draw};
 ghost use Rattle.generation_catalogue.specs.View.{state};
-ghost use Rattle.session_script.specs.Scripts.{Fields};
-ghost use Rattle.session_script.specs.declared.script.Stage.{Stage};
+ghost use Rattle.session_script.specs.Parts.{script_of_parts};
 ghost use Rattle.carousel_world.specs.Events.{Step};
 ghost use Rattle.shot_board.specs.Showers.{shown_by, shower_board, most_by, IsSameBoard};
 ghost use Rattle.session_history.specs.Merges.{known_view, reader_view};
-ghost use Rattle.session_actors.specs.Chains.{DrawFields};
-ghost use Rattle.session_actors.specs.Seats.{HasFed, IsEditorSeat};
-ghost use Rattle.session.specs.Lines.{commits_by, draws_in};
+ghost use Rattle.session.specs.Chains.{DrawFields};
+ghost use Rattle.session.specs.Seats.{HasFed, IsEditorSeat};
+ghost use Rattle.session.specs.Lines.{commits_by};
+ghost use Rattle.session.specs.Plans.{settling_lines};
 ghost use Rattle.session.specs.Acting.{Setting, draws_of};
 ghost use Rattle.session.specs.Played.{open_of, opens_of as opens_in_history};
 ghost use Rattle.session.specs.Sessions.{IsSession};
-ghost use Rattle.session.specs.Ending.{EditorsDone, HasGathered, HasOpenedLast, AllOpenedLast, MayOpenLast, IsEnd, IsToEnd, AreDone, drawn_all, open_step, opens_in, paths_of, steps_of, view_closed};
+ghost use Rattle.session.specs.Ending.{EditorsDone, HasGathered, HasOpenedLast, AllOpenedLast, MayOpenLast, AreDone, drawn_all, view_closed};
 ghost use Rattle.cycle_planner.specs.declared.TheConstants.{MOST_DRAWN};
 
+use crate::editor::EditorSeat;
+use crate::feeder::{FeederSeat, send_and_show};
 use crate::laws::{actors_gather, gathers_grow, played_is_a_session};
-use crate::plan::Deed;
+use crate::reader::{ReaderSeat, open};
 use carousel_world::{Downlink, Event, Fate, Reply};
+use cycle_planner::MOST_DRAWN;
 use generation_catalogue::Catalogue;
 use oc_bytes::NoMemory;
 use open_history::{OpenEntry, ReaderPass, share};
 use path_resolver::Shot;
 use path_tree::Path;
 use section_workers::Gate;
-use session_actors::{EditorSeat, FeederSeat, ReaderSeat, open, send_and_show};
 use session_history::{Open, ReaderOpens, merge};
 use shot_board::Shower;
 use station::{Pass, Station};
 use std::alloc::{AllocError, Global};
+use std::mem;
 use std::sync::Wait;
 use std::thread::Threads;
+
+/// How many items a settling draw asks for: the most that one may.
+const SETTLING: u32 = MOST_DRAWN;
 
 /// The catalogue once all passes are back, and the feeder's downlink, with the fates of all draws.
 #[derive(Drop)]
@@ -44,13 +50,6 @@ pub(crate) struct Closed {
     pub(crate) catalogue: Catalogue,
     pub(crate) downlink: Downlink,
     pub(crate) fates: Vec<Vec<Fate>>,
-}
-
-/// A path that is asked for at the end.
-#[derive(Drop)]
-pub(crate) struct LastOpen {
-    pub(crate) reader: u32,
-    pub(crate) path: Path,
 }
 
 /// All passes of a session: the editors' in order, and then the feeder's.
@@ -127,78 +126,73 @@ impl Closed {
         Ok(())
     }
 
-    /// Draws what is drawn at the end, and answers what is opened then. Out of memory is the only refusal.
-    fn draw_all<R: Threads + Wait + Sync, G: Gate>(
+    /// Makes the two draws of `settle`, if it is asked for. Out of memory is the only refusal.
+    fn settle<R: Threads + Wait + Sync, G: Gate>(
         &mut self,
         rt: &R,
         alloc: Global,
         gate: &G,
         shower: &mut Shower<Shot>,
-        ends: Vec<Deed>,
-    ) -> Result<Vec<LastOpen>, NoMemory>
-        requires ends { All IsEnd (steps_of ends.items) }
-        requires room { length (shown_by shower.old) + length (draws_in (steps_of ends.items)) ≤ most_by shower.old + 1 }
+        settles: bool,
+    ) -> Result<(), NoMemory>
+        requires room { length (shown_by shower.old) + length (settling_lines settles) ≤ most_by shower.old + 1 }
         ensures board { IsSameBoard shower.old shower.new }
-        ensures count { OnOk result (length (shown_by shower.new) ≡ length (shown_by shower.old) + length (draws_in (steps_of ends.items))) }
-        ensures opens { IfOk result (λ opens. map open_step opens.items ≡ opens_in (steps_of ends.items)) }
-        ensures drawn { OnOk result (state self.new.catalogue ≡ drawn_all (state self.old.catalogue) (draws_in (steps_of ends.items))) }
+        ensures count { OnOk result (length (shown_by shower.new) ≡ length (shown_by shower.old) + length (settling_lines settles)) }
+        ensures drawn { OnOk result (state self.new.catalogue ≡ drawn_all (state self.old.catalogue) (settling_lines settles)) }
         ensures gathered { OnOk result ((id : ℕ) (weights : List ℕ) (commits : List (List (List EditFields))) (draws : List DrawFields)
             → HasGathered id weights commits draws (shown_by shower.old) (view_closed self.old)
-            → HasGathered id weights commits (draws ++ draws_in (steps_of ends.items)) (shown_by shower.new) (view_closed self.new)) }
+            → HasGathered id weights commits (draws ++ settling_lines settles) (shown_by shower.new) (view_closed self.new)) }
     {
-        let mut opens = Vec::new(alloc);
-        for deed in ends {
-            match deed {
-                Deed::Draw(asked, fates) => self.draw(rt, alloc, gate, shower, asked, fates)?,
-                Deed::Open(reader, path) => opens.push(LastOpen { reader, path })?,
-                Deed::Commit(_, _) => unreachable!(),
-            }
+        if !settles {
+            return Ok(());
         }
-        Ok(opens)
+        let first = Vec::new(alloc);
+        let second = Vec::new(alloc);
+        self.draw(rt, alloc, gate, shower, SETTLING, first)?;
+        self.draw(rt, alloc, gate, shower, SETTLING, second)?;
+        Ok(())
     }
 }
 
-/// A reader opens its paths among these, in order. Out of memory is the only refusal.
-fn open_all(pass: &mut ReaderPass, opens: &[LastOpen]) -> Result<(), NoMemory>
+/// A reader opens these paths, in order. Out of memory is the only refusal.
+fn open_all(pass: &mut ReaderPass, paths: Vec<Path>) -> Result<(), NoMemory>
     requires known { length pass.old.known ≡ pass.old.most + 1 }
-    requires room { length pass.old.opens + length (paths_of pass.old.reader opens.now) ≤ pass.old.room }
-    ensures { OnOk result (HasOpenedLast pass.old.known (paths_of pass.old.reader opens.now) pass.old pass.new) }
+    requires room { length pass.old.opens + length paths.items ≤ pass.old.room }
+    ensures { OnOk result (HasOpenedLast pass.old.known paths.items pass.old pass.new) }
 {
-    let reader = pass.reader();
-    for asked in opens {
-        if asked.reader == reader {
-            open(pass, asked.path.share()?)?;
-        }
+    for path in paths {
+        open(pass, path)?;
     }
     Ok(())
 }
 
-/// A reader takes the last shot, and opens its paths among these. Out of memory is the only refusal.
+/// A reader takes the last shot, and opens its paths for the end. Out of memory is the only refusal.
 fn read_last(
+    alloc: Global,
     seat: &mut ReaderSeat,
     shower: &mut Shower<Shot>,
-    opens: &[LastOpen],
 ) -> Result<(), NoMemory>
-    requires { MayOpenLast (shower_board shower.old) (shown_by shower.old) opens.now seat.old }
+    requires { MayOpenLast (shower_board shower.old) (shown_by shower.old) seat.old }
     ensures board { (shown_by shower.new ≡ shown_by shower.old) × IsSameBoard shower.old shower.new }
-    ensures read { OnOk result (HasOpenedLast (shown_by shower.old) (paths_of seat.old.pass.reader opens.now) seat.old.pass seat.new.pass) }
+    ensures read { OnOk result (HasOpenedLast (shown_by shower.old) seat.old.finales.items seat.old.pass seat.new.pass) }
 {
     seat.pass.catch_up(shower.front())?;
-    open_all(&mut seat.pass, opens)
+    let paths = mem::replace(&mut seat.finales, Vec::new(alloc));
+    open_all(&mut seat.pass, paths)
 }
 
-/// Each reader takes the last shot, and opens its paths among these. Out of memory is the only refusal.
+/// Each reader takes the last shot, and opens its paths for the end. Out of memory is the only refusal.
 fn read_all(
+    alloc: Global,
     readers: &mut [ReaderSeat],
     shower: &mut Shower<Shot>,
-    opens: &[LastOpen],
 ) -> Result<(), NoMemory>
-    requires { All (MayOpenLast (shower_board shower.old) (shown_by shower.old) opens.now) readers.old }
+    requires { All (MayOpenLast (shower_board shower.old) (shown_by shower.old)) readers.old }
     ensures board { (shown_by shower.new ≡ shown_by shower.old) × IsSameBoard shower.old shower.new }
-    ensures read { OnOk result (AllOpenedLast (shown_by shower.old) opens.now readers.old readers.new) }
+    ensures read { OnOk result (AllOpenedLast (shown_by shower.old) readers.old readers.new) }
 {
     for place in 0..readers.len() {
-        read_last(&mut readers[place], shower, opens)?;
+        read_last(alloc, &mut readers[place], shower)?;
     }
     Ok(())
 }
@@ -256,19 +250,18 @@ pub(crate) fn end<R: Threads + Wait + Sync, G: Gate>(
     feeder: FeederSeat,
     mut readers: Vec<ReaderSeat>,
     shower: &mut Shower<Shot>,
-    ends: Vec<Deed>,
+    settles: bool,
     numbers: &[u32],
 ) -> Result<Vec<(Event, Reply)>, NoMemory>
-    requires ready { (script : Fields) × (setting : Setting) × (done : List (Stage × Step)) × IsToEnd script setting done (steps_of ends.items)
-        × AreDone script setting done station numbers.now editors.items feeder readers.items (shown_by shower.old)
+    requires ready { (setting : Setting) × AreDone setting settles station numbers.now editors.items feeder readers.items (shown_by shower.old)
         × (shower_board shower.old ≡ setting.board) × (most_by shower.old ≡ draws_of setting) }
     ensures board { IsSameBoard shower.old shower.new }
-    ensures session { IfOk result (λ told. (script : Fields) (setting : Setting) (done : List (Stage × Step)) → IsToEnd script setting done (steps_of ends.items)
-        → AreDone script setting done station numbers.now editors.items feeder readers.items (shown_by shower.old) → IsSession (weights_of station) script (map known_view told.items)) }
+    ensures session { IfOk result (λ told. (setting : Setting) → AreDone setting settles station numbers.now editors.items feeder readers.items (shown_by shower.old)
+        → IsSession (weights_of station) (script_of_parts setting.parts) (map known_view told.items)) }
 {
     let mut closed = end_of_threads(alloc, station, editors, feeder)?;
-    let opens = closed.draw_all(rt, alloc, gate, shower, ends)?;
-    read_all(&mut readers, shower, &opens)?;
+    closed.settle(rt, alloc, gate, shower, settles)?;
+    read_all(alloc, &mut readers, shower)?;
     let kept = all_opens(alloc, &readers)?;
     played_is_a_session();
     merge(

@@ -1,13 +1,6 @@
 //! The laws, as functions that do nothing.
 ghost use Rattle.session.specs.Gathering.{ActorsGather, GatherGrows};
 ghost use Rattle.session.specs.Played.{PlayedIsASession};
-ghost use Rattle.session.specs.Texts.{TextsAreArranged};
-
-/// A script that a text gives has its lines before `start`, those after it and those at the end in this order, at the end first the line
-/// that settles, if there is one, and then opens alone. It lists each editor and each reader that a line names.
-pub fn texts_are_arranged()
-    ensures { TextsAreArranged }
-{}
 
 /// What the actors of a station did is the whole history of its catalogue. Each editor's commits are entered in its order, each as its
 /// next entry or not at all: then the season is full, or the journal would be, with the entries up to its next one. The feeder's draws
@@ -33,8 +26,9 @@ pub fn gathers_grow()
 /// written order, each open after the draws that it has to have heard. Where the script settles, the two draws of that are the last
 /// events but opens, the last generation was heard whole, and each finale answers its path's lookup in it.
 ///
-/// That is so where the script is one that a text gives; what its actors did is gathered; the shot of number k is what is held after
-/// the first k draws; and each reader opened what it was asked for on shots that it knew, none older than the one before, and knows all
+/// That is so where the script is made of parts, its numbers are within their ranges, and it lists all whom its lines name; what its actors
+/// did is gathered; the shot of number k is what is held after the first k draws; and each reader opened what it was asked for on shots that
+/// it knew, none older than the one before, and knows all
 /// shots at the end.
 pub fn played_is_a_session()
     ensures { PlayedIsASession }

@@ -1,5 +1,10 @@
 //! Sessions: the lines of a script, each on its actor's thread, and the one history that comes of them.
 //!
+//! What each actor has to do is split off before anybody runs. Editors who commit, a feeder who draws and sends, and readers who open paths
+//! share a station and a board; no two of them wait for each other but for a hold of the station's lock. An actor's state lies in a seat,
+//! which is lent to its thread. A seat is whole while memory has cut nothing short. What an actor did is said of the station's history and of
+//! the board's shots by what its own pass has seen, so nothing is said of the order between two actors.
+//!
 //! ```
 //! ghost use Rattle.std.specs.Prelude.{◌≡◌};
 //!
@@ -8,28 +13,62 @@
 //! use path_resolver::Answer;
 //! use section_workers::NoGate;
 //! use session::play;
-//! use session_script::parse;
+//! use session_script::read_parts;
 //!
 //! let weigh = Weigh::new([1; GREATEST_ID], Box::new(alloc, |_: u16| -> u8 ensures { result ≡ 1 } { 1 })?);
-//! let script = parse(alloc, b"put 1 /a 6869\ncommit 1\nsettle\nfinale 2 /a\n")?;
+//! let script = read_parts(alloc, b"put 1 /a 6869\ncommit 1\nsettle\nfinale 2 /a\n")?;
 //! let told = play(&rt, alloc, script, &NoGate, weigh)?;
 //! assert_eq!(rt; told.len(), 4);
 //! assert!(rt; matches!(told[0], (Event::Commit { editor: 1, .. }, Reply::Committed(1))));
 //! assert!(rt; matches!(told[2], (Event::Draw { .. }, Reply::Drawn { generation: 1, first: 0, count: 3 })));
 //! assert!(rt; matches!(told[3], (Event::Open { reader: 2, .. }, Reply::Opened { answer: Answer::File(_), .. })));
 //! ```
+//!
+//! A feeder makes one draw, with no editor and no reader beside it, and shows one shot more:
+//!
+//! ```
+//! ghost use Rattle.std.specs.Prelude.{◌≡◌};
+//!
+//! use carousel_world::Downlink;
+//! use cycle_planner::{GREATEST_ID, Weigh};
+//! use section_workers::NoGate;
+//! use session::{DrawLine, FeederSeat, run_actors};
+//! use shot_board::board;
+//! use station::Station;
+//!
+//! let weigh = Weigh::new([1; GREATEST_ID], Box::new(alloc, |_: u16| -> u8 ensures { result ≡ 1 } { 1 })?);
+//! let (station, mut passes) = Station::new(alloc, 0, 7, weigh)?;
+//! let Some(pass) = passes.pop() else { panic!("no pass") };
+//! let downlink = Downlink::new(alloc, 256)?;
+//! let draws = vec![in alloc; DrawLine { asked: 5, fates: Vec::new(alloc) }]?;
+//! let (mut shower, _viewers) = board(&rt, alloc, downlink.shot(0, 0)?, 0, 1)?;
+//! let mut feeder = FeederSeat { pass, downlink, draws, fates: Vec::new(alloc), whole: false };
+//! run_actors(&rt, alloc, &station, &NoGate, &mut [], &mut shower, &mut feeder, &mut []);
+//! let shown = shower.front().number();
+//! shower.close(&rt);
+//! assert_eq!(rt; (feeder.whole, shown), (true, 1));
+//! ```
 #![tactic(auto)]
 
+mod actors;
 mod acts;
+mod by_actor;
 mod cast;
+mod editor;
 mod editors;
 mod ending;
+mod feeder;
 mod laws;
 mod plan;
+mod reader;
 mod readers;
 mod seating;
 mod threads;
 mod whole;
 
-pub use laws::{actors_gather, gathers_grow, played_is_a_session, texts_are_arranged};
+pub use actors::run_actors;
+pub use editor::{CommitLine, EditorSeat};
+pub use feeder::{DrawLine, FeederSeat};
+pub use laws::{actors_gather, gathers_grow, played_is_a_session};
+pub use reader::ReaderSeat;
 pub use whole::play;

@@ -1,152 +1,258 @@
-//! The events of a script, before any of them happens.
-ghost use Rattle.std.specs.Prelude.{◌≡◌, ◌++◌, ◌∷◌, [], List, map, IfOk, OnOk};
+//! What each actor of a script's session has to do, split off before anybody runs.
+ghost use Rattle.std.specs.Prelude.{◌≡◌, ◌+◌, ◌≤◌, ◌^◌, ◌++◌, ◌∷◌, [], List, ℕ, map, length, IfOk, OnOk, OnErr};
 ghost use Rattle.std.specs.List.{All};
-ghost use Rattle.session_script.specs.Scripts.{LineFields, view_action, view_line};
-ghost use Rattle.session_script.specs.Ranges.{IsActor, IsInRange};
+ghost use Rattle.session_script.specs.declared.parts.TaskLine.{TaskLine as TaskLines};
+ghost use Rattle.session_script.specs.Parts.{act_of, script_of_parts};
+ghost use Rattle.session_script.specs.Ranges.{IsInRange, IsInRanges};
+ghost use Rattle.carousel_world.specs.Events.{Step};
 ghost use Rattle.carousel_world.specs.World.{InRange};
-ghost use Rattle.carousel_world.specs.Events.{Step, Commit};
-ghost use Rattle.rehearsal.specs.Lines.{Pending, none_pending, pending_after, with_edit, without, settling_step};
-ghost use Rattle.session.specs.Lines.{staged_from, staged_of};
-ghost use Rattle.session.specs.Acting.{view_staged, AreInRange};
+ghost use Rattle.rehearsal.specs.Lines.{Pending, events_of_line, pending_after};
+ghost use Rattle.rehearsal.specs.Happening.{Holds, view_happening};
+ghost use Rattle.session.specs.ByActor.{lists_of};
+ghost use Rattle.session.specs.Lines.{draws_in, opens_by};
+ghost use Rattle.session.specs.Plans.{AreInRange, HasSplit, IsPlanOf, events_at, finale_step, settling_lines, waiting_below};
 
-use carousel_world::Fate;
-use cycle_planner::MOST_DRAWN;
+use crate::by_actor::ByActor;
+use crate::editor::CommitLine;
+use crate::feeder::DrawLine;
 use oc_bytes::NoMemory;
-use path_tree::{Edit, Path};
-use rehearsal::{PendingEdits, filled};
-use session_script::{Action, Line, Stage};
-use std::alloc::Global;
+use path_tree::Path;
+use rehearsal::{Happening, Interpreter};
+use session_script::{Finale, Parts, Task, TaskLine};
+use std::alloc::{AllocError, Global};
+use std::collections::BTreeMap;
 
-/// How many items a settling draw asks for: the most that one may.
-const SETTLING: u32 = MOST_DRAWN;
-
-/// What a line of a script has an actor do. Editors and readers are 1 to 64.
+/// A script's session before anybody runs.
 #[derive(Drop)]
-pub(crate) enum Deed {
-    /// This editor commits these edits.
-    Commit(u32, Vec<Edit>),
-    /// So many items are drawn, 1 to [`MOST_DRAWN`], and their packets meet these fates.
-    Draw(u32, Vec<Fate>),
-    /// This reader opens this path.
-    Open(u32, Path),
+pub(crate) struct Plan {
+    /// The editors, each 1 to 64, in the order of the first lines that name them.
+    pub(crate) editors: Vec<u32>,
+    /// The readers, each 1 to 64, in the order of the first lines that name them.
+    pub(crate) readers: Vec<u32>,
+    /// What happens above `start`, in written order.
+    pub(crate) before: Vec<Happening>,
+    /// What each actor has to do below it.
+    pub(crate) work: Work,
+    /// Whether the session settles after all actors.
+    pub(crate) settles: bool,
+    /// What each reader opens at the end, in written order.
+    pub(crate) finales: ByActor<Path>,
 }
 
-/// A deed of a script.
+/// What the actors have to do below `start`, each in written order.
 #[derive(Drop)]
-pub(crate) struct Staged {
-    /// The stage of its line.
-    pub(crate) stage: Stage,
-    /// For how many lines of its actor it stands: its own, and those of a commit's edits.
-    pub(crate) lines: u32,
-    pub(crate) deed: Deed,
+pub(crate) struct Work {
+    /// The commits of each editor.
+    pub(crate) commits: ByActor<CommitLine>,
+    /// How many lines of edits each editor has since its last commit, or since `start`.
+    pub(crate) edit_lines: BTreeMap<u32, u32>,
+    pub(crate) draws: Vec<DrawLine>,
+    /// The paths that each reader opens.
+    pub(crate) paths: ByActor<Path>,
 }
 
-/// The events of these lines, in written order. Edits that no commit line of their editor follows are in none.
+/// Splits a script into what its actors have to do. Edits that no commit of their editor follows are in none.
 ///
-/// Out of memory is the only refusal.
-pub(crate) fn deeds_of(alloc: Global, lines: Vec<Line>) -> Result<Vec<Staged>, NoMemory>
-    requires { All (λ (line : LineFields). IsInRange line.act) (map view_line lines.items) }
-    ensures events { IfOk result (λ events. map view_staged events.items ≡ staged_from none_pending (map view_line lines.items)) }
-    ensures range { IfOk result (λ events. AreInRange (map view_staged events.items)) }
+/// The script's numbers are within their ranges. Out of memory is the only refusal.
+pub(crate) fn plan_of(alloc: Global, parts: Parts) -> Result<Plan, NoMemory>
+    requires { IsInRanges (script_of_parts parts) }
+    ensures { IfOk result (λ plan. IsPlanOf parts plan) }
 {
-    let mut staging = Staging::new(alloc);
-    for line in lines {
-        staging.add(line.stage, line.action)?;
-    }
-    Ok(staging.events)
+    let Parts {
+        editors,
+        readers,
+        before,
+        during,
+        settle,
+        finales,
+    } = parts;
+    let mut interpreter = Interpreter::new(alloc);
+    let before = happenings(alloc, &mut interpreter, before)?;
+    let mut work = Work::new(alloc);
+    work.add_all(&mut interpreter, during)?;
+    let finales = by_reader(alloc, finales)?;
+    Ok(Plan {
+        editors,
+        readers,
+        before,
+        work,
+        settles: settle.is_some(),
+        finales,
+    })
 }
 
-/// The events of some lines, and the edits that are pending below them.
-#[derive(Drop)]
-pub(crate) struct Staging {
+impl Plan {
+    /// How many draws there are in all. Out of memory comes only where they are no `usize`, so never.
+    pub(crate) fn count_draws(&self) -> Result<usize, NoMemory>
+        ensures count { IfOk result (λ n. n ≡ length (draws_in (map view_happening self.now.before.items)) + length self.now.work.draws.items + length (settling_lines self.now.settles)) }
+        ensures memory { OnErr result (2 ^ 64 ≤ length (draws_in (map view_happening self.now.before.items)) + length self.now.work.draws.items + length (settling_lines self.now.settles)) }
+    {
+        sum_of(
+            count_draws(&self.before),
+            self.work.draws.len(),
+            count_settling(self.settles),
+        )
+    }
+}
+
+/// How many draws `settle` makes, if it is asked for.
+fn count_settling(settles: bool) -> usize
+    ensures { result ≡ length (settling_lines settles) }
+{
+    if settles { 2 } else { 0 }
+}
+
+/// The sum of three counts. Out of memory comes only where it is no `usize`.
+pub(crate) fn sum_of(first: usize, second: usize, third: usize) -> Result<usize, NoMemory>
+    ensures sum { IfOk result (λ n. n ≡ first + second + third) }
+    ensures memory { OnErr result (2 ^ 64 ≤ first + second + third) }
+{
+    let Some(both) = first.checked_add(second) else {
+        return Err(AllocError);
+    };
+    match both.checked_add(third) {
+        Some(all) => Ok(all),
+        None => Err(AllocError),
+    }
+}
+
+/// How many of these are draws.
+fn count_draws(before: &[Happening]) -> usize
+    ensures { result ≡ length (draws_in (map view_happening before.now)) }
+{
+    let mut draws = 0;
+    for what in before {
+        if matches!(what, Happening::Draw(..)) {
+            draws += 1;
+        }
+    }
+    draws
+}
+
+/// What happens at these tasks, which come next.
+fn happenings(
     alloc: Global,
-    pub(crate) pending: PendingEdits,
-    /// For each editor, how many lines of edits are pending.
-    edit_lines: [u32; 65],
-    pub(crate) events: Vec<Staged>,
+    interpreter: &mut Interpreter,
+    tasks: Vec<TaskLine>,
+) -> Result<Vec<Happening>, NoMemory>
+    requires { All (λ (line : TaskLines). IsInRange (act_of line.task)) tasks.items }
+    ensures happen { IfOk result (λ made. (p : Pending) → Holds interpreter.old p → map view_happening made.items ≡ events_at p tasks.items) }
+    ensures range { IfOk result (λ made. AreInRange (map view_happening made.items)) }
+    ensures waits { OnOk result ((p : Pending) → Holds interpreter.old p → Holds interpreter.new (waiting_below p tasks.items)) }
+{
+    let mut made = Vec::new(alloc);
+    for line in tasks {
+        happen(interpreter, line.task, &mut made)?;
+    }
+    Ok(made)
 }
 
-impl Staging {
-    ghost use Rattle.session.specs.Acting.{Stages, view_deed};
+/// Adds what happens at a task, if something does.
+fn happen(
+    interpreter: &mut Interpreter,
+    task: Task,
+    made: &mut Vec<Happening>,
+) -> Result<(), NoMemory>
+    requires { IsInRange (act_of task) }
+    ensures happens { OnOk result ((p : Pending) → Holds interpreter.old p → map view_happening made.new.items ≡ map view_happening made.old.items ++ events_of_line p (act_of task)) }
+    ensures range { OnOk result (AreInRange (map view_happening made.old.items) → AreInRange (map view_happening made.new.items)) }
+    ensures waits { OnOk result ((p : Pending) → Holds interpreter.old p → Holds interpreter.new (pending_after p (act_of task))) }
+{
+    match interpreter.read(task)? {
+        Some(what) => {
+            made.push(what)?;
+            Ok(())
+        }
+        None => Ok(()),
+    }
+}
 
-    /// No line.
-    fn new(alloc: Global) -> Staging
-        ensures { Stages result [] none_pending }
+impl Work {
+    /// Nothing for anybody. It takes no memory.
+    fn new(alloc: Global) -> Work
+        ensures { HasSplit result [] }
     {
-        Staging {
-            alloc,
-            pending: PendingEdits::new(alloc),
-            edit_lines: [0; 65],
-            events: Vec::new(alloc),
+        Work {
+            commits: ByActor::new(alloc),
+            edit_lines: BTreeMap::new(alloc),
+            draws: Vec::new(alloc),
+            paths: ByActor::new(alloc),
         }
     }
 
-    /// Adds what one line says. After a refusal it is of no use any more.
-    fn add(&mut self, stage: Stage, action: Action) -> Result<(), NoMemory>
-        requires { IsInRange (view_action action) }
-        ensures { OnOk result ((before : List (_ × Step)) (p : Pending) → Stages self.old before p
-            → Stages self.new (before ++ staged_of p stage (view_action action)) (pending_after p (view_action action))) }
+    /// Adds what these tasks ask for, which come next. After a refusal it is of no use any more.
+    fn add_all(
+        &mut self,
+        interpreter: &mut Interpreter,
+        tasks: Vec<TaskLine>,
+    ) -> Result<(), NoMemory>
+        requires { All (λ (line : TaskLines). IsInRange (act_of line.task)) tasks.items }
+        ensures { OnOk result ((done : List Step) (p : Pending) → HasSplit self.old done → Holds interpreter.old p → HasSplit self.new (done ++ events_at p tasks.items)) }
     {
-        match action {
-            Action::Put(editor, path, content) => self.edit(editor, Edit::Put(path, content)),
-            Action::Fill(editor, path, size, from) => {
-                let content = filled(self.alloc, size, from)?;
-                self.edit(editor, Edit::Put(path, content))
-            }
-            Action::Remove(editor, path) => self.edit(editor, Edit::Remove(path)),
-            Action::Commit(editor) => self.commit(stage, editor),
-            Action::Draw(asked, fates) => self.stage(stage, 1, Deed::Draw(asked, fates)),
-            Action::Open(reader, path) => self.stage(stage, 1, Deed::Open(reader, path)),
-            Action::Settle => self.settle(stage),
+        for line in tasks {
+            self.add(interpreter, line.task)?;
         }
-    }
-
-    /// An edit of an editor, 1 to 64.
-    fn edit(&mut self, editor: u32, edit: Edit) -> Result<(), NoMemory>
-        requires { IsActor editor }
-        ensures { OnOk result ((before : List (_ × Step)) (p : Pending) → Stages self.old before p
-            → Stages self.new before (with_edit p editor edit)) }
-    {
-        self.edit_lines[editor as usize] = self.edit_lines[editor as usize].saturating_add(1);
-        self.pending.add(editor, edit)
-    }
-
-    /// A commit of the edits of an editor, 1 to 64, that are pending.
-    fn commit(&mut self, stage: Stage, editor: u32) -> Result<(), NoMemory>
-        requires { IsActor editor }
-        ensures { OnOk result ((before : List (_ × Step)) (p : Pending) → Stages self.old before p
-            → Stages self.new (before ++ (stage, Commit editor (p editor)) ∷ []) (without p editor)) }
-    {
-        let lines = self.edit_lines[editor as usize].saturating_add(1);
-        self.edit_lines[editor as usize] = 0;
-        let edits = self.pending.take(editor);
-        self.stage(stage, lines, Deed::Commit(editor, edits))
-    }
-
-    /// Two settling draws.
-    fn settle(&mut self, stage: Stage) -> Result<(), NoMemory>
-        ensures { OnOk result ((before : List (_ × Step)) (p : Pending) → Stages self.old before p
-            → Stages self.new (before ++ (stage, settling_step) ∷ (stage, settling_step) ∷ []) p) }
-    {
-        self.settling_draw(stage)?;
-        self.settling_draw(stage)
-    }
-
-    fn settling_draw(&mut self, stage: Stage) -> Result<(), NoMemory>
-        ensures { OnOk result ((before : List (_ × Step)) (p : Pending) → Stages self.old before p
-            → Stages self.new (before ++ (stage, settling_step) ∷ []) p) }
-    {
-        let fates = Vec::new(self.alloc);
-        self.stage(stage, 1, Deed::Draw(SETTLING, fates))
-    }
-
-    /// One deed more.
-    fn stage(&mut self, stage: Stage, lines: u32, deed: Deed) -> Result<(), NoMemory>
-        requires { InRange (view_deed deed) }
-        ensures { OnOk result ((before : List (_ × Step)) (p : Pending) → Stages self.old before p
-            → Stages self.new (before ++ (stage, view_deed deed) ∷ []) p) }
-    {
-        self.events.push(Staged { stage, lines, deed })?;
         Ok(())
     }
+
+    /// Adds what one task asks for.
+    fn add(&mut self, interpreter: &mut Interpreter, task: Task) -> Result<(), NoMemory>
+        requires { IsInRange (act_of task) }
+        ensures split { OnOk result ((done : List Step) (p : Pending) → HasSplit self.old done → Holds interpreter.old p → HasSplit self.new (done ++ events_of_line p (act_of task))) }
+        ensures waits { OnOk result ((p : Pending) → Holds interpreter.old p → Holds interpreter.new (pending_after p (act_of task))) }
+    {
+        let editor = task.editor();
+        match interpreter.read(task)? {
+            Some(what) => self.give(what),
+            None => self.count_line(editor),
+        }
+    }
+
+    /// Gives what happens to its actor.
+    fn give(&mut self, what: Happening) -> Result<(), NoMemory>
+        requires { InRange (view_happening what) }
+        ensures { OnOk result ((done : List Step) → HasSplit self.old done → HasSplit self.new (done ++ view_happening what ∷ [])) }
+    {
+        match what {
+            Happening::Commit(editor, edits) => {
+                let lines = self.take_lines(editor).saturating_add(1);
+                self.commits.push(editor, CommitLine { lines, edits })
+            }
+            Happening::Draw(asked, fates) => {
+                self.draws.push(DrawLine { asked, fates })?;
+                Ok(())
+            }
+            Happening::Open(reader, path) => self.paths.push(reader, path),
+        }
+    }
+
+    /// How many lines of edits the editor has since its last commit, which are counted no more.
+    fn take_lines(&mut self, editor: u32) -> u32
+        ensures { (self.new.commits ≡ self.old.commits) × (self.new.draws ≡ self.old.draws) × (self.new.paths ≡ self.old.paths) }
+    {
+        self.edit_lines.remove(&editor).unwrap_or(0)
+    }
+
+    /// Counts a line of an edit, at most the greatest `u32`.
+    fn count_line(&mut self, editor: Option<u32>) -> Result<(), NoMemory>
+        ensures { (self.new.commits ≡ self.old.commits) × (self.new.draws ≡ self.old.draws) × (self.new.paths ≡ self.old.paths) }
+    {
+        let Some(editor) = editor else {
+            return Ok(());
+        };
+        let lines = self.take_lines(editor).saturating_add(1);
+        self.edit_lines.insert(editor, lines)?;
+        Ok(())
+    }
+}
+
+/// The paths that each reader opens at the end.
+fn by_reader(alloc: Global, finales: Vec<Finale>) -> Result<ByActor<Path>, NoMemory>
+    ensures { IfOk result (λ lists. (n : ℕ) → lists_of lists n ≡ opens_by n (map finale_step finales.items)) }
+{
+    let mut lists = ByActor::new(alloc);
+    for last in finales {
+        lists.push(last.reader, last.path)?;
+    }
+    Ok(lists)
 }

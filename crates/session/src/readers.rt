@@ -1,19 +1,17 @@
-//! The seats of the readers.
-ghost use Rattle.std.specs.Prelude.{◌≡◌, ◌++◌, ◌∷◌, ◌<◌, ◌+◌, [], List, ℕ, length, slice_index_or, OnOk};
+//! The seats of the readers before the start.
+ghost use Rattle.std.specs.Prelude.{◌≡◌, ◌++◌, ◌∷◌, ◌<◌, ◌+◌, [], List, ℕ, map, length, slice_index_or, OnOk};
 ghost use Rattle.std.specs.List.{All, Contains};
 ghost use Rattle.logbook.specs.Pages.{Book};
 ghost use Rattle.path_resolver.specs.declared.shot.Shot.{Shot as ShotFields};
-ghost use Rattle.session_script.specs.declared.script.Stage.TheVariants.{Before, During};
-ghost use Rattle.session_script.specs.declared.script.Stage.{Stage};
 ghost use Rattle.carousel_world.specs.Events.{Step, Open};
 ghost use Rattle.shot_board.specs.Showers.{shown_by, shower_board, IsSameBoard};
-ghost use Rattle.session.specs.Acting.{AreApart, IsKnown, Setting, ReadersStand, IsNext, readers_of, steps_where};
-ghost use Rattle.session.specs.Lines.{draws_in, is_before};
+ghost use Rattle.session.specs.Acting.{AreApart, IsKnown, Setting, ReadersStand, IsNext, reader_plan, readers_of};
+ghost use Rattle.session.specs.Lines.{draws_in};
 
+use crate::reader::{ReaderSeat, open};
 use oc_bytes::NoMemory;
 use path_resolver::Shot;
 use path_tree::Path;
-use session_actors::{ReaderSeat, open};
 use shot_board::Shower;
 
 /// The place of the reader of this number, who is there.
@@ -33,27 +31,13 @@ fn place_of(seats: &[ReaderSeat], number: u32) -> usize
 pub(crate) fn open_now(seats: &mut Vec<ReaderSeat>, reader: u32, path: Path) -> Result<(), NoMemory>
     requires there { Contains (readers_of seats.old.items) reader }
     requires apart { AreApart (readers_of seats.old.items) }
-    requires next { (setting : Setting) × (done : List (Stage × Step)) × (shots : List ShotFields) × ReadersStand setting done shots seats.old.items × IsNext setting done (Before, Open reader path) }
-    ensures readers { readers_of seats.new.items ≡ readers_of seats.old.items }
-    ensures stands { OnOk result ((setting : Setting) (done : List (Stage × Step)) (shots : List ShotFields) → ReadersStand setting done shots seats.old.items
-        → length shots ≡ length (draws_in (steps_where is_before done)) + 1 → IsNext setting done (Before, Open reader path)
-        → ReadersStand setting (done ++ (Before, Open reader path) ∷ []) shots seats.new.items) }
+    requires next { (setting : Setting) × (done : List Step) × (shots : List ShotFields) × ReadersStand setting done shots seats.old.items × IsNext setting done (Open reader path) }
+    ensures plans { map reader_plan seats.new.items ≡ map reader_plan seats.old.items }
+    ensures stands { OnOk result ((setting : Setting) (done : List Step) (shots : List ShotFields) → ReadersStand setting done shots seats.old.items
+        → length shots ≡ length (draws_in done) + 1 → ReadersStand setting (done ++ Open reader path ∷ []) shots seats.new.items) }
 {
     let place = place_of(seats, reader);
     open(&mut seats[place].pass, path)
-}
-
-/// A path lies before its reader. Out of memory is the only refusal.
-pub(crate) fn lay_open(seats: &mut Vec<ReaderSeat>, reader: u32, path: Path) -> Result<(), NoMemory>
-    requires there { Contains (readers_of seats.old.items) reader }
-    requires apart { AreApart (readers_of seats.old.items) }
-    ensures readers { readers_of seats.new.items ≡ readers_of seats.old.items }
-    ensures stands { OnOk result ((setting : Setting) (done : List (Stage × Step)) (shots : List ShotFields) → ReadersStand setting done shots seats.old.items
-        → ReadersStand setting (done ++ (During, Open reader path) ∷ []) shots seats.new.items) }
-{
-    let place = place_of(seats, reader);
-    seats[place].paths.push(path)?;
-    Ok(())
 }
 
 /// Tells each reader of all that was shown.

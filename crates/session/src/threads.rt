@@ -3,13 +3,16 @@ ghost use Rattle.std.specs.Prelude.{◌≡◌, ◌↔◌, true};
 ghost use Rattle.std.specs.List.{list_all};
 ghost use Rattle.shot_board.specs.Showers.{shown_by, IsSameBoard};
 ghost use Rattle.session.specs.Acting.{Setting};
-ghost use Rattle.session.specs.Casting.{AreSameActors, CastStands, IsBoardOf, IsCast};
+ghost use Rattle.session.specs.Plans.{before_steps};
+ghost use Rattle.session.specs.Casting.{CastStands, HasWork, IsBoardOf, IsCast};
 ghost use Rattle.session.specs.Threads.{CastDone, IsWhole, MayEnd};
 
+use crate::actors::run_actors;
 use crate::cast::Cast;
+use crate::editor::EditorSeat;
+use crate::reader::ReaderSeat;
 use path_resolver::Shot;
 use section_workers::Gate;
-use session_actors::{EditorSeat, ReaderSeat, run_actors};
 use shot_board::Shower;
 use station::Station;
 use std::alloc::Global;
@@ -26,12 +29,12 @@ pub(crate) fn run_all<R: Threads + Wait + Sync, G: Gate>(
     cast: &mut Cast,
 ) -> bool
     requires cast { IsCast station.now cast.old }
-    requires setting { (setting : Setting) × CastStands setting station.now setting.events (shown_by shower.old) cast.old × IsBoardOf setting shower.old }
-    ensures actors { AreSameActors cast.old cast.new }
+    requires setting { (setting : Setting) × HasWork setting cast.old × CastStands setting station.now (before_steps setting.parts) (shown_by shower.old) cast.old × IsBoardOf setting shower.old }
     ensures board { IsSameBoard shower.old shower.new }
     ensures whole { result ≡ true ↔ IsWhole cast.new }
     ensures passes { result ≡ true → MayEnd station.now cast.new }
-    ensures done { result ≡ true → (setting : Setting) → CastStands setting station.now setting.events (shown_by shower.old) cast.old → CastDone setting station.now (shown_by shower.new) cast.new }
+    ensures done { result ≡ true → (setting : Setting) → HasWork setting cast.old → CastStands setting station.now (before_steps setting.parts) (shown_by shower.old) cast.old
+        → CastDone setting station.now (shown_by shower.new) cast.new }
 {
     run_actors(
         rt,

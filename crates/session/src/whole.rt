@@ -1,11 +1,11 @@
 //! A whole session.
 ghost use Rattle.std.specs.Prelude.{◌≡◌, map, length, IfOk};
-ghost use Rattle.session_script.specs.Scripts.{view, Fields};
+ghost use Rattle.session_script.specs.Parts.{script_of_parts};
+ghost use Rattle.session_script.specs.Ranges.{AreListed, IsInRanges};
 ghost use Rattle.session_history.specs.Merges.{known_view};
 ghost use Rattle.shot_board.specs.Showers.{shown_by};
-ghost use Rattle.session.specs.Lines.{IsArranged};
 ghost use Rattle.session.specs.Sessions.{IsSession};
-ghost use Rattle.session.specs.Acting.{AreInRange, Setting, view_staged};
+ghost use Rattle.session.specs.Acting.{Setting};
 ghost use Rattle.session.specs.Casting.{IsBoardOf};
 ghost use Rattle.session.specs.Playing.{IsBegun};
 
@@ -13,16 +13,16 @@ use crate::acts::act_all;
 use crate::cast::Cast;
 use crate::editors::editor_seats;
 use crate::ending::end;
-use crate::plan::{Staged, deeds_of};
-use crate::seating::{count_draws, reader_seats};
+use crate::feeder::FeederSeat;
+use crate::plan::{Plan, Work, plan_of};
+use crate::seating::reader_seats;
 use crate::threads::run_all;
 use carousel_world::{Downlink, Event, Reply};
 use cycle_planner::Weigh;
 use oc_bytes::NoMemory;
 use path_resolver::Shot;
 use section_workers::Gate;
-use session_actors::FeederSeat;
-use session_script::Script;
+use session_script::Parts;
 use shot_board::{Shower, Viewer, board};
 use station::Station;
 use std::alloc::{AllocError, Global};
@@ -48,27 +48,21 @@ const CAROUSEL: u32 = 1;
 pub fn play<R: Threads + Wait + Sync, G: Gate>(
     rt: &R,
     alloc: Global,
-    script: Script,
+    parts: Parts,
     gate: &G,
     weigh: Weigh,
 ) -> Result<Vec<(Event, Reply)>, NoMemory>
-    requires { IsArranged (view script) }
-    ensures { IfOk result (λ told. IsSession weigh.weights (view script) (map known_view told.items)) }
+    requires ranges { IsInRanges (script_of_parts parts) }
+    requires listed { AreListed (script_of_parts parts) }
+    ensures { IfOk result (λ told. IsSession weigh.weights (script_of_parts parts) (map known_view told.items)) }
 {
-    let Script {
-        editors,
-        readers,
-        lines,
-    } = script;
-    let events = deeds_of(alloc, lines)?;
+    let plan = plan_of(alloc, parts)?;
     let downlink = Downlink::new(alloc, PID)?;
     let first = downlink.shot(0, 0)?;
-    let most = count_draws(&events);
-    let (mut shower, viewers) = board(rt, alloc, first, readers.len() as u32, most)?;
+    let most = plan.count_draws()? as u64;
+    let (mut shower, viewers) = board(rt, alloc, first, plan.readers.len() as u32, most)?;
     let start = Start {
-        events,
-        editors,
-        readers,
+        plan,
         downlink,
         viewers,
     };
@@ -80,10 +74,7 @@ pub fn play<R: Threads + Wait + Sync, G: Gate>(
 /// What a session begins with.
 #[derive(Drop)]
 pub(crate) struct Start {
-    pub(crate) events: Vec<Staged>,
-    /// The editors' numbers, and the readers'.
-    pub(crate) editors: Vec<u32>,
-    pub(crate) readers: Vec<u32>,
+    pub(crate) plan: Plan,
     pub(crate) downlink: Downlink,
     pub(crate) viewers: Vec<Viewer<Shot>>,
 }
@@ -97,35 +88,46 @@ fn perform<R: Threads + Wait + Sync, G: Gate>(
     start: Start,
     weigh: Weigh,
 ) -> Result<Vec<(Event, Reply)>, NoMemory>
-    requires set_up { (script : Fields) × (setting : Setting) × IsBegun script setting (shown_by shower.old) start × IsBoardOf setting shower.old }
-    requires range { AreInRange (map view_staged start.events.items) }
-    requires readers { length start.viewers.items ≡ length start.readers.items }
-    ensures { IfOk result (λ told. (script : Fields) (setting : Setting) → IsBegun script setting (shown_by shower.old) start → IsBoardOf setting shower.old
-        → IsSession weigh.weights script (map known_view told.items)) }
+    requires set_up { (setting : Setting) × IsBegun setting (shown_by shower.old) start × IsBoardOf setting shower.old }
+    requires readers { length start.viewers.items ≡ length start.plan.readers.items }
+    ensures { IfOk result (λ told. (setting : Setting) → IsBegun setting (shown_by shower.old) start → IsBoardOf setting shower.old
+        → IsSession weigh.weights (script_of_parts setting.parts) (map known_view told.items)) }
 {
     let Start {
-        events,
-        editors,
-        readers,
+        plan,
         downlink,
         viewers,
     } = start;
+    let Plan {
+        editors,
+        readers,
+        before,
+        work,
+        settles,
+        finales,
+    } = plan;
+    let Work {
+        commits,
+        edit_lines,
+        draws,
+        paths,
+    } = work;
     let (station, mut passes) = Station::new(alloc, editors.len() as u32, CAROUSEL, weigh)?;
     let Some(pass) = passes.pop() else {
         unreachable!()
     };
     let mut cast = Cast {
-        editors: editor_seats(alloc, &station, &editors, passes)?,
+        editors: editor_seats(alloc, &station, &editors, passes, commits, edit_lines)?,
         feeder: FeederSeat {
             pass,
             downlink,
-            draws: Vec::new(alloc),
+            draws,
             fates: Vec::new(alloc),
             whole: true,
         },
-        readers: reader_seats(alloc, &readers, viewers, &events)?,
+        readers: reader_seats(alloc, &readers, viewers, &before, paths, finales)?,
     };
-    let ends = act_all(rt, alloc, gate, &station, shower, &mut cast, events)?;
+    act_all(rt, alloc, gate, &station, shower, &mut cast, before)?;
     if !run_all(rt, alloc, gate, &station, shower, &mut cast) {
         return Err(AllocError);
     }
@@ -135,6 +137,6 @@ fn perform<R: Threads + Wait + Sync, G: Gate>(
         readers: watchers,
     } = cast;
     end(
-        rt, alloc, gate, station, seats, feeder, watchers, shower, ends, &editors,
+        rt, alloc, gate, station, seats, feeder, watchers, shower, settles, &editors,
     )
 }

@@ -12,13 +12,14 @@ use Rattle.oc_bytes.specs.Outcome.{Gives, cap_at_u32}
 use Rattle.path_tree.specs.Paths.{Bytes}
 use Rattle.session_script.specs.declared.reading.Reading.{Reading}
 use Rattle.session_script.specs.declared.script.LineCause.{LineCause}
-use Rattle.session_script.specs.declared.script.Script.{Script}
+use Rattle.session_script.specs.declared.parts.Parts.{Parts}
 use Rattle.session_script.specs.declared.script.ScriptFault.{ScriptFault}
 use Rattle.session_script.specs.declared.script.ScriptFault.TheVariants as faults
-use Rattle.session_script.specs.Scripts.{view, view_line, cause}
-use Rattle.session_script.specs.Grammar.{Saying, Passed, Starts, Does, Ends, part_of, line_by, is_feed, lines_in, or_bad_line, sayings, actors, editor_of, reader_of, script_of, meaning_of, ◌>>=◌}
+use Rattle.session_script.specs.Scripts.{LineFields, Fields, cause}
+use Rattle.session_script.specs.Parts.{script_of_parts}
+use Rattle.session_script.specs.Grammar.{Saying, Passed, Starts, Does, Ends, part_of, line_by, is_feed, lines_in, or_bad_line, sayings, actors, editor_of, reader_of, lines_from, script_of, meaning_of, ◌>>=◌}
 use Rattle.session_script.specs.Memory.{is_kept, line_asks, AsksForMemory}
-use Rattle.session_script.specs.Readings.{StandsFor, Reads}
+use Rattle.session_script.specs.Readings.{StandsFor, Reads, lines_read}
 use Rattle.session_script.proofs.Growing.{actors_more}
 use Rattle.session_script.proofs.Asking.{kept_asks}
 
@@ -42,11 +43,31 @@ one_fails said line below fault h = ap (or_bad_line (length said + 1) (λ x. say
 
 -- ---- what is known once n lines were read
 
+-- nothing was said that asks for memory
+pub record IsQuiet (said : List Saying) : Type 0 where
+  pub editors : actors editor_of said ≡ []
+  pub readers : actors reader_of said ≡ []
+  pub lines : lines_from 1 said ≡ []
+
+passed_quiet : (n : ℕ) (said : List Saying) → lines_from n said ≡ [] → lines_from n (said ++ Passed ∷ []) ≡ []
+passed_quiet n [] h = refl
+passed_quiet n (Passed ∷ below) h = passed_quiet (n + 1) below h
+passed_quiet n (Starts ∷ below) h = passed_quiet (n + 1) below h
+passed_quiet n (Does act ∷ below) h = cc
+passed_quiet n (Ends act ∷ below) h = cc
+
+starts_quiet : (n : ℕ) (said : List Saying) → lines_from n said ≡ [] → lines_from n (said ++ Starts ∷ []) ≡ []
+starts_quiet n [] h = refl
+starts_quiet n (Passed ∷ below) h = starts_quiet (n + 1) below h
+starts_quiet n (Starts ∷ below) h = starts_quiet (n + 1) below h
+starts_quiet n (Does act ∷ below) h = cc
+starts_quiet n (Ends act ∷ below) h = cc
+
 pub record Walked (text : Bytes) (n : ℕ) (r : Reading) : Type 0 where
   pub said : List Saying
   pub fits : sayings [] (take n (lines_in text)) ≡ Ok said
   pub stands : StandsFor r said
-  pub asked : AsksForMemory text ⊎ ((actors editor_of said ≡ []) × (actors reader_of said ≡ []))
+  pub asked : AsksForMemory text ⊎ IsQuiet said
 
 -- the next line of a text is this one
 pub record IsNext (text : Bytes) (n : ℕ) (line : Bytes) : Type 0 where
@@ -74,14 +95,14 @@ asks_here text n r line w next h = record {
 }
 
 asked_more : (text : Bytes) (n : ℕ) (r : Reading) (line : Bytes) (w : Walked text n r) → IsNext text n line → (s : Saying) → line_by (part_of w.said) line ≡ Ok s
-    → AsksForMemory text ⊎ ((actors editor_of (w.said ++ s ∷ []) ≡ []) × (actors reader_of (w.said ++ s ∷ []) ≡ []))
+    → AsksForMemory text ⊎ IsQuiet (w.said ++ s ∷ [])
 asked_more text n r line w next Passed h = elim w.asked [
   | inl a ↦ inl a
-  | inr e ↦ inr (actors_more editor_of w.said Passed ∙ e.0, actors_more reader_of w.said Passed ∙ e.1)
+  | inr e ↦ inr (record { editors = actors_more editor_of w.said Passed ∙ e.editors; readers = actors_more reader_of w.said Passed ∙ e.readers; lines = passed_quiet 1 w.said e.lines })
 ]
 asked_more text n r line w next Starts h = elim w.asked [
   | inl a ↦ inl a
-  | inr e ↦ inr (actors_more editor_of w.said Starts ∙ e.0, actors_more reader_of w.said Starts ∙ e.1)
+  | inr e ↦ inr (record { editors = actors_more editor_of w.said Starts ∙ e.editors; readers = actors_more reader_of w.said Starts ∙ e.readers; lines = starts_quiet 1 w.said e.lines })
 ]
 asked_more text n r line w next (Does act) h = inl (asks_here text n r line w next (kept_asks (part_of w.said) line (ap is_kept h)))
 asked_more text n r line w next (Ends act) h = inl (asks_here text n r line w next (kept_asks (part_of w.said) line (ap is_kept h)))
@@ -104,11 +125,14 @@ fails text n r line w next number fault h =
     (ap (sayings []) (cut_at_line text n line next) ∙ sayings-append [] w.said (take n (lines_in text)) _ w.fits ∙ one_fails w.said line (drop (n + 1) (lines_in text)) fault h.1
     ∙ ap (λ m. Err (m, fault)) (sym h.0))
 
+abbrev said_script : List ℕ → List ℕ → List LineFields → Result Fields (ℕ × LineCause)
+said_script editors readers lines = Ok (record { editors = editors; readers = readers; lines = lines })
+
 -- all lines fit
-pub ends : (text : Bytes) (n : ℕ) (r : Reading) (w : Walked text n r) → length (lines_in text) ≤ n → meaning_of text ≡ Ok (record { editors = r.editors.keys; readers = r.readers.keys; lines = map view_line r.lines.items })
+pub ends : (text : Bytes) (n : ℕ) (r : Reading) (w : Walked text n r) → length (lines_in text) ≤ n → meaning_of text ≡ Ok (record { editors = r.editors.keys; readers = r.readers.keys; lines = lines_read r })
 ends text n r w l =
     ap (λ all. all >>= λ all. Ok (script_of all)) (ap (sayings []) (sym (take_all n (lines_in text) l)) ∙ w.fits)
-    ∙ sym (rw (w.stands.editors, w.stands.readers, w.stands.lines) refl)
+    ∙ sym (λ i. said_script (w.stands.editors i) (w.stands.readers i) (w.stands.lines i))
 
 none_listed : (editors readers : List ℕ) → editors ≡ [] → readers ≡ [] → 0 < length editors + length readers → ⊥
 none_listed editors readers e f l = let a = ap length e in let b = ap length f in omega arith
@@ -117,12 +141,22 @@ none_listed editors readers e f l = let a = ap length e in let b = ap length f i
 pub asked_for : (text : Bytes) (n : ℕ) (r : Reading) (w : Walked text n r) → 0 < length r.editors.keys + length r.readers.keys → AsksForMemory text
 asked_for text n r w l = elim w.asked [
   | inl a ↦ a
-  | inr e ↦ absurd (none_listed r.editors.keys r.readers.keys (w.stands.editors ∙ e.0) (w.stands.readers ∙ e.1) l)
+  | inr e ↦ absurd (none_listed r.editors.keys r.readers.keys (w.stands.editors ∙ e.editors) (w.stands.readers ∙ e.readers) l)
+]
+
+none_counted : {A : Type 0} (xs : List A) → xs ≡ [] → 0 < length xs → ⊥
+none_counted xs e l = let a = ap length e in omega arith
+
+-- so was it where a line does something
+pub lines_ask : (text : Bytes) (n : ℕ) (r : Reading) (w : Walked text n r) → 0 < length (lines_read r) → AsksForMemory text
+lines_ask text n r w l = elim w.asked [
+  | inl a ↦ a
+  | inr e ↦ absurd (none_counted (lines_read r) (w.stands.lines ∙ e.lines) l)
 ]
 
 -- a line that was refused is the first that doesn't fit, and the refusal names it
 pub refused : (X : Type 0) (text : Bytes) (n : ℕ) (r new : Reading) (line : Bytes) (w : Walked text n r) → IsNext text n line → (e : ScriptFault) → Reads {X = X} (Err e) w.said line new
-    → Gives {X = Script} view cause (Err e) (meaning_of text)
+    → Gives {X = Parts} script_of_parts cause (Err e) (meaning_of text)
 refused X text n r new line w next (faults.BadLine number fault) h = fails text n r line w next number fault h
 refused X text n r new line w next faults.NoMemory h = tt
 

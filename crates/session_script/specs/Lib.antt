@@ -1,5 +1,6 @@
 pub mod Texts
 pub mod Scripts
+pub mod Parts
 pub mod Keywords
 pub mod Values
 pub mod Grammar
@@ -8,3 +9,4 @@ pub mod Steps
 pub mod Mentions
 pub mod Readings
 pub mod Ranges
+pub mod Generated

@@ -1,7 +1,7 @@
 -- What holds of every script that a text gives.
 use Rattle.std.specs.Prelude.{ℕ, ◌≤◌, ◌<◌, nat_eq, List, length}
-use Rattle.std.specs.List.{All, IsDistinct}
-use Rattle.session_script.specs.Scripts.{Act, Put, Fill, Remove, Commit, Draw, Open, Settle, Fields}
+use Rattle.std.specs.List.{All, Contains, IsDistinct}
+use Rattle.session_script.specs.Scripts.{Act, Put, Fill, Remove, Commit, Draw, Open, Settle, LineFields, Fields}
 use Rattle.cycle_planner.specs.declared.TheConstants.{MOST_DRAWN}
 use Rattle.session_script.specs.declared.line.TheConstants.{MOST_FILLED}
 use Rattle.session_script.specs.declared.values.TheConstants.{MOST_ACTORS, MOST_FATES}
@@ -29,3 +29,17 @@ pub record IsInRanges (script : Fields) : Type 0 where
   pub editors : AreActors script.editors
   pub readers : AreActors script.readers
   pub lines : All (λ line. IsInRange line.act) script.lines
+
+-- who a line is of stands among these
+abbrev pub IsMentioned : List ℕ → List ℕ → Act → Type 0
+IsMentioned editors readers (Put editor path content) = Contains editors editor
+IsMentioned editors readers (Fill editor path size from) = Contains editors editor
+IsMentioned editors readers (Remove editor path) = Contains editors editor
+IsMentioned editors readers (Commit editor) = Contains editors editor
+IsMentioned editors readers (Draw asked fates) = Unit {0}
+IsMentioned editors readers (Open reader path) = Contains readers reader
+IsMentioned editors readers Settle = Unit {0}
+
+-- a script lists each editor and each reader that a line names
+abbrev pub AreListed : Fields → Type 0
+AreListed script = All (λ (l : LineFields). IsMentioned script.editors script.readers l.act) script.lines

@@ -1,26 +1,37 @@
 //! Scripts of sessions: a text of lines, each of which says one thing that an editor, a reader or the broadcaster's
-//! feeder does. The language is this project's own; docs of `parse` have its grammar.
+//! feeder does. It is read in its parts: what stands above `start`, what stands below it, and what is done at the end. The language is this
+//! project's own; docs of `read_parts` have its grammar. The generated script of the command `big` is made here too.
 //!
 //! ```
-//! use session_script::{LineCause, ScriptFault, Stage, parse};
+//! use session_script::{LineCause, ScriptFault, Stage, parse, read_parts};
 //!
-//! let script = parse(alloc, b"put 7 /a 6869\ncommit 7\n# one cycle\nstart\ndraw 4\nopen 2 /a\n")?;
-//! assert_eq!(rt; (script.editors[0], script.readers[0]), (7, 2));
-//! assert_eq!(rt; script.lines.len(), 4);
+//! let text = b"put 7 /a 6869\ncommit 7\n# one cycle\nstart\ndraw 4\nsettle\nfinale 2 /a\n";
+//! let parts = read_parts(alloc, text)?;
+//! assert_eq!(rt; (parts.editors[0], parts.readers[0]), (7, 2));
+//! assert_eq!(rt; (parts.before.len(), parts.during.len(), parts.finales.len()), (2, 1, 1));
+//! assert_eq!(rt; parts.settle, Some(6));
+//! // the same, as one list of lines
+//! let script = parse(alloc, text)?;
+//! assert_eq!(rt; script.lines.len(), 5);
 //! assert_eq!(rt; (script.lines[1].number, script.lines[1].stage), (2, Stage::Before));
-//! assert_eq!(rt; (script.lines[3].number, script.lines[3].stage), (6, Stage::During));
-//! let fault = parse(alloc, b"commit 7\ncommit 65\n").err();
+//! assert_eq!(rt; (script.lines[2].number, script.lines[2].stage), (5, Stage::During));
+//! let fault = read_parts(alloc, b"commit 7\ncommit 65\n").err();
 //! assert_eq!(rt; fault, Some(ScriptFault::BadLine(2, LineCause::BadNumber)));
 //! ```
 #![tactic(auto)]
 
+mod generator;
 mod keyword;
 mod line;
 mod number;
+mod parts;
 mod reading;
 mod script;
+mod tasks;
 mod values;
 mod words;
 
-pub use reading::parse;
+pub use generator::generated;
+pub use parts::{Finale, Parts, Task, TaskLine};
+pub use reading::{parse, read_parts};
 pub use script::{Action, Line, LineCause, Script, ScriptFault, Stage};

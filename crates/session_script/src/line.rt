@@ -1,18 +1,20 @@
 //! What one line says.
-ghost use Rattle.std.specs.Prelude.{◌≡◌, Err, true, is_ok};
+ghost use Rattle.std.specs.Prelude.{◌≡◌, Err, true, is_ok, IfOk};
 ghost use Rattle.oc_bytes.specs.Outcome.{Gives};
-ghost use Rattle.session_script.specs.Scripts.{view_action};
+ghost use Rattle.session_script.specs.Scripts.{Open};
+ghost use Rattle.session_script.specs.Parts.{act_of};
 ghost use Rattle.session_script.specs.Grammar.{put_by, fill_by, remove_by, commit_by, draw_by, open_by, said_by, may_stand, in_words, line_by, Ends, Starts};
 ghost use Rattle.session_script.specs.Grammar as grammar;
 ghost use Rattle.session_script.specs.Memory.{reaches_path, asks_by, asks_in_words, line_asks};
-ghost use Rattle.session_script.specs.Steps.{words_left, line_cause, view_said};
+ghost use Rattle.session_script.specs.Steps.{words_left, line_cause, view_said, is_said_by, Suits};
 
 use crate::keyword::Keyword;
-use crate::script::{Action, LineCause};
+use crate::parts::Task;
+use crate::script::LineCause;
 use crate::values::{actor, content, fates, number, path};
 use crate::words::{LineFault, Words};
 use cycle_planner::MOST_DRAWN;
-use path_tree::MOST_CONTENT;
+use path_tree::{MOST_CONTENT, Path};
 use std::alloc::Global;
 
 /// The most bytes that a line fills a file with: one more than a file may have.
@@ -37,26 +39,28 @@ pub enum Said {
     /// The session's threads start below it.
     Starts,
     /// What an actor does.
-    Does(Action),
-    /// What is done after all others.
-    Ends(Action),
+    Does(Task),
+    /// The session settles.
+    Settles,
+    /// After all others this reader opens this path.
+    Finale(u32, Path),
 }
 
 /// `EDITOR PATH HEX`
-fn put(alloc: Global, mut words: Words) -> Result<Action, LineFault>
-    ensures gives { Gives view_action line_cause result (put_by (words_left words.entry)) }
+fn put(alloc: Global, mut words: Words) -> Result<Task, LineFault>
+    ensures gives { Gives act_of line_cause result (put_by (words_left words.entry)) }
     ensures memory { result ≡ Err LineFault.NoMemory → reaches_path (words_left words.entry) ≡ true }
 {
     let editor = actor(&mut words)?;
     let path = path(alloc, &mut words)?;
     let content = content(alloc, &mut words)?;
     words.end()?;
-    Ok(Action::Put(editor, path, content))
+    Ok(Task::Put(editor, path, content))
 }
 
 /// `EDITOR PATH LENGTH FROM`
-fn fill(alloc: Global, mut words: Words) -> Result<Action, LineFault>
-    ensures gives { Gives view_action line_cause result (fill_by (words_left words.entry)) }
+fn fill(alloc: Global, mut words: Words) -> Result<Task, LineFault>
+    ensures gives { Gives act_of line_cause result (fill_by (words_left words.entry)) }
     ensures memory { result ≡ Err LineFault.NoMemory → reaches_path (words_left words.entry) ≡ true }
 {
     let editor = actor(&mut words)?;
@@ -64,55 +68,56 @@ fn fill(alloc: Global, mut words: Words) -> Result<Action, LineFault>
     let size = number(&mut words, 0, MOST_FILLED)?;
     let from = number(&mut words, 0, 255)?;
     words.end()?;
-    Ok(Action::Fill(editor, path, size, from as u8))
+    Ok(Task::Fill(editor, path, size, from as u8))
 }
 
 /// `EDITOR PATH`
-fn remove(alloc: Global, mut words: Words) -> Result<Action, LineFault>
-    ensures gives { Gives view_action line_cause result (remove_by (words_left words.entry)) }
+fn remove(alloc: Global, mut words: Words) -> Result<Task, LineFault>
+    ensures gives { Gives act_of line_cause result (remove_by (words_left words.entry)) }
     ensures memory { result ≡ Err LineFault.NoMemory → reaches_path (words_left words.entry) ≡ true }
 {
     let editor = actor(&mut words)?;
     let path = path(alloc, &mut words)?;
     words.end()?;
-    Ok(Action::Remove(editor, path))
+    Ok(Task::Remove(editor, path))
 }
 
 /// `EDITOR`
-fn commit(mut words: Words) -> Result<Action, LineFault>
-    ensures gives { Gives view_action line_cause result (commit_by (words_left words.entry)) }
+fn commit(mut words: Words) -> Result<Task, LineFault>
+    ensures gives { Gives act_of line_cause result (commit_by (words_left words.entry)) }
     ensures plain { result ≡ Err LineFault.NoMemory → ⊥ }
 {
     let editor = actor(&mut words)?;
     words.end()?;
-    Ok(Action::Commit(editor))
+    Ok(Task::Commit(editor))
 }
 
 /// `N FATE..`
-fn draw(alloc: Global, mut words: Words) -> Result<Action, LineFault>
-    ensures gives { Gives view_action line_cause result (draw_by (words_left words.entry)) }
+fn draw(alloc: Global, mut words: Words) -> Result<Task, LineFault>
+    ensures gives { Gives act_of line_cause result (draw_by (words_left words.entry)) }
     ensures memory { result ≡ Err LineFault.NoMemory → is_ok (draw_by (words_left words.entry)) ≡ true }
 {
     let asked = number(&mut words, 1, MOST_DRAWN)?;
     let fates = fates(alloc, words)?;
-    Ok(Action::Draw(asked, fates))
+    Ok(Task::Draw(asked, fates))
 }
 
 /// `READER PATH`
-fn open(alloc: Global, mut words: Words) -> Result<Action, LineFault>
-    ensures gives { Gives view_action line_cause result (open_by (words_left words.entry)) }
+fn opened(alloc: Global, mut words: Words) -> Result<(u32, Path), LineFault>
+    ensures gives { Gives (λ opened. Open opened.0 opened.1) line_cause result (open_by (words_left words.entry)) }
     ensures memory { result ≡ Err LineFault.NoMemory → reaches_path (words_left words.entry) ≡ true }
 {
     let reader = actor(&mut words)?;
     let path = path(alloc, &mut words)?;
     words.end()?;
-    Ok(Action::Open(reader, path))
+    Ok((reader, path))
 }
 
 /// What the words after a line's first one say.
 fn say(alloc: Global, keyword: Keyword, mut words: Words) -> Result<Said, LineFault>
     ensures gives { Gives view_said line_cause result (said_by keyword (words_left words.entry)) }
     ensures memory { result ≡ Err LineFault.NoMemory → asks_by keyword (words_left words.entry) ≡ true }
+    ensures kind { IfOk result (λ said. is_said_by keyword said ≡ true) }
 {
     match keyword {
         Keyword::Put => Ok(Said::Does(put(alloc, words)?)),
@@ -120,16 +125,22 @@ fn say(alloc: Global, keyword: Keyword, mut words: Words) -> Result<Said, LineFa
         Keyword::Remove => Ok(Said::Does(remove(alloc, words)?)),
         Keyword::Commit => Ok(Said::Does(commit(words)?)),
         Keyword::Draw => Ok(Said::Does(draw(alloc, words)?)),
-        Keyword::Open => Ok(Said::Does(open(alloc, words)?)),
+        Keyword::Open => {
+            let (reader, path) = opened(alloc, words)?;
+            Ok(Said::Does(Task::Open(reader, path)))
+        }
         Keyword::Start => {
             words.end()?;
             Ok(Said::Starts)
         }
         Keyword::Settle => {
             words.end()?;
-            Ok(Said::Ends(Action::Settle))
+            Ok(Said::Settles)
         }
-        Keyword::Finale => Ok(Said::Ends(open(alloc, words)?)),
+        Keyword::Finale => {
+            let (reader, path) = opened(alloc, words)?;
+            Ok(Said::Finale(reader, path))
+        }
     }
 }
 
@@ -148,6 +159,7 @@ fn may_stand(part: Part, keyword: Keyword) -> bool
 fn say_all(alloc: Global, part: Part, mut words: Words) -> Result<Said, LineFault>
     ensures gives { Gives view_said line_cause result (in_words part (words_left words.entry)) }
     ensures memory { result ≡ Err LineFault.NoMemory → asks_in_words part (words_left words.entry) ≡ true }
+    ensures suits { IfOk result (λ said. Suits part said) }
 {
     let Some(first) = words.next() else {
         return Ok(Said::Passed);
@@ -165,6 +177,7 @@ fn say_all(alloc: Global, part: Part, mut words: Words) -> Result<Said, LineFaul
 pub fn read_line(alloc: Global, part: Part, line: &[u8]) -> Result<Said, LineFault>
     ensures gives { Gives view_said line_cause result (line_by part line.now) }
     ensures memory { result ≡ Err LineFault.NoMemory → line_asks part line.now ≡ true }
+    ensures suits { IfOk result (λ said. Suits part said) }
 {
     match line {
         [] | [b'#', ..] => Ok(Said::Passed),

@@ -4,16 +4,20 @@ ghost use Rattle.oc_bytes.specs.Outcome.{Gives};
 ghost use Rattle.session_script.specs.Mentions.{with_mention};
 ghost use Rattle.session_script.specs.Scripts.{cause};
 ghost use Rattle.session_script.specs.Scripts as scripts;
+ghost use Rattle.session_script.specs.Parts.{script_of_parts};
 ghost use Rattle.session_script.specs.Grammar.{meaning_of};
 ghost use Rattle.session_script.specs.Memory.{AsksForMemory};
-ghost use Rattle.session_script.specs.Ranges.{IsInRanges};
+ghost use Rattle.session_script.specs.Ranges.{AreListed, IsInRanges};
 
 use crate::line::{Part, Said, read_line};
-use crate::script::{Action, Line, Script, ScriptFault, Stage};
+use crate::parts::{Finale, Parts, Task, TaskLine};
+use crate::script::{Script, ScriptFault};
 use crate::words::LineFault;
 use indexmap::IndexSet;
 use oc_bytes::NoMemory;
+use path_tree::Path;
 use std::alloc::Global;
+use std::mem;
 
 /// What the lines so far say.
 #[derive(Drop)]
@@ -25,15 +29,20 @@ struct Reading {
     part: Part,
     editors: IndexSet<u32>,
     readers: IndexSet<u32>,
-    lines: Vec<Line>,
+    before: Vec<TaskLine>,
+    during: Vec<TaskLine>,
+    settle: Option<u32>,
+    finales: Vec<Finale>,
 }
 
 impl Reading {
-    ghost use Rattle.session_script.specs.Scripts.{view, view_action, view_line};
-    ghost use Rattle.session_script.specs.Grammar.{Saying, Starts};
+    ghost use Rattle.session_script.specs.Parts.{act_of};
+    ghost use Rattle.session_script.specs.Scripts.{Open};
+    ghost use Rattle.session_script.specs.Grammar.{Saying, Starts, Does, Ends};
     ghost use Rattle.session_script.specs.Memory.{line_asks, is_kept};
-    ghost use Rattle.session_script.specs.Steps.{view_said};
-    ghost use Rattle.session_script.specs.Readings.{StandsFor, Adds, Keeps, Reads};
+    ghost use Rattle.session_script.specs.Steps.{view_said, Suits};
+    ghost use Rattle.session_script.specs.Readings.{StandsFor, Adds, IsShaped, Reads, lines_read};
+    ghost use Rattle.session_script.specs.declared.line.Part.TheVariants.{Opening, Closing};
 
     fn new(alloc: Global) -> Reading
         ensures { StandsFor result [] }
@@ -44,7 +53,10 @@ impl Reading {
             part: Part::Opening,
             editors: IndexSet::new(alloc),
             readers: IndexSet::new(alloc),
-            lines: Vec::new(alloc),
+            before: Vec::new(alloc),
+            during: Vec::new(alloc),
+            settle: None,
+            finales: Vec::new(alloc),
         }
     }
 
@@ -67,7 +79,8 @@ impl Reading {
 
     /// Adds what the line says whose number stands.
     fn add(&mut self, said: Said) -> Result<(), NoMemory>
-        ensures adds { OnOk result (Adds self.old self.new (view_said said)) }
+        requires { Suits self.old.part said }
+        ensures adds { OnOk result (IsShaped self.old → Adds self.old self.new (view_said said)) }
         ensures memory { OnErr result (is_kept (Ok (view_said said)) ≡ true) }
     {
         match said {
@@ -76,54 +89,75 @@ impl Reading {
                 self.start();
                 Ok(())
             }
-            Said::Does(action) => self.keep(Stage::During, action),
-            Said::Ends(action) => {
+            Said::Does(task) => self.keep(task),
+            Said::Settles => {
                 self.part = Part::Closing;
-                self.keep(Stage::After, action)
+                self.settle = Some(self.number);
+                Ok(())
             }
+            Said::Finale(reader, path) => self.keep_finale(reader, path),
         }
     }
 
-    /// All lines so far are of the first stage.
+    /// All tasks so far stand above `start`.
     fn start(&mut self)
-        ensures { Adds self.old self.new Starts }
+        requires { self.old.part ≡ Opening }
+        ensures { IsShaped self.old → Adds self.old self.new Starts }
     {
         self.part = Part::Running;
-        for line in self.lines.iter_mut() {
-            line.stage = Stage::Before;
-        }
+        self.before = mem::replace(&mut self.during, Vec::new(self.alloc));
     }
 
-    /// Keeps the line that does something and whose number stands.
-    fn keep(&mut self, stage: Stage, action: Action) -> Result<(), NoMemory>
-        ensures { OnOk result (Keeps self.old self.new stage (view_action action)) }
+    /// Keeps the task of the line whose number stands.
+    fn keep(&mut self, task: Task) -> Result<(), NoMemory>
+        requires { self.old.part ≡ Closing → ⊥ }
+        ensures { OnOk result (IsShaped self.old → Adds self.old self.new (Does (act_of task))) }
     {
-        mention(&mut self.editors, action.editor())?;
-        mention(&mut self.readers, action.reader())?;
-        self.lines.push(Line {
+        mention(&mut self.editors, task.editor())?;
+        mention(&mut self.readers, task.reader())?;
+        self.during.push(TaskLine {
             number: self.number,
-            stage,
-            action,
+            task,
         })?;
         Ok(())
     }
 
-    /// The script that the lines make.
-    fn finish(self) -> Result<Script, NoMemory>
-        ensures script { IfOk result (λ s. view s ≡ record { editors = self.editors.keys; readers = self.readers.keys; lines = map view_line self.lines.items }) }
+    /// Keeps the finale of the line whose number stands.
+    fn keep_finale(&mut self, reader: u32, path: Path) -> Result<(), NoMemory>
+        ensures { OnOk result (IsShaped self.old → Adds self.old self.new (Ends (Open reader path))) }
+    {
+        self.part = Part::Closing;
+        mention(&mut self.readers, Some(reader))?;
+        self.finales.push(Finale {
+            number: self.number,
+            reader,
+            path,
+        })?;
+        Ok(())
+    }
+
+    /// The parts that the lines make.
+    fn finish(self) -> Result<Parts, NoMemory>
+        ensures parts { IfOk result (λ parts. script_of_parts parts ≡ record { editors = self.editors.keys; readers = self.readers.keys; lines = lines_read self }) }
         ensures memory { OnErr result (0 < length self.editors.keys + length self.readers.keys) }
     {
         let Reading {
             alloc,
             editors,
             readers,
-            lines,
+            before,
+            during,
+            settle,
+            finales,
             ..
         } = self;
-        Ok(Script {
+        Ok(Parts {
             editors: listed(alloc, &editors)?,
             readers: listed(alloc, &readers)?,
-            lines,
+            before,
+            during,
+            settle,
+            finales,
         })
     }
 }
@@ -148,7 +182,7 @@ fn listed(alloc: Global, actors: &IndexSet<u32>) -> Result<Vec<u32>, NoMemory>
     Ok(list)
 }
 
-/// Reads a script, or names its first line that doesn't fit. The language is this project's own.
+/// Reads a script in its parts, or names its first line that doesn't fit. The language is this project's own.
 ///
 /// A script is lines, each but maybe the last ended by a line feed. An empty line and one that begins with `#` say nothing,
 /// and are counted. The words of a line stand between single spaces, so a second space or one at the end makes an empty
@@ -176,9 +210,11 @@ fn listed(alloc: Global, actors: &IndexSet<u32>) -> Result<Vec<u32>, NoMemory>
 ///
 /// The text is read once. Memory is taken for each line that does something, for the names of its path and for its file's
 /// bytes, and 4 bytes for each fate, so a line of 14 bytes can ask for 262,144; the filled files are not made here.
-pub fn parse(alloc: Global, text: &[u8]) -> Result<Script, ScriptFault>
-    ensures grammar { Gives scripts.view cause result (meaning_of text.now) }
-    ensures ranges { IfOk result (λ script. IsInRanges (scripts.view script)) }
+pub fn read_parts(alloc: Global, text: &[u8]) -> Result<Parts, ScriptFault>
+    ensures grammar { Gives script_of_parts cause result (meaning_of text.now) }
+    ensures ranges { IfOk result (λ parts. IsInRanges (script_of_parts parts)) }
+    ensures listed { IfOk result (λ parts. AreListed (script_of_parts parts)) }
+    ensures asks { IfOk result (λ parts. 0 < length (script_of_parts parts).lines → AsksForMemory text.now) }
     ensures memory { IsErrOf result ScriptFault.NoMemory → AsksForMemory text.now }
 {
     let mut reading = Reading::new(alloc);
@@ -186,4 +222,14 @@ pub fn parse(alloc: Global, text: &[u8]) -> Result<Script, ScriptFault>
         reading.read(line)?;
     }
     Ok(reading.finish()?)
+}
+
+/// Reads a script as [`read_parts`] does, as one list of lines. Memory is taken for the list too.
+pub fn parse(alloc: Global, text: &[u8]) -> Result<Script, ScriptFault>
+    ensures grammar { Gives scripts.view cause result (meaning_of text.now) }
+    ensures ranges { IfOk result (λ script. IsInRanges (scripts.view script)) }
+    ensures memory { IsErrOf result ScriptFault.NoMemory → AsksForMemory text.now }
+{
+    let parts = read_parts(alloc, text)?;
+    Ok(parts.into_script(alloc)?)
 }

@@ -116,34 +116,6 @@ pub enum Action {
     Settle,
 }
 
-impl Action {
-    ghost use Rattle.session_script.specs.Scripts.{view_action};
-    ghost use Rattle.session_script.specs.Grammar.{editor_of, reader_of};
-
-    /// The editor whose line it is, where it is one's.
-    pub fn editor(&self) -> Option<u32>
-        ensures { result ≡ editor_of (view_action self.now) }
-    {
-        match self {
-            Action::Put(editor, ..)
-            | Action::Fill(editor, ..)
-            | Action::Remove(editor, _)
-            | Action::Commit(editor) => Some(*editor),
-            Action::Draw(..) | Action::Open(..) | Action::Settle => None,
-        }
-    }
-
-    /// The reader whose line it is, where it is one's.
-    pub fn reader(&self) -> Option<u32>
-        ensures { result ≡ reader_of (view_action self.now) }
-    {
-        match self {
-            Action::Open(reader, _) => Some(*reader),
-            _ => None,
-        }
-    }
-}
-
 /// A line that does something.
 #[derive(Drop)]
 pub struct Line {

@@ -3,7 +3,7 @@ use Rattle.std.proofs.Common.{◌≡◌, ℕ, List, [], Ok, Err, inr, refl}
 use Rattle.carousel_world.specs.Events.{Step}
 use Rattle.carousel_world.specs.declared.event.Reply.{Reply}
 use Rattle.session.specs.Sessions.{IsSession}
-use Rattle.big_script.specs.Generated.{generated_script}
+use Rattle.session_script.specs.Generated.{generated_script}
 use Rattle.shell_streams.specs.Sending.{OutputState, Puts}
 use Rattle.shell_streams.specs.declared.output.OutputFault.{OutputFault}
 use Rattle.shell_streams.specs.declared.output.OutputFault.TheVariants as outputs

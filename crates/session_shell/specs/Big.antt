@@ -10,7 +10,7 @@ use Rattle.carousel_world.specs.declared.event.Reply.{Reply}
 use Rattle.carousel_world.specs.declared.event.Reply.TheVariants as replies
 use Rattle.session_history.specs.Merged.{is_open_by}
 use Rattle.session.specs.Sessions.{IsSession, accepted_in}
-use Rattle.big_script.specs.Generated.{generated_script}
+use Rattle.session_script.specs.Generated.{generated_script}
 use Rattle.shell_streams.specs.Cuts.{Bytes}
 use Rattle.carousel_shell.specs.Over.{Over, Failed, IsUntouched, WritesAll, WritesPrefix}
 use Rattle.carousel_shell.specs.declared.status.Status.{Status}

@@ -4,11 +4,11 @@ ghost use Rattle.carousel_shell.specs.Over.{sink_over};
 ghost use Rattle.session_shell.specs.Big.{PlaysBig};
 
 use crate::counts::big_line;
-use big_script::{generated, generated_is_arranged};
 use carousel_shell::Status;
 use cycle_planner::Weigh;
 use section_workers::Gate;
 use session::play;
+use session_script::generated;
 use shell_streams::{Output, OutputFault};
 use std::alloc::Global;
 use std::sync::Wait;
@@ -37,12 +37,11 @@ pub(crate) fn play_generated<R: Threads + Wait + Sync, O: Output, G: Gate>(
     ensures same { (O.state out.new).name ≡ (O.state out.old).name }
     ensures in_time { IsInTime (O.state out.old) (O.state out.new) }
 {
-    generated_is_arranged();
-    let script = match generated(alloc, size) {
-        Ok(script) => script,
+    let parts = match generated(alloc, size) {
+        Ok(parts) => parts,
         Err(_) => return Status::NoMemory,
     };
-    let told = match play(rt, alloc, script, gate, weigh) {
+    let told = match play(rt, alloc, parts, gate, weigh) {
         Ok(told) => told,
         Err(_) => return Status::NoMemory,
     };

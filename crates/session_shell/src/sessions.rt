@@ -8,8 +8,8 @@ use cycle_planner::Weigh;
 use oc_bytes::Source;
 use rehearsal::put_report;
 use section_workers::Gate;
-use session::{play, texts_are_arranged};
-use session_script::parse;
+use session::play;
+use session_script::read_parts;
 use shell_streams::{Output, read_all};
 use std::alloc::Global;
 use std::sync::Wait;
@@ -38,18 +38,17 @@ pub(crate) fn play_session<R: Threads + Wait + Sync, S: Source, O: Output, G: Ga
     ensures same { (O.state out.new).name ≡ (O.state out.old).name }
     ensures in_time { IsInTime (O.state out.old) (O.state out.new) }
 {
-    texts_are_arranged();
     let text = match read_all(alloc, source, MOST_SCRIPT_BYTES) {
         Ok(text) => text,
         Err(fault) => return Status::from(fault),
     };
-    let script = match parse(alloc, &text) {
-        Ok(script) => script,
+    let parts = match read_parts(alloc, &text) {
+        Ok(parts) => parts,
         Err(fault) => return Status::from(fault),
     };
     // The text is of no use any more, and may be large.
     drop(text);
-    let told = match play(rt, alloc, script, gate, weigh) {
+    let told = match play(rt, alloc, parts, gate, weigh) {
         Ok(told) => told,
         Err(_) => return Status::NoMemory,
     };

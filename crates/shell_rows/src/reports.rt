@@ -5,7 +5,7 @@ use crate::texts::{on_one_line, spelled};
 use cycle_planner::{GREATEST_ID, Weigh};
 use oc_bytes::MemSink;
 use rehearsal::rehearse;
-use session_script::parse;
+use session_script::read_parts;
 use shell_streams::{Buffered, OutputFault, room};
 use std::alloc::Global;
 use test_rows::{Row, RowFault};
@@ -21,7 +21,7 @@ pub(crate) fn call(alloc: Global, row: &Row<'_>) -> Result<Option<String>, RowFa
 /// `rehearse TEXT`: the report of the script, where each module is sent once a cycle.
 fn report(alloc: Global, row: &Row<'_>) -> Result<String, RowFault> {
     let text = spelled(alloc, row)?;
-    let Ok(script) = parse(alloc, text.as_bytes()) else {
+    let Ok(parts) = read_parts(alloc, text.as_bytes()) else {
         return Err(RowFault::BadRow);
     };
     let call = Box::new(
@@ -37,7 +37,7 @@ fn report(alloc: Global, row: &Row<'_>) -> Result<String, RowFault> {
     let mut sink = MemSink::new(alloc, Vec::new(alloc), 1000);
     let mut room = room(alloc)?;
     let mut out = Buffered::new(&mut sink, &mut room);
-    match rehearse(alloc, script, weigh, &mut out) {
+    match rehearse(alloc, parts, weigh, &mut out) {
         Ok(()) => written(alloc, sink.written()),
         Err(OutputFault::Failed) => Ok(String::from_str(alloc, "failed")?),
         Err(OutputFault::NoMemory) => Err(RowFault::NoMemory),

@@ -2,7 +2,7 @@ ghost use Rattle.std.specs.Prelude.{◌≡◌, ◌≤◌, length, IfOk};
 ghost use Rattle.std.specs.List.{All};
 ghost use Rattle.shot_board.specs.Showers.{shown_by, most_by};
 ghost use Rattle.station.specs.Passes.{IsStationPass};
-ghost use Rattle.session_actors.specs.Seats.{IsDrawLine, IsEditorSeat, IsReaderSeat};
+ghost use Rattle.session.specs.Seats.{IsDrawLine, IsEditorSeat, IsReaderSeat};
 
 use crate::meeting::Meeting;
 use carousel_world::Downlink;
@@ -10,7 +10,7 @@ use cycle_planner::{GREATEST_ID, Weigh};
 use open_history::ReaderPass;
 use path_resolver::Shot;
 use path_tree::Path;
-use session_actors::{CommitLine, DrawLine, EditorSeat, FeederSeat, ReaderSeat, run_actors};
+use session::{CommitLine, DrawLine, EditorSeat, FeederSeat, ReaderSeat, run_actors};
 use shot_board::{Shower, Viewer, board};
 use station::{Pass, Station};
 use std::alloc::Global;
@@ -51,6 +51,7 @@ fn editor_seat(
         number,
         pass,
         commits,
+        rest: 0,
         whole: false,
     })
 }
@@ -94,6 +95,7 @@ fn reader_seat(
     Ok(ReaderSeat {
         pass,
         paths,
+        finales: Vec::new(alloc),
         whole: false,
     })
 }

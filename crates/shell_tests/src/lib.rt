@@ -13,4 +13,6 @@ mod meeting;
 #[cfg(test)]
 mod sessions;
 #[cfg(test)]
+mod steps;
+#[cfg(test)]
 mod stopped;

@@ -3,6 +3,7 @@ ghost use Rattle.std.specs.Prelude.{◌≡◌};
 
 use crate::failing::words;
 use crate::meeting::Meeting;
+use crate::steps::Steps;
 use cycle_planner::{GREATEST_ID, Weigh};
 use folder_store::MemFolders;
 use oc_bytes::{MemSink, MemSource};
@@ -29,6 +30,11 @@ const SECOND_BEFORE: &[u8] =
 
 /// Two editors, the feeder and two readers with a step each.
 const MEETING: &[u8] = b"commit 1\ncommit 2\ndraw 3\nopen 1 /\nopen 2 /\n";
+
+/// Below `start` the first editor has two lines of edits and a commit, the second a line, a commit and a line that no commit follows; the
+/// feeder has two draws, the first reader two opens and the second one.
+const STEPPING: &[u8] =
+    b"put 1 /a 31\ncommit 1\nput 1 /b 32\ndraw 5\nopen 1 /a\nstart\nput 1 /c 33\nremove 1 /a\ncommit 1\nput 2 /d 34\ncommit 2\nput 2 /e 35\ndraw 3\ndraw 3\nopen 1 /a\nopen 1 /b\nopen 2 /c\nsettle\nfinale 1 /b\nfinale 2 /d\n";
 
 /// The calls of the input and of the output that fail.
 #[derive(Clone, Copy)]
@@ -205,6 +211,17 @@ fn all_actors_of_a_session_are_at_work_at_once(rt: HostRuntime) -> Result<(), Fa
     let alloc = rt.alloc();
     assert!(rt; meets(&rt, alloc, "session", MEETING)?);
     assert!(rt; meets(&rt, alloc, "big 2", b"")?);
+    Ok(())
+}
+
+/// What stands above `start` and at the end has no step, and each line between them has one.
+#[test]
+fn each_line_of_an_actor_is_a_step(rt: HostRuntime) -> Result<(), Fail> {
+    let alloc = rt.alloc();
+    let gate = Steps::new();
+    let played = outcome(&rt, alloc, "session", STEPPING, NONE, &gate)?;
+    assert!(rt; played.code == 0);
+    assert!(rt; gate.all() == [3, 3, 2, 2, 1, 0]);
     Ok(())
 }
 

@@ -1,12 +1,12 @@
 use Rattle.std.proofs.Common.{List, refl, sym, ap, ◌∙◌, subst, ◌<◌, length}
 use Rattle.std.specs.Prelude.{slice_index_or}
-use Rattle.session_actors.specs.declared.editor.EditorSeat.{EditorSeat}
+use Rattle.session.specs.declared.editor.EditorSeat.{EditorSeat}
 use Rattle.session.proofs.Planning.{on_ok_map}
-use Rattle.session.proofs.Editing.{numbers_set, passes_set, committed_now}
+use Rattle.session.proofs.Editing.{plans_set, passes_set, committed_now}
 use Rattle.session.proofs.editors.commit_now.Goals as goal
 
-pub returns-clause-numbers : goal.returns-clause-numbers
-returns-clause-numbers g c = numbers_set c.args.station.now c.args.seats.now.items c.place_of-place.result c.index_mut.result.now _ (subst (λ (xs : List EditorSeat). c.place_of-place.result < length xs) c.deref.ensures.value c.place_of-place.ensures.0) c.index_mut.ensures.value c.requires.apart refl
+pub returns-clause-plans : goal.returns-clause-plans
+returns-clause-plans g c = plans_set c.args.station.now c.args.seats.now.items c.place_of-place.result c.index_mut.result.now _ (subst (λ (xs : List EditorSeat). c.place_of-place.result < length xs) c.deref.ensures.value c.place_of-place.ensures.0) c.index_mut.ensures.value c.requires.apart refl refl
 
 pub returns-clause-passes : goal.returns-clause-passes
 returns-clause-passes g c = passes_set c.args.station.now c.args.seats.now.items c.place_of-place.result c.index_mut.result.now _ (subst (λ (xs : List EditorSeat). c.place_of-place.result < length xs) c.deref.ensures.value c.place_of-place.ensures.0) c.index_mut.ensures.value c.requires.apart refl c.commit.ensures.pass c.requires.passes
@@ -15,4 +15,4 @@ pub returns-clause-stands : goal.returns-clause-stands
 returns-clause-stands g c =
     on_ok_map c.commit.result (λ made done st.
     committed_now c.args.station.now c.args.seats.now.items c.place_of-place.result c.index_mut.result.now _ (subst (λ (xs : List EditorSeat). c.place_of-place.result < length xs) c.deref.ensures.value c.place_of-place.ensures.0) c.index_mut.ensures.value c.requires.apart refl
-    c.args.editor c.args.edits.items (ap (λ (seat : EditorSeat). seat.number) (c.index_mut.ensures.value ∙ ap (λ (xs : List EditorSeat). slice_index_or xs c.place_of-place.result c.index_mut.result.now) (sym c.deref.ensures.value)) ∙ c.place_of-place.ensures.1 c.index_mut.result.now) refl made done st) c.commit.ensures.commits
+    c.args.editor c.args.edits.items (ap (λ (seat : EditorSeat). seat.number) (c.index_mut.ensures.value ∙ ap (λ (xs : List EditorSeat). slice_index_or xs c.place_of-place.result c.index_mut.result.now) (sym c.deref.ensures.value)) ∙ c.place_of-place.ensures.1 c.index_mut.result.now) made done st) c.commit.ensures.commits

@@ -1,7 +1,7 @@
 use Rattle.std.proofs.Common.{◌≡◌, ℕ, ◌<◌, map, take}
 use Rattle.std.specs.Prelude.{slice_index_or}
 use Rattle.open_history.specs.Opens.{AllAnswered}
-use Rattle.session_actors.specs.declared.reader.ReaderSeat.{ReaderSeat}
+use Rattle.session.specs.declared.reader.ReaderSeat.{ReaderSeat}
 use Rattle.session_history.specs.Merges.{reader_view}
 use Rattle.session.specs.Played.{opens_of}
 use Rattle.session.proofs.ending.all_opens.Given as goal

@@ -1,20 +1,28 @@
-use Rattle.session.proofs.Lasting.{room_now, read_next, read_past}
+use Rattle.std.proofs.Common.{rules, subst, List}
+use Rattle.std.proofs.lemmas.Iterator.Consumers.{YieldsList-turn, YieldsList-end}
+use Rattle.std.proofs.lemmas.Iterator.Adapters.{YieldsList-from_vec}
+use Rattle.path_tree.specs.Paths.{PathNames}
+use Rattle.session.specs.Ending.{HasOpenedLast}
+use Rattle.session.proofs.Lasting.{opened_next, opened_none, room_now}
+use Rattle.session.proofs.Turning.{all_done}
 use Rattle.session.proofs.ending.open_all.Goals as goal
-use Rattle.session.proofs.ending.open_all.Goals.{then-asked-reader+in_ok-share+in_ok-open, else-asked-reader}
+
+pub loop-path-init : goal.loop-path-init
+loop-path-init c = opened_none c.args.pass.now
 
 pub open-requires : goal.open-requires
 open-requires c =
-    room_now c.args.pass.now.known c.args.pass.now c.loop-asked.pass c.args.opens.now c.loop-asked.asked-index c.reader-reader.result c.asked-item.result c.loop-asked-test.true c.asked-item.is
-    c.loop-asked.invariant.0 c.loop-asked.invariant.1 c.if-asked-reader.true c.requires.room
+    let turn = YieldsList-turn (YieldsList-from_vec {s = c.into_iter-path-iterator.result} c.args.paths.items (search rules) (search rules))
+    c.loop-path.yielded c.loop-path.path-iterator c.loop-path.yielded_by c.next.result c.next.new.self c.in-Some.path c.in-Some.is c.next.ensures.steps in
+    room_now c.args.pass.now.known c.loop-path.yielded c.args.pass.now c.loop-path.pass _ c.loop-path.invariant turn.0 c.requires.room
 
-pub loop-asked-preserved : goal.loop-asked-preserved
-loop-asked-preserved c = (
-  c.loop-asked.invariant.0,
-  elim c.if-asked-reader.branch [
-    | then-asked-reader+in_ok-share+in_ok-open w ↦ rw w.pass-is (read_next c.args.pass.now.known c.args.pass.now c.loop-asked.pass c.args.opens.now c.loop-asked.asked-index c.reader-reader.result
-        c.asked-item.result c.loop-asked-test.true c.asked-item.is c.loop-asked.invariant.0 c.loop-asked.invariant.1 w.open.new.pass w.in_ok-share.field-0 w.if-asked-reader.true w.in_ok-share.ensures
-        c.requires.known w.open.ensures.same w.open.ensures.known w.open.ensures.most w.in_ok-open.ensures.opened w.in_ok-open.ensures.count)
-    | else-asked-reader w ↦ rw w.pass-is (read_past c.args.pass.now.known c.args.pass.now c.loop-asked.pass c.args.opens.now c.loop-asked.asked-index c.reader-reader.result
-        c.asked-item.result c.loop-asked-test.true c.asked-item.is c.loop-asked.invariant.0 c.loop-asked.invariant.1 w.if-asked-reader.false)
-  ],
-)
+pub loop-path-preserved : goal.loop-path-preserved
+loop-path-preserved c =
+    opened_next c.args.pass.now.known c.loop-path.yielded c.args.pass.now c.loop-path.pass c.open.new.pass c.in-Some.path c.requires.known c.loop-path.invariant
+    c.open.ensures.same c.open.ensures.known c.open.ensures.most c.in_ok-open.ensures.opened c.in_ok-open.ensures.count
+
+pub returns : goal.returns
+returns c =
+    let end = YieldsList-end (YieldsList-from_vec {s = c.into_iter-path-iterator.result} c.args.paths.items (search rules) (search rules))
+    c.loop-path.yielded c.loop-path.path-iterator c.loop-path.yielded_by c.next.result c.next.new.self c.in-None.is c.next.ensures.steps in
+    subst (λ (ps : List PathNames). HasOpenedLast c.args.pass.now.known ps c.args.pass.now c.loop-path.pass) (all_done c.loop-path.yielded c.args.paths.items end.0) c.loop-path.invariant

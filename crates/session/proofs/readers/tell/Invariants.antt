@@ -1,6 +1,6 @@
 use Rattle.std.proofs.Common.{◌≡◌, ℕ, ◌<◌, ◌≤◌, length}
 use Rattle.std.specs.Prelude.{slice_index_or}
-use Rattle.session_actors.specs.declared.reader.ReaderSeat.{ReaderSeat}
+use Rattle.session.specs.declared.reader.ReaderSeat.{ReaderSeat}
 use Rattle.shot_board.specs.Showers.{shown_by, IsSameBoard}
 use Rattle.session.specs.Acting.{IsKnown}
 use Rattle.session.proofs.readers.tell.Given as goal

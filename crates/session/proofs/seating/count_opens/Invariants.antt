@@ -1,8 +1,7 @@
 use Rattle.std.proofs.Common.{◌≡◌, map, take, length}
 use Rattle.session.specs.Lines.{opens_by}
-use Rattle.session.specs.Acting.{view_staged}
-use Rattle.session.specs.Ending.{steps}
+use Rattle.session.specs.Acting.{view_happening}
 use Rattle.session.proofs.seating.count_opens.Given as goal
 
-abbrev pub invariant-loop-event : goal.invariant-loop-event
-invariant-loop-event l = l.opens ≡ length (opens_by l.reader (steps (map view_staged (take l.event-index l.events))))
+abbrev pub invariant-loop-what : goal.invariant-loop-what
+invariant-loop-what l = l.opens ≡ length (opens_by l.reader (map view_happening (take l.what-index l.before)))

@@ -3,7 +3,7 @@ use Rattle.std.proofs.lemmas.List.Elements.{All-cons, All-nil}
 use denote.Param.Callables.{held_fn}
 use Rattle.cycle_planner.proofs.CallerLemmas.{are_ones, weighs_one}
 use Rattle.station.proofs.CallerLemmas.{all_new}
-use Rattle.session_actors.specs.Seats.{IsEditorSeat}
+use Rattle.session.specs.Seats.{IsEditorSeat}
 use Rattle.shell_tests.proofs.actors.meet.OwnLists.{own-1}
 use Rattle.shell_tests.proofs.actors.meet.Goals as goal
 

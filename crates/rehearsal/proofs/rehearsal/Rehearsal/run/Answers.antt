@@ -1,58 +1,42 @@
-use Rattle.std.proofs.Common.{ap}
+use Rattle.std.proofs.Common.{◌≡◌, [], ◌∷◌, ◌∙◌, Option, ap, sym, subst}
+use Rattle.std.specs.Prelude.{IfSome}
 use Rattle.std.proofs.lemmas.Result.{err_from_is_err_and}
-use Rattle.session_script.specs.Scripts.{view_action}
-use Rattle.rehearsal.proofs.Running.{runs_line_of, stands_line_of, on_ok_map, runs_none, runs_empty}
+use Rattle.session_script.specs.Parts.{act_of}
+use Rattle.carousel_world.specs.Events.{Step}
+use Rattle.rehearsal.specs.Lines.{pending_after}
+use Rattle.carousel_world.specs.World.{InRange}
+use Rattle.rehearsal.specs.declared.interpreter.Happening.{Happening}
+use Rattle.rehearsal.specs.Happening.{happened, view_happening}
+use Rattle.rehearsal.proofs.Running.{runs_none, runs_empty, runs_as, stands_as, stands_more, stands_still, on_ok_map}
 use Rattle.rehearsal.proofs.rehearsal.Rehearsal.run.Goals as goal
 
-pub returns-in_err-content-in-Fill-clause-runs : goal.returns-in_err-content-in-Fill-clause-runs
-returns-in_err-content-in-Fill-clause-runs g c =
-    let f = err_from_is_err_and c.from_residual-in_err-content-in-Fill.result c.from_residual-in_err-content-in-Fill.ensures.1 in
-    λ ws before p st. rw (f.1, f.2) (runs_none _ before _ st.headline)
-
-pub returns-in_err-add-in-Put-clause-runs : goal.returns-in_err-add-in-Put-clause-runs
-returns-in_err-add-in-Put-clause-runs g c =
+pub returns-in_err-what-clause-runs : goal.returns-in_err-what-clause-runs
+returns-in_err-what-clause-runs g c =
     let f = err_from_is_err_and c.from_residual.result c.from_residual.ensures.1 in
     λ ws before p st. rw (f.1, f.2) (runs_none _ before _ st.headline)
 
-pub returns-in_err-add-in-Fill-clause-runs : goal.returns-in_err-add-in-Fill-clause-runs
-returns-in_err-add-in-Fill-clause-runs g c =
-    let f = err_from_is_err_and c.from_residual-in_err-add-in-Fill.result c.from_residual-in_err-add-in-Fill.ensures.1 in
-    λ ws before p st. rw (f.1, f.2) (runs_none _ before _ st.headline)
+pub happen-requires : goal.happen-requires
+happen-requires g c =
+    subst InRange (sym c.into_event.ensures)
+    (subst (λ (what : Option Happening). IfSome what (λ h. InRange (view_happening h))) c.in-Some.is c.in_ok-what.ensures.range)
 
-pub returns-in_err-add-in-Remove-clause-runs : goal.returns-in_err-add-in-Remove-clause-runs
-returns-in_err-add-in-Remove-clause-runs g c =
-    let f = err_from_is_err_and c.from_residual-in_err-add-in-Remove.result c.from_residual-in_err-add-in-Remove.ensures.1 in
-    λ ws before p st. rw (f.1, f.2) (runs_none _ before _ st.headline)
+pub returns-in-Some-clause-runs : goal.returns-in-Some-clause-runs
+returns-in-Some-clause-runs g c = λ ws before p st.
+    let is = ap (λ (e : Step). e ∷ []) c.into_event.ensures ∙ ap happened (sym c.in-Some.is) ∙ c.in_ok-what.ensures.happens p st.pending in
+    runs_as before is (c.happen.ensures.runs ws before (pending_after p (act_of c.args.task)) (record { world = st.world; headline = st.headline; pending = c.in_ok-what.ensures.waits p st.pending }))
 
-pub returns-in_ok-add-in-Put-clause-runs : goal.returns-in_ok-add-in-Put-clause-runs
-returns-in_ok-add-in-Put-clause-runs g c = λ ws before p st. runs_line_of before p (ap view_action c.in-Put.is) (runs_empty _ _ before st.headline)
+pub returns-in-Some-clause-stands : goal.returns-in-Some-clause-stands
+returns-in-Some-clause-stands g c =
+    on_ok_map c.happen.result (λ f ws before p st.
+    let is = ap (λ (e : Step). e ∷ []) c.into_event.ensures ∙ ap happened (sym c.in-Some.is) ∙ c.in_ok-what.ensures.happens p st.pending in
+    stands_more before is (f ws before (pending_after p (act_of c.args.task)) (record { world = st.world; headline = st.headline; pending = c.in_ok-what.ensures.waits p st.pending })))
+    c.happen.ensures.stands
 
-pub returns-in_ok-add-in-Fill-clause-runs : goal.returns-in_ok-add-in-Fill-clause-runs
-returns-in_ok-add-in-Fill-clause-runs g c = λ ws before p st. runs_line_of before p (ap view_action c.in-Fill.is) (runs_empty _ _ before st.headline)
+pub returns-in-None-clause-runs : goal.returns-in-None-clause-runs
+returns-in-None-clause-runs g c = λ ws before p st.
+    runs_as before (ap happened (sym c.in-None.is) ∙ c.in_ok-what.ensures.happens p st.pending) (runs_empty _ _ before st.headline)
 
-pub returns-in_ok-add-in-Remove-clause-runs : goal.returns-in_ok-add-in-Remove-clause-runs
-returns-in_ok-add-in-Remove-clause-runs g c = λ ws before p st. runs_line_of before p (ap view_action c.in-Remove.is) (runs_empty _ _ before st.headline)
-
-pub returns-in-Commit-clause-stands : goal.returns-in-Commit-clause-stands
-returns-in-Commit-clause-stands g c =
-    on_ok_map c.commit.result (λ f ws before p st. stands_line_of before p (ap view_action c.in-Commit.is) (f ws before p st)) c.commit.ensures.stands
-
-pub returns-in-Draw-clause-runs : goal.returns-in-Draw-clause-runs
-returns-in-Draw-clause-runs g c = λ ws before p st. runs_line_of before p (ap view_action c.in-Draw.is) (c.happen.ensures.runs ws before p st)
-
-pub returns-in-Draw-clause-stands : goal.returns-in-Draw-clause-stands
-returns-in-Draw-clause-stands g c = on_ok_map c.happen.result (λ f ws before p st. stands_line_of before p (ap view_action c.in-Draw.is) (f ws before p st)) c.happen.ensures.stands
-
-pub returns-in-Open-clause-runs : goal.returns-in-Open-clause-runs
-returns-in-Open-clause-runs g c = λ ws before p st. runs_line_of before p (ap view_action c.in-Open.is) (c.happen-in-Open.ensures.runs ws before p st)
-
-pub returns-in-Open-clause-stands : goal.returns-in-Open-clause-stands
-returns-in-Open-clause-stands g c =
-    on_ok_map c.happen-in-Open.result (λ f ws before p st. stands_line_of before p (ap view_action c.in-Open.is) (f ws before p st)) c.happen-in-Open.ensures.stands
-
-pub returns-in-Settle-clause-runs : goal.returns-in-Settle-clause-runs
-returns-in-Settle-clause-runs g c = λ ws before p st. runs_line_of before p (ap view_action c.in-Settle.is) (c.settle.ensures.runs ws before p st)
-
-pub returns-in-Settle-clause-stands : goal.returns-in-Settle-clause-stands
-returns-in-Settle-clause-stands g c =
-    on_ok_map c.settle.result (λ f ws before p st. stands_line_of before p (ap view_action c.in-Settle.is) (f ws before p st)) c.settle.ensures.stands
+pub returns-in-None-clause-stands : goal.returns-in-None-clause-stands
+returns-in-None-clause-stands g c = λ ws before p st.
+    stands_more before (ap happened (sym c.in-None.is) ∙ c.in_ok-what.ensures.happens p st.pending)
+    (stands_still before (record { world = st.world; headline = st.headline; pending = c.in_ok-what.ensures.waits p st.pending }))

@@ -3,7 +3,8 @@ use Rattle.session_script.specs.Grammar.{line_by}
 use Rattle.session_script.specs.Memory.{is_kept}
 use Rattle.session_script.specs.Steps.{view_said}
 use Rattle.session_script.proofs.Asking.{kept_asks}
-use Rattle.session_script.proofs.Standing.{line_starts, grows}
+use Rattle.session_script.proofs.Standing.{grows}
+use Rattle.session_script.proofs.Suiting.{starts_suit}
 use Rattle.session_script.proofs.reading.Reading.read.Goals as goal
 
 pub returns-in_err-add-in-Ok-clause-memory : goal.returns-in_err-add-in-Ok-clause-memory
@@ -16,5 +17,5 @@ returns-in_ok-add-in-Ok-clause-says c = λ above stands.
       view_said c.in-Ok.said,
       says,
       grows c.args.self.now c.add.new.self c.saturating_add-number.result above (view_said c.in-Ok.said) stands c.saturating_add-number.ensures
-          (λ e. line_starts _ c.args.line.now (says ∙ ap Ok e)) c.in_ok-add-in-Ok.ensures.adds,
+          (λ e. sym stands.part ∙ starts_suit c.args.self.now.part c.in-Ok.said c.in-Ok.ensures.suits e) (c.in_ok-add-in-Ok.ensures.adds stands.shape),
     )

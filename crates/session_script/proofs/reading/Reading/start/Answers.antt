@@ -1,10 +1,7 @@
-use Rattle.std.proofs.Common.{arith}
-use Rattle.std.proofs.lemmas.Grind.{common_steps}
-use Rattle.session_script.proofs.Marking.{marked_more}
+use Rattle.std.proofs.Common.{refl, ap, ◌∙◌}
+use Rattle.session_script.proofs.Keeping.{adds_start}
 use Rattle.session_script.proofs.reading.Reading.start.Goals as goal
 
-pub loop-line-preserved : goal.loop-line-preserved
-loop-line-preserved c = record {
-  above = marked_more c.loop-line.line-items _ c.loop-line.line-index c.line-item.result (omega arith) (omega arith) c.loop-line.invariant.here_on c.loop-line.invariant.above;
-  here_on = grind (arith, common_steps);
-}
+pub returns : goal.returns
+returns c = λ shape.
+    adds_start c.args.self.now _ shape c.requires refl refl refl refl (ap (λ v. v.items) c.replace.ensures.value) (ap (λ v. v.items) c.replace.ensures.after ∙ c.new.ensures.items) refl refl

@@ -1,4 +1,0 @@
-mod Lists
-mod Arranging
-mod Naming
-mod Lining

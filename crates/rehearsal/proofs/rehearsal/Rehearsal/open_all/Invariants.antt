@@ -1,0 +1,11 @@
+use Rattle.std.proofs.Common.{ℕ, List, ◌++◌, length, drop, map}
+use Rattle.session_script.specs.Scripts.{Fields, LineFields}
+use Rattle.session_script.specs.Parts.{finale_line}
+use Rattle.shell_streams.specs.Sending.{OutputState}
+use Rattle.rehearsal.specs.Steps.{HasRun}
+use Rattle.rehearsal.proofs.rehearsal.Rehearsal.open_all.Given as goal
+
+abbrev pub invariant-loop-last : goal.invariant-loop-last
+invariant-loop-last g l = (ws : List ℕ) (script : Fields) (left : List LineFields) (first : OutputState)
+    → HasRun l.fn.self ws script.lines (map finale_line l.fn.finales.items ++ left) first (g.O.Output.state l.fn.out)
+    → HasRun l.self ws script.lines (map finale_line (drop (length l.yielded) l.fn.finales.items) ++ left) first (g.O.Output.state l.out)

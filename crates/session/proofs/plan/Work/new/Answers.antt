@@ -1,0 +1,13 @@
+use Rattle.std.proofs.Common.{List, map, sym, ap, subst, arith}
+use Rattle.std.proofs.lemmas.List.Elements.{All-nil}
+use Rattle.std.specs.List.{All}
+use Rattle.session.specs.Seats.{IsDrawLine, draw_of, edits_of}
+use Rattle.session.proofs.plan.Work.new.Goals as goal
+
+pub returns : goal.returns
+returns c = record {
+  commits = λ n. ap (map edits_of) (c.new.ensures n);
+  draws = ap (map draw_of) c.new-3.ensures.items;
+  in_range = subst (All IsDrawLine) (sym c.new-3.ensures.items) (All-nil IsDrawLine);
+  paths = λ n. c.new-4.ensures n;
+}

@@ -1,0 +1,7 @@
+use Rattle.std.proofs.Common.{◌≡◌, map, take, length}
+use Rattle.session.specs.Lines.{draws_in}
+use Rattle.session.specs.Acting.{view_happening}
+use Rattle.session.proofs.plan.count_draws.Given as goal
+
+abbrev pub invariant-loop-what : goal.invariant-loop-what
+invariant-loop-what l = l.draws ≡ length (draws_in (map view_happening (take l.what-index l.before)))

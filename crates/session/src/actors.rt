@@ -1,0 +1,140 @@
+//! The actors at once.
+ghost use Rattle.std.specs.Prelude.{ℕ, ◌<◌, ◌≤◌, ◌+◌, length, slice_index_or};
+ghost use Rattle.std.specs.List.{All};
+ghost use Rattle.shot_board.specs.Showers.{shown_by, most_by, IsSameBoard};
+ghost use Rattle.station.specs.Passes.{IsStationPass};
+ghost use Rattle.session.specs.Seats.{DidEdit, DidFeed, DidRead, IsDrawLine, IsEditorSeat, IsReaderSeat};
+
+use crate::editor::{EditorSeat, edit};
+use crate::feeder::{FeederSeat, feed};
+use crate::reader::{ReaderSeat, read};
+use path_resolver::Shot;
+use section_workers::Gate;
+use shot_board::Shower;
+use station::Station;
+use std::alloc::Global;
+use std::sync::Wait;
+use std::thread;
+use std::thread::{Threads, join_mut};
+
+/// Runs all actors at once: one thread for each editor, one for the feeder and one for each reader. Each does what lies before it in
+/// its seat, in order, and passes the gate before each line.
+///
+/// Nothing may be refused here: a seat that isn't whole afterwards was cut short by out of memory.
+pub fn run_actors<R: Threads + Wait + Sync, G: Gate>(
+    rt: &R,
+    alloc: Global,
+    station: &Station,
+    gate: &G,
+    editors: &mut [EditorSeat],
+    shower: &mut Shower<Shot>,
+    feeder: &mut FeederSeat,
+    readers: &mut [ReaderSeat],
+)
+    requires editors { All (IsEditorSeat station.now) editors.old }
+    requires pass { IsStationPass station.now feeder.old.pass }
+    requires lines { All IsDrawLine feeder.old.draws.items }
+    requires room { length (shown_by shower.old) + length feeder.old.draws.items ≤ most_by shower.old + 1 }
+    requires readers { All IsReaderSeat readers.old }
+    ensures editors { (i : ℕ) (d : _) → i < length editors.old → DidEdit station.now (slice_index_or editors.old i d) (slice_index_or editors.new i d) }
+    ensures feeder { DidFeed station.now feeder.old feeder.new (shown_by shower.old) (shown_by shower.new) }
+    ensures board { IsSameBoard shower.old shower.new }
+    ensures readers { (i : ℕ) (d : _) → i < length readers.old → DidRead (slice_index_or readers.old i d) (slice_index_or readers.new i d) }
+{
+    join_mut(
+        rt,
+        &mut ||
+            requires { All (IsEditorSeat station.now) editors.now }
+            ensures { (i : ℕ) (d : _) → i < length editors.entry.now → DidEdit station.entry.now (slice_index_or editors.entry.now i d) (slice_index_or editors.exit.now i d) }
+        { edit_all(rt, alloc, station, gate, editors) },
+        &mut ||
+            requires pass { IsStationPass station.now feeder.now.pass }
+            requires lines { All IsDrawLine feeder.now.draws.items }
+            requires room { length (shown_by shower.now) + length feeder.now.draws.items ≤ most_by shower.now + 1 }
+            requires readers { All IsReaderSeat readers.now }
+            ensures feeder { DidFeed station.entry.now feeder.entry.now feeder.exit.now (shown_by shower.entry.now) (shown_by shower.exit.now) }
+            ensures board { IsSameBoard shower.entry.now shower.exit.now }
+            ensures readers { (i : ℕ) (d : _) → i < length readers.entry.now → DidRead (slice_index_or readers.entry.now i d) (slice_index_or readers.exit.now i d) }
+        { feed_and_read(rt, alloc, station, gate, shower, feeder, readers) },
+    );
+}
+
+/// The feeder and the readers at once.
+fn feed_and_read<R: Threads + Wait + Sync, G: Gate>(
+    rt: &R,
+    alloc: Global,
+    station: &Station,
+    gate: &G,
+    shower: &mut Shower<Shot>,
+    feeder: &mut FeederSeat,
+    readers: &mut [ReaderSeat],
+)
+    requires pass { IsStationPass station.now feeder.old.pass }
+    requires lines { All IsDrawLine feeder.old.draws.items }
+    requires room { length (shown_by shower.old) + length feeder.old.draws.items ≤ most_by shower.old + 1 }
+    requires readers { All IsReaderSeat readers.old }
+    ensures feeder { DidFeed station.now feeder.old feeder.new (shown_by shower.old) (shown_by shower.new) }
+    ensures board { IsSameBoard shower.old shower.new }
+    ensures readers { (i : ℕ) (d : _) → i < length readers.old → DidRead (slice_index_or readers.old i d) (slice_index_or readers.new i d) }
+{
+    join_mut(
+        rt,
+        &mut ||
+            requires { All IsReaderSeat readers.now }
+            ensures { (i : ℕ) (d : _) → i < length readers.entry.now → DidRead (slice_index_or readers.entry.now i d) (slice_index_or readers.exit.now i d) }
+        { read_all(rt, alloc, gate, readers) },
+        &mut ||
+            requires pass { IsStationPass station.now feeder.now.pass }
+            requires lines { All IsDrawLine feeder.now.draws.items }
+            requires room { length (shown_by shower.now) + length feeder.now.draws.items ≤ most_by shower.now + 1 }
+            ensures feeder { DidFeed station.entry.now feeder.entry.now feeder.exit.now (shown_by shower.entry.now) (shown_by shower.exit.now) }
+            ensures board { IsSameBoard shower.entry.now shower.exit.now }
+        { feed(rt, alloc, station, gate, shower, feeder) },
+    );
+}
+
+/// One thread for each editor.
+fn edit_all<R: Threads + Wait + Sync, G: Gate>(
+    rt: &R,
+    alloc: Global,
+    station: &Station,
+    gate: &G,
+    editors: &mut [EditorSeat],
+)
+    requires { All (IsEditorSeat station.now) editors.old }
+    ensures { (i : ℕ) (d : _) → i < length editors.old → DidEdit station.now (slice_index_or editors.old i d) (slice_index_or editors.new i d) }
+{
+    let threads = editors.len();
+    if threads == 0 {
+        return;
+    }
+    thread::for_each_mut(
+        rt,
+        editors,
+        threads,
+        &|_: usize, seat: &mut EditorSeat|
+            requires { IsEditorSeat station.now seat.now }
+            ensures { DidEdit station.entry.now seat.entry.now seat.exit.now }
+        { edit(rt, alloc, station, gate, seat) },
+    );
+}
+
+/// One thread for each reader.
+fn read_all<R: Threads + Sync, G: Gate>(rt: &R, alloc: Global, gate: &G, readers: &mut [ReaderSeat])
+    requires { All IsReaderSeat readers.old }
+    ensures { (i : ℕ) (d : _) → i < length readers.old → DidRead (slice_index_or readers.old i d) (slice_index_or readers.new i d) }
+{
+    let threads = readers.len();
+    if threads == 0 {
+        return;
+    }
+    thread::for_each_mut(
+        rt,
+        readers,
+        threads,
+        &|_: usize, seat: &mut ReaderSeat|
+            requires { IsReaderSeat seat.now }
+            ensures { DidRead seat.entry.now seat.exit.now }
+        { read(alloc, gate, seat) },
+    );
+}

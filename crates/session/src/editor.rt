@@ -1,0 +1,88 @@
+//! What an editor does.
+ghost use Rattle.std.specs.Prelude.{◌++◌, ◌∷◌, [], List, ℕ, OnOk, OnErr};
+ghost use Rattle.path_tree.specs.declared.tree.Edit.{Edit as EditFields};
+ghost use Rattle.station.specs.Passes.{IsStationPass};
+ghost use Rattle.session.specs.Seats.{HasCommitted, WouldBeEntered, DidEdit};
+
+use generation_catalogue::CommitFault;
+use oc_bytes::NoMemory;
+use path_tree::Edit;
+use section_workers::{Actor, Gate};
+use station::{Pass, Station};
+use std::alloc::{AllocError, Global};
+use std::mem;
+use std::sync::Wait;
+
+/// A commit that an editor has still to make.
+#[derive(Drop)]
+pub struct CommitLine {
+    /// For how many lines below `start` it stands: that of the commit, and those of its edits.
+    pub lines: u32,
+    pub edits: Vec<Edit>,
+}
+
+/// An editor's pass, and the commits that it has still to make.
+#[derive(Drop)]
+pub struct EditorSeat {
+    /// The editor's number in the script, 1 to 64.
+    pub number: u32,
+    pub pass: Pass,
+    pub commits: Vec<CommitLine>,
+    /// How many lines of edits it has below its last commit.
+    pub rest: u32,
+    pub whole: bool,
+}
+
+/// Makes one commit. A commit that the station refuses is made too. Out of memory is the only refusal, and comes only where the commit
+/// would be entered.
+pub(crate) fn commit<R: Wait>(
+    rt: &R,
+    station: &Station,
+    pass: &mut Pass,
+    edits: Vec<Edit>,
+) -> Result<(), NoMemory>
+    requires { IsStationPass station.now pass.old }
+    ensures pass { IsStationPass station.now pass.new }
+    ensures commits { OnOk result ((place : ℕ) (lines : List (List EditFields)) → HasCommitted station.now place lines pass.old
+        → HasCommitted station.now place (lines ++ edits.items ∷ []) pass.new) }
+    ensures memory { OnErr result (WouldBeEntered station.now pass.old edits.items) }
+{
+    match station.commit(rt, pass, edits) {
+        Ok(_) => Ok(()),
+        Err(CommitFault::Refused(_)) => Ok(()),
+        Err(CommitFault::NoMemory) => Err(AllocError),
+    }
+}
+
+/// Makes the commits of a seat, in order. The editor passes the gate before each line, with steps counted from 0.
+pub(crate) fn edit<R: Wait, G: Gate>(
+    rt: &R,
+    alloc: Global,
+    station: &Station,
+    gate: &G,
+    seat: &mut EditorSeat,
+)
+    requires { IsStationPass station.now seat.old.pass }
+    ensures { DidEdit station.now seat.old seat.new }
+{
+    let commits = mem::replace(&mut seat.commits, Vec::new(alloc));
+    let mut step = 0;
+    seat.whole = false;
+    for line in commits {
+        step = pass_lines(gate, Actor::Editor(seat.number), step, line.lines);
+        let Ok(()) = commit(rt, station, &mut seat.pass, line.edits) else {
+            return;
+        };
+    }
+    pass_lines(gate, Actor::Editor(seat.number), step, seat.rest);
+    seat.whole = true;
+}
+
+/// Passes the gate for so many lines, with steps from `first` on, and answers the step after them. Steps end at the greatest `u32`.
+fn pass_lines<G: Gate>(gate: &G, actor: Actor, first: u32, lines: u32) -> u32 {
+    let end = first.saturating_add(lines);
+    for step in first..end {
+        gate.pass(actor, step);
+    }
+    end
+}

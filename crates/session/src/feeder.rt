@@ -1,0 +1,180 @@
+//! What the feeder does.
+ghost use Rattle.std.specs.Prelude.{◌≡◌, ◌++◌, ◌∷◌, ◌+◌, ◌≤◌, [], List, ℕ, map, length, OnOk};
+ghost use Rattle.std.specs.List.{All, Contains};
+ghost use Rattle.std.specs.Arc.{arc_value};
+ghost use Rattle.path_tree.specs.Paths.{Bytes};
+ghost use Rattle.generation.specs.Layouts.{items_of, section_of};
+ghost use Rattle.section_stream.specs.Groups.{packets_of_group};
+ghost use Rattle.carousel_world.specs.DownView.{DownlinkStands};
+ghost use Rattle.carousel_world.specs.Fates.{received_under};
+ghost use Rattle.carousel_world.specs.World.{Drawing};
+ghost use Rattle.shot_board.specs.Showers.{shown_by, most_by, IsSameBoard};
+ghost use Rattle.station.specs.Passes.{IsStationPass};
+ghost use Rattle.session.specs.Chains.{DrawFields};
+ghost use Rattle.session.specs.Shown.{HasShown};
+ghost use Rattle.session.specs.Seats.{HasFed, DidFeed, IsDrawLine, draw_of, drawing_in};
+ghost use Rattle.cycle_planner.specs.declared.TheConstants.{MOST_DRAWN};
+
+use carousel_world::{Downlink, Fate};
+use cycle_planner::Item;
+use generation::Generation;
+use generation_catalogue::Batch;
+use oc_bytes::NoMemory;
+use path_resolver::Shot;
+use section_workers::{Actor, Gate, encode_batch};
+use shot_board::Shower;
+use station::{Pass, Station};
+use std::alloc::{AllocError, Global};
+use std::mem;
+use std::sync::Wait;
+use std::thread::Threads;
+
+/// The most items of a draw whose sections are in memory at once.
+const PIECE: usize = 1024;
+
+/// A draw that the feeder has still to make.
+#[derive(Drop)]
+pub struct DrawLine {
+    /// How many items are asked for, 1 to [`cycle_planner::MOST_DRAWN`].
+    pub asked: u32,
+    /// What becomes of the draw's packets.
+    pub fates: Vec<Fate>,
+}
+
+/// The feeder's pass and downlink, the draws that it has still to make, and the fates of those that it has made.
+#[derive(Drop)]
+pub struct FeederSeat {
+    pub pass: Pass,
+    pub downlink: Downlink,
+    pub draws: Vec<DrawLine>,
+    pub fates: Vec<Vec<Fate>>,
+    pub whole: bool,
+}
+
+/// Sends what was drawn, at most so many sections at once, each packet with its fate, and shows the next shot.
+///
+/// Out of memory is the only refusal; the downlink is of no use then.
+pub(crate) fn send_and_show<R: Threads + Wait + Sync, G: Gate>(
+    rt: &R,
+    alloc: Global,
+    gate: &G,
+    shower: &mut Shower<Shot>,
+    downlink: &mut Downlink,
+    batch: &Batch,
+    fates: &[Fate],
+) -> Result<(), NoMemory>
+    requires items { All (λ item. Contains (items_of (arc_value batch.now.generation)) item) batch.now.items.items }
+    requires few { length batch.now.items.items ≤ MOST_DRAWN }
+    requires room { length (shown_by shower.old) ≤ most_by shower.old }
+    ensures board { IsSameBoard shower.old shower.new }
+    ensures count { OnOk result (length (shown_by shower.new) ≡ length (shown_by shower.old) + 1) }
+    ensures shown { OnOk result ((drawings : List Drawing) → HasShown drawings downlink.old (shown_by shower.old)
+        → HasShown (drawings ++ drawing_in batch.now fates.now ∷ []) downlink.new (shown_by shower.new)) }
+{
+    send(
+        rt,
+        alloc,
+        gate,
+        downlink,
+        &batch.generation,
+        &batch.items,
+        fates,
+    )?;
+    // The next number is one that the board may show, so it is there.
+    let Some(number) = shower.front().number().checked_add(1) else {
+        return Err(AllocError);
+    };
+    let shot = downlink.shot(number, number)?;
+    match shower.show(rt, shot) {
+        Ok(()) => Ok(()),
+        Err((refused, _)) => Err(refused),
+    }
+}
+
+/// Sends the items of a draw, which are a group, at most so many sections at once.
+fn send<R: Threads + Sync, G: Gate>(
+    rt: &R,
+    alloc: Global,
+    gate: &G,
+    downlink: &mut Downlink,
+    generation: &Generation,
+    items: &[Item],
+    fates: &[Fate],
+) -> Result<(), NoMemory>
+    requires items { All (λ item. Contains (items_of generation.now) item) items.now }
+    requires few { length items.now ≤ MOST_DRAWN }
+    ensures { OnOk result ((pid : ℕ) (groups : List (List Bytes)) (packets : List Bytes) → DownlinkStands downlink.old pid groups [] packets
+        → (let sections = map (section_of generation.now) items.now in
+        DownlinkStands downlink.new pid (groups ++ sections ∷ []) [] (packets ++ received_under fates.now 0 (packets_of_group downlink.old.mux sections)))) }
+{
+    let mut number = 0;
+    let mut sent = 0;
+    loop {
+        let end = items.len().min(sent + PIECE);
+        let last = end == items.len();
+        let sections = encode_batch(rt, alloc, generation, &items[sent..end], gate)?;
+        number = downlink.carry(&sections, fates, number, last)?;
+        if last {
+            return Ok(());
+        }
+        sent = end;
+    }
+}
+
+/// Makes one draw, sends it, and shows the next shot. Out of memory is the only refusal; it also comes where [`generation_catalogue::MOST_DRAWS`] draws are
+/// entered.
+pub(crate) fn draw<R: Threads + Wait + Sync, G: Gate>(
+    rt: &R,
+    alloc: Global,
+    station: &Station,
+    gate: &G,
+    shower: &mut Shower<Shot>,
+    seat: &mut FeederSeat,
+    line: DrawLine,
+) -> Result<(), NoMemory>
+    requires pass { IsStationPass station.now seat.old.pass }
+    requires line { IsDrawLine line }
+    requires room { length (shown_by shower.old) ≤ most_by shower.old }
+    ensures pass { IsStationPass station.now seat.new.pass }
+    ensures rest { (seat.new.draws ≡ seat.old.draws) × (seat.new.whole ≡ seat.old.whole) }
+    ensures board { IsSameBoard shower.old shower.new }
+    ensures count { OnOk result (length (shown_by shower.new) ≡ length (shown_by shower.old) + 1) }
+    ensures fed { OnOk result ((lines : List DrawFields) → HasFed station.now lines seat.old (shown_by shower.old)
+        → HasFed station.now (lines ++ draw_of line ∷ []) seat.new (shown_by shower.new)) }
+{
+    let DrawLine { asked, fates } = line;
+    let Ok(batch) = station.draw(rt, &mut seat.pass, asked) else {
+        return Err(AllocError);
+    };
+    send_and_show(rt, alloc, gate, shower, &mut seat.downlink, &batch, &fates)?;
+    seat.fates.push(fates)?;
+    Ok(())
+}
+
+/// Makes the draws of a seat, in order, and shows a shot after each. The feeder passes the gate before each, with steps counted from 0.
+pub(crate) fn feed<R: Threads + Wait + Sync, G: Gate>(
+    rt: &R,
+    alloc: Global,
+    station: &Station,
+    gate: &G,
+    shower: &mut Shower<Shot>,
+    seat: &mut FeederSeat,
+)
+    requires pass { IsStationPass station.now seat.old.pass }
+    requires lines { All IsDrawLine seat.old.draws.items }
+    requires room { length (shown_by shower.old) + length seat.old.draws.items ≤ most_by shower.old + 1 }
+    ensures fed { DidFeed station.now seat.old seat.new (shown_by shower.old) (shown_by shower.new) }
+    ensures board { IsSameBoard shower.old shower.new }
+{
+    let draws = mem::replace(&mut seat.draws, Vec::new(alloc));
+    let mut step: u32 = 0;
+    seat.whole = false;
+    for line in draws {
+        gate.pass(Actor::Feeder, step);
+        step = step.saturating_add(1);
+        let Ok(()) = draw(rt, alloc, station, gate, shower, seat, line) else {
+            return;
+        };
+    }
+    seat.whole = true;
+}

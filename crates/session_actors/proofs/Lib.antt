@@ -1,4 +1,0 @@
-pub mod Linking
-pub mod Showing
-pub mod Opening
-pub mod Turning

@@ -1,4 +1,0 @@
-pub mod Chains
-pub mod Shown
-pub mod Opened
-pub mod Seats

@@ -1,0 +1,67 @@
+-- Lemmas for those who use this crate.
+-- The lines of a part of a script, one after another: `line_at` and `none_left` say which are left, `at_place` what holds of one of them. The numbers of
+-- a script that lie in their ranges do so part by part: `before_in_range`, `during_in_range`, `finales_in_range`.
+use Rattle.std.proofs.Common.{◌≡◌, ℕ, suc, ◌<◌, List, [], ◌∷◌, ◌++◌, length, map, drop, get_or, All, Option, sym, ap, ◌∙◌, subst, arith}
+use Rattle.std.proofs.lemmas.List.{length-append}
+use Rattle.std.proofs.lemmas.List.Elements.{All-nil, All-cons, All-head, All-tail}
+use Rattle.std.proofs.Math.Seq.{drop-cons, drop-length}
+use Rattle.session_script.specs.declared.parts.TaskLine.{TaskLine}
+use Rattle.session_script.specs.declared.parts.Finale.{Finale}
+use Rattle.session_script.specs.declared.script.Stage.TheVariants.{Before, During}
+use Rattle.session_script.specs.Scripts.{LineFields}
+use Rattle.session_script.specs.Parts.{act_of, task_line, settle_lines, finale_line, lines_of}
+use Rattle.session_script.specs.Ranges.{IsActor, IsInRange}
+
+-- a line stands first of those that are left, and those after it are left then
+pub line_at : {A : Type 0} (view : A → LineFields) (xs yielded : List A) (rest : List LineFields) (x : A) → length yielded < length xs → x ≡ get_or xs (length yielded) x
+    → map view (drop (length yielded) xs) ++ rest ≡ view x ∷ (map view (drop (length (yielded ++ x ∷ [])) xs) ++ rest)
+line_at {A = A} view xs yielded rest x lt at =
+    let k = length yielded in
+    let next : suc k ≡ length (yielded ++ x ∷ []) = let e = length-append yielded (x ∷ []) in omega (arith, e) in
+    ap (λ (ys : List A). map view ys ++ rest) (drop-cons xs k x lt)
+    ∙ ap (λ (y : A). view y ∷ (map view (drop (suc k) xs) ++ rest)) (sym at)
+    ∙ ap (λ n. view x ∷ (map view (drop n xs) ++ rest)) next
+
+pub none_left : {A : Type 0} (view : A → LineFields) (xs yielded : List A) (rest : List LineFields) → length yielded ≡ length xs → map view (drop (length yielded) xs) ++ rest ≡ rest
+none_left {A = A} view xs yielded rest e = ap (λ (ys : List A). map view ys ++ rest) (ap (λ n. drop n xs) e ∙ drop-length xs)
+
+-- what holds of each holds of this one
+pub at_place : {A : Type 0} (P : A → Type 0) (xs : List A) (k : ℕ) (x : A) → All P xs → k < length xs → x ≡ get_or xs k x → P x
+at_place P xs k x all lt at = subst P (sym at) (all k x lt)
+
+-- ---- ranges, part by part
+
+abbrev InLines : List LineFields → Type 0
+InLines ls = All (λ (l : LineFields). IsInRange l.act) ls
+
+front : (xs ys : List LineFields) → InLines (xs ++ ys) → InLines xs
+front [] ys h = All-nil (λ (l : LineFields). IsInRange l.act)
+front (x ∷ xs) ys h =
+    let P : LineFields → Type 0 = λ l. IsInRange l.act in All-cons P x xs (All-head P x (xs ++ ys) h) (front xs ys (All-tail P x (xs ++ ys) h))
+
+back : (xs ys : List LineFields) → InLines (xs ++ ys) → InLines ys
+back [] ys h = h
+back (x ∷ xs) ys h = back xs ys (All-tail (λ (l : LineFields). IsInRange l.act) x (xs ++ ys) h)
+
+of_view : {A : Type 0} (view : A → LineFields) (xs : List A) → InLines (map view xs) → All (λ x. IsInRange (view x).act) xs
+of_view view [] h = All-nil (λ x. IsInRange (view x).act)
+of_view view (x ∷ xs) h =
+    let P : LineFields → Type 0 = λ l. IsInRange l.act in
+    All-cons (λ y. IsInRange (view y).act) x xs (All-head P (view x) (map view xs) h) (of_view view xs (All-tail P (view x) (map view xs) h))
+
+pub before_in_range : (before during : List TaskLine) (settle : Option ℕ) (finales : List Finale) → InLines (lines_of before during settle finales)
+    → All (λ (line : TaskLine). IsInRange (act_of line.task)) before
+before_in_range before during settle finales h =
+    of_view (task_line Before) before (front (map (task_line Before) before) (map (task_line During) during ++ (settle_lines settle ++ map finale_line finales)) h)
+
+pub during_in_range : (before during : List TaskLine) (settle : Option ℕ) (finales : List Finale) → InLines (lines_of before during settle finales)
+    → All (λ (line : TaskLine). IsInRange (act_of line.task)) during
+during_in_range before during settle finales h =
+    of_view (task_line During) during (front (map (task_line During) during) (settle_lines settle ++ map finale_line finales)
+    (back (map (task_line Before) before) (map (task_line During) during ++ (settle_lines settle ++ map finale_line finales)) h))
+
+pub finales_in_range : (before during : List TaskLine) (settle : Option ℕ) (finales : List Finale) → InLines (lines_of before during settle finales)
+    → All (λ (last : Finale). IsActor last.reader) finales
+finales_in_range before during settle finales h =
+    of_view finale_line finales (back (settle_lines settle) (map finale_line finales) (back (map (task_line During) during) (settle_lines settle ++ map finale_line finales)
+    (back (map (task_line Before) before) (map (task_line During) during ++ (settle_lines settle ++ map finale_line finales)) h)))

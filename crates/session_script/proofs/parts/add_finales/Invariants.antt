@@ -1,0 +1,7 @@
+use Rattle.std.proofs.Common.{◌≡◌, ◌++◌, map}
+use Rattle.session_script.specs.Scripts.{view_line}
+use Rattle.session_script.specs.Parts.{finale_line}
+use Rattle.session_script.proofs.parts.add_finales.Given as goal
+
+abbrev pub invariant-loop-last : goal.invariant-loop-last
+invariant-loop-last l = map view_line l.lines.items ≡ map view_line l.fn.lines.items ++ map finale_line l.yielded

@@ -1,6 +1,0 @@
-use Rattle.std.proofs.Common.{length}
-use Rattle.session_script.proofs.Walking.{Walked}
-use Rattle.session_script.proofs.reading.parse.Given as goal
-
-abbrev pub invariant-loop-line : goal.invariant-loop-line
-invariant-loop-line l = Walked l.text (length l.yielded) l.reading

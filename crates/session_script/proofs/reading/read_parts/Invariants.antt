@@ -1,0 +1,6 @@
+use Rattle.std.proofs.Common.{length}
+use Rattle.session_script.proofs.Walking.{Walked}
+use Rattle.session_script.proofs.reading.read_parts.Given as goal
+
+abbrev pub invariant-loop-line : goal.invariant-loop-line
+invariant-loop-line l = Walked l.text (length l.yielded) l.reading

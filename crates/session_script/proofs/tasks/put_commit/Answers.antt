@@ -1,0 +1,22 @@
+use Rattle.std.proofs.Common.{◌≡◌, ◌++◌, ◌+◌, ◌*◌, ◌∙◌, map, refl, ap, arith, append-nil, sym}
+use Rattle.std.specs.List.{range_with_len}
+use Rattle.session_script.specs.Parts.{act_of}
+use Rattle.session_script.specs.Scripts as acts
+use Rattle.session_script.specs.Generated.{fill_of, commit_of}
+use Rattle.session_script.proofs.Lists.{push_more, push_last}
+use Rattle.session_script.proofs.tasks.put_commit.Goals as goal
+
+pub loop-place-init : goal.loop-place-init
+loop-place-init c = sym (append-nil (map act_of c.args.tasks.now.items))
+
+pub loop-place-preserved : goal.loop-place-preserved
+loop-place-preserved c =
+    rw c.in_ok-push.ensures.items (push_more act_of (fill_of c.args.editor) c.loop-place.tasks.items (map act_of c.args.tasks.now.items) c.in_ok-fill.field-0
+    (8 * c.args.commit) c.loop-place.place (c.loop-place.place + 1) (8 * c.args.commit + c.loop-place.place) refl refl c.loop-place.invariant c.in_ok-fill.ensures)
+
+pub returns : goal.returns
+unfolding commit_of
+returns c =
+    let all : c.loop-place.place ≡ 8 = omega arith in
+    rw c.in_ok-push-2.ensures.items (push_last act_of c.loop-place.tasks.items (map act_of c.args.tasks.now.items) (map (fill_of c.args.editor) (range_with_len (8 * c.args.commit) 8)) _
+    (acts.Commit c.args.editor) (c.loop-place.invariant ∙ ap (λ n. map act_of c.args.tasks.now.items ++ map (fill_of c.args.editor) (range_with_len (8 * c.args.commit) n)) all) refl)

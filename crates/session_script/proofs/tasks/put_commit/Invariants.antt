@@ -1,0 +1,8 @@
+use Rattle.std.proofs.Common.{◌≡◌, ◌++◌, ◌*◌, map}
+use Rattle.std.specs.List.{range_with_len}
+use Rattle.session_script.specs.Parts.{act_of}
+use Rattle.session_script.specs.Generated.{fill_of}
+use Rattle.session_script.proofs.tasks.put_commit.Given as goal
+
+abbrev pub invariant-loop-place : goal.invariant-loop-place
+invariant-loop-place l = map act_of l.tasks.items ≡ map act_of l.fn.tasks.items ++ map (fill_of l.fn.editor) (range_with_len (8 * l.fn.commit) l.place)

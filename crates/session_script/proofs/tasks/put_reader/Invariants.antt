@@ -1,0 +1,8 @@
+use Rattle.std.proofs.Common.{◌≡◌, ◌++◌, map}
+use Rattle.std.specs.List.{range_with_len}
+use Rattle.session_script.specs.Parts.{act_of}
+use Rattle.session_script.specs.Generated.{open_of}
+use Rattle.session_script.proofs.tasks.put_reader.Given as goal
+
+abbrev pub invariant-loop-turn : goal.invariant-loop-turn
+invariant-loop-turn l = map act_of l.tasks.items ≡ map act_of l.fn.tasks.items ++ map (open_of l.fn.size l.fn.reader) (range_with_len 0 l.turn)
