@@ -6,8 +6,6 @@ use Rattle.std.specs.declared.vec.Vec.{Vec}
 use Rattle.std.specs.declared.alloc.Global.{Global}
 use Rattle.std.specs.List.{All, Contains}
 use Rattle.std.proofs.lemmas.List.{length-map}
-use Rattle.path_tree.specs.Paths.{PathNames}
-use Rattle.path_tree.specs.declared.tree.Edit.{Edit}
 use Rattle.ts_packet.specs.declared.Fate.{Fate}
 use Rattle.path_resolver.specs.declared.shot.Shot.{Shot}
 use Rattle.path_resolver.specs.Shots.{view}
@@ -21,8 +19,6 @@ use Rattle.logbook.specs.Pages.{Book}
 use Rattle.shot_board.specs.declared.viewer.Viewer.{Viewer}
 use Rattle.shot_board.specs.Viewers.{known_of, told_of, most_of, viewer_board}
 use Rattle.shot_board.specs.Shots.{Each}
-use Rattle.session_script.specs.Parts.{script_of_parts}
-use Rattle.session_script.specs.Ranges.{AreListed, IsInRanges}
 use Rattle.carousel_world.specs.DownView.{DownlinkStands, DownlinkState}
 use Rattle.carousel_world.specs.Events.{Step, Commit, Draw, Open}
 use Rattle.session_history.specs.Merges.{candidates_after}
@@ -36,7 +32,7 @@ use Rattle.session.specs.declared.plan.Plan.{Plan}
 use Rattle.session.specs.declared.whole.Start.{Start}
 use Rattle.session.specs.Lines.{commits_by, draws_in, opens_by}
 use Rattle.session.specs.Plans.{IsPlanOf, before_steps, during_steps, end_steps, settling_lines, steps}
-use Rattle.session.specs.Acting.{AreApart, EditorPlan, EditorsStand, IsViewerOf, ReaderPlan, ReadersStand, Setting, asked_for, done_in, draws_of, editor_plan, numbers_of, planned_for, reader_plan, readers_of, view_happening}
+use Rattle.session.specs.Acting.{AreApart, EditorsStand, IsViewerOf, ReadersStand, Setting, asked_for, done_in, draws_of, editor_plan, numbers_of, planned_for, reader_plan, readers_of, view_happening}
 use Rattle.session.specs.Casting.{AllMentionedIn, AreSameActors, CastStands, HasWork, IsCast, IsMentionedIn}
 use Rattle.session.specs.Threads.{CastDone}
 use Rattle.session.specs.Ending.{AreDone, EditorsDone}

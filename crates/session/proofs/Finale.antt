@@ -1,5 +1,5 @@
 -- From what is left of a session to the whole of it.
-use Rattle.std.proofs.Common.{◌≡◌, ℕ, suc, ◌+◌, ◌≤◌, ◌==◌, Bool, true, false, List, [], ◌∷◌, ◌++◌, map, length, take, drop, refl, ap, sym, ◌∙◌, subst, arith, append-nil, length-append}
+use Rattle.std.proofs.Common.{◌≡◌, ℕ, suc, ◌+◌, ◌≤◌, ◌==◌, Bool, true, false, List, [], ◌∷◌, ◌++◌, map, length, take, drop, refl, ap, sym, ◌∙◌, subst, arith, append-nil}
 use Rattle.std.specs.Prelude.{slice_index_or, is_some, if◌then◌else◌}
 use Rattle.std.specs.List.{All, count_by}
 use Rattle.std.specs.declared.vec.Vec.{Vec}
@@ -34,7 +34,7 @@ use Rattle.session.specs.Plans.{at_end, end_steps, settling_lines, steps}
 use Rattle.session.specs.Gathering.{IsGathered}
 use Rattle.session.specs.Played.{IsPlayed, AllRead, PlayedIsASession, fates_of, opens_of}
 use Rattle.session.specs.Sessions.{IsSession}
-use Rattle.session.specs.Acting.{Setting, done_in, draws_before, draws_of, events_in, readers_of}
+use Rattle.session.specs.Acting.{Setting, done_in, draws_before, draws_of, readers_of}
 use Rattle.session.specs.Ending.{AllOpenedLast, AreDone, ClosedFields, EditorsDone, HasGathered, HasOpenedLast, MayOpenLast, ReaderDone, drawn_all}
 use Rattle.session.proofs.Casting.{draws_count as drawings_count}
 use Rattle.session.proofs.Parted.{commits_at_end, draws_at_end, events_parts, settle_there, staged_parts}

@@ -2,7 +2,7 @@
 use Rattle.std.proofs.Common.{◌≡◌, ℕ, zero, suc, ◌+◌, ◌<◌, ◌==◌, Bool, true, false, List, [], ◌∷◌, ◌++◌, map, length, refl, sym, ap, ◌∙◌, subst, arith}
 use Rattle.std.specs.Prelude.{slice_index_or, if◌then◌else◌}
 use Rattle.std.specs.List.{All}
-use Rattle.std.proofs.lemmas.List.{get_or-map, length-map}
+use Rattle.std.proofs.lemmas.List.{length-map}
 use Rattle.path_tree.specs.Paths.{PathNames}
 use Rattle.path_tree.specs.declared.tree.Edit.{Edit}
 use Rattle.path_resolver.specs.declared.shot.Shot.{Shot}
@@ -16,10 +16,10 @@ use Rattle.session.specs.declared.reader.ReaderSeat.{ReaderSeat}
 use Rattle.session.specs.declared.cast.Cast.{Cast}
 use Rattle.session.specs.Lines.{commits_by, draws_in, opens_by, asked_from}
 use Rattle.session.specs.Plans.{above, before_steps, below, during_steps, end_steps, steps}
-use Rattle.session.specs.Acting.{EditorPlan, EditorsStand, ReaderPlan, ReaderStands, ReadersStand, Setting, asked_for, done_in, draws_before, draws_of, editor_plan, events_in, numbers_of, planned_for, reader_plan}
-use Rattle.session.specs.Casting.{CastStands, HasWork}
+use Rattle.session.specs.Acting.{EditorPlan, EditorsStand, ReaderPlan, ReaderStands, ReadersStand, Setting, asked_for, done_in, draws_before, draws_of, editor_plan, events_in, planned_for, reader_plan}
+use Rattle.session.specs.Casting.{HasWork}
 use Rattle.session.specs.Ending.{EditorsDone, ReaderDone}
-use Rattle.session.proofs.Staged.{asked_more, commits_more, draws_more, steps_done, unstaged}
+use Rattle.session.proofs.Staged.{asked_more, commits_more, draws_more, steps_done}
 use Rattle.session.proofs.Reading.{prefix_length}
 
 -- ---- what lies before a seat

@@ -1,5 +1,5 @@
 -- All seats of a session, after some of its events above `start`.
-use Rattle.std.specs.Prelude.{◌≡◌, ℕ, List, map}
+use Rattle.std.specs.Prelude.{◌≡◌, List, map}
 use Rattle.std.specs.List.{All, Contains}
 use Rattle.path_resolver.specs.declared.shot.Shot.{Shot}
 use Rattle.shot_board.specs.declared.shower.Shower.{Shower}

@@ -1,5 +1,5 @@
 -- What a session begins with.
-use Rattle.std.specs.Prelude.{◌≡◌, List, []}
+use Rattle.std.specs.Prelude.{List, []}
 use Rattle.path_resolver.specs.declared.shot.Shot.{Shot}
 use Rattle.shot_board.specs.Shots.{Each}
 use Rattle.session_script.specs.Parts.{script_of_parts}

@@ -1,16 +1,14 @@
 -- How many lines a generated script has, and their numbers.
-use Rattle.std.proofs.Common.{◌≡◌, ℕ, suc, ◌+◌, ◌*◌, ◌≤◌, List, [], ◌∷◌, ◌++◌, length, map, Some, refl, sym, ap, ◌∙◌, arith, length-append}
+use Rattle.std.proofs.Common.{◌≡◌, ℕ, ◌+◌, ◌*◌, ◌≤◌, List, [], ◌∷◌, ◌++◌, length, map, Some, refl, sym, ap, ◌∙◌, arith, length-append}
 use Rattle.std.specs.List.{flat_map}
 use Rattle.std.proofs.lemmas.List.{length-map, map-append}
 use Rattle.std.proofs.lemmas.List.FromFn.{length-range_with_len}
 use Rattle.path_tree.specs.Paths.{PathNames}
 use Rattle.session_script.specs.declared.parts.Task.{Task}
-use Rattle.session_script.specs.declared.parts.TaskLine.{TaskLine}
-use Rattle.session_script.specs.declared.parts.Finale.{Finale}
 use Rattle.session_script.specs.declared.parts.Parts.{Parts}
 use Rattle.session_script.specs.declared.script.Stage.{Stage}
 use Rattle.session_script.specs.declared.script.Stage.TheVariants.{During, After}
-use Rattle.session_script.specs.Scripts.{Act, LineFields, Open, Settle}
+use Rattle.session_script.specs.Scripts.{Act, LineFields, Open}
 use Rattle.session_script.specs.Parts.{act_of, task_line, finale_line, script_of_parts}
 use Rattle.session_script.specs.Generated.{numbers, commit_of, lines_of_editor, lines_of_feeder, lines_of_reader, finales_of, acts_during, acts_at_end, number_lines, generated_script}
 

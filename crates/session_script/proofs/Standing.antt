@@ -1,5 +1,5 @@
 -- What a reading stands for after one line more.
-use Rattle.std.proofs.Common.{◌≡◌, ℕ, ◌+◌, ◌-◌, ◌^◌, min, List, [], ◌∷◌, ◌++◌, length, Ok, refl, ap, arith, ◌∙◌, sym, length-append, append-nil}
+use Rattle.std.proofs.Common.{◌≡◌, ℕ, ◌+◌, ◌-◌, ◌^◌, min, List, [], ◌∷◌, ◌++◌, length, refl, ap, arith, ◌∙◌, sym, length-append, append-nil}
 use Rattle.oc_bytes.specs.Outcome.{cap_at_u32}
 use Rattle.session_script.specs.declared.line.Part.TheVariants.{Opening}
 use Rattle.session_script.specs.declared.script.Stage.TheVariants.{During, After}

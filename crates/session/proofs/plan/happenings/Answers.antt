@@ -1,4 +1,4 @@
-use Rattle.std.proofs.Common.{◌≡◌, ◌++◌, List, map, rules, sym, ap, ◌∙◌, subst}
+use Rattle.std.proofs.Common.{◌++◌, List, map, rules, sym, ap, ◌∙◌, subst}
 use Rattle.std.proofs.lemmas.Iterator.Consumers.{YieldsList-turn, YieldsList-end}
 use Rattle.std.proofs.lemmas.Iterator.Adapters.{YieldsList-from_vec}
 use Rattle.std.proofs.lemmas.List.Elements.{All-nil}

@@ -1,5 +1,4 @@
 use Rattle.std.proofs.Common.{arith, sym, subst}
-use Rattle.std.specs.Prelude.{slice_index_or}
 use Rattle.std.specs.List.{All}
 use Rattle.shot_board.specs.Showers.{shown_by, most_by}
 use Rattle.session.specs.Seats.{DidEdit, DidRead, IsEditorSeat, IsReaderSeat}

@@ -1,4 +1,4 @@
-use Rattle.std.proofs.Common.{◌≡◌, [], ◌∷◌, ◌∙◌, Option, ap, sym, subst}
+use Rattle.std.proofs.Common.{[], ◌∷◌, ◌∙◌, Option, ap, sym, subst}
 use Rattle.std.specs.Prelude.{IfSome}
 use Rattle.std.proofs.lemmas.Result.{err_from_is_err_and}
 use Rattle.session_script.specs.Parts.{act_of}
@@ -7,7 +7,7 @@ use Rattle.rehearsal.specs.Lines.{pending_after}
 use Rattle.carousel_world.specs.World.{InRange}
 use Rattle.rehearsal.specs.declared.interpreter.Happening.{Happening}
 use Rattle.rehearsal.specs.Happening.{happened, view_happening}
-use Rattle.rehearsal.proofs.Running.{runs_none, runs_empty, runs_as, stands_as, stands_more, stands_still, on_ok_map}
+use Rattle.rehearsal.proofs.Running.{runs_none, runs_empty, runs_as, stands_more, stands_still, on_ok_map}
 use Rattle.rehearsal.proofs.rehearsal.Rehearsal.run.Goals as goal
 
 pub returns-in_err-what-clause-runs : goal.returns-in_err-what-clause-runs

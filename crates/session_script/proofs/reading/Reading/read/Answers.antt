@@ -1,4 +1,4 @@
-use Rattle.std.proofs.Common.{◌∙◌, ap, sym, Ok}
+use Rattle.std.proofs.Common.{◌∙◌, ap, sym}
 use Rattle.session_script.specs.Grammar.{line_by}
 use Rattle.session_script.specs.Memory.{is_kept}
 use Rattle.session_script.specs.Steps.{view_said}
