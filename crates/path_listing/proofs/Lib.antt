@@ -1,0 +1,3 @@
+mod Firsts
+mod Parts
+pub mod CallerLemmas

@@ -1,0 +1,9 @@
+mod Instances
+mod Parts
+mod Tallying
+mod Fronting
+mod Receiving
+mod Runs
+mod Gaps
+mod Rows
+mod Syncing
