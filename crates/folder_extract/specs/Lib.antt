@@ -1,0 +1,4 @@
+pub mod Naming
+pub mod Telling
+pub mod Extracting
+pub mod Writing
