@@ -1,0 +1,5 @@
+pub mod Between
+pub mod Judgement
+pub mod Packets
+pub mod Telltale
+pub mod Writing

@@ -1,0 +1,288 @@
+//! The lines of a plan.
+
+ghost use Rattle.std.specs.Prelude.{◌≡◌, ◌≤◌, ◌++◌, [], length, map, IfOk, OnOk, codes, if◌then◌else◌};
+ghost use Rattle.std.specs.List.{flat_map, All};
+ghost use Rattle.std.specs.Option.{unwrap_or};
+ghost use Rattle.std.specs.String.{string_bytes};
+ghost use Rattle.biop_object.specs.Names.{module_in};
+ghost use Rattle.path_tree.specs.Trees.{node_at};
+ghost use Rattle.path_tree.specs.Texts.{text_of};
+ghost use Rattle.generation.specs.Layouts.{lines_of};
+ghost use Rattle.generation.specs.Objects.{object_of};
+ghost use Rattle.section_stream.specs.Packing.{IsSectionLike};
+ghost use Rattle.folder_store.specs.Surveys.{names_at, view_standing};
+ghost use Rattle.publication_plan.specs.Telling.{count_of, cycle_line, cycle_sections, entry_lines, four_fields, hidden_text, is_hidden, is_hidden_name, kind_line, kind_text, left_first, left_line, module_line, object_line, plan_text, stands_before};
+ghost use Rattle.shell_words.specs.Texts.{line, with_number};
+ghost use Rattle.publication_plan.specs.declared.counting.TheConstants.{MOST_PACKETS};
+
+use crate::counting::{Cycle, count_cycle, time_of};
+use cycle_planner::Weigh;
+use folder_store::Standing;
+use generation::{Generation, Object, ObjectKind};
+use oc_bytes::NoMemory;
+use path_tree::{Lookup, Path, Tree, print_name};
+use std::alloc::Global;
+
+/// The whole plan of a generation and of what was passed over on the way to it.
+pub(crate) fn plan_lines(
+    alloc: Global,
+    generation: &Generation,
+    left: &[Standing],
+    weigh: &Weigh,
+    bitrate: u32,
+) -> Result<String, NoMemory>
+    requires like { All IsSectionLike (cycle_sections weigh.now.weights generation.now) }
+    requires rate { 1 ≤ bitrate }
+    ensures { IfOk result (λ text. string_bytes text ≡ plan_text weigh.now.weights bitrate generation.now (map view_standing left.now)) }
+{
+    let objects = generation.objects()?;
+    let mut text = String::new(alloc);
+    put_entries(alloc, generation.tree(), &objects, left, &mut text)?;
+    put_modules(alloc, generation, weigh, &mut text)?;
+    let cycle = count_cycle(alloc, generation, weigh)?;
+    let line = cycle_text(alloc, cycle, bitrate)?;
+    text.push_str(&line)?;
+    Ok(text)
+}
+
+// ---- objects, and what was passed over
+
+/// The objects in order, and between them what was passed over.
+fn put_entries(
+    alloc: Global,
+    tree: &Tree,
+    objects: &[Object],
+    left: &[Standing],
+    text: &mut String,
+) -> Result<(), NoMemory>
+    ensures { OnOk result (string_bytes text.new ≡ string_bytes text.old ++ entry_lines tree.now objects.now (map view_standing left.now)) }
+{
+    let mut next = 0;
+    for object in objects {
+        next += put_first(alloc, &left[next..], &object.path, text)?;
+        put_object(alloc, tree, object, text)?;
+    }
+    put_left(alloc, &left[next..], text)
+}
+
+/// What was passed over and stands before an object: how many they are.
+fn put_first(
+    alloc: Global,
+    left: &[Standing],
+    path: &Path,
+    text: &mut String,
+) -> Result<usize, NoMemory>
+    ensures text { OnOk result (string_bytes text.new ≡ string_bytes text.old ++ flat_map left_line (left_first path.now (map view_standing left.now))) }
+    ensures count { IfOk result (λ n. n ≡ length (left_first path.now (map view_standing left.now))) }
+    ensures within { IfOk result (λ n. n ≤ length left.now) }
+{
+    let count = count_first(left, path);
+    put_left(alloc, &left[..count], text)?;
+    Ok(count)
+}
+
+/// How many of these stand before an object, up to the first that doesn't.
+fn count_first(left: &[Standing], path: &Path) -> usize
+    ensures count { result ≡ length (left_first path.now (map view_standing left.now)) }
+    ensures within { result ≤ length left.now }
+{
+    for (index, standing) in left.iter().enumerate() {
+        if !stands_before(standing, path) {
+            return index;
+        }
+    }
+    left.len()
+}
+
+fn stands_before(standing: &Standing, path: &Path) -> bool
+    ensures { result ≡ stands_before (view_standing standing.now) path.now }
+{
+    match standing.folder.next_below(path) {
+        Some(name) => standing.name.as_bytes().cmp(&name.bytes()).is_lt(),
+        None => standing.folder.compare(path).is_lt(),
+    }
+}
+
+/// The lines of what was passed over.
+fn put_left(alloc: Global, left: &[Standing], text: &mut String) -> Result<(), NoMemory>
+    ensures { OnOk result (string_bytes text.new ≡ string_bytes text.old ++ flat_map left_line (map view_standing left.now)) }
+{
+    for standing in left {
+        let line = left_text(alloc, standing)?;
+        text.push_str(&line)?;
+    }
+    Ok(())
+}
+
+fn left_text(alloc: Global, standing: &Standing) -> Result<String, NoMemory>
+    ensures { IfOk result (λ text. string_bytes text ≡ left_line (view_standing standing.now)) }
+{
+    let path = standing_text(alloc, standing)?;
+    left_joined(alloc, &path, standing_mark(standing))
+}
+
+fn left_joined(alloc: Global, path: &str, hidden: &str) -> Result<String, NoMemory>
+    ensures { IfOk result (λ text. string_bytes text ≡ line (codes "left " ++ path.now ++ hidden.now)) }
+{
+    format!(in alloc; "left {path}{hidden}\n")
+}
+
+/// The text of the path at which something stands.
+pub(crate) fn standing_text(alloc: Global, standing: &Standing) -> Result<String, NoMemory>
+    ensures { IfOk result (λ text. string_bytes text ≡ text_of (names_at (view_standing standing.now))) }
+{
+    let name = print_name(alloc, standing.name.as_bytes())?;
+    let name = name.as_str();
+    let folder = &standing.folder;
+    if folder.len() == 0 {
+        return format!(in alloc; "/{name}");
+    }
+    format!(in alloc; "{folder}/{name}")
+}
+
+fn standing_mark(standing: &Standing) -> &'static str
+    ensures { result.now ≡ hidden_text (names_at (view_standing standing.now)) }
+{
+    mark(is_hidden(&standing.folder) || is_hidden_name(standing.name.as_bytes()))
+}
+
+fn put_object(
+    alloc: Global,
+    tree: &Tree,
+    object: &Object,
+    text: &mut String,
+) -> Result<(), NoMemory>
+    ensures { OnOk result (string_bytes text.new ≡ string_bytes text.old ++ object_line tree.now object.now) }
+{
+    let kind = kind_text(alloc, tree, object)?;
+    let kind = kind.as_str();
+    let module = object.module;
+    let hidden = mark(is_hidden(&object.path));
+    let line = format!(in alloc; "{kind} module {module}{hidden}\n")?;
+    text.push_str(&line)
+}
+
+/// What an object is, its path, and a file's length or the number of a folder's names.
+fn kind_text(alloc: Global, tree: &Tree, object: &Object) -> Result<String, NoMemory>
+    ensures { IfOk result (λ text. string_bytes text ≡ kind_text tree.now object.now.path object.now.kind) }
+{
+    match object.kind {
+        ObjectKind::File(length) => kind_line(alloc, "file", &object.path, length),
+        ObjectKind::Folder => {
+            let count = count_names(tree, &object.path)?;
+            kind_line(alloc, "folder", &object.path, count)
+        }
+    }
+}
+
+fn kind_line(alloc: Global, kind: &str, path: &Path, number: usize) -> Result<String, NoMemory>
+    ensures { IfOk result (λ text. string_bytes text ≡ kind_line kind.now path.now number) }
+{
+    format!(in alloc; "{kind} {path} {number}")
+}
+
+fn count_names(tree: &Tree, path: &Path) -> Result<usize, NoMemory>
+    ensures { IfOk result (λ n. n ≡ count_of (node_at tree.now path.now)) }
+{
+    match tree.lookup(path)? {
+        Lookup::Folder(names) => Ok(names.len()),
+        Lookup::File(_) | Lookup::NoSuch => Ok(0),
+    }
+}
+
+/// Whether an object or a folder above it is hidden where it comes from.
+fn is_hidden(path: &Path) -> bool
+    ensures { result ≡ is_hidden path.now }
+{
+    path.iter().any(|name| is_hidden_name(name.bytes()))
+}
+
+fn is_hidden_name(name: &[u8]) -> bool
+    ensures { result ≡ is_hidden_name name.now }
+{
+    match name {
+        [first, ..] => *first == b'.',
+        [] => false,
+    }
+}
+
+fn mark(is_hidden: bool) -> &'static str
+    ensures { result.now ≡ (if is_hidden then codes " hidden" else []) }
+{
+    if is_hidden { " hidden" } else { "" }
+}
+
+// ---- modules and the cycle
+
+fn put_modules(
+    alloc: Global,
+    generation: &Generation,
+    weigh: &Weigh,
+    text: &mut String,
+) -> Result<(), NoMemory>
+    ensures { OnOk result (string_bytes text.new ≡ string_bytes text.old ++ flat_map (module_line weigh.now.weights generation.now) (lines_of generation.now)) }
+{
+    for (id, blocks) in generation.lines() {
+        let line = module_text(alloc, generation, weigh, *id, *blocks)?;
+        text.push_str(&line)?;
+    }
+    Ok(())
+}
+
+fn module_text(
+    alloc: Global,
+    generation: &Generation,
+    weigh: &Weigh,
+    id: u16,
+    blocks: u32,
+) -> Result<String, NoMemory>
+    requires { (1 ≤ id) × (id ≤ 2224) }
+    ensures { IfOk result (λ text. string_bytes text ≡ module_line weigh.now.weights generation.now (id, blocks)) }
+{
+    let name = field(alloc, "module", u64::from(id))?;
+    let size = field(alloc, "size", module_size(generation, id) as u64)?;
+    let blocks = field(alloc, "blocks", u64::from(blocks))?;
+    let weight = field(alloc, "weight", u64::from(weigh.of(id)))?;
+    four_fields(alloc, &name, &size, &blocks, &weight)
+}
+
+fn module_size(generation: &Generation, id: u16) -> usize
+    ensures { result ≡ length (unwrap_or (module_in generation.now.layout id) []) }
+{
+    match generation.module(id) {
+        Some(module) => module.bytes().len(),
+        None => 0,
+    }
+}
+
+fn cycle_text(alloc: Global, cycle: Cycle, bitrate: u32) -> Result<String, NoMemory>
+    requires rate { 1 ≤ bitrate }
+    requires few { cycle.packets ≤ MOST_PACKETS }
+    ensures { IfOk result (λ text. string_bytes text ≡ cycle_line cycle.sections cycle.packets bitrate) }
+{
+    let bytes = 188 * cycle.packets;
+    let sections = field(alloc, "cycle sections", cycle.sections)?;
+    let packets = field(alloc, "packets", cycle.packets)?;
+    let time = field(alloc, "milliseconds", time_of(bytes, bitrate))?;
+    let bytes = field(alloc, "bytes", bytes)?;
+    four_fields(alloc, &sections, &packets, &bytes, &time)
+}
+
+/// A name and its number.
+fn field(alloc: Global, name: &str, number: u64) -> Result<String, NoMemory>
+    ensures { IfOk result (λ text. string_bytes text ≡ with_number name.now number) }
+{
+    format!(in alloc; "{name} {number}")
+}
+
+fn four_fields(
+    alloc: Global,
+    first: &str,
+    second: &str,
+    third: &str,
+    fourth: &str,
+) -> Result<String, NoMemory>
+    ensures { IfOk result (λ text. string_bytes text ≡ four_fields first.now second.now third.now fourth.now) }
+{
+    format!(in alloc; "{first} {second} {third} {fourth}\n")
+}
