@@ -5,6 +5,7 @@ use Rattle.oc_bytes.specs.Outcome.{Known}
 use Rattle.path_tree.specs.Paths.{PathNames}
 use Rattle.folder_store.specs.Folders.{FolderTree}
 use Rattle.shell_words.specs.Words as commands
+use Rattle.shell_words.specs.Complaints.{complaint_line}
 use Rattle.shell_streams.specs.Cuts.{Bytes}
 use Rattle.shell_streams.specs.Held.{IsRear}
 use Rattle.shell_streams.specs.Carriers.{sections_by, all_packets}
@@ -38,10 +39,13 @@ answers_nothing carrier question source sink law e f =
 first_untouched : (pid : ℕ) (source : Over Bytes) → IsUntouched source → Known source.before source.after (AreFirst pid [])
 first_untouched pid source e = let P : Option Bytes → Type 0 = λ a. Known source.before a (AreFirst pid []) in subst P (sym e) (first_none pid source.before)
 
+prefix_untouched : (sink : Over Bytes) (text : Bytes) → IsUntouched sink → WritesPrefix sink text
+prefix_untouched sink text f =
+    let Q : Option Bytes → Type 0 = λ a. Known sink.before a (Appends text) in
+    subst Q (sym f) (told_same sink.before (λ x. record { part = []; after_is = sym (append-nil x); prefix = record { rest = text; whole_is = refl } }))
+
 nothing_written : (sink : Over Bytes) → IsUntouched sink → WritesPrefix sink []
-nothing_written sink f =
-    let Q : Option Bytes → Type 0 = λ a. Known sink.before a (Appends []) in
-    subst Q (sym f) (told_same sink.before (λ x. record { part = []; after_is = sym (append-nil x); prefix = record { rest = []; whole_is = refl } }))
+nothing_written sink f = prefix_untouched sink [] f
 
 records_nothing : (pid : ℕ) (source sink : Over Bytes) → IsUntouched source → IsUntouched sink → Records pid status.NoMemory source sink
 records_nothing pid source sink e f = record { ends = record { sections = []; first = first_untouched pid source e; writes = nothing_written sink f }; takes = takes_nothing source e }
@@ -72,6 +76,10 @@ memory_promises weights prefixes (commands.PublishOn pid folder carousel cycles)
     record { unread = e; keeps = record { ends = inl f; needs = λ t h n. inr refl; heard = law.sent pid carousel weights cycles are } }
 memory_promises weights prefixes (commands.Mounts entries paths) source sink folders law are e f = serves_no_memory entries paths source sink law e f
 memory_promises weights prefixes (commands.Watch pid paths) source sink folders law are e f = watches_nothing pid prefixes paths source sink e f
+memory_promises weights prefixes (commands.Plan folder carousel bitrate) source sink folders law are e f = record { ends = inr refl; unread = e; unwritten = f }
+memory_promises weights prefixes (commands.Inspect pid) source sink folders law are e f = record { ends = inr refl; unread = e; unwritten = f }
+memory_promises weights prefixes (commands.Extract pid folder) source sink folders law are e f = record { ends = inr refl; unread = e; unwritten = f }
+memory_promises weights prefixes (commands.Why complaint) source sink folders law are e f = record { unread = e; keeps = record { ends = prefix_untouched sink (complaint_line complaint) f } }
 
 pub memory_keeps : (weights : List ℕ) (prefixes : List PathNames) (r : Result commands.Named commands.Misfit) (source sink : Over Bytes) (folders : Over FolderTree) → Receptions → AreWeights weights → IsUntouched source → IsUntouched sink
     → Keeps weights prefixes r status.NoMemory source sink folders

@@ -23,5 +23,6 @@ mod Showing
 mod Watching
 mod Committing
 mod Rehearsing
+mod Explaining
 mod Cycling
 mod Declining

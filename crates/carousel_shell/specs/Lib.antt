@@ -16,6 +16,7 @@ pub mod Seeking
 pub mod Mounts
 pub mod Watch
 pub mod Watching
+pub mod Why
 pub mod Assemble
 pub mod Record
 pub mod Publish

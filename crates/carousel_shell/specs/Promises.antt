@@ -15,6 +15,7 @@ use Rattle.carousel_shell.specs.Find.{Finds}
 use Rattle.carousel_shell.specs.OpenId.{OpensId}
 use Rattle.carousel_shell.specs.Mounts.{ServesMounts}
 use Rattle.carousel_shell.specs.Watch.{Watches}
+use Rattle.carousel_shell.specs.Why.{SaysWhy}
 use Rattle.carousel_shell.specs.PublishPsi.{PublishesPsi}
 use Rattle.carousel_shell.specs.Rehearse.{Rehearses}
 use Rattle.carousel_shell.specs.Refusing.{Declines}
@@ -42,6 +43,10 @@ Promises weights prefixes (commands.PublishPsi folder carousel cycles) s source 
 Promises weights prefixes (commands.PublishOn pid folder carousel cycles) s source sink folders = WithoutInput source (Publishes pid folder carousel weights cycles s sink folders)
 Promises weights prefixes (commands.Mounts entries paths) s source sink folders = ServesMounts entries paths s source sink
 Promises weights prefixes (commands.Watch pid paths) s source sink folders = Watches pid prefixes paths s source sink
+Promises weights prefixes (commands.Plan folder carousel bitrate) s source sink folders = Declines s source sink
+Promises weights prefixes (commands.Inspect pid) s source sink folders = Declines s source sink
+Promises weights prefixes (commands.Extract pid folder) s source sink folders = Declines s source sink
+Promises weights prefixes (commands.Why complaint) s source sink folders = WithoutInput source (SaysWhy complaint s sink)
 
 -- what is promised of words, under these weights and with watchers of these prefixes; words that don't fit, and those of a command that
 -- needs threads, are refused

@@ -37,6 +37,7 @@ mod record;
 mod rehearse;
 mod status;
 mod watch;
+mod why;
 
 pub use assemble::MOST_ASSEMBLED;
 pub use listing::MOST_LINES;

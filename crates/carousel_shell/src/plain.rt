@@ -18,6 +18,7 @@ use crate::record::record;
 use crate::rehearse::rehearse;
 use crate::status::Status;
 use crate::watch::watch;
+use crate::why::why;
 use cycle_planner::Weigh;
 use folder_store::Folders;
 use oc_bytes::{Sink, Source};
@@ -162,6 +163,11 @@ fn run_command<S: Source, O: Output, F: Folders>(
         }
         Command::Mounts(entries, paths) => mounts(alloc, entries, &paths, source, out),
         Command::Watch(pid, paths) => watch(alloc, pid, &paths, filters, source, out),
-        Command::Session | Command::Big(_) => Status::Words,
+        Command::Why(complaint) => why(alloc, complaint, out),
+        Command::Session
+        | Command::Big(_)
+        | Command::Plan(..)
+        | Command::Inspect(_)
+        | Command::Extract(..) => Status::Words,
     }
 }

@@ -42,3 +42,6 @@ returns-in-Watch-clause-promises g c = rw (c.in-Watch.is, ← c.deref-in-Watch.e
 
 pub watch-requires-clause-few : goal.watch-requires-clause-few
 watch-requires-clause-few g c = rw c.deref-in-Watch.ensures.value ((rw c.in-Watch.is at c.requires.sized).1)
+
+pub returns-in-Why-clause-promises : goal.returns-in-Why-clause-promises
+returns-in-Why-clause-promises g c = rw c.in-Why.is (record { unread = refl; keeps = c.why.ensures.says })
