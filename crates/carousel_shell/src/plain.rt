@@ -1,10 +1,10 @@
-ghost use Rattle.std.specs.Prelude.{◌≡◌, false, [], map};
+ghost use Rattle.std.specs.Prelude.{◌≡◌, false, [], map, Ok};
 ghost use Rattle.std.specs.String.{string_bytes};
 ghost use Rattle.shell_words.specs.Words as commands;
 ghost use Rattle.watch_desk.specs.Prefixes.{prefixes_of};
 ghost use Rattle.shell_streams.specs.Sending.{IsInTime};
 ghost use Rattle.carousel_shell.specs.Over.{over, sink_over};
-ghost use Rattle.carousel_shell.specs.Promises.{Promises, Keeps};
+ghost use Rattle.carousel_shell.specs.Promises.{Promises, Keeps, writes_store};
 
 use crate::assemble::{Wanted, assemble};
 use crate::find::find;
@@ -20,7 +20,7 @@ use crate::status::Status;
 use crate::watch::watch;
 use crate::why::why;
 use cycle_planner::Weigh;
-use folder_store::Folders;
+use folder_store::{Folders, Store};
 use oc_bytes::{Sink, Source};
 use shell_streams::{Buffered, Carrier, Output, room};
 use shell_words::{Command, WordsFault, command};
@@ -31,8 +31,8 @@ use watch_desk::Filter;
 pub const MOST_OPENED: u32 = 16_777_216;
 
 /// Runs the command that the words name: they are the command line without the program's name. The input comes from the
-/// source, the output goes to the sink, and the folders are those that `publish`, `publish-on` and `publish-psi` read. `weigh` says how
-/// often each module is sent in every cycle. `filters` are the watchers that `watch` tells of changes, the first [`watch_desk::MOST_FILTERS`] of
+/// source, the output goes to the sink, the folders are those that `publish`, `publish-on`, `publish-psi` and `plan` read, and the store is
+/// the one that `extract` writes into, which every other command leaves as it is. `weigh` says how often each module is sent in every cycle. `filters` are the watchers that `watch` tells of changes, the first [`watch_desk::MOST_FILTERS`] of
 /// them.
 ///
 /// - `Words` comes before all else: where the words name no command with its values, or one that needs threads, which are
@@ -59,17 +59,19 @@ pub const MOST_OPENED: u32 = 16_777_216;
 ///
 /// What was written stands after what the sink had. A write that fails is the last one that is tried, where none had failed
 /// before. These rules are this project's own.
-pub fn run_plain<S: Source, K: Sink, F: Folders>(
+pub fn run_plain<S: Source, K: Sink, F: Folders, T: Store>(
     alloc: Global,
     words: &[String],
     source: &mut S,
     sink: &mut K,
     folders: &mut F,
+    store: &mut T,
     weigh: Weigh,
     filters: Vec<Filter>,
 ) -> Status
     ensures keeps { Keeps weigh.weights (prefixes_of filters.items) (commands.command_of (map string_bytes words.now)) result (over S.left S.faults source.old source.new)
-        (over K.written K.faults sink.old sink.new) (over F.tree F.faults folders.old folders.new) }
+        (over K.written K.faults sink.old sink.new) (over F.tree F.faults folders.old folders.new) (over T.tree T.faults store.old store.new) }
+    ensures stored { writes_store (commands.command_of (map string_bytes words.now)) ≡ false → store.new ≡ store.old }
     ensures in_time { K.failed sink.old ≡ false → K.late sink.new ≡ K.late sink.old }
 {
     receptions();
@@ -82,24 +84,28 @@ pub fn run_plain<S: Source, K: Sink, F: Folders>(
         return Status::NoMemory;
     };
     let mut out = Buffered::new(sink, &mut room);
-    run_command(alloc, command, source, &mut out, folders, weigh, filters)
+    run_command(
+        alloc, command, source, &mut out, folders, store, weigh, filters,
+    )
 }
 
 /// Runs a command; one that needs threads is none here.
-fn run_command<S: Source, O: Output, F: Folders>(
+fn run_command<S: Source, O: Output, F: Folders, T: Store>(
     alloc: Global,
     command: Command,
     source: &mut S,
     out: &mut O,
     folders: &mut F,
+    store: &mut T,
     weigh: Weigh,
     filters: Vec<Filter>,
 ) -> Status
     requires sized { commands.IsSized command }
     requires pending { (O.state out.old).pending ≡ [] }
     ensures promises { Promises weigh.weights (prefixes_of filters.items) (commands.view command) result (over S.left S.faults source.old source.new) (sink_over (O.state out.old) (O.state out.new))
-        (over F.tree F.faults folders.old folders.new) }
+        (over F.tree F.faults folders.old folders.new) (over T.tree T.faults store.old store.new) }
     ensures same { (O.state out.new).name ≡ (O.state out.old).name }
+    ensures stored { writes_store (Ok (commands.view command)) ≡ false → store.new ≡ store.old }
     ensures in_time { IsInTime (O.state out.old) (O.state out.new) }
 {
     match command {

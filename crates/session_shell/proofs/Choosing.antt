@@ -184,15 +184,15 @@ not_named (word ∷ words) other = or_why (bytes_eq word (codes "why")) (complai
 takes_nothing : (source : Over Bytes) → IsUntouched source → TakesPrefix source
 takes_nothing source e = let P : Option Bytes → Type 0 = λ a. Known source.before a IsRear in subst P (sym e) (told_same source.before (λ x. record { taken = []; whole = refl }))
 
-keeps_by : (ws : List ℕ) (ps : List PathNames) (b : Bool) (r : Result Named Misfit) (s : Status) (source sink : Over Bytes) (folders : Over FolderTree) → b ≡ false → Keeps ws ps r s source sink folders
-    → PlaysOrKeeps ws ps b r s source sink folders
-keeps_by ws ps true r s source sink folders other k = absurd (true≢false other)
-keeps_by ws ps false r s source sink folders other k = k
+keeps_by : (ws : List ℕ) (ps : List PathNames) (b : Bool) (r : Result Named Misfit) (s : Status) (source sink : Over Bytes) (folders store : Over FolderTree) → b ≡ false → Keeps ws ps r s source sink folders store
+    → PlaysOrKeeps ws ps b r s source sink folders store
+keeps_by ws ps true r s source sink folders store other k = absurd (true≢false other)
+keeps_by ws ps false r s source sink folders store other k = k
 
 -- where the first word is another one
-pub keeps_plain : (ws : List ℕ) (ps : List PathNames) (words : List Bytes) (s : Status) (source sink : Over Bytes) (folders : Over FolderTree) → begins_session words ≡ false
-    → Keeps ws ps (command_of words) s source sink folders → KeepsAll ws ps (command_of words) s source sink folders
-keeps_plain ws ps words s source sink folders other k = keeps_by ws ps (names_session (command_of words)) (command_of words) s source sink folders (not_named words other) k
+pub keeps_plain : (ws : List ℕ) (ps : List PathNames) (words : List Bytes) (s : Status) (source sink : Over Bytes) (folders store : Over FolderTree) → begins_session words ≡ false
+    → Keeps ws ps (command_of words) s source sink folders store → KeepsAll ws ps (command_of words) s source sink folders store
+keeps_plain ws ps words s source sink folders store other k = keeps_by ws ps (names_session (command_of words)) (command_of words) s source sink folders store (not_named words other) k
 
 -- whether they name a session or nothing
 abbrev is_session_or_none : Result Named Misfit → Bool
@@ -227,22 +227,22 @@ behind false true word words e f h =
     subst (λ (w : Bytes). is_session_or_none (command_of (w ∷ words)) ≡ true) (sym is) (behind_big words)
 behind false false word words e f h = absurd (true≢false (sym h))
 
-by_session : (ws : List ℕ) (ps : List PathNames) (b : Bool) (c : Named) (s : Status) (source sink : Over Bytes) (folders : Over FolderTree) → b ≡ true → KeepsSession ws (Ok c) s source sink
-    → PlaysOrKeeps ws ps b (Ok c) s source sink folders
-by_session ws ps true c s source sink folders e k = k
-by_session ws ps false c s source sink folders e k = absurd (true≢false (sym e))
+by_session : (ws : List ℕ) (ps : List PathNames) (b : Bool) (c : Named) (s : Status) (source sink : Over Bytes) (folders store : Over FolderTree) → b ≡ true → KeepsSession ws (Ok c) s source sink
+    → PlaysOrKeeps ws ps b (Ok c) s source sink folders store
+by_session ws ps true c s source sink folders store e k = k
+by_session ws ps false c s source sink folders store e k = absurd (true≢false (sym e))
 
-by_words : (ws : List ℕ) (ps : List PathNames) (r : Result Named Misfit) (s : Status) (source sink : Over Bytes) (folders : Over FolderTree) → is_session_or_none r ≡ true → KeepsSession ws r s source sink
-    → KeepsAll ws ps r s source sink folders
-by_words ws ps (Ok c) s source sink folders e k = by_session ws ps (is_session c) c s source sink folders e k
-by_words ws ps (Err misfit) s source sink folders e k = k
+by_words : (ws : List ℕ) (ps : List PathNames) (r : Result Named Misfit) (s : Status) (source sink : Over Bytes) (folders store : Over FolderTree) → is_session_or_none r ≡ true → KeepsSession ws r s source sink
+    → KeepsAll ws ps r s source sink folders store
+by_words ws ps (Ok c) s source sink folders store e k = by_session ws ps (is_session c) c s source sink folders store e k
+by_words ws ps (Err misfit) s source sink folders store e k = k
 
 -- where the first word is that of a session
-pub keeps_session : (ws : List ℕ) (ps : List PathNames) (words : List Bytes) (s : Status) (source sink : Over Bytes) (folders : Over FolderTree) → begins_session words ≡ true → KeepsSession ws (command_of words) s source sink
-    → KeepsAll ws ps (command_of words) s source sink folders
-keeps_session ws ps [] s source sink folders first k = absurd (true≢false (sym first))
-keeps_session ws ps (word ∷ words) s source sink folders first k =
-    by_words ws ps (command_of (word ∷ words)) s source sink folders (behind (bytes_eq word (codes "session")) (bytes_eq word (codes "big")) word words refl refl first) k
+pub keeps_session : (ws : List ℕ) (ps : List PathNames) (words : List Bytes) (s : Status) (source sink : Over Bytes) (folders store : Over FolderTree) → begins_session words ≡ true → KeepsSession ws (command_of words) s source sink
+    → KeepsAll ws ps (command_of words) s source sink folders store
+keeps_session ws ps [] s source sink folders store first k = absurd (true≢false (sym first))
+keeps_session ws ps (word ∷ words) s source sink folders store first k =
+    by_words ws ps (command_of (word ∷ words)) s source sink folders store (behind (bytes_eq word (codes "session")) (bytes_eq word (codes "big")) word words refl refl first) k
 
 -- the words name nothing, so nothing was done
 pub words_decline : (ws : List ℕ) (r : Result Named Misfit) (misfit : Misfit) (source sink : Over Bytes) → r ≡ Err misfit → IsUntouched source → IsUntouched sink → KeepsSession ws r status.Words source sink
