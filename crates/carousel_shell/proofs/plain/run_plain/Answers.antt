@@ -20,3 +20,6 @@ pub returns-clause-in_time : goal.returns-clause-in_time
 returns-clause-in_time g c =
     let name = c.run_command.ensures.same ∙ c.new-out.ensures.same in
     in_time_over g.K.Sink.failed g.K.Sink.late _ c.run_command.new.out.sink.now _ _ c.new-out.ensures.now (search (rules, name)) c.run_command.ensures.in_time
+
+pub returns-clause-stored : goal.returns-clause-stored
+returns-clause-stored g c = rw c.in-Ok.ensures.gives c.run_command.ensures.stored
