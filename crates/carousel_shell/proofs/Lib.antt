@@ -4,7 +4,6 @@ mod Offering
 mod Parts
 mod Entries
 mod Firsts
-mod Walking
 mod Receiving
 mod Interleaving
 mod Overhearing

@@ -41,7 +41,6 @@ mod watch;
 mod why;
 
 pub use assemble::MOST_ASSEMBLED;
-pub use listing::MOST_LINES;
 pub use plain::{MOST_OPENED, run_plain};
 pub use rehearse::MOST_SCRIPT_BYTES;
 pub use status::Status;

@@ -17,7 +17,7 @@ use std::alloc::{AllocError, Global};
 pub enum Status {
     /// Nothing is left to do: all that the command writes was written, and its input was read to the end.
     Done,
-    /// `open`, `open-id`, `list`, `mounts`: some answer is neither a file nor a folder, or `list` met its limit of [`MOST_LINES`](crate::MOST_LINES) lines. `find`: no
+    /// `open`, `open-id`, `list`, `mounts`: some answer is neither a file nor a folder, or `list` met its limit of [`MOST_LISTED`](path_listing::MOST_LISTED) lines. `find`: no
     /// PID is found.
     NotAll,
     /// The words don't name a command with its values, or the table of `mounts` is refused.
