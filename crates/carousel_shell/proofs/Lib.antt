@@ -23,5 +23,6 @@ mod Watching
 mod Committing
 mod Rehearsing
 mod Explaining
+mod Reporting
 mod Cycling
 mod Declining

@@ -17,6 +17,7 @@ pub mod Mounts
 pub mod Watch
 pub mod Watching
 pub mod Why
+pub mod Inspect
 pub mod Assemble
 pub mod Record
 pub mod Publish

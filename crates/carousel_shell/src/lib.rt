@@ -25,6 +25,7 @@
 mod answers;
 mod assemble;
 mod find;
+mod inspect;
 mod law;
 mod listing;
 mod mounts;

@@ -8,6 +8,7 @@ ghost use Rattle.carousel_shell.specs.Promises.{Promises, Keeps, writes_store};
 
 use crate::assemble::{Wanted, assemble};
 use crate::find::find;
+use crate::inspect::inspect;
 use crate::law::receptions;
 use crate::mounts::mounts;
 use crate::open::{list, open};
@@ -169,11 +170,9 @@ fn run_command<S: Source, O: Output, F: Folders, T: Store>(
         }
         Command::Mounts(entries, paths) => mounts(alloc, entries, &paths, source, out),
         Command::Watch(pid, paths) => watch(alloc, pid, &paths, filters, source, out),
+        Command::Inspect(pid) => inspect(alloc, pid, source, out),
         Command::Why(complaint) => why(alloc, complaint, out),
-        Command::Session
-        | Command::Big(_)
-        | Command::Plan(..)
-        | Command::Inspect(_)
-        | Command::Extract(..) => Status::Words,
+        Command::Session | Command::Big(_) | Command::Plan(..) | Command::Extract(..) =>
+            Status::Words,
     }
 }

@@ -7,6 +7,7 @@ use folder_store::{ReadTree, TreeFault};
 use generation_catalogue::CommitFault;
 use mount_table::TableFault;
 use oc_bytes::NoMemory;
+use reception_report::{SyncPlace, sync_text};
 use session_script::{LineCause, ScriptFault};
 use shell_streams::{InputFault, OutputFault};
 use shell_words::refusal_text;
@@ -20,6 +21,8 @@ pub enum Status {
     /// `open`, `open-id`, `list`, `mounts`: some answer is neither a file nor a folder, or `list` met its limit of [`MOST_LISTED`](path_listing::MOST_LISTED) lines. `find`: no
     /// PID is found.
     NotAll,
+    /// `inspect`: the input isn't one of packets, and this is where the sync byte stands in it.
+    NotPackets(SyncPlace),
     /// The words don't name a command with its values, or the table of `mounts` is refused.
     Words,
     /// `rehearse`: the number of the script's first line that doesn't fit, counted from 1 and at most the greatest `u32`, and
@@ -48,7 +51,7 @@ impl Status {
     {
         match self {
             Status::Done => 0,
-            Status::NotAll => 1,
+            Status::NotAll | Status::NotPackets(_) => 1,
             Status::Words => 2,
             Status::BadLine(..) => 3,
             Status::ReadFault => 4,
@@ -67,6 +70,11 @@ impl Status {
     {
         let text = match self {
             Status::Done | Status::NotAll => return Ok(None),
+            Status::NotPackets(place) => {
+                let text = sync_text(alloc, *place)?;
+                let text = text.as_str();
+                format!(in alloc; "carousel: {text}")?
+            }
             Status::Words => String::from_str(alloc, "carousel: bad words")?,
             Status::BadLine(number, cause) => {
                 let text = script_text(alloc, *number, *cause)?;

@@ -45,3 +45,6 @@ watch-requires-clause-few g c = rw c.deref-in-Watch.ensures.value ((rw c.in-Watc
 
 pub returns-in-Why-clause-promises : goal.returns-in-Why-clause-promises
 returns-in-Why-clause-promises g c = rw c.in-Why.is (record { unread = refl; keeps = c.why.ensures.says })
+
+pub returns-in-Inspect-clause-promises : goal.returns-in-Inspect-clause-promises
+returns-in-Inspect-clause-promises g c = rw c.in-Inspect.is c.inspect.ensures.inspects
