@@ -36,18 +36,18 @@ pub inspects_nothing : (pid : ℕ) (source sink : Over Bytes) → TakesPrefix so
 inspects_nothing pid source sink takes none = record { ends = inl none; takes = takes }
 
 module _ (pid : ℕ) (packets : List Bytes) (tail : ℕ) (source : Over Bytes) (old new : OutputState) (read : ReadsPackets packets tail source) (begin : old.pending ≡ []) where
-  ends_whole : (sync : Option SyncPlace) → sync ≡ sync_told tail packets → WritesAll (sink_over old new) (report_text pid tail packets)
+  ends_whole : (sync : Option SyncPlace) → sync ≡ sync_told packets tail → WritesAll (sink_over old new) (report_text pid packets tail)
       → EndsInspect pid source (sink_over old new) (sync_status sync)
   ends_whole None is writes = record { packets = packets; tail = tail; reads = read; sync_is = sym is; writes = writes }
   ends_whole (Some place) is writes = record { packets = packets; tail = tail; reads = read; sync_is = sym is; writes = writes }
 
-  ends_written : (sync : Option SyncPlace) (r : Result (Unit {0}) OutputFault) → sync ≡ sync_told tail packets → Puts r old new (report_text pid tail packets) → OnOk r (new.pending ≡ [])
+  ends_written : (sync : Option SyncPlace) (r : Result (Unit {0}) OutputFault) → sync ≡ sync_told packets tail → Puts r old new (report_text pid packets tail) → OnOk r (new.pending ≡ [])
       → EndsInspect pid source (sink_over old new) (report_status sync r)
   ends_written sync (Ok done) is puts empty = ends_whole sync is (writes_all begin empty puts)
   ends_written sync (Err outputs.Failed) is puts empty = (puts.cause refl, record { packets = packets; tail = tail; reads = read; writes = writes_prefix begin puts })
   ends_written sync (Err outputs.NoMemory) is puts empty = inr (record { packets = packets; tail = tail; reads = read; writes = writes_prefix begin puts })
 
   -- the input was read to its end, and the report was put
-  pub inspects_written : (sync : Option SyncPlace) (r : Result (Unit {0}) OutputFault) → sync ≡ sync_told tail packets → Puts r old new (report_text pid tail packets) → OnOk r (new.pending ≡ [])
+  pub inspects_written : (sync : Option SyncPlace) (r : Result (Unit {0}) OutputFault) → sync ≡ sync_told packets tail → Puts r old new (report_text pid packets tail) → OnOk r (new.pending ≡ [])
       → Inspects pid (report_status sync r) source (sink_over old new)
   inspects_written sync r is puts empty = record { ends = ends_written sync r is puts empty; takes = all_rear read.reads }

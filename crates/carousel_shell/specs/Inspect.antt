@@ -27,15 +27,15 @@ pub record Reported (pid : ℕ) (sync : Option SyncPlace) (source sink : Over By
   pub packets : List Bytes
   pub tail : ℕ
   pub reads : ReadsPackets packets tail source
-  pub sync_is : sync_told tail packets ≡ sync
-  pub writes : WritesAll sink (report_text pid tail packets)
+  pub sync_is : sync_told packets tail ≡ sync
+  pub writes : WritesAll sink (report_text pid packets tail)
 
 -- a prefix of it was
 pub record Reporting (pid : ℕ) (source sink : Over Bytes) : Type 0 where
   pub packets : List Bytes
   pub tail : ℕ
   pub reads : ReadsPackets packets tail source
-  pub writes : WritesPrefix sink (report_text pid tail packets)
+  pub writes : WritesPrefix sink (report_text pid packets tail)
 
 abbrev pub EndsInspect : ℕ → Over Bytes → Over Bytes → Status → Type 0
 EndsInspect pid source sink status.Done = Reported pid None source sink

@@ -9,7 +9,7 @@ use Rattle.generation_catalogue.specs.declared.entry.CommitFault.{CommitFault}
 use Rattle.generation_catalogue.specs.declared.entry.CommitFault.TheVariants as commits
 use Rattle.mount_table.specs.declared.fault.TableFault.{TableFault}
 use Rattle.mount_table.specs.declared.fault.TableFault.TheVariants as tables
-use Rattle.reception_report.specs.Sync.{sync_text}
+use Rattle.reception_report.specs.Sync.{sync_line}
 use Rattle.session_script.specs.Texts.{cause_text}
 use Rattle.session_script.specs.declared.script.LineCause.{LineCause}
 use Rattle.session_script.specs.declared.script.ScriptFault.{ScriptFault}
@@ -52,7 +52,7 @@ fault_line text = Some (codes "carousel: " ++ text)
 abbrev pub line_of : Status → Option Bytes
 line_of status.Done = None
 line_of status.NotAll = None
-line_of (status.NotPackets place) = fault_line (sync_text place)
+line_of (status.NotPackets place) = fault_line (sync_line place)
 line_of status.Words = fault_line (codes "bad words")
 line_of (status.BadLine number cause) = fault_line (script_text number cause)
 line_of status.ReadFault = fault_line (codes "read fault")
