@@ -29,6 +29,7 @@ use Rattle.carousel_shell.proofs.Finding.{finds_by}
 use Rattle.carousel_shell.proofs.Opening.{opens_by}
 use Rattle.carousel_shell.proofs.Serving.{serves_no_memory}
 use Rattle.carousel_shell.proofs.Reporting.{inspects_nothing}
+use Rattle.carousel_shell.proofs.Unpacking.{extracts_nothing}
 
 takes_nothing : (source : Over Bytes) → IsUntouched source → TakesPrefix source
 takes_nothing source e = let P : Option Bytes → Type 0 = λ a. Known source.before a IsRear in subst P (sym e) (told_same source.before (λ x. record { taken = []; whole = refl }))
@@ -79,7 +80,7 @@ memory_promises weights prefixes (commands.Mounts entries paths) source sink fol
 memory_promises weights prefixes (commands.Watch pid paths) source sink folders store law are e f k = watches_nothing pid prefixes paths source sink e f
 memory_promises weights prefixes (commands.Plan folder carousel bitrate) source sink folders store law are e f k = record { ends = inr refl; unread = e; unwritten = f }
 memory_promises weights prefixes (commands.Inspect pid) source sink folders store law are e f k = inspects_nothing pid source sink (takes_nothing source e) f
-memory_promises weights prefixes (commands.Extract pid folder) source sink folders store law are e f k = record { ends = inr refl; unread = e; unwritten = f }
+memory_promises weights prefixes (commands.Extract pid folder) source sink folders store law are e f k = extracts_nothing pid folder source sink store (takes_nothing source e) (f, k)
 memory_promises weights prefixes (commands.Why complaint) source sink folders store law are e f k = record { unread = e; keeps = record { ends = prefix_untouched sink (complaint_line complaint) f } }
 
 pub memory_keeps : (weights : List ℕ) (prefixes : List PathNames) (r : Result commands.Named commands.Misfit) (source sink : Over Bytes) (folders store : Over FolderTree) → Receptions → AreWeights weights → IsUntouched source → IsUntouched sink → IsUntouched store

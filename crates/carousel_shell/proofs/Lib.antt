@@ -24,5 +24,6 @@ mod Committing
 mod Rehearsing
 mod Explaining
 mod Reporting
+mod Unpacking
 mod Cycling
 mod Declining

@@ -18,6 +18,7 @@ pub mod Watch
 pub mod Watching
 pub mod Why
 pub mod Inspect
+pub mod Extract
 pub mod Assemble
 pub mod Record
 pub mod Publish

@@ -24,6 +24,7 @@
 
 mod answers;
 mod assemble;
+mod extract;
 mod find;
 mod inspect;
 mod law;

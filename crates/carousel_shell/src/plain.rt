@@ -7,6 +7,7 @@ ghost use Rattle.carousel_shell.specs.Over.{over, sink_over};
 ghost use Rattle.carousel_shell.specs.Promises.{Promises, Keeps, writes_store};
 
 use crate::assemble::{Wanted, assemble};
+use crate::extract::extract;
 use crate::find::find;
 use crate::inspect::inspect;
 use crate::law::receptions;
@@ -171,8 +172,10 @@ fn run_command<S: Source, O: Output, F: Folders, T: Store>(
         Command::Mounts(entries, paths) => mounts(alloc, entries, &paths, source, out),
         Command::Watch(pid, paths) => watch(alloc, pid, &paths, filters, source, out),
         Command::Inspect(pid) => inspect(alloc, pid, source, out),
+        Command::Extract(pid, folder) => {
+            extract(alloc, pid, folder.as_str(), source, out, store)
+        }
         Command::Why(complaint) => why(alloc, complaint, out),
-        Command::Session | Command::Big(_) | Command::Plan(..) | Command::Extract(..) =>
-            Status::Words,
+        Command::Session | Command::Big(_) | Command::Plan(..) => Status::Words,
     }
 }

@@ -1,4 +1,5 @@
 use Rattle.std.proofs.Common.{refl}
+use Rattle.std.proofs.lemmas.Bool.{true≢false}
 use Rattle.carousel_shell.proofs.plain.run_command.Goals as goal
 
 pub returns-in-Assemble-clause-promises : goal.returns-in-Assemble-clause-promises
@@ -48,3 +49,9 @@ returns-in-Why-clause-promises g c = rw c.in-Why.is (record { unread = refl; kee
 
 pub returns-in-Inspect-clause-promises : goal.returns-in-Inspect-clause-promises
 returns-in-Inspect-clause-promises g c = rw c.in-Inspect.is c.inspect.ensures.inspects
+
+pub returns-in-Extract-clause-promises : goal.returns-in-Extract-clause-promises
+returns-in-Extract-clause-promises g c = rw (c.in-Extract.is, ← c.as_str-in-Extract.ensures.value) c.extract.ensures.extracts
+
+pub returns-in-Extract-clause-stored : goal.returns-in-Extract-clause-stored
+returns-in-Extract-clause-stored g c = rw c.in-Extract.is (λ none. absurd (true≢false none))
