@@ -5,7 +5,9 @@ use Rattle.path_tree.specs.Paths.{PathNames}
 use Rattle.folder_store.specs.Folders.{FolderTree, MayFail}
 use Rattle.folder_store.specs.Stores.{can_add, with_entries}
 use Rattle.folder_store.specs.Walk.{text_below}
-use Rattle.folder_extract.specs.Extracting.{all_extracted, can_stand, entries_for, extract_text, lines_for, listed, WrotePart}
+use Rattle.folder_extract.specs.Naming.{can_stand}
+use Rattle.folder_extract.specs.Telling.{all_extracted, extract_text, lines_for, listed}
+use Rattle.folder_extract.specs.Extracting.{entries_for, WrotePart}
 use Rattle.folder_extract.specs.declared.extracting.Extracted.{Extracted}
 use Rattle.folder_extract.specs.declared.extracting.Extracted.TheVariants as ended
 use Rattle.tuner_core.specs.LookBack.{answer_after}
