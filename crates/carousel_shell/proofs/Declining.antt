@@ -30,6 +30,7 @@ use Rattle.carousel_shell.proofs.Opening.{opens_by}
 use Rattle.carousel_shell.proofs.Serving.{serves_no_memory}
 use Rattle.carousel_shell.proofs.Reporting.{inspects_nothing}
 use Rattle.carousel_shell.proofs.Unpacking.{extracts_nothing}
+use Rattle.carousel_shell.proofs.Planning.{plan_nothing}
 
 takes_nothing : (source : Over Bytes) → IsUntouched source → TakesPrefix source
 takes_nothing source e = let P : Option Bytes → Type 0 = λ a. Known source.before a IsRear in subst P (sym e) (told_same source.before (λ x. record { taken = []; whole = refl }))
@@ -78,7 +79,7 @@ memory_promises weights prefixes (commands.PublishOn pid folder carousel cycles)
     record { unread = e; keeps = record { ends = inl f; needs = λ t h n. inr refl; heard = law.sent pid carousel weights cycles are } }
 memory_promises weights prefixes (commands.Mounts entries paths) source sink folders store law are e f k = serves_no_memory entries paths source sink law e f
 memory_promises weights prefixes (commands.Watch pid paths) source sink folders store law are e f k = watches_nothing pid prefixes paths source sink e f
-memory_promises weights prefixes (commands.Plan folder carousel bitrate) source sink folders store law are e f k = record { ends = inr refl; unread = e; unwritten = f }
+memory_promises weights prefixes (commands.Plan folder carousel bitrate) source sink folders store law are e f k = record { unread = e; keeps = plan_nothing folder carousel weights bitrate sink folders f }
 memory_promises weights prefixes (commands.Inspect pid) source sink folders store law are e f k = inspects_nothing pid source sink (takes_nothing source e) f
 memory_promises weights prefixes (commands.Extract pid folder) source sink folders store law are e f k = extracts_nothing pid folder source sink store (takes_nothing source e) (f, k)
 memory_promises weights prefixes (commands.Why complaint) source sink folders store law are e f k = record { unread = e; keeps = record { ends = prefix_untouched sink (complaint_line complaint) f } }

@@ -25,5 +25,6 @@ mod Rehearsing
 mod Explaining
 mod Reporting
 mod Unpacking
+mod Planning
 mod Cycling
 mod Declining

@@ -19,6 +19,7 @@ pub mod Watching
 pub mod Why
 pub mod Inspect
 pub mod Extract
+pub mod Plan
 pub mod Assemble
 pub mod Record
 pub mod Publish

@@ -1,12 +1,14 @@
 -- What `plan FOLDER CAROUSEL BITRATE` promises: what `publish` would send of the folder is told, or why it can't be published.
-use Rattle.std.specs.Prelude.{◌≡◌, ◌⊎◌, ℕ, List, Result, Ok, Err}
-use Rattle.folder_store.specs.Folders.{FolderTree, is_folder_at}
+use Rattle.std.specs.Prelude.{◌≡◌, ◌⊎◌, ℕ, List, Some, Result, Ok, Err}
+use Rattle.folder_store.specs.Folders.{FolderTree}
+use Rattle.folder_store.specs.declared.reading.TreeFault.{TreeFault}
 use Rattle.publication_plan.specs.Plans.{IsTextOf}
-use Rattle.publication_plan.specs.declared.PlanEnd.{PlanEnd}
-use Rattle.publication_plan.specs.declared.PlanEnd.TheVariants as planned
+use Rattle.publication_plan.specs.declared.planning.PlanEnd.{PlanEnd}
+use Rattle.publication_plan.specs.declared.planning.PlanEnd.TheVariants as planned
 use Rattle.shell_streams.specs.Cuts.{Bytes}
 use Rattle.shell_streams.specs.declared.output.OutputFault.{OutputFault}
 use Rattle.carousel_shell.specs.Over.{Over, Failed, IsUntouched, WritesAll, WritesPrefix}
+use Rattle.carousel_shell.specs.Publishing.{publish_end}
 use Rattle.carousel_shell.specs.Statuses.{output_status}
 use Rattle.carousel_shell.specs.declared.status.Status.{Status}
 use Rattle.carousel_shell.specs.declared.status.Status.TheVariants as status
@@ -14,14 +16,14 @@ use Rattle.carousel_shell.specs.declared.status.Status.TheVariants as status
 -- the whole text of a plan that ends so was written
 pub record Planned (folder : Bytes) (carousel : ℕ) (weights : List ℕ) (bitrate : ℕ) (end : PlanEnd) (sink : Over Bytes) (folders : Over FolderTree) : Type 0 where
   pub text : Bytes
-  pub is : IsTextOf folder carousel weights bitrate folders.before (Failed folders) end text
+  pub is : IsTextOf folder weights carousel bitrate folders.before (Failed folders) end text
   pub writes : WritesAll sink text
 
 -- a prefix of one was
 pub record Planning (folder : Bytes) (carousel : ℕ) (weights : List ℕ) (bitrate : ℕ) (sink : Over Bytes) (folders : Over FolderTree) : Type 0 where
   pub end : PlanEnd
   pub text : Bytes
-  pub is : IsTextOf folder carousel weights bitrate folders.before (Failed folders) end text
+  pub is : IsTextOf folder weights carousel bitrate folders.before (Failed folders) end text
   pub writes : WritesPrefix sink text
 
 abbrev pub EndsPlan : (folder : Bytes) (carousel : ℕ) (weights : List ℕ) (bitrate : ℕ) → Over Bytes → Over FolderTree → Status → Type 0
@@ -32,8 +34,16 @@ EndsPlan folder carousel weights bitrate sink folders status.WriteFault = Failed
 EndsPlan folder carousel weights bitrate sink folders status.NoMemory = IsUntouched sink ⊎ Planning folder carousel weights bitrate sink folders
 EndsPlan folder carousel weights bitrate sink folders _ = ⊥
 
+-- Publishing a known folder ends alike: with all of it sent where the plan is whole, and with a refused tree where the plan says so. A
+-- tree without the folder has neither.
+abbrev pub EndsAlike : (folder : Bytes) (carousel : ℕ) → FolderTree → Status → Type 0
+EndsAlike folder carousel t status.Done = publish_end folder carousel t ≡ status.Done
+EndsAlike folder carousel t status.NotAll = (fault : TreeFault) × (publish_end folder carousel t ≡ status.TreeRefused fault)
+EndsAlike folder carousel t _ = Unit {0}
+
 pub record TellsPlan (folder : Bytes) (carousel : ℕ) (weights : List ℕ) (bitrate : ℕ) (s : Status) (sink : Over Bytes) (folders : Over FolderTree) : Type 0 where
   pub ends : EndsPlan folder carousel weights bitrate sink folders s
+  pub alike : (t : FolderTree) → folders.before ≡ Some t → EndsAlike folder carousel t s
 
 -- ---- the status of a plan
 

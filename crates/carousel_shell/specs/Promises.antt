@@ -18,6 +18,7 @@ use Rattle.carousel_shell.specs.Watch.{Watches}
 use Rattle.carousel_shell.specs.Why.{SaysWhy}
 use Rattle.carousel_shell.specs.Inspect.{Inspects}
 use Rattle.carousel_shell.specs.Extract.{Extracts}
+use Rattle.carousel_shell.specs.Plan.{TellsPlan}
 use Rattle.carousel_shell.specs.PublishPsi.{PublishesPsi}
 use Rattle.carousel_shell.specs.Rehearse.{Rehearses}
 use Rattle.carousel_shell.specs.Refusing.{Declines}
@@ -45,7 +46,7 @@ Promises weights prefixes (commands.PublishPsi folder carousel cycles) s source 
 Promises weights prefixes (commands.PublishOn pid folder carousel cycles) s source sink folders store = WithoutInput source (Publishes pid folder carousel weights cycles s sink folders)
 Promises weights prefixes (commands.Mounts entries paths) s source sink folders store = ServesMounts entries paths s source sink
 Promises weights prefixes (commands.Watch pid paths) s source sink folders store = Watches pid prefixes paths s source sink
-Promises weights prefixes (commands.Plan folder carousel bitrate) s source sink folders store = Declines s source sink
+Promises weights prefixes (commands.Plan folder carousel bitrate) s source sink folders store = WithoutInput source (TellsPlan folder carousel weights bitrate s sink folders)
 Promises weights prefixes (commands.Inspect pid) s source sink folders store = Inspects pid s source sink
 Promises weights prefixes (commands.Extract pid folder) s source sink folders store = Extracts pid folder s source sink store
 Promises weights prefixes (commands.Why complaint) s source sink folders store = WithoutInput source (SaysWhy complaint s sink)

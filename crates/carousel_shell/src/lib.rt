@@ -33,6 +33,7 @@ mod mounts;
 mod open;
 mod open_id;
 mod plain;
+mod plan;
 mod publish;
 mod publish_psi;
 mod receiver;

@@ -14,6 +14,7 @@ use crate::law::receptions;
 use crate::mounts::mounts;
 use crate::open::{list, open};
 use crate::open_id::open_id;
+use crate::plan::plan;
 use crate::publish::{PID, publish};
 use crate::publish_psi::publish_psi;
 use crate::record::record;
@@ -171,11 +172,22 @@ fn run_command<S: Source, O: Output, F: Folders, T: Store>(
         }
         Command::Mounts(entries, paths) => mounts(alloc, entries, &paths, source, out),
         Command::Watch(pid, paths) => watch(alloc, pid, &paths, filters, source, out),
+        Command::Plan(folder, carousel, bitrate) => {
+            plan(
+                alloc,
+                folder.as_str(),
+                carousel,
+                bitrate,
+                &weigh,
+                out,
+                folders,
+            )
+        }
         Command::Inspect(pid) => inspect(alloc, pid, source, out),
         Command::Extract(pid, folder) => {
             extract(alloc, pid, folder.as_str(), source, out, store)
         }
         Command::Why(complaint) => why(alloc, complaint, out),
-        Command::Session | Command::Big(_) | Command::Plan(..) => Status::Words,
+        Command::Session | Command::Big(_) => Status::Words,
     }
 }

@@ -55,3 +55,9 @@ returns-in-Extract-clause-promises g c = rw (c.in-Extract.is, ← c.as_str-in-Ex
 
 pub returns-in-Extract-clause-stored : goal.returns-in-Extract-clause-stored
 returns-in-Extract-clause-stored g c = rw c.in-Extract.is (λ none. absurd (true≢false none))
+
+pub plan-requires-clause-rate : goal.plan-requires-clause-rate
+plan-requires-clause-rate g c = (rw c.in-Plan.is at c.requires.sized).1
+
+pub returns-in-Plan-clause-promises : goal.returns-in-Plan-clause-promises
+returns-in-Plan-clause-promises g c = rw c.in-Plan.is (record { unread = refl; keeps = rw c.as_str-in-Plan.ensures.value at c.plan.ensures.tells })
