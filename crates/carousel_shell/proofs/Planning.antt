@@ -15,7 +15,7 @@ use Rattle.publication_plan.specs.Plans.{IsTextOf, Plans, NeedsFolder}
 use Rattle.publication_plan.specs.declared.planning.PlanEnd.{PlanEnd}
 use Rattle.publication_plan.specs.declared.planning.PlanEnd.TheVariants as planned
 use Rattle.shell_streams.specs.Cuts.{Bytes}
-use Rattle.shell_streams.specs.Sending.{IsInTime, OutputState}
+use Rattle.shell_streams.specs.Sending.{OutputState}
 use Rattle.shell_streams.specs.declared.output.OutputFault.{OutputFault}
 use Rattle.shell_streams.specs.declared.output.OutputFault.TheVariants as outputs
 use Rattle.carousel_shell.specs.Over.{Over, sink_over, Failed, IsUntouched}
@@ -95,18 +95,3 @@ module _ (folder : Bytes) (weights : List ℕ) (carousel bitrate : ℕ) (folders
 pub plan_nothing : (folder : Bytes) (carousel : ℕ) (weights : List ℕ) (bitrate : ℕ) (sink : Over Bytes) (folders : Over FolderTree) → IsUntouched sink
     → TellsPlan folder carousel weights bitrate status.NoMemory sink folders
 plan_nothing folder carousel weights bitrate sink folders none = record { ends = inl none; alike = λ t told. tt }
-
--- ---- the sink
-
-module _ (folder : Bytes) (weights : List ℕ) (carousel bitrate : ℕ) (told : Option FolderTree) (rose : Type 0) (old new : OutputState) where
-  pub ends_same : (r : Result PlanEnd OutputFault) → plans.EndsPlan folder weights carousel bitrate told rose r old new → new.name ≡ old.name
-  ends_same (Ok end) e = e.tells.puts.same
-  ends_same (Err outputs.Failed) e = e.tells.puts.same
-  ends_same (Err outputs.NoMemory) (inl same) = ap (λ (o : OutputState). o.name) same
-  ends_same (Err outputs.NoMemory) (inr e) = e.tells.puts.same
-
-  pub ends_in_time : (r : Result PlanEnd OutputFault) → plans.EndsPlan folder weights carousel bitrate told rose r old new → IsInTime old new
-  ends_in_time (Ok end) e = e.tells.puts.in_time
-  ends_in_time (Err outputs.Failed) e = e.tells.puts.in_time
-  ends_in_time (Err outputs.NoMemory) (inl same) = λ _. ap (λ (o : OutputState). o.late) same
-  ends_in_time (Err outputs.NoMemory) (inr e) = e.tells.puts.in_time
