@@ -111,7 +111,7 @@ pub(crate) fn run(
 }
 
 /// Whether a run ended as it should in which a call of this end failed: nothing was written, or what the writes of two bytes before it
-/// took, or the lines of what was stored before.
+/// took, or the lines of what was stored before, or which path can't be read.
 fn is_right(end: End, call: u64, good: &[u8], ended: &Ended) -> bool {
     let written = ended.sink.written();
     match end {
@@ -121,7 +121,9 @@ fn is_right(end: End, call: u64, good: &[u8], ended: &Ended) -> bool {
                 && written.len() as u64 == call.saturating_mul(2)
                 && good.starts_with(written)
         }
-        End::Folders => ended.code == 6 && written.is_empty(),
+        End::Folders => {
+            ended.code == 6 && (written.is_empty() || written.starts_with(b"unreadable /"))
+        }
         End::Store => ended.code == 6 && good.starts_with(written),
     }
 }
@@ -145,7 +147,7 @@ fn each_call_fails_in_turn(rt: HostRuntime) -> Result<(), Fail> {
     let alloc = rt.alloc();
     let published = run(alloc, "publish F 1 1", b"", (20, 2), None)?;
     let packets = published.sink.written();
-    let rows: [(&str, &[u8], [u64; 4]); 7] = [
+    let rows: [(&str, &[u8], [u64; 4]); 9] = [
         ("assemble 1 0 5 42", &HELLO, [3, 3, 0, 0]),
         ("publish F 1 1", b"", [0, 282, 2, 0]),
         ("record 256", packets, [30, 193, 0, 0]),
@@ -153,6 +155,8 @@ fn each_call_fails_in_turn(rt: HostRuntime) -> Result<(), Fail> {
         ("open 256 /a /a/b", packets, [30, 15, 0, 0]),
         ("rehearse", NEWS, [8, 78, 0, 0]),
         ("extract 256 out", packets, [30, 11, 0, 2]),
+        ("inspect 256", packets, [30, 358, 0, 0]),
+        ("plan F 1 1000", b"", [0, 65, 2, 0]),
     ];
     for (line, input, [reads, writes, calls, stores]) in rows {
         let good = run(alloc, line, input, (20, 2), None)?;
