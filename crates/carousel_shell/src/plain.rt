@@ -35,17 +35,20 @@ pub const MOST_OPENED: u32 = 16_777_216;
 
 /// Runs the command that the words name: they are the command line without the program's name. The input comes from the
 /// source, the output goes to the sink, the folders are those that `publish`, `publish-on`, `publish-psi` and `plan` read, and the store is
-/// the one that `extract` writes into, which every other command leaves as it is. `weigh` says how often each module is sent in every cycle. `filters` are the watchers that `watch` tells of changes, the first [`watch_desk::MOST_FILTERS`] of
-/// them.
+/// the one that `extract` writes into, which every other command leaves as it is. `weigh` says how often each module is sent in every cycle.
+/// `filters` are the watchers that `watch` tells of changes, the first [`watch_desk::MOST_FILTERS`] of them.
 ///
 /// - `Words` comes before all else: where the words name no command with its values, or one that needs threads, which are
 ///   `session` and `big`, or where the table of `mounts` breaks a rule: it has more than 16 names, or a name or a PID twice. Nothing was
 ///   read or written.
-/// - `assemble`, `open`, `list`, `find`, `open-id` and `mounts` read their whole input before they write. While they read come `ReadFault`,
+/// - `assemble`, `open`, `list`, `find`, `open-id`, `mounts` and `inspect` read their whole input before they write. While they read come `ReadFault`,
 ///   and `InputTooLong` where a byte is left after [`MOST_ASSEMBLED`](crate::MOST_ASSEMBLED) sections (`assemble`), [`MOST_OPENED`] sections
 ///   (`open sections`) or [`shell_streams::MOST_PACKETS`] packets; nothing was written then. After that `assemble` answers `Incomplete` where a block of the module is
 ///   missing, and writes nothing. While they write comes `WriteFault`, and a prefix of the output was written. At the end come
-///   `Done` and, at `open`, `list`, `find`, `open-id` and `mounts`, `NotAll`: the whole output was written.
+///   `Done`, at `open`, `list`, `find`, `open-id` and `mounts` `NotAll`, and at `inspect` `NotPackets`: the whole output was written.
+/// - `extract` reads as `list` does, and then writes files and folders, and a line of each. `FolderFault` comes where the store fails or
+///   something stands in the way, and all before that was written; `WriteFault` where the sink fails, when a part of both was; and `Done` and
+///   `NotAll` when all was that can be.
 /// - `record` writes as it reads. `ReadFault`, `InputTooLong` (after [`shell_streams::MOST_PACKETS`] packets) and `WriteFault` come as they are
 ///   met, when a prefix of the sections in the input so far was written, and `Done` when all of them were.
 /// - `watch` writes as it reads: the lines of a packet before more is read. `ReadFault` and `InputTooLong` (after [`shell_streams::MOST_PACKETS`]
@@ -54,6 +57,10 @@ pub const MOST_OPENED: u32 = 16_777_216;
 /// - `publish`, `publish-on` and `publish-psi` read no input. While one reads the folder come `FolderFault` and the `TreeRefused` of a name or of depth,
 ///   whichever is met first, and then the `TreeRefused` of the commit; nothing was written. While it writes comes
 ///   `WriteFault`, and a prefix of the packets was written; `Done` comes when all of them were.
+/// - `plan` reads no input. `Done`, `NotAll` and `FolderFault` come where its whole text was written: that of a folder that can be published, of
+///   one that is refused, and of one that can't be read; `WriteFault` when a prefix of it was.
+/// - `why` reads nothing. `Done` and `NotAll` come where its line was written, of words that don't fit and of words that do; `WriteFault` when a
+///   prefix of it was.
 /// - `rehearse` reads its whole input before it does anything else. While it reads come `ReadFault`, and `InputTooLong` where
 ///   a byte is left after [`MOST_SCRIPT_BYTES`](crate::MOST_SCRIPT_BYTES). Then comes `BadLine` where the input is no script; nothing was written up to there. While
 ///   the script's events happen comes `WriteFault`, and a prefix of the report of those that happened was written; `Done`

@@ -16,10 +16,11 @@ use std::alloc::{AllocError, Global};
 /// How a command ended.
 #[derive(Drop)]
 pub enum Status {
-    /// Nothing is left to do: all that the command writes was written, and its input was read to the end.
+    /// Nothing is left to do: all that the command writes was written, and its input was read to the end. `why`: some word doesn't fit.
     Done,
-    /// `open`, `open-id`, `list`, `mounts`: some answer is neither a file nor a folder, or `list` met its limit of [`MOST_LISTED`](path_listing::MOST_LISTED) lines. `find`: no
-    /// PID is found.
+    /// `open`, `open-id`, `list`, `mounts`, `extract`: some answer is neither a file nor a folder, or `list` met its limit of
+    /// [`MOST_LISTED`](path_listing::MOST_LISTED) lines, or `extract` the same limit or a name that it passes over. `find`: no PID is found. `plan`: the
+    /// folder can't be published. `why`: the words fit.
     NotAll,
     /// `inspect`: the input isn't one of packets, and this is where the sync byte stands in it.
     NotPackets(SyncPlace),
@@ -32,7 +33,8 @@ pub enum Status {
     ReadFault,
     /// The sink failed.
     WriteFault,
-    /// The folders failed, or the folder that `publish`, `publish-on` or `publish-psi` names is none.
+    /// The folders failed, or the folder that `publish`, `publish-on`, `publish-psi` or `plan` names is none. `extract`: the store failed, or
+    /// something is in the way of what it writes.
     FolderFault,
     /// `publish`, `publish-on`, `publish-psi`: the folder's files make no tree that can be sent.
     TreeRefused(TreeFault),

@@ -25,9 +25,9 @@ use watch_desk::Filter;
 /// and every other command by `run_plain`, which says what each of them answers. The first word alone decides between the two.
 ///
 /// The input comes from the source, the output goes to the sink, the folders are those that `publish`, `publish-on`, `publish-psi` and
-/// `plan` read, and the store is the one that `extract` writes into, which every other command leaves as it is. Each actor of a session passes the gate before each of its steps. Each module is sent as often a cycle as it weighs. The filters are
-/// the watchers that `watch` tells of changes. A write that fails is the last one that is tried, where none had failed before. These rules are
-/// this project's own.
+/// `plan` read, and the store is the one that `extract` writes into, which every other command leaves as it is. Each actor of a session
+/// passes the gate before each of its steps. Each module is sent as often a cycle as it weighs. The filters are the watchers that `watch` tells
+/// of changes. A write that fails is the last one that is tried, where none had failed before. These rules are this project's own.
 pub fn run<R: Threads + Wait + Sync, S: Source, K: Sink, F: Folders, T: Store, G: Gate>(
     rt: &R,
     alloc: Global,
