@@ -6,7 +6,7 @@ ghost use Rattle.watch_desk.specs.Wanting.{is_wanted};
 
 use carousel_shell::Status;
 use cycle_planner::{GREATEST_ID, Weigh};
-use folder_store::{Folders, OsFolders};
+use folder_store::{Folders, OsFolders, OsStore, Store};
 use oc_bytes::{NoMemory, Sink, Source, StdSink, StdSource};
 use path_tree::Path;
 use section_workers::NoGate;
@@ -26,6 +26,7 @@ fn main(rt: HostRuntime) -> ExitCode {
             let mut source = StdSource::new(rt.stdin());
             let mut sink = StdSink::new(rt.stdout());
             let mut folders = OsFolders::new(&rt);
+            let mut store = OsStore::new(&rt);
             run(
                 &rt,
                 rt.alloc(),
@@ -33,6 +34,7 @@ fn main(rt: HostRuntime) -> ExitCode {
                 &mut source,
                 &mut sink,
                 &mut folders,
+                &mut store,
             )
         }
         Err(status) => status,
@@ -44,13 +46,14 @@ fn main(rt: HostRuntime) -> ExitCode {
 }
 
 /// Runs the command that the words name. Module 1, in which the root lies, is sent twice a cycle, and every other module once.
-fn run<R: Threads + Wait + Sync, S: Source, K: Sink, F: Folders>(
+fn run<R: Threads + Wait + Sync, S: Source, K: Sink, F: Folders, T: Store>(
     rt: &R,
     alloc: Global,
     words: &[String],
     source: &mut S,
     sink: &mut K,
     folders: &mut F,
+    store: &mut T,
 ) -> Status {
     let mut weights = [1; GREATEST_ID];
     weights[0] = 2;
@@ -67,7 +70,9 @@ fn run<R: Threads + Wait + Sync, S: Source, K: Sink, F: Folders>(
     let Ok(prefixes) = prefixes(alloc) else {
         return Status::NoMemory;
     };
-    match run_watched(rt, alloc, words, &prefixes, source, sink, folders, weigh) {
+    match run_watched(
+        rt, alloc, words, &prefixes, source, sink, folders, store, weigh,
+    ) {
         Ok(status) => status,
         Err(_) => Status::NoMemory,
     }
@@ -83,7 +88,7 @@ fn prefixes(alloc: Global) -> Result<Vec<Path>, NoMemory> {
 }
 
 /// Runs it with a watcher for each of the prefixes.
-fn run_watched<R: Threads + Wait + Sync, S: Source, K: Sink, F: Folders>(
+fn run_watched<R: Threads + Wait + Sync, S: Source, K: Sink, F: Folders, T: Store>(
     rt: &R,
     alloc: Global,
     words: &[String],
@@ -91,6 +96,7 @@ fn run_watched<R: Threads + Wait + Sync, S: Source, K: Sink, F: Folders>(
     source: &mut S,
     sink: &mut K,
     folders: &mut F,
+    store: &mut T,
     weigh: Weigh,
 ) -> Result<Status, NoMemory> {
     let mut filters = Vec::new(alloc);
@@ -105,7 +111,7 @@ fn run_watched<R: Threads + Wait + Sync, S: Source, K: Sink, F: Folders>(
         filters.push(Filter::new(prefix.share()?, call))?;
     }
     Ok(session_shell::run(
-        rt, alloc, words, source, sink, folders, &NoGate, weigh, filters,
+        rt, alloc, words, source, sink, folders, store, &NoGate, weigh, filters,
     ))
 }
 

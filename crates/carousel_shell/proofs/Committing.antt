@@ -105,7 +105,7 @@ by_outcome false true x y k n r e = absurd (cc)
 by_outcome false false x y k n (Err fault) e = absurd (cc)
 by_outcome false false x y k n (Ok tree) e = (tree, refl, refl)
 
-tree_accepted : (carousel n : ℕ) (edits : List Edit) → first_outcome carousel edits ≡ Ok n → (tree : Tree) × (apply_all [] edits ≡ Ok tree) × (put_bytes edits ≤ 536870912)
+pub tree_accepted : (carousel n : ℕ) (edits : List Edit) → first_outcome carousel edits ≡ Ok n → (tree : Tree) × (apply_all [] edits ≡ Ok tree) × (put_bytes edits ≤ 536870912)
 tree_accepted carousel n edits e =
     let c = new_carousel carousel [] in
     let r = by_outcome ((current_of c).number == 16383) (nat_lt 536870912 (journal_of c + put_bytes edits)) (refusals.SeasonFull 16383) (refusals.JournalFull (cap_at_u64 (journal_of c + put_bytes edits)))

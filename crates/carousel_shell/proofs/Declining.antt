@@ -5,6 +5,7 @@ use Rattle.oc_bytes.specs.Outcome.{Known}
 use Rattle.path_tree.specs.Paths.{PathNames}
 use Rattle.folder_store.specs.Folders.{FolderTree}
 use Rattle.shell_words.specs.Words as commands
+use Rattle.shell_words.specs.Complaints.{complaint_line}
 use Rattle.shell_streams.specs.Cuts.{Bytes}
 use Rattle.shell_streams.specs.Held.{IsRear}
 use Rattle.shell_streams.specs.Carriers.{sections_by, all_packets}
@@ -27,6 +28,9 @@ use Rattle.carousel_shell.proofs.Answering.{answers_by}
 use Rattle.carousel_shell.proofs.Finding.{finds_by}
 use Rattle.carousel_shell.proofs.Opening.{opens_by}
 use Rattle.carousel_shell.proofs.Serving.{serves_no_memory}
+use Rattle.carousel_shell.proofs.Reporting.{inspects_nothing}
+use Rattle.carousel_shell.proofs.Unpacking.{extracts_nothing}
+use Rattle.carousel_shell.proofs.Planning.{plan_nothing}
 
 takes_nothing : (source : Over Bytes) → IsUntouched source → TakesPrefix source
 takes_nothing source e = let P : Option Bytes → Type 0 = λ a. Known source.before a IsRear in subst P (sym e) (told_same source.before (λ x. record { taken = []; whole = refl }))
@@ -38,10 +42,13 @@ answers_nothing carrier question source sink law e f =
 first_untouched : (pid : ℕ) (source : Over Bytes) → IsUntouched source → Known source.before source.after (AreFirst pid [])
 first_untouched pid source e = let P : Option Bytes → Type 0 = λ a. Known source.before a (AreFirst pid []) in subst P (sym e) (first_none pid source.before)
 
+prefix_untouched : (sink : Over Bytes) (text : Bytes) → IsUntouched sink → WritesPrefix sink text
+prefix_untouched sink text f =
+    let Q : Option Bytes → Type 0 = λ a. Known sink.before a (Appends text) in
+    subst Q (sym f) (told_same sink.before (λ x. record { part = []; after_is = sym (append-nil x); prefix = record { rest = text; whole_is = refl } }))
+
 nothing_written : (sink : Over Bytes) → IsUntouched sink → WritesPrefix sink []
-nothing_written sink f =
-    let Q : Option Bytes → Type 0 = λ a. Known sink.before a (Appends []) in
-    subst Q (sym f) (told_same sink.before (λ x. record { part = []; after_is = sym (append-nil x); prefix = record { rest = []; whole_is = refl } }))
+nothing_written sink f = prefix_untouched sink [] f
 
 records_nothing : (pid : ℕ) (source sink : Over Bytes) → IsUntouched source → IsUntouched sink → Records pid status.NoMemory source sink
 records_nothing pid source sink e f = record { ends = record { sections = []; first = first_untouched pid source e; writes = nothing_written sink f }; takes = takes_nothing source e }
@@ -51,46 +58,50 @@ watches_nothing pid prefixes paths source sink e f =
     record { ends = record { sections = []; first = first_untouched pid source e; writes = nothing_written sink f }; takes = takes_nothing source e }
 
 -- there was no memory before a command began
-memory_promises : (weights : List ℕ) (prefixes : List PathNames) (c : commands.Named) (source sink : Over Bytes) (folders : Over FolderTree) → Receptions → AreWeights weights → IsUntouched source → IsUntouched sink → Promises weights prefixes c status.NoMemory source sink folders
-memory_promises weights prefixes (commands.Assemble id version size download) source sink folders law are e f = record { ends = inl f; takes = takes_nothing source e }
-memory_promises weights prefixes (commands.OpenSections paths) source sink folders law are e f = answers_nothing (carriers.Sections 16777216) (asks_paths paths) source sink law e f
-memory_promises weights prefixes (commands.Open pid paths) source sink folders law are e f = answers_nothing (carriers.Packets pid) (asks_paths paths) source sink law e f
-memory_promises weights prefixes (commands.Record pid) source sink folders law are e f = records_nothing pid source sink e f
-memory_promises weights prefixes (commands.ListAll pid) source sink folders law are e f = answers_nothing (carriers.Packets pid) asks_all source sink law e f
-memory_promises weights prefixes (commands.Publish folder carousel cycles) source sink folders law are e f =
+memory_promises : (weights : List ℕ) (prefixes : List PathNames) (c : commands.Named) (source sink : Over Bytes) (folders store : Over FolderTree) → Receptions → AreWeights weights → IsUntouched source → IsUntouched sink → IsUntouched store → Promises weights prefixes c status.NoMemory source sink folders store
+memory_promises weights prefixes (commands.Assemble id version size download) source sink folders store law are e f k = record { ends = inl f; takes = takes_nothing source e }
+memory_promises weights prefixes (commands.OpenSections paths) source sink folders store law are e f k = answers_nothing (carriers.Sections 16777216) (asks_paths paths) source sink law e f
+memory_promises weights prefixes (commands.Open pid paths) source sink folders store law are e f k = answers_nothing (carriers.Packets pid) (asks_paths paths) source sink law e f
+memory_promises weights prefixes (commands.Record pid) source sink folders store law are e f k = records_nothing pid source sink e f
+memory_promises weights prefixes (commands.ListAll pid) source sink folders store law are e f k = answers_nothing (carriers.Packets pid) asks_all source sink law e f
+memory_promises weights prefixes (commands.Publish folder carousel cycles) source sink folders store law are e f k =
     record { unread = e; keeps = record { ends = inl f; needs = λ t h n. inr refl; heard = law.sent 256 carousel weights cycles are } }
-memory_promises weights prefixes commands.Rehearse source sink folders law are e f = record { ends = inl f; takes = takes_nothing source e }
-memory_promises weights prefixes commands.Session source sink folders law are e f = record { ends = inr refl; unread = e; unwritten = f }
-memory_promises weights prefixes (commands.Big n) source sink folders law are e f = record { ends = inr refl; unread = e; unwritten = f }
-memory_promises weights prefixes (commands.Find carousel) source sink folders law are e f =
+memory_promises weights prefixes commands.Rehearse source sink folders store law are e f k = record { ends = inl f; takes = takes_nothing source e }
+memory_promises weights prefixes commands.Session source sink folders store law are e f k = record { ends = inr refl; unread = e; unwritten = f }
+memory_promises weights prefixes (commands.Big n) source sink folders store law are e f k = record { ends = inr refl; unread = e; unwritten = f }
+memory_promises weights prefixes (commands.Find carousel) source sink folders store law are e f k =
     finds_by carousel status.NoMemory source sink law (replies_nothing all_packets (place_of carousel) source sink (takes_nothing source e) f)
-memory_promises weights prefixes (commands.OpenId carousel paths) source sink folders law are e f =
+memory_promises weights prefixes (commands.OpenId carousel paths) source sink folders store law are e f k =
     opens_by carousel paths status.NoMemory source sink law (replies_nothing (sections_by_id carousel) (answers_to (asks_paths paths)) source sink (takes_nothing source e) f)
-memory_promises weights prefixes (commands.PublishPsi folder carousel cycles) source sink folders law are e f =
+memory_promises weights prefixes (commands.PublishPsi folder carousel cycles) source sink folders store law are e f k =
     record { unread = e; keeps = record { ends = inl f; needs = λ t h n. inr refl; heard = law.cycles carousel weights cycles are } }
-memory_promises weights prefixes (commands.PublishOn pid folder carousel cycles) source sink folders law are e f =
+memory_promises weights prefixes (commands.PublishOn pid folder carousel cycles) source sink folders store law are e f k =
     record { unread = e; keeps = record { ends = inl f; needs = λ t h n. inr refl; heard = law.sent pid carousel weights cycles are } }
-memory_promises weights prefixes (commands.Mounts entries paths) source sink folders law are e f = serves_no_memory entries paths source sink law e f
-memory_promises weights prefixes (commands.Watch pid paths) source sink folders law are e f = watches_nothing pid prefixes paths source sink e f
+memory_promises weights prefixes (commands.Mounts entries paths) source sink folders store law are e f k = serves_no_memory entries paths source sink law e f
+memory_promises weights prefixes (commands.Watch pid paths) source sink folders store law are e f k = watches_nothing pid prefixes paths source sink e f
+memory_promises weights prefixes (commands.Plan folder carousel bitrate) source sink folders store law are e f k = record { unread = e; keeps = plan_nothing folder carousel weights bitrate sink folders f }
+memory_promises weights prefixes (commands.Inspect pid) source sink folders store law are e f k = inspects_nothing pid source sink (takes_nothing source e) f
+memory_promises weights prefixes (commands.Extract pid folder) source sink folders store law are e f k = extracts_nothing pid folder source sink store (takes_nothing source e) (f, k)
+memory_promises weights prefixes (commands.Why complaint) source sink folders store law are e f k = record { unread = e; keeps = record { ends = prefix_untouched sink (complaint_line complaint) f } }
 
-pub memory_keeps : (weights : List ℕ) (prefixes : List PathNames) (r : Result commands.Named commands.Misfit) (source sink : Over Bytes) (folders : Over FolderTree) → Receptions → AreWeights weights → IsUntouched source → IsUntouched sink
-    → Keeps weights prefixes r status.NoMemory source sink folders
-memory_keeps weights prefixes (Ok c) source sink folders law are e f = memory_promises weights prefixes c source sink folders law are e f
-memory_keeps weights prefixes (Err misfit) source sink folders law are e f = record { ends = inr refl; unread = e; unwritten = f }
+pub memory_keeps : (weights : List ℕ) (prefixes : List PathNames) (r : Result commands.Named commands.Misfit) (source sink : Over Bytes) (folders store : Over FolderTree) → Receptions → AreWeights weights → IsUntouched source → IsUntouched sink → IsUntouched store
+    → Keeps weights prefixes r status.NoMemory source sink folders store
+memory_keeps weights prefixes (Ok c) source sink folders store law are e f k = memory_promises weights prefixes c source sink folders store law are e f k
+memory_keeps weights prefixes (Err misfit) source sink folders store law are e f k = record { ends = inr refl; unread = e; unwritten = f }
 
 -- the words don't fit
-pub words_keep : (weights : List ℕ) (prefixes : List PathNames) (r : Result commands.Named commands.Misfit) (source sink : Over Bytes) (folders : Over FolderTree) → r ≡ Err commands.Words → IsUntouched source → IsUntouched sink
-    → Keeps weights prefixes r status.Words source sink folders
-words_keep weights prefixes r source sink folders is e f =
-    let P : Result commands.Named commands.Misfit → Type 0 = λ x. Keeps weights prefixes x status.Words source sink folders in
+pub words_keep : (weights : List ℕ) (prefixes : List PathNames) (r : Result commands.Named commands.Misfit) (source sink : Over Bytes) (folders store : Over FolderTree) → r ≡ Err commands.Words → IsUntouched source → IsUntouched sink
+    → Keeps weights prefixes r status.Words source sink folders store
+words_keep weights prefixes r source sink folders store is e f =
+    let P : Result commands.Named commands.Misfit → Type 0 = λ x. Keeps weights prefixes x status.Words source sink folders store in
     subst P (sym is) (record { ends = inl refl; unread = e; unwritten = f })
 
 -- the sink that the output lends is the one that was handed in
-pub promises_over : {X : Type 0} (weights : List ℕ) (prefixes : List PathNames) (c : commands.Named) (s : Status) (source : Over Bytes) (folders : Over FolderTree) (content : X → Option Bytes) (faults : X → ℕ) (begin end first last : X)
-    → begin ≡ first → end ≡ last → Promises weights prefixes c s source (over content faults begin end) folders → Promises weights prefixes c s source (over content faults first last) folders
-promises_over {X} weights prefixes c s source folders content faults begin end first last a b p =
-    let P : X → Type 0 = λ x. Promises weights prefixes c s source (over content faults x end) folders in
-    let Q : X → Type 0 = λ x. Promises weights prefixes c s source (over content faults first x) folders in
+pub promises_over : {X : Type 0} (weights : List ℕ) (prefixes : List PathNames) (c : commands.Named) (s : Status) (source : Over Bytes) (folders store : Over FolderTree) (content : X → Option Bytes) (faults : X → ℕ) (begin end first last : X)
+    → begin ≡ first → end ≡ last → Promises weights prefixes c s source (over content faults begin end) folders store → Promises weights prefixes c s source (over content faults first last) folders store
+promises_over {X} weights prefixes c s source folders store content faults begin end first last a b p =
+    let P : X → Type 0 = λ x. Promises weights prefixes c s source (over content faults x end) folders store in
+    let Q : X → Type 0 = λ x. Promises weights prefixes c s source (over content faults first x) folders store in
     subst Q b (subst P a p)
 
 -- nor is a write tried there after one that failed

@@ -4,7 +4,6 @@ mod Offering
 mod Parts
 mod Entries
 mod Firsts
-mod Walking
 mod Receiving
 mod Interleaving
 mod Overhearing
@@ -23,5 +22,9 @@ mod Showing
 mod Watching
 mod Committing
 mod Rehearsing
+mod Explaining
+mod Reporting
+mod Unpacking
+mod Planning
 mod Cycling
 mod Declining

@@ -16,6 +16,10 @@ pub mod Seeking
 pub mod Mounts
 pub mod Watch
 pub mod Watching
+pub mod Why
+pub mod Inspect
+pub mod Extract
+pub mod Plan
 pub mod Assemble
 pub mod Record
 pub mod Publish

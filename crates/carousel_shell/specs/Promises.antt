@@ -1,5 +1,5 @@
 -- What each command promises. A page of its own says it of each.
-use Rattle.std.specs.Prelude.{ℕ, List, Result, Ok, Err}
+use Rattle.std.specs.Prelude.{ℕ, Bool, true, false, List, Result, Ok, Err}
 use Rattle.path_tree.specs.Paths.{PathNames}
 use Rattle.folder_store.specs.Folders.{FolderTree}
 use Rattle.shell_words.specs.Words as commands
@@ -15,6 +15,10 @@ use Rattle.carousel_shell.specs.Find.{Finds}
 use Rattle.carousel_shell.specs.OpenId.{OpensId}
 use Rattle.carousel_shell.specs.Mounts.{ServesMounts}
 use Rattle.carousel_shell.specs.Watch.{Watches}
+use Rattle.carousel_shell.specs.Why.{SaysWhy}
+use Rattle.carousel_shell.specs.Inspect.{Inspects}
+use Rattle.carousel_shell.specs.Extract.{Extracts}
+use Rattle.carousel_shell.specs.Plan.{TellsPlan}
 use Rattle.carousel_shell.specs.PublishPsi.{PublishesPsi}
 use Rattle.carousel_shell.specs.Rehearse.{Rehearses}
 use Rattle.carousel_shell.specs.Refusing.{Declines}
@@ -26,25 +30,34 @@ pub record WithoutInput (source : Over Bytes) (Promised : Type 0) : Type 0 where
   pub unread : IsUntouched source
   pub keeps : Promised
 
-abbrev pub Promises : List ℕ → List PathNames → commands.Named → Status → Over Bytes → Over Bytes → Over FolderTree → Type 0
-Promises weights prefixes (commands.Assemble id version size download) s source sink folders = Assembles (asked_module id version size download) s source sink
-Promises weights prefixes (commands.OpenSections paths) s source sink folders = Answers (carriers.Sections MOST_OPENED) (asks_paths paths) s source sink
-Promises weights prefixes (commands.Open pid paths) s source sink folders = Answers (carriers.Packets pid) (asks_paths paths) s source sink
-Promises weights prefixes (commands.Record pid) s source sink folders = Records pid s source sink
-Promises weights prefixes (commands.ListAll pid) s source sink folders = Answers (carriers.Packets pid) asks_all s source sink
-Promises weights prefixes (commands.Publish folder carousel cycles) s source sink folders = WithoutInput source (Publishes 256 folder carousel weights cycles s sink folders)
-Promises weights prefixes commands.Rehearse s source sink folders = Rehearses weights s source sink
-Promises weights prefixes commands.Session s source sink folders = Declines s source sink
-Promises weights prefixes (commands.Big n) s source sink folders = Declines s source sink
-Promises weights prefixes (commands.Find carousel) s source sink folders = Finds carousel s source sink
-Promises weights prefixes (commands.OpenId carousel paths) s source sink folders = OpensId carousel paths s source sink
-Promises weights prefixes (commands.PublishPsi folder carousel cycles) s source sink folders = WithoutInput source (PublishesPsi folder carousel weights cycles s sink folders)
-Promises weights prefixes (commands.PublishOn pid folder carousel cycles) s source sink folders = WithoutInput source (Publishes pid folder carousel weights cycles s sink folders)
-Promises weights prefixes (commands.Mounts entries paths) s source sink folders = ServesMounts entries paths s source sink
-Promises weights prefixes (commands.Watch pid paths) s source sink folders = Watches pid prefixes paths s source sink
+abbrev pub Promises : List ℕ → List PathNames → commands.Named → Status → Over Bytes → Over Bytes → Over FolderTree → Over FolderTree → Type 0
+Promises weights prefixes (commands.Assemble id version size download) s source sink folders store = Assembles (asked_module id version size download) s source sink
+Promises weights prefixes (commands.OpenSections paths) s source sink folders store = Answers (carriers.Sections MOST_OPENED) (asks_paths paths) s source sink
+Promises weights prefixes (commands.Open pid paths) s source sink folders store = Answers (carriers.Packets pid) (asks_paths paths) s source sink
+Promises weights prefixes (commands.Record pid) s source sink folders store = Records pid s source sink
+Promises weights prefixes (commands.ListAll pid) s source sink folders store = Answers (carriers.Packets pid) asks_all s source sink
+Promises weights prefixes (commands.Publish folder carousel cycles) s source sink folders store = WithoutInput source (Publishes 256 folder carousel weights cycles s sink folders)
+Promises weights prefixes commands.Rehearse s source sink folders store = Rehearses weights s source sink
+Promises weights prefixes commands.Session s source sink folders store = Declines s source sink
+Promises weights prefixes (commands.Big n) s source sink folders store = Declines s source sink
+Promises weights prefixes (commands.Find carousel) s source sink folders store = Finds carousel s source sink
+Promises weights prefixes (commands.OpenId carousel paths) s source sink folders store = OpensId carousel paths s source sink
+Promises weights prefixes (commands.PublishPsi folder carousel cycles) s source sink folders store = WithoutInput source (PublishesPsi folder carousel weights cycles s sink folders)
+Promises weights prefixes (commands.PublishOn pid folder carousel cycles) s source sink folders store = WithoutInput source (Publishes pid folder carousel weights cycles s sink folders)
+Promises weights prefixes (commands.Mounts entries paths) s source sink folders store = ServesMounts entries paths s source sink
+Promises weights prefixes (commands.Watch pid paths) s source sink folders store = Watches pid prefixes paths s source sink
+Promises weights prefixes (commands.Plan folder carousel bitrate) s source sink folders store = WithoutInput source (TellsPlan folder carousel weights bitrate s sink folders)
+Promises weights prefixes (commands.Inspect pid) s source sink folders store = Inspects pid s source sink
+Promises weights prefixes (commands.Extract pid folder) s source sink folders store = Extracts pid folder s source sink store
+Promises weights prefixes (commands.Why complaint) s source sink folders store = WithoutInput source (SaysWhy complaint s sink)
+
+-- whether the words name a command that writes into the store: every other one leaves it as it was
+abbrev pub writes_store : Result commands.Named commands.Misfit → Bool
+writes_store (Ok (commands.Extract pid folder)) = true
+writes_store _ = false
 
 -- what is promised of words, under these weights and with watchers of these prefixes; words that don't fit, and those of a command that
 -- needs threads, are refused
-abbrev pub Keeps : List ℕ → List PathNames → Result commands.Named commands.Misfit → Status → Over Bytes → Over Bytes → Over FolderTree → Type 0
-Keeps weights prefixes (Ok command) s source sink folders = Promises weights prefixes command s source sink folders
-Keeps weights prefixes (Err misfit) s source sink folders = Declines s source sink
+abbrev pub Keeps : List ℕ → List PathNames → Result commands.Named commands.Misfit → Status → Over Bytes → Over Bytes → Over FolderTree → Over FolderTree → Type 0
+Keeps weights prefixes (Ok command) s source sink folders store = Promises weights prefixes command s source sink folders store
+Keeps weights prefixes (Err misfit) s source sink folders store = Declines s source sink

@@ -9,6 +9,7 @@ use Rattle.generation_catalogue.specs.declared.entry.CommitFault.{CommitFault}
 use Rattle.generation_catalogue.specs.declared.entry.CommitFault.TheVariants as commits
 use Rattle.mount_table.specs.declared.fault.TableFault.{TableFault}
 use Rattle.mount_table.specs.declared.fault.TableFault.TheVariants as tables
+use Rattle.reception_report.specs.Sync.{sync_line}
 use Rattle.session_script.specs.Texts.{cause_text}
 use Rattle.session_script.specs.declared.script.LineCause.{LineCause}
 use Rattle.session_script.specs.declared.script.ScriptFault.{ScriptFault}
@@ -25,6 +26,7 @@ use Rattle.carousel_shell.specs.declared.status.Status.TheVariants as status
 abbrev pub code_of : Status → ℕ
 code_of status.Done = 0
 code_of status.NotAll = 1
+code_of (status.NotPackets place) = 1
 code_of status.Words = 2
 code_of (status.BadLine number cause) = 3
 code_of status.ReadFault = 4
@@ -50,6 +52,7 @@ fault_line text = Some (codes "carousel: " ++ text)
 abbrev pub line_of : Status → Option Bytes
 line_of status.Done = None
 line_of status.NotAll = None
+line_of (status.NotPackets place) = fault_line (sync_line place)
 line_of status.Words = fault_line (codes "bad words")
 line_of (status.BadLine number cause) = fault_line (script_text number cause)
 line_of status.ReadFault = fault_line (codes "read fault")

@@ -66,7 +66,7 @@ pub fn write_answers<A: Answerer, O: Output>(
     Ok(all)
 }
 
-fn both(one: bool, other: bool) -> bool
+pub(crate) fn both(one: bool, other: bool) -> bool
     ensures { result ≡ (one && other) }
 {
     one && other

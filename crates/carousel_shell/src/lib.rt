@@ -6,7 +6,7 @@
 //!
 //! use carousel_shell::run_plain;
 //! use cycle_planner::{GREATEST_ID, Weigh};
-//! use folder_store::MemFolders;
+//! use folder_store::{MemFolders, MemStore};
 //! use oc_bytes::{MemSink, MemSource};
 //!
 //! let weigh = Weigh::new([1; GREATEST_ID], Box::new(alloc, |_: u16| -> u8 ensures { result ≡ 1 } { 1 })?);
@@ -14,8 +14,9 @@
 //! let mut source = MemSource::new(b"commit 1\ndraw 3\nopen 2 /a\n".to_vec(alloc)?, Vec::new(alloc), 100);
 //! let mut sink = MemSink::new(alloc, Vec::new(alloc), 100);
 //! let mut folders = MemFolders::new(Vec::new(alloc), Vec::new(alloc));
+//! let mut store = MemStore::new(alloc, Vec::new(alloc));
 //! let filters = Vec::new(alloc);
-//! let status = run_plain(alloc, &words, &mut source, &mut sink, &mut folders, weigh, filters);
+//! let status = run_plain(alloc, &words, &mut source, &mut sink, &mut folders, &mut store, weigh, filters);
 //! assert_eq!(rt; status.code(), 0);
 //! assert_eq!(rt; sink.written(), b"commit 1 generation 1\ndraw 1 0 3\nopen 2 1 /a no-such\n".as_slice());
 //! ```
@@ -23,13 +24,16 @@
 
 mod answers;
 mod assemble;
+mod extract;
 mod find;
+mod inspect;
 mod law;
 mod listing;
 mod mounts;
 mod open;
 mod open_id;
 mod plain;
+mod plan;
 mod publish;
 mod publish_psi;
 mod receiver;
@@ -37,9 +41,9 @@ mod record;
 mod rehearse;
 mod status;
 mod watch;
+mod why;
 
 pub use assemble::MOST_ASSEMBLED;
-pub use listing::MOST_LINES;
 pub use plain::{MOST_OPENED, run_plain};
 pub use rehearse::MOST_SCRIPT_BYTES;
 pub use status::Status;

@@ -1,25 +1,29 @@
-ghost use Rattle.std.specs.Prelude.{◌≡◌, false, [], map};
+ghost use Rattle.std.specs.Prelude.{◌≡◌, false, [], map, Ok};
 ghost use Rattle.std.specs.String.{string_bytes};
 ghost use Rattle.shell_words.specs.Words as commands;
 ghost use Rattle.watch_desk.specs.Prefixes.{prefixes_of};
 ghost use Rattle.shell_streams.specs.Sending.{IsInTime};
 ghost use Rattle.carousel_shell.specs.Over.{over, sink_over};
-ghost use Rattle.carousel_shell.specs.Promises.{Promises, Keeps};
+ghost use Rattle.carousel_shell.specs.Promises.{Promises, Keeps, writes_store};
 
 use crate::assemble::{Wanted, assemble};
+use crate::extract::extract;
 use crate::find::find;
+use crate::inspect::inspect;
 use crate::law::receptions;
 use crate::mounts::mounts;
 use crate::open::{list, open};
 use crate::open_id::open_id;
+use crate::plan::plan;
 use crate::publish::{PID, publish};
 use crate::publish_psi::publish_psi;
 use crate::record::record;
 use crate::rehearse::rehearse;
 use crate::status::Status;
 use crate::watch::watch;
+use crate::why::why;
 use cycle_planner::Weigh;
-use folder_store::Folders;
+use folder_store::{Folders, Store};
 use oc_bytes::{Sink, Source};
 use shell_streams::{Buffered, Carrier, Output, room};
 use shell_words::{Command, WordsFault, command};
@@ -30,18 +34,21 @@ use watch_desk::Filter;
 pub const MOST_OPENED: u32 = 16_777_216;
 
 /// Runs the command that the words name: they are the command line without the program's name. The input comes from the
-/// source, the output goes to the sink, and the folders are those that `publish`, `publish-on` and `publish-psi` read. `weigh` says how
-/// often each module is sent in every cycle. `filters` are the watchers that `watch` tells of changes, the first [`watch_desk::MOST_FILTERS`] of
-/// them.
+/// source, the output goes to the sink, the folders are those that `publish`, `publish-on`, `publish-psi` and `plan` read, and the store is
+/// the one that `extract` writes into, which every other command leaves as it is. `weigh` says how often each module is sent in every cycle.
+/// `filters` are the watchers that `watch` tells of changes, the first [`watch_desk::MOST_FILTERS`] of them.
 ///
 /// - `Words` comes before all else: where the words name no command with its values, or one that needs threads, which are
 ///   `session` and `big`, or where the table of `mounts` breaks a rule: it has more than 16 names, or a name or a PID twice. Nothing was
 ///   read or written.
-/// - `assemble`, `open`, `list`, `find`, `open-id` and `mounts` read their whole input before they write. While they read come `ReadFault`,
+/// - `assemble`, `open`, `list`, `find`, `open-id`, `mounts` and `inspect` read their whole input before they write. While they read come `ReadFault`,
 ///   and `InputTooLong` where a byte is left after [`MOST_ASSEMBLED`](crate::MOST_ASSEMBLED) sections (`assemble`), [`MOST_OPENED`] sections
 ///   (`open sections`) or [`shell_streams::MOST_PACKETS`] packets; nothing was written then. After that `assemble` answers `Incomplete` where a block of the module is
 ///   missing, and writes nothing. While they write comes `WriteFault`, and a prefix of the output was written. At the end come
-///   `Done` and, at `open`, `list`, `find`, `open-id` and `mounts`, `NotAll`: the whole output was written.
+///   `Done`, at `open`, `list`, `find`, `open-id` and `mounts` `NotAll`, and at `inspect` `NotPackets`: the whole output was written.
+/// - `extract` reads as `list` does, and then writes files and folders, and a line of each. `FolderFault` comes where the store fails or
+///   something stands in the way, and all before that was written; `WriteFault` where the sink fails, when a part of both was; and `Done` and
+///   `NotAll` when all was that can be.
 /// - `record` writes as it reads. `ReadFault`, `InputTooLong` (after [`shell_streams::MOST_PACKETS`] packets) and `WriteFault` come as they are
 ///   met, when a prefix of the sections in the input so far was written, and `Done` when all of them were.
 /// - `watch` writes as it reads: the lines of a packet before more is read. `ReadFault` and `InputTooLong` (after [`shell_streams::MOST_PACKETS`]
@@ -50,6 +57,10 @@ pub const MOST_OPENED: u32 = 16_777_216;
 /// - `publish`, `publish-on` and `publish-psi` read no input. While one reads the folder come `FolderFault` and the `TreeRefused` of a name or of depth,
 ///   whichever is met first, and then the `TreeRefused` of the commit; nothing was written. While it writes comes
 ///   `WriteFault`, and a prefix of the packets was written; `Done` comes when all of them were.
+/// - `plan` reads no input. `Done`, `NotAll` and `FolderFault` come where its whole text was written: that of a folder that can be published, of
+///   one that is refused, and of one that can't be read; `WriteFault` when a prefix of it was.
+/// - `why` reads nothing. `Done` and `NotAll` come where its line was written, of words that don't fit and of words that do; `WriteFault` when a
+///   prefix of it was.
 /// - `rehearse` reads its whole input before it does anything else. While it reads come `ReadFault`, and `InputTooLong` where
 ///   a byte is left after [`MOST_SCRIPT_BYTES`](crate::MOST_SCRIPT_BYTES). Then comes `BadLine` where the input is no script; nothing was written up to there. While
 ///   the script's events happen comes `WriteFault`, and a prefix of the report of those that happened was written; `Done`
@@ -58,17 +69,19 @@ pub const MOST_OPENED: u32 = 16_777_216;
 ///
 /// What was written stands after what the sink had. A write that fails is the last one that is tried, where none had failed
 /// before. These rules are this project's own.
-pub fn run_plain<S: Source, K: Sink, F: Folders>(
+pub fn run_plain<S: Source, K: Sink, F: Folders, T: Store>(
     alloc: Global,
     words: &[String],
     source: &mut S,
     sink: &mut K,
     folders: &mut F,
+    store: &mut T,
     weigh: Weigh,
     filters: Vec<Filter>,
 ) -> Status
     ensures keeps { Keeps weigh.weights (prefixes_of filters.items) (commands.command_of (map string_bytes words.now)) result (over S.left S.faults source.old source.new)
-        (over K.written K.faults sink.old sink.new) (over F.tree F.faults folders.old folders.new) }
+        (over K.written K.faults sink.old sink.new) (over F.tree F.faults folders.old folders.new) (over T.tree T.faults store.old store.new) }
+    ensures stored { writes_store (commands.command_of (map string_bytes words.now)) ≡ false → store.new ≡ store.old }
     ensures in_time { K.failed sink.old ≡ false → K.late sink.new ≡ K.late sink.old }
 {
     receptions();
@@ -81,24 +94,28 @@ pub fn run_plain<S: Source, K: Sink, F: Folders>(
         return Status::NoMemory;
     };
     let mut out = Buffered::new(sink, &mut room);
-    run_command(alloc, command, source, &mut out, folders, weigh, filters)
+    run_command(
+        alloc, command, source, &mut out, folders, store, weigh, filters,
+    )
 }
 
 /// Runs a command; one that needs threads is none here.
-fn run_command<S: Source, O: Output, F: Folders>(
+fn run_command<S: Source, O: Output, F: Folders, T: Store>(
     alloc: Global,
     command: Command,
     source: &mut S,
     out: &mut O,
     folders: &mut F,
+    store: &mut T,
     weigh: Weigh,
     filters: Vec<Filter>,
 ) -> Status
     requires sized { commands.IsSized command }
     requires pending { (O.state out.old).pending ≡ [] }
     ensures promises { Promises weigh.weights (prefixes_of filters.items) (commands.view command) result (over S.left S.faults source.old source.new) (sink_over (O.state out.old) (O.state out.new))
-        (over F.tree F.faults folders.old folders.new) }
+        (over F.tree F.faults folders.old folders.new) (over T.tree T.faults store.old store.new) }
     ensures same { (O.state out.new).name ≡ (O.state out.old).name }
+    ensures stored { writes_store (Ok (commands.view command)) ≡ false → store.new ≡ store.old }
     ensures in_time { IsInTime (O.state out.old) (O.state out.new) }
 {
     match command {
@@ -162,6 +179,22 @@ fn run_command<S: Source, O: Output, F: Folders>(
         }
         Command::Mounts(entries, paths) => mounts(alloc, entries, &paths, source, out),
         Command::Watch(pid, paths) => watch(alloc, pid, &paths, filters, source, out),
+        Command::Plan(folder, carousel, bitrate) => {
+            plan(
+                alloc,
+                folder.as_str(),
+                carousel,
+                bitrate,
+                &weigh,
+                out,
+                folders,
+            )
+        }
+        Command::Inspect(pid) => inspect(alloc, pid, source, out),
+        Command::Extract(pid, folder) => {
+            extract(alloc, pid, folder.as_str(), source, out, store)
+        }
+        Command::Why(complaint) => why(alloc, complaint, out),
         Command::Session | Command::Big(_) => Status::Words,
     }
 }

@@ -7,6 +7,7 @@ use folder_store::{ReadTree, TreeFault};
 use generation_catalogue::CommitFault;
 use mount_table::TableFault;
 use oc_bytes::NoMemory;
+use reception_report::{SyncPlace, sync_text};
 use session_script::{LineCause, ScriptFault};
 use shell_streams::{InputFault, OutputFault};
 use shell_words::refusal_text;
@@ -15,11 +16,14 @@ use std::alloc::{AllocError, Global};
 /// How a command ended.
 #[derive(Drop)]
 pub enum Status {
-    /// Nothing is left to do: all that the command writes was written, and its input was read to the end.
+    /// Nothing is left to do: all that the command writes was written, and its input was read to the end. `why`: some word doesn't fit.
     Done,
-    /// `open`, `open-id`, `list`, `mounts`: some answer is neither a file nor a folder, or `list` met its limit of [`MOST_LINES`](crate::MOST_LINES) lines. `find`: no
-    /// PID is found.
+    /// `open`, `open-id`, `list`, `mounts`, `extract`: some answer is neither a file nor a folder, or `list` met its limit of
+    /// [`MOST_LISTED`](path_listing::MOST_LISTED) lines, or `extract` the same limit or a name that it passes over. `find`: no PID is found. `plan`: the
+    /// folder can't be published. `why`: the words fit.
     NotAll,
+    /// `inspect`: the input isn't one of packets, and this is where the sync byte stands in it.
+    NotPackets(SyncPlace),
     /// The words don't name a command with its values, or the table of `mounts` is refused.
     Words,
     /// `rehearse`: the number of the script's first line that doesn't fit, counted from 1 and at most the greatest `u32`, and
@@ -29,7 +33,8 @@ pub enum Status {
     ReadFault,
     /// The sink failed.
     WriteFault,
-    /// The folders failed, or the folder that `publish`, `publish-on` or `publish-psi` names is none.
+    /// The folders failed, or the folder that `publish`, `publish-on`, `publish-psi` or `plan` names is none. `extract`: the store failed, or
+    /// something is in the way of what it writes.
     FolderFault,
     /// `publish`, `publish-on`, `publish-psi`: the folder's files make no tree that can be sent.
     TreeRefused(TreeFault),
@@ -48,7 +53,7 @@ impl Status {
     {
         match self {
             Status::Done => 0,
-            Status::NotAll => 1,
+            Status::NotAll | Status::NotPackets(_) => 1,
             Status::Words => 2,
             Status::BadLine(..) => 3,
             Status::ReadFault => 4,
@@ -67,6 +72,11 @@ impl Status {
     {
         let text = match self {
             Status::Done | Status::NotAll => return Ok(None),
+            Status::NotPackets(place) => {
+                let text = sync_text(alloc, *place)?;
+                let text = text.as_str();
+                format!(in alloc; "carousel: {text}")?
+            }
             Status::Words => String::from_str(alloc, "carousel: bad words")?,
             Status::BadLine(number, cause) => {
                 let text = script_text(alloc, *number, *cause)?;

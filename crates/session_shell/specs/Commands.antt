@@ -43,10 +43,10 @@ KeepsSession weights (Err misfit) s source sink = Declines s source sink
 
 -- ---- what is promised of all words
 
-abbrev pub PlaysOrKeeps : List ℕ → List PathNames → Bool → Result commands.Named commands.Misfit → Status → Over Bytes → Over Bytes → Over FolderTree → Type 0
-PlaysOrKeeps weights prefixes true words s source sink folders = KeepsSession weights words s source sink
-PlaysOrKeeps weights prefixes false words s source sink folders = Keeps weights prefixes words s source sink folders
+abbrev pub PlaysOrKeeps : List ℕ → List PathNames → Bool → Result commands.Named commands.Misfit → Status → Over Bytes → Over Bytes → Over FolderTree → Over FolderTree → Type 0
+PlaysOrKeeps weights prefixes true words s source sink folders store = KeepsSession weights words s source sink
+PlaysOrKeeps weights prefixes false words s source sink folders store = Keeps weights prefixes words s source sink folders store
 
 -- the words name a session, or what they name runs without threads
-abbrev pub KeepsAll : List ℕ → List PathNames → Result commands.Named commands.Misfit → Status → Over Bytes → Over Bytes → Over FolderTree → Type 0
-KeepsAll weights prefixes words s source sink folders = PlaysOrKeeps weights prefixes (names_session words) words s source sink folders
+abbrev pub KeepsAll : List ℕ → List PathNames → Result commands.Named commands.Misfit → Status → Over Bytes → Over Bytes → Over FolderTree → Over FolderTree → Type 0
+KeepsAll weights prefixes words s source sink folders store = PlaysOrKeeps weights prefixes (names_session words) words s source sink folders store

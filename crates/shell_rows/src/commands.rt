@@ -7,6 +7,7 @@ use crate::watchers::prefixes_of;
 use crate::weights::{run_first_twice, run_once};
 use crate::words::{size_of, words_of};
 use carousel_shell::Status;
+use folder_store::MemStore;
 use oc_bytes::{MemSink, MemSource};
 use path_tree::Path;
 use std::alloc::{AllocError, Global};
@@ -21,6 +22,8 @@ pub(crate) struct Commands {
     /// How many bytes one write takes at most, at least 1.
     written_piece: usize,
     folder: Folder,
+    /// What the commands wrote into it stays there.
+    store: MemStore,
     /// What the watchers want: these paths, and what is below them.
     prefixes: Vec<Path>,
     output: Vec<u8>,
@@ -34,6 +37,7 @@ impl Commands {
             read_piece: 100,
             written_piece: 100,
             folder: Folder::Nothing,
+            store: MemStore::new(alloc, Vec::new(alloc)),
             prefixes: Vec::new(alloc),
             output: Vec::new(alloc),
             status: Status::Done,
@@ -52,6 +56,7 @@ impl Commands {
             "run" => self.run(alloc, row, false),
             "run-first-twice" => self.run(alloc, row, true),
             "written" => self.written(alloc, row),
+            "stored" => self.stored(alloc, row),
             "line" => self.line(alloc),
             "status" => self.set_status(alloc, row),
             _ => Err(RowFault::BadRow),
@@ -100,9 +105,9 @@ impl Commands {
         let words = words_of(alloc, row)?;
         let mut ends = self.ends(alloc)?;
         self.status = if is_first_twice {
-            run_first_twice(alloc, &words, &self.prefixes, &mut ends)?
+            run_first_twice(alloc, &words, &self.prefixes, &mut ends, &mut self.store)?
         } else {
-            run_once(alloc, &words, &self.prefixes, &mut ends)?
+            run_once(alloc, &words, &self.prefixes, &mut ends, &mut self.store)?
         };
         self.output = Vec::from_slice(alloc, ends.sink.written())?;
         Ok(self.outcome(alloc)?)
@@ -133,6 +138,18 @@ impl Commands {
         }
         let hex = hex_text(alloc, &self.output)?;
         Ok(format!(in alloc; "others: {hex}")?)
+    }
+
+    /// `stored PATH`: what stands at a path of the store: a folder, a file of these bytes, or nothing.
+    fn stored(&self, alloc: Global, row: &Row<'_>) -> Result<String, RowFault> {
+        let path = row.word(0)?;
+        if self.store.is_folder(path) {
+            return Ok(String::from_str(alloc, "folder")?);
+        }
+        match self.store.content(path) {
+            Some(content) => Ok(output_text(alloc, content)?),
+            None => Ok(String::from_str(alloc, "nothing")?),
+        }
     }
 
     /// `line`: the line for standard error, or `-` for none.

@@ -5,6 +5,7 @@ ghost use Rattle.watch_desk.specs.Wanting.{is_wanted};
 use crate::ends::Ends;
 use carousel_shell::{Status, run_plain};
 use cycle_planner::Weigh;
+use folder_store::MemStore;
 use path_tree::{Path, PathFault};
 use std::alloc::{AllocError, Global};
 use test_rows::{Row, RowFault};
@@ -36,6 +37,7 @@ pub(crate) fn run_watched(
     words: &[String],
     prefixes: &[Path],
     ends: &mut Ends,
+    store: &mut MemStore,
     weigh: Weigh,
 ) -> Result<Status, AllocError> {
     let mut filters = Vec::new(alloc);
@@ -54,5 +56,5 @@ pub(crate) fn run_watched(
         sink,
         folders,
     } = ends;
-    Ok(run_plain(alloc, words, source, sink, folders, weigh, filters))
+    Ok(run_plain(alloc, words, source, sink, folders, store, weigh, filters))
 }

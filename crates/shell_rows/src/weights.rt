@@ -5,6 +5,7 @@ use crate::ends::Ends;
 use crate::watchers::run_watched;
 use carousel_shell::Status;
 use cycle_planner::{GREATEST_ID, Weigh};
+use folder_store::MemStore;
 use path_tree::Path;
 use std::alloc::{AllocError, Global};
 
@@ -14,6 +15,7 @@ pub(crate) fn run_once(
     words: &[String],
     prefixes: &[Path],
     ends: &mut Ends,
+    store: &mut MemStore,
 ) -> Result<Status, AllocError> {
     let call = Box::new(
         alloc,
@@ -22,7 +24,7 @@ pub(crate) fn run_once(
         { 1 },
     )?;
     let weigh = Weigh::new([1; GREATEST_ID], call);
-    run_watched(alloc, words, prefixes, ends, weigh)
+    run_watched(alloc, words, prefixes, ends, store, weigh)
 }
 
 /// The status of a command under which module 1 is sent twice a cycle, and each other one once, with a watcher for each of the
@@ -32,6 +34,7 @@ pub(crate) fn run_first_twice(
     words: &[String],
     prefixes: &[Path],
     ends: &mut Ends,
+    store: &mut MemStore,
 ) -> Result<Status, AllocError> {
     let mut weights = [1; GREATEST_ID];
     weights[0] = 2;
@@ -42,5 +45,5 @@ pub(crate) fn run_first_twice(
         { if id == 1 { 2u8 } else { 1u8 } },
     )?;
     let weigh = Weigh::new(weights, call);
-    run_watched(alloc, words, prefixes, ends, weigh)
+    run_watched(alloc, words, prefixes, ends, store, weigh)
 }

@@ -3,7 +3,7 @@ ghost use Rattle.std.specs.Prelude.{◌≡◌};
 
 use carousel_shell::{Status, run_plain};
 use cycle_planner::{GREATEST_ID, Weigh};
-use folder_store::{Folders, MemFolders};
+use folder_store::{Folders, MemFolders, MemStore, Store};
 use oc_bytes::{Blob, MemSink, MemSource, NoMemory};
 use std::alloc::Global;
 use std::test::Fail;
@@ -20,12 +20,13 @@ const NEWS: &[u8] =
     b"put 1 /a 6f6e65\ncommit 1\ndraw 1048576\nopen 1 /a\nput 1 /a 74776f\ncommit 1\n\
     draw 1048576 f1040 k2\nopen 1 /a\ndraw 1048576\nopen 1 /a\n";
 
-/// One of the three ends of a command.
+/// One of the four ends of a command.
 #[derive(Clone, Copy)]
 pub(crate) enum End {
     Source,
     Sink,
     Folders,
+    Store,
 }
 
 /// How a command ended.
@@ -53,12 +54,13 @@ fn folder(alloc: Global, fail_at: Vec<u64>) -> Result<MemFolders, Fail> {
 }
 
 /// The status of a command under which each module is sent once a cycle.
-pub(crate) fn run_once<F: Folders>(
+pub(crate) fn run_once<F: Folders, T: Store>(
     alloc: Global,
     words: &[String],
     source: &mut MemSource,
     sink: &mut MemSink,
     folders: &mut F,
+    store: &mut T,
 ) -> Result<Status, NoMemory> {
     let call = Box::new(
         alloc,
@@ -68,7 +70,7 @@ pub(crate) fn run_once<F: Folders>(
     )?;
     let weigh = Weigh::new([1; GREATEST_ID], call);
     let filters = Vec::new(alloc);
-    Ok(run_plain(alloc, words, source, sink, folders, weigh, filters))
+    Ok(run_plain(alloc, words, source, sink, folders, store, weigh, filters))
 }
 
 /// Runs a command on an input that comes in pieces of `read` bytes, and with a sink that takes `written`, both at least 1. One call of
@@ -83,23 +85,33 @@ pub(crate) fn run(
     let mut reads = Vec::new(alloc);
     let mut writes = Vec::new(alloc);
     let mut calls = Vec::new(alloc);
+    let mut stores = Vec::new(alloc);
     match failing {
         Some((End::Source, call)) => reads.push(call)?,
         Some((End::Sink, call)) => writes.push(call)?,
         Some((End::Folders, call)) => calls.push(call)?,
+        Some((End::Store, call)) => stores.push(call)?,
         None => {}
     }
     let words = words(alloc, line)?;
     let mut source = MemSource::new(Vec::from_slice(alloc, input)?, reads, pieces.0.max(1));
     let mut sink = MemSink::new(alloc, writes, pieces.1.max(1));
     let mut folders = folder(alloc, calls)?;
-    let status = run_once(alloc, &words, &mut source, &mut sink, &mut folders)?;
+    let mut store = MemStore::new(alloc, stores);
+    let status = run_once(
+        alloc,
+        &words,
+        &mut source,
+        &mut sink,
+        &mut folders,
+        &mut store,
+    )?;
     let code = status.code();
     Ok(Ended { code, sink })
 }
 
 /// Whether a run ended as it should in which a call of this end failed: nothing was written, or what the writes of two bytes before it
-/// took.
+/// took, or the lines of what was stored before, or which path can't be read.
 fn is_right(end: End, call: u64, good: &[u8], ended: &Ended) -> bool {
     let written = ended.sink.written();
     match end {
@@ -109,7 +121,10 @@ fn is_right(end: End, call: u64, good: &[u8], ended: &Ended) -> bool {
                 && written.len() as u64 == call.saturating_mul(2)
                 && good.starts_with(written)
         }
-        End::Folders => ended.code == 6 && written.is_empty(),
+        End::Folders => {
+            ended.code == 6 && (written.is_empty() || written.starts_with(b"unreadable /"))
+        }
+        End::Store => ended.code == 6 && good.starts_with(written),
     }
 }
 
@@ -132,20 +147,24 @@ fn each_call_fails_in_turn(rt: HostRuntime) -> Result<(), Fail> {
     let alloc = rt.alloc();
     let published = run(alloc, "publish F 1 1", b"", (20, 2), None)?;
     let packets = published.sink.written();
-    let rows: [(&str, &[u8], u64, u64, u64); 6] = [
-        ("assemble 1 0 5 42", &HELLO, 3, 3, 0),
-        ("publish F 1 1", b"", 0, 282, 2),
-        ("record 256", packets, 30, 193, 0),
-        ("list 256", packets, 30, 11, 0),
-        ("open 256 /a /a/b", packets, 30, 15, 0),
-        ("rehearse", NEWS, 8, 78, 0),
+    let rows: [(&str, &[u8], [u64; 4]); 9] = [
+        ("assemble 1 0 5 42", &HELLO, [3, 3, 0, 0]),
+        ("publish F 1 1", b"", [0, 282, 2, 0]),
+        ("record 256", packets, [30, 193, 0, 0]),
+        ("list 256", packets, [30, 11, 0, 0]),
+        ("open 256 /a /a/b", packets, [30, 15, 0, 0]),
+        ("rehearse", NEWS, [8, 78, 0, 0]),
+        ("extract 256 out", packets, [30, 11, 0, 2]),
+        ("inspect 256", packets, [30, 358, 0, 0]),
+        ("plan F 1 1000", b"", [0, 65, 2, 0]),
     ];
-    for (line, input, reads, writes, calls) in rows {
+    for (line, input, [reads, writes, calls, stores]) in rows {
         let good = run(alloc, line, input, (20, 2), None)?;
         for (end, count) in [
             (End::Source, reads),
             (End::Sink, writes),
             (End::Folders, calls),
+            (End::Store, stores),
         ] {
             assert_eq!(rt; failing(alloc, line, input, &good, end)?, count, "{line}");
         }

@@ -2,7 +2,7 @@
 
 use crate::failing::{run_once, words};
 use carousel_shell::Status;
-use folder_store::{EntryKind, FolderEntry, FolderFault, Folders, TreeFault};
+use folder_store::{EntryKind, FolderEntry, FolderFault, Folders, MemStore, TreeFault};
 use generation_catalogue::Refusal;
 use oc_bytes::{MemSink, MemSource, NoMemory};
 use std::alloc::Global;
@@ -61,7 +61,15 @@ fn trees_that_are_too_large_are_refused(rt: HostRuntime) -> Result<(), Fail> {
     let words = words(alloc, "publish F 1 1")?;
     let mut source = MemSource::new(Vec::new(alloc), Vec::new(alloc), 1);
     let mut sink = MemSink::new(alloc, Vec::new(alloc), 100);
-    let status = run_once(alloc, &words, &mut source, &mut sink, &mut ManyFiles)?;
+    let mut store = MemStore::new(alloc, Vec::new(alloc));
+    let status = run_once(
+        alloc,
+        &words,
+        &mut source,
+        &mut sink,
+        &mut ManyFiles,
+        &mut store,
+    )?;
     assert_eq!(rt; sink.written(), b"".as_slice());
     let line = status.line(alloc)?.ok_or("no line")?;
     assert_eq!(rt;

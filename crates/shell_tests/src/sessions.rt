@@ -5,7 +5,7 @@ use crate::failing::words;
 use crate::meeting::Meeting;
 use crate::steps::Steps;
 use cycle_planner::{GREATEST_ID, Weigh};
-use folder_store::MemFolders;
+use folder_store::{MemFolders, MemStore};
 use oc_bytes::{MemSink, MemSource};
 use section_workers::{Gate, NoGate};
 use session_shell::run;
@@ -79,6 +79,7 @@ fn outcome<R: Threads + Wait + Sync, G: Gate>(
     let mut source = MemSource::new(Vec::from_slice(alloc, script)?, reads, 20);
     let mut sink = MemSink::new(alloc, calls(alloc, failing.write)?, 100);
     let mut folders = MemFolders::new(Vec::new(alloc), Vec::new(alloc));
+    let mut store = MemStore::new(alloc, Vec::new(alloc));
     let call = Box::new(
         alloc,
         |_id: u16| -> u8
@@ -93,6 +94,7 @@ fn outcome<R: Threads + Wait + Sync, G: Gate>(
         &mut source,
         &mut sink,
         &mut folders,
+        &mut store,
         gate,
         weigh,
         Vec::new(alloc),

@@ -1,4 +1,5 @@
 use Rattle.std.proofs.Common.{refl}
+use Rattle.std.proofs.lemmas.Bool.{true≢false}
 use Rattle.carousel_shell.proofs.plain.run_command.Goals as goal
 
 pub returns-in-Assemble-clause-promises : goal.returns-in-Assemble-clause-promises
@@ -42,3 +43,21 @@ returns-in-Watch-clause-promises g c = rw (c.in-Watch.is, ← c.deref-in-Watch.e
 
 pub watch-requires-clause-few : goal.watch-requires-clause-few
 watch-requires-clause-few g c = rw c.deref-in-Watch.ensures.value ((rw c.in-Watch.is at c.requires.sized).1)
+
+pub returns-in-Why-clause-promises : goal.returns-in-Why-clause-promises
+returns-in-Why-clause-promises g c = rw c.in-Why.is (record { unread = refl; keeps = c.why.ensures.says })
+
+pub returns-in-Inspect-clause-promises : goal.returns-in-Inspect-clause-promises
+returns-in-Inspect-clause-promises g c = rw c.in-Inspect.is c.inspect.ensures.inspects
+
+pub returns-in-Extract-clause-promises : goal.returns-in-Extract-clause-promises
+returns-in-Extract-clause-promises g c = rw (c.in-Extract.is, ← c.as_str-in-Extract.ensures.value) c.extract.ensures.extracts
+
+pub returns-in-Extract-clause-stored : goal.returns-in-Extract-clause-stored
+returns-in-Extract-clause-stored g c = rw c.in-Extract.is (λ none. absurd (true≢false none))
+
+pub plan-requires-clause-rate : goal.plan-requires-clause-rate
+plan-requires-clause-rate g c = (rw c.in-Plan.is at c.requires.sized).1
+
+pub returns-in-Plan-clause-promises : goal.returns-in-Plan-clause-promises
+returns-in-Plan-clause-promises g c = rw c.in-Plan.is (record { unread = refl; keeps = rw c.as_str-in-Plan.ensures.value at c.plan.ensures.tells })

@@ -1,6 +1,6 @@
 use Rattle.std.proofs.lemmas.Result.{err_from_is_err_and}
 use Rattle.shell_streams.proofs.CallerLemmas.{puts_none, puts_ok, puts_err}
-use Rattle.carousel_shell.proofs.listing.Progress.put_path.Goals as goal
+use Rattle.carousel_shell.proofs.listing.put_path.Goals as goal
 
 pub returns-in_err-answer-clause-puts : goal.returns-in_err-answer-clause-puts
 returns-in_err-answer-clause-puts g c =
