@@ -4,6 +4,7 @@ use Rattle.std.specs.List.{list_all, flat_map}
 use Rattle.std.proofs.lemmas.List.{take_all}
 use Rattle.path_tree.specs.Paths.{PathNames}
 use Rattle.path_resolver.specs.declared.answer.Answer.{Answer}
+use Rattle.shell_streams.specs.Cuts.{Bytes}
 use Rattle.shell_streams.specs.Sending.{OutputState, Puts, HasPut}
 use Rattle.shell_streams.specs.declared.output.OutputFault.{OutputFault}
 use Rattle.shell_streams.proofs.CallerLemmas.{puts_nothing, puts_then, puts_stop, puts_as, puts_ok}
@@ -27,9 +28,9 @@ pub record HasAnswered (old new : OutputState) (entry : PathNames → Bytes) (fo
 pub answered_none : (o : OutputState) (entry : PathNames → Bytes) (found : PathNames → Bool) → HasAnswered o o entry found [] true
 answered_none o entry found = record { puts = puts_nothing tt o; all_is = refl }
 
-module _ {old mid new : OutputState} (entry : PathNames → Bytes) (found : PathNames → Bool) (paths : List PathNames) (i : ℕ) {all : Bool} (so_far : HasAnswered old mid entry found (take i paths) all) where
+module _ {old mid : OutputState} (entry : PathNames → Bytes) (found : PathNames → Bool) (paths : List PathNames) (i : ℕ) {all : Bool} (so_far : HasAnswered old mid entry found (take i paths) all) where
   -- one more
-  pub answered_more : (p : PathNames) (one both : Bool) → i < length paths → p ≡ get_or paths i p → Puts (Ok one) mid new (entry p) → one ≡ found p → both ≡ (all && one)
+  pub answered_more : {new : OutputState} (p : PathNames) (one both : Bool) → i < length paths → p ≡ get_or paths i p → Puts (Ok one) mid new (entry p) → one ≡ found p → both ≡ (all && one)
       → HasAnswered old new entry found (take (i + 1) paths) both
   answered_more p one both h at puts e f = record {
     puts = puts_as (parts_next entry paths i p h at) (puts_ok tt (puts_then so_far.puts puts));
@@ -37,7 +38,7 @@ module _ {old mid new : OutputState} (entry : PathNames → Bytes) (found : Path
   }
 
   -- the next one wasn't put
-  pub answered_stop : {f : OutputFault} (p : PathNames) → i < length paths → p ≡ get_or paths i p → Puts {T = Bool} (Err f) mid new (entry p)
+  pub answered_stop : {new : OutputState} {f : OutputFault} (p : PathNames) → i < length paths → p ≡ get_or paths i p → Puts {T = Bool} (Err f) mid new (entry p)
       → Puts {T = Bool} (Err f) old new (flat_map entry paths)
   answered_stop p h at puts = puts_as (parts_all entry paths (i + 1)) (puts_stop _ (puts_as (parts_next entry paths i p h at) (puts_then so_far.puts puts)))
 
@@ -49,5 +50,5 @@ module _ {old mid new : OutputState} (entry : PathNames → Bytes) (found : Path
   found_all h = so_far.all_is ∙ ap (list_all found) (take_all i paths h)
 
   -- and then what is pending is written
-  pub answered_sent : {r : Result (Unit {0}) OutputFault} → length paths ≤ i → Puts r mid new [] → Puts r old new (flat_map entry paths)
+  pub answered_sent : {new : OutputState} {r : Result (Unit {0}) OutputFault} → length paths ≤ i → Puts r mid new [] → Puts r old new (flat_map entry paths)
   answered_sent h puts = puts_as (append-nil _) (puts_then (answered_all h) puts)
