@@ -1,7 +1,6 @@
 //! Messages of files and folders, and what is found in modules of them.
 
 ghost use Rattle.std.specs.Prelude.{IfOk, IfSome, IsSome, ◌≡◌, length};
-ghost use Rattle.std.specs.List.{All};
 ghost use Rattle.biop_object.specs.Objects.{IsEntry};
 ghost use Rattle.biop_object.specs.ObjectReading.{bindings_of};
 
