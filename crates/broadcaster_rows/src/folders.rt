@@ -2,15 +2,14 @@
 ghost use Rattle.std.specs.Prelude.{map};
 ghost use Rattle.folder_store.specs.Memory.{AreEntries};
 
-use crate::texts::with_word;
-use crate::words::count;
+use crate::texts::{Told, each};
 use folder_store::{EntryKind, FolderEntry, Folders, MemFolders, OsFolders, read_tree};
 use oc_bytes::Blob;
 use path_tree::Edit;
 use std::alloc::{AllocError, Global};
 use std::os::unix;
 use std::{fs, io};
-use test_rows::{Row, RowFault, hex_text};
+use test_rows::{Line, Row, RowFault};
 
 /// The folders that the rows made last, in memory and real ones.
 #[derive(Drop)]
@@ -31,53 +30,53 @@ impl<'a> Standing<'a> {
     }
 
     /// The answer, where the row is a call on folders. `real` before the call's own name is one on real folders.
-    pub(crate) fn call(
-        &mut self,
-        alloc: Global,
-        row: &Row<'_>,
-    ) -> Result<Option<String>, RowFault> {
+    pub(crate) fn call(&mut self, alloc: Global, row: &Row<'_>) -> Option<Line> {
         match row.name() {
-            "folders" => {
-                self.in_memory = Some(named_folders(alloc, row.word(0)?, numbers(alloc, row)?)?);
-                Ok(Some(String::from_str(alloc, "new")?))
-            }
-            "real-write" => Ok(Some(done_text(alloc, &write_folder(self.rt))?)),
-            "real-remove" => Ok(Some(done_text(alloc, &fs::remove_dir_all(self.rt, "F"))?)),
-            "real" => call_on(alloc, row, row.word(0)?, 1, &mut self.real),
+            "folders" => Some(self.begin(alloc, row)),
+            "real-write" => Some(outcome_text(row, write_folder(self.rt))),
+            "real-remove" => Some(outcome_text(row, fs::remove_dir_all(self.rt, "F"))),
+            "real" => call_on(alloc, row, row.text(0), 1, &mut self.real),
             name => match &mut self.in_memory {
                 Some(folders) => call_on(alloc, row, name, 0, folders),
-                None => Ok(None),
+                None => None,
             },
+        }
+    }
+
+    /// The folders in memory that a row names.
+    fn begin(&mut self, alloc: Global, row: &Row<'_>) -> Line {
+        match named_folders(alloc, row.text(0), numbers(alloc, row)) {
+            Ok(folders) => {
+                self.in_memory = Some(folders);
+                row.line().text("new")
+            }
+            Err(fault) => row.failed(fault),
         }
     }
 }
 
 /// The numbers after the first word.
-fn numbers(alloc: Global, row: &Row<'_>) -> Result<Vec<u64>, RowFault> {
+fn numbers(alloc: Global, row: &Row<'_>) -> Vec<u64> {
     let mut numbers = Vec::new(alloc);
     for place in 1..row.len() {
-        numbers = with_number(numbers, row.number(place)?)?;
+        row.push(&mut numbers, row.wide(place));
     }
-    Ok(numbers)
-}
-
-fn with_number(mut numbers: Vec<u64>, number: u64) -> Result<Vec<u64>, AllocError> {
-    numbers.push(number)?;
-    Ok(numbers)
+    numbers
 }
 
 /// The folders of a name, whose calls of these numbers fail.
 fn named_folders(alloc: Global, name: &str, fail_at: Vec<u64>) -> Result<MemFolders, RowFault> {
-    match name {
-        "two-files-and-a-folder" => Ok(two_files_and_a_folder(alloc, fail_at)?),
-        "files-out-of-order" => Ok(files_out_of_order(alloc, fail_at)?),
-        "no-file" => Ok(no_file(alloc, fail_at)?),
-        "sixteen-names" => Ok(sixteen_names(alloc, fail_at)?),
-        "a-bad-name-after-a-deep-folder" => Ok(a_bad_name_after_a_deep_folder(alloc, fail_at)?),
-        "a-deep-path-before-a-bad-name" => Ok(a_deep_path_before_a_bad_name(alloc, fail_at)?),
-        "two-files" => Ok(two_files(alloc, fail_at)?),
-        _ => Err(RowFault::BadRow),
-    }
+    let folders = match name {
+        "two-files-and-a-folder" => two_files_and_a_folder(alloc, fail_at),
+        "files-out-of-order" => files_out_of_order(alloc, fail_at),
+        "no-file" => no_file(alloc, fail_at),
+        "sixteen-names" => sixteen_names(alloc, fail_at),
+        "a-bad-name-after-a-deep-folder" => a_bad_name_after_a_deep_folder(alloc, fail_at),
+        "a-deep-path-before-a-bad-name" => a_deep_path_before_a_bad_name(alloc, fail_at),
+        "two-files" => two_files(alloc, fail_at),
+        _ => return Err(RowFault::BadRow),
+    };
+    Ok(folders?)
 }
 
 fn two_files_and_a_folder(alloc: Global, fail_at: Vec<u64>) -> Result<MemFolders, AllocError> {
@@ -155,87 +154,68 @@ fn call_on<F: Folders>(
     name: &str,
     at: usize,
     folders: &mut F,
-) -> Result<Option<String>, RowFault> {
+) -> Option<Line> {
     match name {
-        "list" => Ok(Some(listed(alloc, folders, row.word(at)?)?)),
-        "read" => {
-            let most = count(row, at.saturating_add(1))?;
-            Ok(Some(read(alloc, folders, row.word(at)?, most)?))
-        }
-        "read-tree" => Ok(Some(read_edits(alloc, folders, row.word(at)?)?)),
-        "faults" => {
-            let faults = folders.faults();
-            Ok(Some(format!(in alloc; "{faults}")?))
-        }
-        _ => Ok(None),
+        "list" => Some(listed(alloc, row, at, folders)),
+        "read" => Some(read(alloc, row, at, folders)),
+        "read-tree" => Some(read_edits(alloc, row, at, folders)),
+        "faults" => Some(row.line().value("", &folders.faults())),
+        _ => None,
     }
 }
 
 /// The entries of a folder by their names, or the fault.
-fn listed<F: Folders>(alloc: Global, folders: &mut F, path: &str) -> Result<String, AllocError> {
-    match folders.list(alloc, path) {
-        Ok(mut entries) => {
-            entries.sort_unstable_by(|entry, other| entry.name.cmp(&other.name));
-            entries_text(alloc, &entries)
-        }
-        Err(fault) => format!(in alloc; "{fault}"),
+fn listed<F: Folders>(alloc: Global, row: &Row<'_>, at: usize, folders: &mut F) -> Line {
+    match folders.list(alloc, row.text(at)) {
+        Ok(entries) => entries_text(row, entries),
+        Err(fault) => row.line().value("", &fault),
     }
 }
 
-fn entries_text(alloc: Global, entries: &[FolderEntry]) -> Result<String, AllocError> {
-    let count = entries.len();
-    let mut words = format!(in alloc; "{count}:")?;
-    for entry in entries {
-        words = with_word(words, entry.name.as_str())?;
-        words = with_word(words, kind_text(entry.kind))?;
-    }
-    Ok(words)
+fn entries_text(row: &Row<'_>, mut entries: Vec<FolderEntry>) -> Line {
+    entries.sort_unstable_by(|entry, other| entry.name.cmp(&other.name));
+    let line = row.line().value("", &entries.len()).text(":");
+    each(line, &entries)
 }
 
-fn kind_text(kind: EntryKind) -> &'static str {
-    match kind {
-        EntryKind::File => "file",
-        EntryKind::Folder => "folder",
-        EntryKind::Other => "other",
+/// An entry's name and what it is.
+impl Told for FolderEntry {
+    fn told(&self, line: Line) -> Line {
+        let kind = match self.kind {
+            EntryKind::File => " file",
+            EntryKind::Folder => " folder",
+            EntryKind::Other => " other",
+        };
+        line.text(self.name.as_str()).text(kind)
     }
 }
 
 /// The first bytes of a file, or the fault.
-fn read<F: Folders>(
-    alloc: Global,
-    folders: &mut F,
-    path: &str,
-    most: usize,
-) -> Result<String, AllocError> {
-    match folders.read(alloc, path, most) {
-        Ok(bytes) => hex_text(alloc, &bytes),
-        Err(fault) => format!(in alloc; "{fault}"),
-    }
+fn read<F: Folders>(alloc: Global, row: &Row<'_>, at: usize, folders: &mut F) -> Line {
+    let most = row.count(at.saturating_add(1));
+    row.line().outcome(folders.read(alloc, row.text(at), most))
 }
 
 /// The edits that put what stands below a folder, each as a path and bytes, or the fault.
-fn read_edits<F: Folders>(
-    alloc: Global,
-    folders: &mut F,
-    root: &str,
-) -> Result<String, AllocError> {
-    match read_tree(alloc, folders, root) {
-        Ok(edits) => edits_text(alloc, &edits),
-        Err(fault) => format!(in alloc; "{fault}"),
+fn read_edits<F: Folders>(alloc: Global, row: &Row<'_>, at: usize, folders: &mut F) -> Line {
+    match read_tree(alloc, folders, row.text(at)) {
+        Ok(edits) => edits_text(row.line(), &edits),
+        Err(fault) => row.line().value("", &fault),
     }
 }
 
-fn edits_text(alloc: Global, edits: &[Edit]) -> Result<String, AllocError> {
-    let count = edits.len();
-    let mut words = format!(in alloc; "{count}:")?;
-    for edit in edits {
-        if let Edit::Put(path, content) = edit {
-            let bytes = hex_text(alloc, content.bytes())?;
-            let word = format!(in alloc; "{path}={bytes}")?;
-            words = with_word(words, word.as_str())?;
+fn edits_text(line: Line, edits: &[Edit]) -> Line {
+    each(line.value("", &edits.len()).text(":"), edits)
+}
+
+/// A path and the bytes that are put there.
+impl Told for Edit {
+    fn told(&self, line: Line) -> Line {
+        match self {
+            Edit::Put(path, content) => line.value("", path).bytes("=", content.bytes()),
+            Edit::Remove(path) => line.value("removed: ", path),
         }
     }
-    Ok(words)
 }
 
 /// The folder F: a file, a folder with an empty file in it, and a link.
@@ -248,9 +228,9 @@ fn write_folder(rt: &HostRuntime) -> io::Result<()> {
     unix::fs::symlink(rt, "a", "F/l")
 }
 
-fn done_text(alloc: Global, outcome: &io::Result<()>) -> Result<String, AllocError> {
+fn outcome_text(row: &Row<'_>, outcome: io::Result<()>) -> Line {
     match outcome {
-        Ok(()) => String::from_str(alloc, "done"),
-        Err(_) => String::from_str(alloc, "not done"),
+        Ok(()) => row.line().text("done"),
+        Err(_) => row.line().text("not done"),
     }
 }

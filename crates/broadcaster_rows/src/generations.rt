@@ -1,12 +1,15 @@
 //! One generation after another.
+ghost use Rattle.std.specs.Prelude.{◌≡◌, None};
+ghost use Rattle.generation.specs.Publication.{limit_of};
 
-use crate::texts::lines_text;
-use crate::words::{count, edits, long, path_of, short, with_edit, zeros};
+use crate::texts::{Told, each};
+use crate::words::{edits, path_of, push_edit, put_shared, zeros};
 use dsi_dii::LAST_GENERATION;
 use generation::{Generation, Limit, check};
+use oc_bytes::Blob;
 use path_tree::{Edit, Tree, apply};
-use std::alloc::Global;
-use test_rows::{Row, RowFault};
+use std::alloc::{AllocError, Global};
+use test_rows::{Line, Row, RowFault};
 
 /// The generation that the rows made last.
 #[derive(Drop)]
@@ -21,105 +24,132 @@ impl Generations {
     }
 
     /// The generation that the rows made last.
-    pub(crate) fn current(&self) -> Result<&Generation, RowFault> {
-        match &self.current {
-            Some(generation) => Ok(generation),
-            None => Err(RowFault::BadRow),
-        }
+    pub(crate) fn current(&self) -> Option<&Generation> {
+        self.current.as_ref()
     }
 
     /// The answer, where the row is a call on generations.
-    pub(crate) fn call(
-        &mut self,
-        alloc: Global,
-        row: &Row<'_>,
-    ) -> Result<Option<String>, RowFault> {
+    pub(crate) fn call(&mut self, alloc: Global, row: &Row<'_>) -> Option<Line> {
         match row.name() {
-            "generation-new" => Ok(Some(self.begin(alloc, row)?)),
-            "generation-files" => Ok(Some(self.put_files(alloc, row)?)),
-            "generation-edit" => Ok(Some(self.edit(alloc, row)?)),
-            "generation-lines" => Ok(Some(lines_text(alloc, self.current()?.lines())?)),
-            "generation-modules" => {
-                let modules = self.current()?.lines().len();
-                Ok(Some(format!(in alloc; "{modules}")?))
-            }
-            "generation-size" => Ok(Some(self.size(alloc, row)?)),
-            "generation-count" => {
-                let changes = self.current()?.count(short(row, 0)?);
-                Ok(Some(format!(in alloc; "{changes}")?))
-            }
-            "limit-folder" => {
-                let path = path_of(alloc, &row.bytes(alloc, 0)?)?;
-                limit_text(alloc, &Limit::FolderTooLarge(path)).map(Some)
-            }
-            "limit-modules" => {
-                limit_text(alloc, &Limit::TooManyModules(count(row, 0)?)).map(Some)
-            }
-            _ => Ok(None),
+            "generation-new" => Some(self.keep(row, Generation::first(alloc, row.long(0)))),
+            "generation-files" => Some(self.put_files(alloc, row)),
+            "generation-edit" => Some(self.edit(alloc, row)),
+            "limit-folder" => Some(folder_limit(alloc, row)),
+            "limit-modules" => Some(modules_limit(row)),
+            _ => match &self.current {
+                Some(generation) => asked(row, generation),
+                None => None,
+            },
         }
     }
 
-    /// Generation 0 of a carousel.
-    fn begin(&mut self, alloc: Global, row: &Row<'_>) -> Result<String, RowFault> {
-        let first = Generation::first(alloc, long(row, 0)?)?;
-        self.keep(alloc, first)
+    /// The generation of a tree of files alone, which have the same zero bytes and names that end in five digits.
+    fn put_files(&mut self, alloc: Global, row: &Row<'_>) -> Line {
+        match apply(alloc, &Tree::empty(alloc), &files(alloc, row)) {
+            Ok(tree) => self.put_tree(alloc, row, tree),
+            Err(_) => row.failed(RowFault::BadRow),
+        }
     }
 
-    /// The generation of a tree of files alone, which have the same zero bytes and names that end in five digits.
-    fn put_files(&mut self, alloc: Global, row: &Row<'_>) -> Result<String, RowFault> {
-        let tree = files(alloc, row)?;
+    /// The generation of a tree, or the limit that refuses it.
+    fn put_tree(&mut self, alloc: Global, row: &Row<'_>, tree: Tree) -> Line {
         match check(alloc, &tree) {
-            Ok(()) => {
-                let generation = self.current()?;
-                if generation.number() >= LAST_GENERATION {
-                    return Err(RowFault::BadRow);
-                }
-                let next = generation.next(tree)?;
-                self.keep(alloc, next)
+            Ok(()) => self.put_checked(row, tree),
+            Err(limit) => row.line().value("", &limit),
+        }
+    }
+
+    fn put_checked(&mut self, row: &Row<'_>, tree: Tree) -> Line
+        requires { limit_of tree ≡ None }
+    {
+        match &self.current {
+            Some(generation) if generation.number() < LAST_GENERATION => {
+                let next = generation.next(tree);
+                self.keep(row, next)
             }
-            Err(limit) => limit_text(alloc, &limit),
+            _ => row.failed(RowFault::BadRow),
         }
     }
 
     /// The generation after edits of the tree.
-    fn edit(&mut self, alloc: Global, row: &Row<'_>) -> Result<String, RowFault> {
-        let edits = edits(alloc, row, 0)?;
-        let next = next_after(alloc, self.current()?, &edits)?;
-        self.keep(alloc, next)
+    fn edit(&mut self, alloc: Global, row: &Row<'_>) -> Line {
+        let edits = edits(alloc, row, 0);
+        match &self.current {
+            Some(generation) => match next_after(alloc, generation, &edits) {
+                Ok(next) => self.keep(row, Ok(next)),
+                Err(fault) => row.failed(fault),
+            },
+            None => row.failed(RowFault::BadRow),
+        }
     }
 
     /// Makes this the generation that the rows made last, and says its number.
-    fn keep(&mut self, alloc: Global, generation: Generation) -> Result<String, RowFault> {
-        let number = generation.number();
-        self.current = Some(generation);
-        Ok(format!(in alloc; "generation {number}")?)
-    }
-
-    /// How many bytes a module has.
-    fn size(&self, alloc: Global, row: &Row<'_>) -> Result<String, RowFault> {
-        match self.current()?.module(short(row, 0)?) {
-            Some(module) => {
-                let size = module.bytes().len();
-                Ok(format!(in alloc; "{size}")?)
+    fn keep(&mut self, row: &Row<'_>, generation: Result<Generation, AllocError>) -> Line {
+        match generation {
+            Ok(generation) => {
+                let line = row.line().value("generation ", &generation.number());
+                self.current = Some(generation);
+                line
             }
-            None => Ok(String::from_str(alloc, "no such module")?),
+            Err(_) => row.failed(RowFault::NoMemory),
         }
     }
 }
 
-/// A tree of so many files of so many zero bytes: the words are the front of their paths, how many they are, and their size.
-fn files(alloc: Global, row: &Row<'_>) -> Result<Tree, RowFault> {
-    let front = row.bytes(alloc, 0)?;
-    let content = zeros(alloc, count(row, 2)?)?;
-    let mut edits = Vec::new(alloc);
-    for number in 0..long(row, 1)? {
-        let name = format!(in alloc; "{number:05}")?;
-        let mut text = Vec::from_slice(alloc, &front)?;
-        text.extend_from_slice(name.as_bytes())?;
-        let path = path_of(alloc, &text)?;
-        edits = with_edit(edits, Edit::Put(path, content.share()?))?;
+/// The answer, where the row is a question on a generation.
+fn asked(row: &Row<'_>, generation: &Generation) -> Option<Line> {
+    match row.name() {
+        "generation-lines" => Some(each(row.line(), generation.lines())),
+        "generation-modules" => Some(row.line().value("", &generation.lines().len())),
+        "generation-size" => Some(size(row, generation)),
+        "generation-count" => Some(row.line().value("", &generation.count(row.short(0)))),
+        _ => None,
     }
-    apply(alloc, &Tree::empty(alloc), &edits).map_err(|_| RowFault::BadRow)
+}
+
+/// How many bytes a module has.
+fn size(row: &Row<'_>, generation: &Generation) -> Line {
+    match generation.module(row.short(0)) {
+        Some(module) => row.line().value("", &module.bytes().len()),
+        None => row.line().text("no such module"),
+    }
+}
+
+/// A module's id and its number of blocks.
+impl Told for (u16, u32) {
+    fn told(&self, line: Line) -> Line {
+        line.value("", &self.0).value(":", &self.1)
+    }
+}
+
+/// Puts of so many files of so many zero bytes: the words are the front of their paths, how many they are, and their size.
+fn files(alloc: Global, row: &Row<'_>) -> Vec<Edit> {
+    let mut edits = Vec::new(alloc);
+    match zeros(alloc, row.count(2)) {
+        Ok(content) => push_puts(alloc, row, &content, &mut edits),
+        Err(_) => row.fail(RowFault::NoMemory),
+    }
+    edits
+}
+
+fn push_puts(alloc: Global, row: &Row<'_>, content: &Blob, edits: &mut Vec<Edit>) {
+    let front = row.octets(0);
+    for number in 0..row.long(1) {
+        push_edit(row, edits, put_numbered(alloc, &front, number, content));
+    }
+}
+
+/// The put at the path of this front and five digits.
+fn put_numbered(
+    alloc: Global,
+    front: &[u8],
+    number: u32,
+    content: &Blob,
+) -> Result<Edit, RowFault> {
+    let name = format!(in alloc; "{number:05}")?;
+    let mut text = Vec::from_slice(alloc, front)?;
+    text.extend_from_slice(name.as_bytes())?;
+    put_shared(alloc, &text, content)
 }
 
 /// The generation after edits of another one's tree, where nothing refuses them.
@@ -140,7 +170,15 @@ fn next_after(
     Ok(generation.next_after(tree, edits)?)
 }
 
-/// The text of a limit.
-fn limit_text(alloc: Global, limit: &Limit) -> Result<String, RowFault> {
-    Ok(format!(in alloc; "{limit}")?)
+/// The text of the limit that a folder breaks.
+fn folder_limit(alloc: Global, row: &Row<'_>) -> Line {
+    match path_of(alloc, &row.octets(0)) {
+        Ok(path) => row.line().value("", &Limit::FolderTooLarge(path)),
+        Err(fault) => row.failed(fault),
+    }
+}
+
+/// The text of the limit that a number of modules breaks.
+fn modules_limit(row: &Row<'_>) -> Line {
+    row.line().value("", &Limit::TooManyModules(row.count(0)))
 }

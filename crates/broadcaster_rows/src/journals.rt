@@ -1,12 +1,12 @@
 //! A history without what answers its weights.
 
-use crate::words::{count, edits, long, path_of, with_edit, zeros};
+use crate::words::{edits, push_edit, put_shared, zeros};
 use cycle_planner::GREATEST_ID;
 use generation_catalogue::{CommitFault, Journal};
 use oc_bytes::Blob;
 use path_tree::{Edit, Edits};
 use std::alloc::Global;
-use test_rows::{Row, RowFault};
+use test_rows::{Line, Row, RowFault};
 
 /// The history that the rows made last. Each module weighs 1.
 #[derive(Drop)]
@@ -21,99 +21,95 @@ impl Journals {
     }
 
     /// The answer, where the row is a call on a history.
-    pub(crate) fn call(
-        &mut self,
-        alloc: Global,
-        row: &Row<'_>,
-    ) -> Result<Option<String>, RowFault> {
+    pub(crate) fn call(&mut self, alloc: Global, row: &Row<'_>) -> Option<Line> {
         if row.name() == "journal-new" {
-            let journal = Journal::new(alloc, long(row, 0)?, [1; GREATEST_ID])?;
-            self.current = Some(journal);
-            return Ok(Some(String::from_str(alloc, "new")?));
+            return Some(self.begin(alloc, row));
         }
         match &mut self.current {
             Some(journal) => call_on(alloc, row, journal),
-            None => Ok(None),
+            None => None,
+        }
+    }
+
+    /// A history of no commit.
+    fn begin(&mut self, alloc: Global, row: &Row<'_>) -> Line {
+        match Journal::new(alloc, row.long(0), [1; GREATEST_ID]) {
+            Ok(journal) => {
+                self.current = Some(journal);
+                row.line().text("new")
+            }
+            Err(_) => row.failed(RowFault::NoMemory),
         }
     }
 }
 
 /// The answer, where the row is a call on this history.
-fn call_on(
-    alloc: Global,
-    row: &Row<'_>,
-    journal: &mut Journal,
-) -> Result<Option<String>, RowFault> {
+fn call_on(alloc: Global, row: &Row<'_>, journal: &mut Journal) -> Option<Line> {
     match row.name() {
-        "journal" => Ok(Some(journal_text(alloc, journal)?)),
-        "journal-commit" => {
-            let edits = edits(alloc, row, 1)?;
-            Ok(Some(commit(alloc, journal, long(row, 0)?, edits)?))
-        }
-        "journal-puts" => {
-            let content = zeros(alloc, count(row, 2)?)?;
-            let edits = puts(alloc, long(row, 1)?, &content)?;
-            Ok(Some(commit(alloc, journal, long(row, 0)?, edits)?))
-        }
-        "journal-commits" => Ok(Some(commits(alloc, journal, row.number(0)?)?)),
-        _ => Ok(None),
+        "journal" => Some(journal_text(row.line(), journal)),
+        "journal-commit" => Some(commit(row, journal, edits(alloc, row, 1))),
+        "journal-puts" => Some(commit(row, journal, puts(alloc, row))),
+        "journal-commits" => Some(commits(alloc, row, journal)),
+        _ => None,
     }
 }
 
-/// Puts of the same bytes as so many files in the root, each with a name of one byte, from `0` on.
-fn puts(alloc: Global, files: u32, content: &Blob) -> Result<Vec<Edit>, RowFault> {
+/// Puts of so many files of so many zero bytes in the root, each with a name of one byte, from `0` on.
+fn puts(alloc: Global, row: &Row<'_>) -> Vec<Edit> {
     let mut edits = Vec::new(alloc);
-    for byte in 48..files.saturating_add(48) {
-        let text = format!(in alloc; "/%{byte:02x}")?;
-        let path = path_of(alloc, text.as_bytes())?;
-        edits = with_edit(edits, Edit::Put(path, content.share()?))?;
+    match zeros(alloc, row.count(2)) {
+        Ok(content) => push_puts(alloc, row, &content, &mut edits),
+        Err(_) => row.fail(RowFault::NoMemory),
     }
-    Ok(edits)
+    edits
 }
 
-/// Commits edits, and says the number of the generation that they make, or why they make none.
-fn commit(
-    alloc: Global,
-    journal: &mut Journal,
-    editor: u32,
-    edits: Vec<Edit>,
-) -> Result<String, RowFault> {
-    let outcome = journal.commit_edits(editor, Edits::new(edits));
-    outcome_text(alloc, &outcome)
+fn push_puts(alloc: Global, row: &Row<'_>, content: &Blob, edits: &mut Vec<Edit>) {
+    for byte in 48..row.long(1).saturating_add(48) {
+        push_edit(row, edits, put_byte(alloc, byte, content));
+    }
 }
 
-/// The number of the generation that a commit made, or why it made none.
-pub(crate) fn outcome_text(
-    alloc: Global,
-    outcome: &Result<u64, CommitFault>,
-) -> Result<String, RowFault> {
+/// The put at the path of a name of one byte.
+fn put_byte(alloc: Global, byte: u32, content: &Blob) -> Result<Edit, RowFault> {
+    let text = format!(in alloc; "/%{byte:02x}")?;
+    put_shared(alloc, text.as_bytes(), content)
+}
+
+/// Commits edits of the editor that a row says: the number of the generation that they make, or why they make none.
+fn commit(row: &Row<'_>, journal: &mut Journal, edits: Vec<Edit>) -> Line {
+    let outcome = journal.commit_edits(row.long(0), Edits::new(edits));
+    outcome_text(row.line(), &outcome)
+}
+
+/// Puts the number of the generation that a commit made, or why it made none, behind what stands.
+pub(crate) fn outcome_text(line: Line, outcome: &Result<u64, CommitFault>) -> Line {
     match outcome {
-        Ok(number) => Ok(format!(in alloc; "generation {number}")?),
-        Err(fault) => Ok(format!(in alloc; "{fault}")?),
+        Ok(number) => line.value("generation ", number),
+        Err(fault) => line.value("", fault),
     }
 }
 
 /// Makes so many commits of no edits, and says which generations they make.
-fn commits(alloc: Global, journal: &mut Journal, count: u64) -> Result<String, RowFault> {
+fn commits(alloc: Global, row: &Row<'_>, journal: &mut Journal) -> Line {
     let before = journal.current().number();
     let mut last = before;
-    for _ in 0..count {
+    for _ in 0..row.wide(0) {
         match journal.commit_edits(1, Edits::new(Vec::new(alloc))) {
             Ok(number) if last.checked_add(1) == Some(number) => last = number,
-            outcome => return outcome_text(alloc, &outcome),
+            outcome => return outcome_text(row.line(), &outcome),
         }
     }
-    Ok(format!(in alloc; "each generation after {before} up to {last}")?)
+    row.line()
+        .value("each generation after ", &before)
+        .value(" up to ", &last)
 }
 
-/// How many entries a history has, and what its current generation is.
-fn journal_text(alloc: Global, journal: &Journal) -> Result<String, RowFault> {
-    let entries = journal.entries().len();
+/// Puts how many entries a history has, and what its current generation is, behind what stands.
+fn journal_text(line: Line, journal: &Journal) -> Line {
     let current = journal.current();
-    let number = current.number();
-    let files = current.tree().len();
-    let modules = current.lines().len();
-    Ok(format!(in alloc;
-        "entries {entries}, generation {number}, files {files}, modules {modules}"
-    )?)
+    line.value("entries ", &journal.entries().len())
+        .value(", generation ", &current.number())
+        .value(", files ", &current.tree().len())
+        .value(", modules ", &current.lines().len())
 }

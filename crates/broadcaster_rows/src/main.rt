@@ -10,6 +10,7 @@ mod journals;
 mod merging;
 mod packer;
 mod texts;
+mod weights;
 mod words;
 mod world;
 
@@ -18,7 +19,7 @@ use crate::generations::Generations;
 use crate::journals::Journals;
 use std::alloc::Global;
 use std::io;
-use test_rows::{Calls, Row, RowFault, answer_rows};
+use test_rows::{Calls, Line, Row, RowFault, answer_rows};
 
 /// What the rows made last, for the calls behind them.
 #[derive(Drop)]
@@ -30,41 +31,39 @@ struct Broadcaster<'a> {
 
 impl<'a> Calls for Broadcaster<'a> {
     fn call(&mut self, alloc: Global, row: &Row<'_>) -> Result<String, RowFault> {
-        if let Some(answer) = packer::call(alloc, row)? {
-            return Ok(answer);
-        }
-        if let Some(answer) = merging::call(alloc, row)? {
-            return Ok(answer);
-        }
-        if let Some(answer) = world::call(alloc, row)? {
-            return Ok(answer);
-        }
-        if let Some(answer) = catalogue::call(alloc, row)? {
-            return Ok(answer);
-        }
-        if let Some(answer) = self.generations.call(alloc, row)? {
-            return Ok(answer);
-        }
-        if let Some(answer) = self.journals.call(alloc, row)? {
-            return Ok(answer);
-        }
-        if let Some(answer) = self.call_cycle(alloc, row)? {
-            return Ok(answer);
-        }
-        match self.folders.call(alloc, row)? {
-            Some(answer) => Ok(answer),
+        match self.answer(alloc, row) {
+            Some(line) => line.done(),
             None => Err(RowFault::BadRow),
         }
     }
 }
 
 impl<'a> Broadcaster<'a> {
-    /// The answer, where the row is a call on the cycle of the generation that was made last.
-    fn call_cycle(&self, alloc: Global, row: &Row<'_>) -> Result<Option<String>, RowFault> {
-        match self.generations.current() {
-            Ok(generation) => cycle::call(alloc, row, generation),
-            Err(_) => Ok(None),
+    fn answer(&mut self, alloc: Global, row: &Row<'_>) -> Option<Line> {
+        if let Some(line) = packer::call(alloc, row) {
+            return Some(line);
         }
+        if let Some(line) = merging::call(alloc, row) {
+            return Some(line);
+        }
+        if let Some(line) = catalogue::call(alloc, row) {
+            return Some(line);
+        }
+        if let Some(line) = self.answer_on_what_stands(alloc, row) {
+            return Some(line);
+        }
+        self.folders.call(alloc, row)
+    }
+
+    /// The answer, where the row is a call on a generation or a history, or one under weights.
+    fn answer_on_what_stands(&mut self, alloc: Global, row: &Row<'_>) -> Option<Line> {
+        if let Some(line) = self.generations.call(alloc, row) {
+            return Some(line);
+        }
+        if let Some(line) = self.journals.call(alloc, row) {
+            return Some(line);
+        }
+        weights::call(alloc, row, &self.generations)
     }
 }
 

@@ -1,58 +1,50 @@
 //! Where objects are placed: their sizes, and the modules in which they were.
 
-use crate::texts::with_word;
-use crate::words::long;
+use crate::texts::{Told, each};
 use dsi_dii::MOST_MODULES;
 use module_packer::{need, place, place_fresh};
 use std::alloc::{AllocError, Global};
-use test_rows::{Row, RowFault};
+use test_rows::{Line, Row, RowFault};
 
 /// The answer, where the row is a call of the packer.
-pub(crate) fn call(alloc: Global, row: &Row<'_>) -> Result<Option<String>, RowFault> {
+pub(crate) fn call(alloc: Global, row: &Row<'_>) -> Option<Line> {
     match row.name() {
-        "need" => Ok(Some(needed(alloc, row)?)),
-        "place-fresh" => Ok(Some(placed_fresh(alloc, row)?)),
-        "place-kept" => Ok(Some(placed_kept(alloc)?)),
-        _ => Ok(None),
+        "need" => Some(needed(alloc, row)),
+        "place-fresh" => Some(placed_fresh(alloc, row)),
+        "place-kept" => Some(placed_kept(alloc, row)),
+        _ => None,
     }
 }
 
 /// The sizes that the words say.
-fn sizes(alloc: Global, row: &Row<'_>) -> Result<Vec<u32>, RowFault> {
+fn sizes(alloc: Global, row: &Row<'_>) -> Vec<u32> {
     let mut sizes = Vec::new(alloc);
     for place in 0..row.len() {
-        sizes = with_size(sizes, long(row, place)?)?;
+        row.push(&mut sizes, row.long(place));
     }
-    Ok(sizes)
-}
-
-fn with_size(mut sizes: Vec<u32>, size: u32) -> Result<Vec<u32>, AllocError> {
-    sizes.push(size)?;
-    Ok(sizes)
+    sizes
 }
 
 /// How many modules objects of these sizes take.
-fn needed(alloc: Global, row: &Row<'_>) -> Result<String, RowFault> {
-    let sizes = sizes(alloc, row)?;
+fn needed(alloc: Global, row: &Row<'_>) -> Line {
+    let sizes = sizes(alloc, row);
     if sizes.is_empty() {
-        return Err(RowFault::BadRow);
+        return row.failed(RowFault::BadRow);
     }
-    let modules = need(&sizes);
-    Ok(format!(in alloc; "{modules}")?)
+    row.line().value("", &need(&sizes))
 }
 
 /// The modules of objects of these sizes.
-fn placed_fresh(alloc: Global, row: &Row<'_>) -> Result<String, RowFault> {
-    let sizes = sizes(alloc, row)?;
+fn placed_fresh(alloc: Global, row: &Row<'_>) -> Line {
+    let sizes = sizes(alloc, row);
     if sizes.is_empty() || need(&sizes) > MOST_MODULES {
-        return Err(RowFault::BadRow);
+        return row.failed(RowFault::BadRow);
     }
-    let modules = place_fresh(alloc, &sizes)?;
-    Ok(modules_text(alloc, &modules)?)
+    placed(row, place_fresh(alloc, &sizes))
 }
 
 /// The modules of objects that were in modules. The second one has grown, and is too large for its old module with the first.
-fn placed_kept(alloc: Global) -> Result<String, AllocError> {
+fn placed_kept(alloc: Global, row: &Row<'_>) -> Line {
     let grown = [
         (117, Some(1)),
         (65_500, Some(1)),
@@ -60,16 +52,18 @@ fn placed_kept(alloc: Global) -> Result<String, AllocError> {
         (65_537, Some(3)),
         (400, Some(2)),
     ];
-    let modules = place(alloc, &grown)?;
-    modules_text(alloc, &modules)
+    placed(row, place(alloc, &grown))
 }
 
-/// The modules with a space between.
-fn modules_text(alloc: Global, modules: &[u16]) -> Result<String, AllocError> {
-    let mut words = String::new(alloc);
-    for module in modules {
-        let word = format!(in alloc; "{module}")?;
-        words = with_word(words, word.as_str())?;
+fn placed(row: &Row<'_>, modules: Result<Vec<u16>, AllocError>) -> Line {
+    match modules {
+        Ok(modules) => each(row.line(), &modules),
+        Err(_) => row.failed(RowFault::NoMemory),
     }
-    Ok(words)
+}
+
+impl Told for u16 {
+    fn told(&self, line: Line) -> Line {
+        line.value("", self)
+    }
 }

@@ -1,64 +1,73 @@
-//! What the words of a row say, beside bytes and numbers of 64 bits.
+//! What the words of a row say, beside bytes and numbers.
 
 use oc_bytes::Blob;
 use path_tree::{Edit, Path};
 use std::alloc::{AllocError, Global};
 use test_rows::{Row, RowFault};
 
-/// The number of two bytes that the word at a place says.
-pub(crate) fn short(row: &Row<'_>, place: usize) -> Result<u16, RowFault> {
-    u16::try_from(row.number(place)?).map_err(|_| RowFault::BadRow)
-}
-
-/// The number of four bytes that the word at a place says.
-pub(crate) fn long(row: &Row<'_>, place: usize) -> Result<u32, RowFault> {
-    u32::try_from(row.number(place)?).map_err(|_| RowFault::BadRow)
-}
-
-/// The number of elements that the word at a place says.
-pub(crate) fn count(row: &Row<'_>, place: usize) -> Result<usize, RowFault> {
-    usize::try_from(row.number(place)?).map_err(|_| RowFault::BadRow)
-}
-
 /// The path of a text.
 pub(crate) fn path_of(alloc: Global, text: &[u8]) -> Result<Path, RowFault> {
-    Path::parse(alloc, text).map_err(|_| RowFault::BadRow)
+    match Path::parse(alloc, text) {
+        Ok(path) => Ok(path),
+        Err(_) => Err(RowFault::BadRow),
+    }
 }
 
 /// The path that the word at a place says.
 pub(crate) fn path(alloc: Global, row: &Row<'_>, place: usize) -> Result<Path, RowFault> {
-    path_of(alloc, row.word(place)?.as_bytes())
+    path_of(alloc, row.text(place).as_bytes())
 }
 
-/// The edits of the words from a place on: `put PATH BYTES` and `remove PATH`.
-pub(crate) fn edits(alloc: Global, row: &Row<'_>, from: usize) -> Result<Vec<Edit>, RowFault> {
+/// The edits of the words from a place up to a deed: `put PATH BYTES` and `remove PATH`.
+pub(crate) fn edits(alloc: Global, row: &Row<'_>, from: usize) -> Vec<Edit> {
     let mut edits = Vec::new(alloc);
     for place in from..row.len() {
-        if let Some(edit) = edit(alloc, row, place)? {
-            edits = with_edit(edits, edit)?;
+        if begins_a_deed(row.text(place)) {
+            break;
+        }
+        if let Some(edit) = edit(alloc, row, place) {
+            push_edit(row, &mut edits, edit);
         }
     }
-    Ok(edits)
+    edits
+}
+
+/// Puts an edit behind the others, if it is one.
+pub(crate) fn push_edit(row: &Row<'_>, edits: &mut Vec<Edit>, edit: Result<Edit, RowFault>) {
+    match edit {
+        Ok(edit) => row.push(edits, edit),
+        Err(fault) => row.fail(fault),
+    }
+}
+
+/// Whether a word is the name of something that is done to a catalogue.
+fn begins_a_deed(word: &str) -> bool {
+    matches!(word, "state" | "commit" | "draw" | "sections" | "entry")
 }
 
 /// The edit that begins at a place, if one does.
-pub(crate) fn edit(alloc: Global, row: &Row<'_>, place: usize) -> Result<Option<Edit>, RowFault> {
-    let after = place.saturating_add(1);
-    match row.word(place)? {
-        "put" => {
-            let content = row.bytes(alloc, after.saturating_add(1))?;
-            let content = Blob::new(alloc, content)?;
-            Ok(Some(Edit::Put(path(alloc, row, after)?, content)))
-        }
-        "remove" => Ok(Some(Edit::Remove(path(alloc, row, after)?))),
-        _ => Ok(None),
+fn edit(alloc: Global, row: &Row<'_>, place: usize) -> Option<Result<Edit, RowFault>> {
+    match row.text(place) {
+        "put" => Some(put(alloc, row, place.saturating_add(1))),
+        "remove" => Some(remove(alloc, row, place.saturating_add(1))),
+        _ => None,
     }
 }
 
-/// The edits with one more.
-pub(crate) fn with_edit(mut edits: Vec<Edit>, edit: Edit) -> Result<Vec<Edit>, AllocError> {
-    edits.push(edit)?;
-    Ok(edits)
+/// The put of the path and the bytes at a place.
+pub(crate) fn put(alloc: Global, row: &Row<'_>, place: usize) -> Result<Edit, RowFault> {
+    let content = Blob::new(alloc, row.octets(place.saturating_add(1)))?;
+    Ok(Edit::Put(path(alloc, row, place)?, content))
+}
+
+fn remove(alloc: Global, row: &Row<'_>, place: usize) -> Result<Edit, RowFault> {
+    Ok(Edit::Remove(path(alloc, row, place)?))
+}
+
+/// The put of shared bytes at the path of a text.
+pub(crate) fn put_shared(alloc: Global, text: &[u8], content: &Blob) -> Result<Edit, RowFault> {
+    let content = content.share()?;
+    Ok(Edit::Put(path_of(alloc, text)?, content))
 }
 
 /// So many zero bytes.

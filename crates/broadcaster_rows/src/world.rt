@@ -1,132 +1,131 @@
 //! A world of a broadcaster and a receiver, and the events that happen in it.
-ghost use Rattle.std.specs.Prelude.{◌≡◌, ◌==◌, if◌then◌else◌, IfOk, map};
+ghost use Rattle.std.specs.Prelude.{IfOk, map};
 ghost use Rattle.std.specs.List.{All};
 ghost use Rattle.carousel_world.specs.Events.{view};
 ghost use Rattle.carousel_world.specs.World.{InRange};
 
-use crate::texts::{answer_text, with_word};
-use crate::words::{long, path, with_edit};
+use crate::texts::{Told, answer_text, each};
+use crate::words::{path, put};
 use carousel_world::{Event, Reply, World};
-use cycle_planner::{GREATEST_ID, MOST_DRAWN, Weigh};
-use oc_bytes::Blob;
-use path_tree::{Edit, Edits, Path};
+use cycle_planner::MOST_DRAWN;
+use path_resolver::Answer;
+use path_tree::Edits;
 use std::alloc::{AllocError, Global};
-use test_rows::{Row, RowFault};
+use test_rows::{Line, Row, RowFault};
 
-/// The answer, where the row is a world: the editor, the path and the bytes of a commit, how many items are drawn then, and the
-/// reader who opens the path.
-pub(crate) fn call(alloc: Global, row: &Row<'_>) -> Result<Option<String>, RowFault> {
-    match row.name() {
-        "world" => Ok(Some(happened(alloc, row)?)),
-        _ => Ok(None),
-    }
-}
-
-/// What the events of a row reply.
-fn happened(alloc: Global, row: &Row<'_>) -> Result<String, RowFault> {
-    let content = Blob::new(alloc, row.bytes(alloc, 2)?)?;
-    let put = Edit::Put(path(alloc, row, 1)?, content);
-    let edits = Edits::new(with_edit(Vec::new(alloc), put)?);
-    let first = commit(long(row, 0)?, edits)?;
-    let second = draw(alloc, long(row, 3)?)?;
-    let third = open_of(long(row, 4)?, path(alloc, row, 1)?)?;
-    Ok(replies_of(alloc, first, second, third)?)
-}
-
-/// What the events reply in a world in which module 1 weighs 2, and every other one 1. The second is in a list of its own.
-fn replies_of(
-    alloc: Global,
-    first: Event,
-    second: Event,
-    third: Event,
-) -> Result<String, AllocError>
-    requires first { InRange (view first) }
-    requires second { InRange (view second) }
-    requires third { InRange (view third) }
-{
-    let mut weights = [1; GREATEST_ID];
-    weights[0] = 2;
-    let call = Box::new(
-        alloc,
-        |id: u16| -> u8
-            ensures { result ≡ (if id == 1 then 2 else 1) }
-        { if id == 1 { 2 } else { 1 } },
-    )?;
-    let weigh = Weigh::new(weights, call);
-    let mut world = World::new(alloc, 1, weigh)?;
-    let committed = reply_text(alloc, &world.step(first)?)?;
-    let replies = world.run(alone(alloc, second)?)?;
-    let drawn = replies_text(alloc, &replies)?;
-    let opened = reply_text(alloc, &world.step(third)?)?;
-    format!(in alloc; "[{committed}] [{drawn}] [{opened}]")
-}
-
-fn commit(editor: u32, edits: Edits) -> Result<Event, RowFault>
-    ensures { IfOk result (λ e. InRange (view e)) }
-{
-    if editor < 1 || editor > 64 {
-        return Err(RowFault::BadRow);
-    }
-    Ok(Event::Commit { editor, edits })
-}
-
-fn draw(alloc: Global, asked: u32) -> Result<Event, RowFault>
-    ensures { IfOk result (λ e. InRange (view e)) }
-{
-    if asked < 1 || asked > MOST_DRAWN {
-        return Err(RowFault::BadRow);
-    }
-    Ok(Event::Draw {
-        asked,
-        fates: Vec::new(alloc),
-    })
-}
-
-fn open_of(reader: u32, path: Path) -> Result<Event, RowFault>
-    ensures { IfOk result (λ e. InRange (view e)) }
-{
-    if reader < 1 || reader > 64 {
-        return Err(RowFault::BadRow);
-    }
-    Ok(Event::Open { reader, path })
-}
-
-/// A list of one event.
-fn alone(alloc: Global, event: Event) -> Result<Vec<Event>, AllocError>
-    requires { InRange (view event) }
-    ensures { IfOk result (λ es. All InRange (map view es.items)) }
-{
-    let mut events = Vec::new(alloc);
-    events.push(event)?;
-    Ok(events)
-}
-
-/// The replies, with a space between.
-fn replies_text(alloc: Global, replies: &[Reply]) -> Result<String, AllocError> {
-    let mut words = String::new(alloc);
-    for reply in replies {
-        words = with_word(words, reply_text(alloc, reply)?.as_str())?;
-    }
-    Ok(words)
+/// What the events of a row reply in a world: the editor, the path and the bytes of a commit, how many items are drawn then, and the
+/// reader who opens the path. The draw is in a list of its own.
+pub(crate) fn replies(alloc: Global, row: &Row<'_>, world: &mut World) -> Line {
+    let committed = stepped(row, world, commit(alloc, row));
+    let drawn = ran(row, world, draws(alloc, row));
+    let opened = stepped(row, world, open(alloc, row));
+    row.line()
+        .line("[", committed)
+        .line("] [", drawn)
+        .line("] [", opened)
+        .text("]")
 }
 
 /// What an event replies.
-pub(crate) fn reply_text(alloc: Global, reply: &Reply) -> Result<String, AllocError> {
+fn stepped(row: &Row<'_>, world: &mut World, event: Result<Event, RowFault>) -> Line
+    requires { IfOk event (λ e. InRange (view e)) }
+{
+    match event {
+        Ok(event) => reply_text(row, world.step(event)),
+        Err(fault) => row.failed(fault),
+    }
+}
+
+fn reply_text(row: &Row<'_>, reply: Result<Reply, AllocError>) -> Line {
     match reply {
-        Reply::Committed(number) => format!(in alloc; "generation {number}"),
-        Reply::Refused(refusal) => format!(in alloc; "refused: {refusal}"),
-        Reply::Drawn {
-            generation,
-            first,
-            count,
-        } => format!(in alloc; "{count} items of generation {generation} from {first}"),
-        Reply::DrawsFull(draws) => format!(in alloc; "{draws} draws are made, the most"),
-        Reply::Opened { label, answer } => {
-            let answer = answer_text(alloc, answer)?;
-            match label {
-                Some(label) => format!(in alloc; "in generation {label}: {answer}"),
-                None => format!(in alloc; "in no generation: {answer}"),
-            }
+        Ok(reply) => reply.told(row.line()),
+        Err(_) => row.failed(RowFault::NoMemory),
+    }
+}
+
+/// What a list of events replies.
+fn ran(row: &Row<'_>, world: &mut World, events: Result<Vec<Event>, RowFault>) -> Line
+    requires { IfOk events (λ es. All InRange (map view es.items)) }
+{
+    match events {
+        Ok(events) => replies_text(row, world.run(events)),
+        Err(fault) => row.failed(fault),
+    }
+}
+
+fn replies_text(row: &Row<'_>, replies: Result<Vec<Reply>, AllocError>) -> Line {
+    match replies {
+        Ok(replies) => each(row.line(), &replies),
+        Err(_) => row.failed(RowFault::NoMemory),
+    }
+}
+
+fn commit(alloc: Global, row: &Row<'_>) -> Result<Event, RowFault>
+    ensures { IfOk result (λ e. InRange (view e)) }
+{
+    let editor = row.long(0);
+    if editor < 1 || editor > 64 {
+        return Err(RowFault::BadRow);
+    }
+    let edits = vec![in alloc; put(alloc, row, 1)?]?;
+    Ok(Event::Commit {
+        editor,
+        edits: Edits::new(edits),
+    })
+}
+
+/// A list of one draw.
+fn draws(alloc: Global, row: &Row<'_>) -> Result<Vec<Event>, RowFault>
+    ensures { IfOk result (λ es. All InRange (map view es.items)) }
+{
+    let asked = row.long(3);
+    if asked < 1 || asked > MOST_DRAWN {
+        return Err(RowFault::BadRow);
+    }
+    let mut events = Vec::new(alloc);
+    events.push(Event::Draw {
+        asked,
+        fates: Vec::new(alloc),
+    })?;
+    Ok(events)
+}
+
+fn open(alloc: Global, row: &Row<'_>) -> Result<Event, RowFault>
+    ensures { IfOk result (λ e. InRange (view e)) }
+{
+    let reader = row.long(4);
+    if reader < 1 || reader > 64 {
+        return Err(RowFault::BadRow);
+    }
+    Ok(Event::Open {
+        reader,
+        path: path(alloc, row, 1)?,
+    })
+}
+
+impl Told for Reply {
+    fn told(&self, line: Line) -> Line {
+        match self {
+            Reply::Committed(number) => line.value("generation ", number),
+            Reply::Refused(refusal) => line.value("refused: ", refusal),
+            Reply::Drawn {
+                generation,
+                first,
+                count,
+            } => line
+                .value("", count)
+                .value(" items of generation ", generation)
+                .value(" from ", first),
+            Reply::DrawsFull(draws) => line.value("", draws).text(" draws are made, the most"),
+            Reply::Opened { label, answer } => opened_text(line, *label, answer),
         }
+    }
+}
+
+/// Puts what an open replies behind what stands: the label of the generation, and the answer.
+fn opened_text(line: Line, label: Option<u64>, answer: &Answer) -> Line {
+    match label {
+        Some(label) => answer_text(line.value("in generation ", &label).text(": "), answer),
+        None => answer_text(line.text("in no generation: "), answer),
     }
 }

@@ -5,76 +5,73 @@
 //! - `block-count SIZE BLOCKSIZE`: how many blocks a module has.
 //! - `block-span SIZE BLOCKSIZE BLOCK`: how many bytes one of them has.
 
-ghost use Rattle.std.specs.Prelude.{◌≤◌, IfOk};
+ghost use Rattle.std.specs.Prelude.{◌≤◌};
 
-use crate::words::{byte, long, short};
+use crate::told::{Told, read};
 use ddb_block::{Ddb, MOST_BLOCK_SIZE, block_count, block_span, decode, encode};
-use std::alloc::{AllocError, Global};
-use test_rows::{Row, RowFault, hex_text};
+use std::alloc::Global;
+use test_rows::{Line, Row, RowFault};
 
-pub(crate) fn call(alloc: Global, row: &Row<'_>) -> Result<Option<String>, RowFault> {
-    let answer = match row.name() {
-        "ddb-encode" => encoded(alloc, row)?,
-        "ddb-decode" => decoded(alloc, row)?,
-        "block-count" => counted(row)?.to_string(alloc)?,
-        "block-span" => spanned(row)?.to_string(alloc)?,
-        _ => return Ok(None),
-    };
-    Ok(Some(answer))
+pub(crate) fn call(alloc: Global, row: &Row<'_>) -> Option<Line> {
+    match row.name() {
+        "ddb-encode" => Some(encoded(alloc, row)),
+        "ddb-decode" => Some(decoded(alloc, row)),
+        "block-count" => Some(count(row)),
+        "block-span" => Some(span(row)),
+        _ => None,
+    }
 }
 
-fn encoded(alloc: Global, row: &Row<'_>) -> Result<String, RowFault> {
+fn encoded(alloc: Global, row: &Row<'_>) -> Line {
     let ddb = Ddb {
-        download: long(row, 0)?,
-        module: short(row, 1)?,
-        version: byte(row, 2)?,
-        block: short(row, 3)?,
-        bytes: row.bytes(alloc, 4)?,
+        download: row.long(0),
+        module: row.short(1),
+        version: row.byte(2),
+        block: row.short(3),
+        bytes: row.octets(4),
     };
     if ddb.bytes.len() > usize::from(MOST_BLOCK_SIZE) {
-        return Err(RowFault::BadRow);
+        return row.failed(RowFault::BadRow);
     }
-    Ok(hex_text(alloc, &encode(alloc, &ddb)?)?)
+    row.line().outcome(encode(alloc, &ddb))
 }
 
-fn decoded(alloc: Global, row: &Row<'_>) -> Result<String, RowFault> {
-    match decode(alloc, &row.bytes(alloc, 0)?) {
-        Ok(ddb) => Ok(block_text(alloc, &ddb)?),
-        Err(fault) => Ok(fault.to_string(alloc)?),
-    }
+fn decoded(alloc: Global, row: &Row<'_>) -> Line {
+    read(row.line(), decode(alloc, &row.octets(0)))
 }
 
-fn block_text(alloc: Global, ddb: &Ddb) -> Result<String, AllocError> {
-    let download = ddb.download;
-    let module_id = ddb.module;
-    let version = ddb.version;
-    let block = ddb.block;
-    let bytes = hex_text(alloc, &ddb.bytes)?;
-    format!(in alloc;
-        "download {download}, module {module_id}, version {version}, block {block}, bytes {bytes}"
-    )
+impl Told for Ddb {
+    fn told(&self, line: Line) -> Line {
+        line.value("download ", &self.download)
+            .value(", module ", &self.module)
+            .value(", version ", &self.version)
+            .value(", block ", &self.block)
+            .bytes(", bytes ", &self.bytes)
+    }
 }
 
 /// The block size that the row says: at least 1 byte.
-fn block_size(row: &Row<'_>) -> Result<u16, RowFault>
-    ensures { IfOk result (λ size. 1 ≤ size) }
+fn block_size(row: &Row<'_>) -> u16
+    ensures { 1 ≤ result }
 {
-    match short(row, 1)? {
-        0 => Err(RowFault::BadRow),
-        size => Ok(size),
+    match row.short(1) {
+        0 => {
+            row.fail(RowFault::BadRow);
+            1
+        }
+        size => size,
     }
 }
 
-fn counted(row: &Row<'_>) -> Result<u32, RowFault> {
-    Ok(block_count(long(row, 0)?, block_size(row)?))
+fn count(row: &Row<'_>) -> Line {
+    row.line()
+        .value("", &block_count(row.long(0), block_size(row)))
 }
 
-fn spanned(row: &Row<'_>) -> Result<u16, RowFault> {
-    let size = long(row, 0)?;
-    let block_size = block_size(row)?;
-    let block = short(row, 2)?;
+fn span(row: &Row<'_>) -> Line {
+    let (size, block_size, block) = (row.long(0), block_size(row), row.short(2));
     if u32::from(block) >= block_count(size, block_size) {
-        return Err(RowFault::BadRow);
+        return row.failed(RowFault::BadRow);
     }
-    Ok(block_span(size, block_size, block))
+    row.line().value("", &block_span(size, block_size, block))
 }

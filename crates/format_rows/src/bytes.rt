@@ -8,175 +8,169 @@
 
 use oc_bytes::{Blob, Cut, Fields, WriteFault, Writer};
 use std::alloc::{AllocError, Global};
-use test_rows::{Row, RowFault, hex_text};
+use std::fmt::Display;
+use std::str::FromStr;
+use test_rows::{Line, Row, RowFault};
 
-pub(crate) fn call(alloc: Global, row: &Row<'_>) -> Result<Option<String>, RowFault> {
-    let answer = match row.name() {
-        "writer" => written(alloc, row)?,
-        "fields" => read(alloc, row)?,
-        "blob" => shared(alloc, row)?,
-        "write-fault" => fault(alloc, row)?,
-        _ => return Ok(None),
-    };
-    Ok(Some(answer))
+pub(crate) fn call(alloc: Global, row: &Row<'_>) -> Option<Line> {
+    match row.name() {
+        "writer" => Some(written(alloc, row)),
+        "fields" => Some(read(row)),
+        "blob" => Some(shared(alloc, row)),
+        "write-fault" => Some(fault(row)),
+        _ => None,
+    }
 }
 
-fn written(alloc: Global, row: &Row<'_>) -> Result<String, RowFault> {
+fn written(alloc: Global, row: &Row<'_>) -> Line {
     let mut writer = Writer::new(alloc);
     for place in 0..row.len() {
-        match row.word(place)?.split_once(':') {
-            Some((width, digits)) => put(&mut writer, width, number_of(digits)?)?,
-            None => writer.put_bytes(&row.bytes(alloc, place)?)?,
-        }
+        row.keep(put_word(row, place, &mut writer));
     }
-    Ok(hex_text(alloc, &writer.done())?)
+    row.line().bytes("", &writer.done())
+}
+
+/// Puts what the word at a place says.
+fn put_word(row: &Row<'_>, place: usize, writer: &mut Writer) -> Result<(), AllocError> {
+    match row.text(place).split_once(':') {
+        Some((width, digits)) => put(row, writer, width, digits),
+        None => writer.put_bytes(&row.octets(place)),
+    }
 }
 
 /// Puts a number of this width.
-fn put(writer: &mut Writer, width: &str, number: u64) -> Result<(), RowFault> {
+fn put(row: &Row<'_>, writer: &mut Writer, width: &str, digits: &str) -> Result<(), AllocError> {
     match width {
-        "u8" => writer.put_u8(byte(number)?)?,
-        "u16" => writer.put_u16(short(number)?)?,
-        "u32" => writer.put_u32(long(number)?)?,
-        "u64" => writer.put_u64(number)?,
-        _ => return Err(RowFault::BadRow),
-    }
-    Ok(())
-}
-
-fn number_of(digits: &str) -> Result<u64, RowFault> {
-    digits.parse::<u64>().map_err(|_| RowFault::BadRow)
-}
-
-fn byte(number: u64) -> Result<u8, RowFault> {
-    u8::try_from(number).map_err(|_| RowFault::BadRow)
-}
-
-fn short(number: u64) -> Result<u16, RowFault> {
-    u16::try_from(number).map_err(|_| RowFault::BadRow)
-}
-
-fn long(number: u64) -> Result<u32, RowFault> {
-    u32::try_from(number).map_err(|_| RowFault::BadRow)
-}
-
-fn count(number: u64) -> Result<usize, RowFault> {
-    usize::try_from(number).map_err(|_| RowFault::BadRow)
-}
-
-/// What a step found.
-#[derive(Drop)]
-enum Found<'a> {
-    /// A number.
-    Number(u64),
-    /// Bytes.
-    Bytes(&'a [u8]),
-    /// The value that had to be there.
-    This,
-    /// A message of its own, whose place and bytes are told.
-    Part(Fields<'a>),
-}
-
-/// Why a step found nothing.
-#[derive(Drop)]
-enum StepFault {
-    /// The call was refused.
-    Cut(Cut),
-    /// It is no step.
-    NoStep,
-}
-
-impl From<Cut> for StepFault {
-    fn from(cut: Cut) -> StepFault {
-        StepFault::Cut(cut)
+        "u8" => writer.put_u8(number(row, digits)),
+        "u16" => writer.put_u16(number(row, digits)),
+        "u32" => writer.put_u32(number(row, digits)),
+        "u64" => writer.put_u64(number(row, digits)),
+        _ => {
+            row.fail(RowFault::BadRow);
+            Ok(())
+        }
     }
 }
 
-impl From<RowFault> for StepFault {
-    fn from(_: RowFault) -> StepFault {
-        StepFault::NoStep
+/// The number that digits say, or 0.
+fn number<N: FromStr + From<u8>>(row: &Row<'_>, digits: &str) -> N
+where
+    N::Err: Drop,
+{
+    match digits.parse::<N>() {
+        Ok(number) => number,
+        Err(_) => {
+            row.fail(RowFault::BadRow);
+            N::from(0)
+        }
     }
 }
 
-fn read(alloc: Global, row: &Row<'_>) -> Result<String, RowFault> {
-    let bytes = row.bytes(alloc, 0)?;
+fn read(row: &Row<'_>) -> Line {
+    let bytes = row.octets(0);
     let mut fields = Fields::new(&bytes);
-    let mut answers = String::new(alloc);
+    let mut line = row.line();
     for place in 1..row.len() {
-        if place > 1 {
-            answers.push_str(", ")?;
-        }
-        let answer = match step(&mut fields, row.word(place)?) {
-            Ok(found) => found_text(alloc, found)?,
-            Err(StepFault::Cut(cut)) => cut.to_string(alloc)?,
-            Err(StepFault::NoStep) => return Err(RowFault::BadRow),
-        };
-        answers.push_str(answer.as_str())?;
+        line = step(row, line.between(", "), &mut fields, row.text(place));
     }
-    Ok(answers)
+    line
 }
 
-fn found_text(alloc: Global, found: Found<'_>) -> Result<String, AllocError> {
-    match found {
-        Found::Number(number) => number.to_string(alloc),
-        Found::Bytes(bytes) => hex_text(alloc, bytes),
-        Found::This => String::from_str(alloc, "this"),
-        Found::Part(part) => {
-            let bytes = hex_text(alloc, part.rest())?;
-            format!(in alloc; "{bytes} from {}", part.place())
-        }
-    }
-}
-
-fn step<'a>(fields: &mut Fields<'a>, word: &str) -> Result<Found<'a>, StepFault> {
+/// Puts what a step finds behind what stands.
+fn step(row: &Row<'_>, line: Line, fields: &mut Fields<'_>, word: &str) -> Line {
     match word.split_once(':') {
-        Some((name, digits)) => asked(fields, name, number_of(digits)?),
-        None => next(fields, word),
+        Some((name, digits)) => asked(row, line, fields, name, digits),
+        None => next(line, fields, word),
     }
 }
 
-/// What a step without a number finds.
-fn next<'a>(fields: &mut Fields<'a>, name: &str) -> Result<Found<'a>, StepFault> {
-    Ok(match name {
-        "u8" => Found::Number(u64::from(fields.u8()?)),
-        "u16" => Found::Number(u64::from(fields.u16()?)),
-        "u24" => Found::Number(u64::from(fields.u24()?)),
-        "u32" => Found::Number(u64::from(fields.u32()?)),
-        "u64" => Found::Number(fields.u64()?),
-        "sized8" => Found::Bytes(fields.sized8()?),
-        "sized16" => Found::Bytes(fields.sized16()?),
-        "sized32" => Found::Bytes(fields.sized32()?),
-        "place" => Found::Number(fields.place() as u64),
-        "rest" => Found::Bytes(fields.rest()),
-        _ => return Err(StepFault::NoStep),
-    })
-}
-
-/// What a step with a number finds.
-fn asked<'a>(fields: &mut Fields<'a>, name: &str, number: u64) -> Result<Found<'a>, StepFault> {
+/// Puts what a step without a number finds behind what stands.
+fn next(line: Line, fields: &mut Fields<'_>, name: &str) -> Line {
     match name {
-        "take" => return Ok(Found::Bytes(fields.take(count(number)?)?)),
-        "part" => return Ok(Found::Part(fields.part(count(number)?)?)),
-        "this_u8" => fields.this_u8(byte(number)?)?,
-        "this_u16" => fields.this_u16(short(number)?)?,
-        "this_u32" => fields.this_u32(long(number)?)?,
-        "this_u64" => fields.this_u64(number)?,
-        _ => return Err(StepFault::NoStep),
+        "sized8" => bytes_found(line, fields.sized8()),
+        "sized16" => bytes_found(line, fields.sized16()),
+        "sized32" => bytes_found(line, fields.sized32()),
+        "place" => line.value("", &fields.place()),
+        "rest" => line.bytes("", fields.rest()),
+        _ => next_number(line, fields, name),
     }
-    Ok(Found::This)
 }
 
-fn shared(alloc: Global, row: &Row<'_>) -> Result<String, RowFault> {
-    let blob = Blob::new(alloc, row.bytes(alloc, 0)?)?;
-    let other = blob.share()?;
-    Ok(hex_text(alloc, other.bytes())?)
+/// Puts a number of a width behind what stands.
+fn next_number(line: Line, fields: &mut Fields<'_>, name: &str) -> Line {
+    match name {
+        "u8" => number_found(line, fields.u8()),
+        "u16" => number_found(line, fields.u16()),
+        "u24" => number_found(line, fields.u24()),
+        "u32" => number_found(line, fields.u32()),
+        "u64" => number_found(line, fields.u64()),
+        _ => line.failed(RowFault::BadRow),
+    }
 }
 
-fn fault(alloc: Global, row: &Row<'_>) -> Result<String, RowFault> {
-    let fault = match row.word(0)? {
-        "failed" => WriteFault::Failed,
-        "no-memory" => WriteFault::NoMemory,
-        _ => return Err(RowFault::BadRow),
+/// Puts what a step with a number finds behind what stands.
+fn asked(row: &Row<'_>, line: Line, fields: &mut Fields<'_>, name: &str, digits: &str) -> Line {
+    match name {
+        "take" => bytes_found(line, fields.take(count(row, digits))),
+        "part" => part_found(line, fields.part(count(row, digits))),
+        "this_u8" => this_found(line, fields.this_u8(number(row, digits))),
+        "this_u16" => this_found(line, fields.this_u16(number(row, digits))),
+        "this_u32" => this_found(line, fields.this_u32(number(row, digits))),
+        "this_u64" => this_found(line, fields.this_u64(number(row, digits))),
+        _ => line.failed(RowFault::BadRow),
+    }
+}
+
+fn count(row: &Row<'_>, digits: &str) -> usize {
+    number(row, digits)
+}
+
+/// Puts a number that was read, or why none was.
+fn number_found<N: Display + Drop>(line: Line, found: Result<N, Cut>) -> Line {
+    match found {
+        Ok(number) => line.value("", &number),
+        Err(cut) => line.value("", &cut),
+    }
+}
+
+/// Puts bytes that were read, or why none were.
+fn bytes_found(line: Line, found: Result<&[u8], Cut>) -> Line {
+    match found {
+        Ok(bytes) => line.bytes("", bytes),
+        Err(cut) => line.value("", &cut),
+    }
+}
+
+/// Puts whether the value was there that had to be.
+fn this_found(line: Line, found: Result<(), Cut>) -> Line {
+    match found {
+        Ok(()) => line.text("this"),
+        Err(cut) => line.value("", &cut),
+    }
+}
+
+/// Puts the bytes and the place of a part that is read on its own, or why there is none.
+fn part_found(line: Line, found: Result<Fields<'_>, Cut>) -> Line {
+    match found {
+        Ok(part) => line.bytes("", part.rest()).value(" from ", &part.place()),
+        Err(cut) => line.value("", &cut),
+    }
+}
+
+fn shared(alloc: Global, row: &Row<'_>) -> Line {
+    let Ok(blob) = Blob::new(alloc, row.octets(0)) else {
+        return row.failed(RowFault::NoMemory);
     };
-    Ok(fault.to_string(alloc)?)
+    match blob.share() {
+        Ok(other) => row.line().bytes("", other.bytes()),
+        Err(_) => row.failed(RowFault::NoMemory),
+    }
+}
+
+fn fault(row: &Row<'_>) -> Line {
+    match row.text(0) {
+        "failed" => row.line().value("", &WriteFault::Failed),
+        "no-memory" => row.line().value("", &WriteFault::NoMemory),
+        _ => row.failed(RowFault::BadRow),
+    }
 }

@@ -11,55 +11,61 @@ ghost use Rattle.std.specs.List.{All};
 ghost use Rattle.dsi_dii.specs.declared.TheConstants.{LAST_GENERATION};
 
 use crate::references::{place_text, reference};
-use crate::words::{four, long, short};
+use crate::told::{Told, each, read};
+use crate::words::array;
 use dsi_dii::{
     BLOCK_SIZE, Control, Dii, Dsi, LAST_GENERATION, ModuleLine, TransactionId, decode, distance,
     encode_dii, encode_dsi,
 };
 use std::alloc::{AllocError, Global};
-use test_rows::{Row, RowFault, hex_text};
+use test_rows::{Line, Row, RowFault};
 
-pub(crate) fn call(alloc: Global, row: &Row<'_>) -> Result<Option<String>, RowFault> {
-    let answer = match row.name() {
-        "dsi-encode" => dsi_encoded(alloc, row)?,
-        "dii-encode" => dii_encoded(alloc, row)?,
-        "control-decode" => decoded(alloc, row)?,
-        "transaction-dii" => transaction(alloc, row)?,
-        "distance" => distance(version(row, 0)?, version(row, 1)?).to_string(alloc)?,
-        _ => return Ok(None),
-    };
-    Ok(Some(answer))
+pub(crate) fn call(alloc: Global, row: &Row<'_>) -> Option<Line> {
+    match row.name() {
+        "dsi-encode" => Some(dsi_encoded(alloc, row)),
+        "dii-encode" => Some(dii_encoded(alloc, row)),
+        "control-decode" => Some(decoded(alloc, row)),
+        "transaction-dii" => Some(transaction(row)),
+        "distance" => Some(ahead(row)),
+        _ => None,
+    }
 }
 
-fn dsi_encoded(alloc: Global, row: &Row<'_>) -> Result<String, RowFault> {
-    let key = four(alloc, row, 2)?;
-    let dsi = Dsi {
-        transaction: TransactionId::dsi(),
-        gateway: reference(alloc, *b"srg\0", long(row, 0)?, short(row, 1)?, key)?,
+fn dsi_encoded(alloc: Global, row: &Row<'_>) -> Line {
+    let key = array(row, 2);
+    let Ok(gateway) = reference(alloc, *b"srg\0", row.long(0), row.short(1), key) else {
+        return row.failed(RowFault::NoMemory);
     };
-    Ok(hex_text(alloc, &encode_dsi(alloc, &dsi)?)?)
+    let transaction = TransactionId::dsi();
+    let dsi = Dsi {
+        transaction,
+        gateway,
+    };
+    row.line().outcome(encode_dsi(alloc, &dsi))
 }
 
 /// The generation's number at a place: one that a DII may have.
-fn generation(row: &Row<'_>, place: usize) -> Result<u64, RowFault>
-    ensures { IfOk result (λ number. number ≤ LAST_GENERATION) }
+fn generation(row: &Row<'_>, place: usize) -> u64
+    ensures { result ≤ LAST_GENERATION }
 {
-    let number = row.number(place)?;
-    if number > LAST_GENERATION {
-        return Err(RowFault::BadRow);
+    let number = row.wide(place);
+    if number <= LAST_GENERATION {
+        return number;
     }
-    Ok(number)
+    row.fail(RowFault::BadRow);
+    0
 }
 
 /// The version at a place: one that a transactionId may have.
-fn version(row: &Row<'_>, place: usize) -> Result<u16, RowFault>
-    ensures { IfOk result (λ number. number < 16384) }
+fn version(row: &Row<'_>, place: usize) -> u16
+    ensures { result < 16384 }
 {
-    let number = short(row, place)?;
-    if number >= 16384 {
-        return Err(RowFault::BadRow);
+    let number = row.short(place);
+    if number < 16384 {
+        return number;
     }
-    Ok(number)
+    row.fail(RowFault::BadRow);
+    0
 }
 
 /// So many modules, numbered from 1, each of 34 bytes.
@@ -78,63 +84,71 @@ fn modules(alloc: Global, count: u16) -> Result<Vec<ModuleLine>, AllocError>
     Ok(lines)
 }
 
-fn dii_encoded(alloc: Global, row: &Row<'_>) -> Result<String, RowFault> {
+fn dii_encoded(alloc: Global, row: &Row<'_>) -> Line {
+    let transaction = TransactionId::dii(generation(row, 1));
+    let Ok(modules) = modules(alloc, row.short(2)) else {
+        return row.failed(RowFault::NoMemory);
+    };
     let dii = Dii {
-        download: long(row, 0)?,
+        download: row.long(0),
         block_size: BLOCK_SIZE,
-        transaction: TransactionId::dii(generation(row, 1)?),
-        modules: modules(alloc, short(row, 2)?)?,
+        transaction,
+        modules,
     };
-    match encode_dii(alloc, &dii) {
-        Ok(bytes) => Ok(hex_text(alloc, &bytes)?),
-        Err(fault) => Ok(fault.to_string(alloc)?),
+    row.line().outcome(encode_dii(alloc, &dii))
+}
+
+fn decoded(alloc: Global, row: &Row<'_>) -> Line {
+    read(row.line(), decode(alloc, &row.octets(0)))
+}
+
+impl Told for Control {
+    fn told(&self, line: Line) -> Line {
+        match self {
+            Control::Dsi(dsi) => dsi_text(line, dsi),
+            Control::Dii(dii) => dii_text(line, dii),
+        }
     }
 }
 
-fn decoded(alloc: Global, row: &Row<'_>) -> Result<String, RowFault> {
-    match decode(alloc, &row.bytes(alloc, 0)?) {
-        Ok(Control::Dsi(dsi)) => Ok(dsi_text(alloc, &dsi)?),
-        Ok(Control::Dii(dii)) => Ok(dii_text(alloc, &dii)?),
-        Err(fault) => Ok(fault.to_string(alloc)?),
+fn dsi_text(line: Line, dsi: &Dsi) -> Line {
+    let line = line
+        .bytes("DSI ", &dsi.transaction.0.to_be_bytes())
+        .text("; ");
+    place_text(line, &dsi.gateway)
+}
+
+fn dii_text(line: Line, dii: &Dii) -> Line {
+    let line = line
+        .bytes("DII ", &dii.transaction.0.to_be_bytes())
+        .value(", download ", &dii.download)
+        .value(", block size ", &dii.block_size);
+    each(line, "; ", &dii.modules)
+}
+
+impl Told for ModuleLine {
+    fn told(&self, line: Line) -> Line {
+        let form = if self.compressed {
+            ", compressed"
+        } else {
+            ", plain"
+        };
+        line.value("module ", &self.id)
+            .value(", ", &self.size)
+            .value(" bytes, version ", &self.version)
+            .text(form)
     }
 }
 
-fn dsi_text(alloc: Global, dsi: &Dsi) -> Result<String, AllocError> {
-    let transaction = dsi.transaction.0;
-    let gateway = place_text(alloc, &dsi.gateway)?;
-    format!(in alloc; "DSI {transaction:08x}; {gateway}")
+fn transaction(row: &Row<'_>) -> Line {
+    let transaction = TransactionId::dii(generation(row, 0));
+    row.line()
+        .bytes("", &transaction.0.to_be_bytes())
+        .value(", version ", &transaction.version())
+        .value(", identification ", &transaction.identification())
 }
 
-fn dii_text(alloc: Global, dii: &Dii) -> Result<String, AllocError> {
-    let transaction = dii.transaction.0;
-    let download = dii.download;
-    let block_size = dii.block_size;
-    let mut text = format!(in alloc;
-        "DII {transaction:08x}, download {download}, block size {block_size}"
-    )?;
-    for line in &dii.modules {
-        text.push_str("; ")?;
-        text.push_str(line_text(alloc, *line)?.as_str())?;
-    }
-    Ok(text)
-}
-
-fn line_text(alloc: Global, line: ModuleLine) -> Result<String, AllocError> {
-    let id = line.id;
-    let size = line.size;
-    let version = line.version;
-    let form = if line.compressed {
-        "compressed"
-    } else {
-        "plain"
-    };
-    format!(in alloc; "module {id}, {size} bytes, version {version}, {form}")
-}
-
-fn transaction(alloc: Global, row: &Row<'_>) -> Result<String, RowFault> {
-    let transaction = TransactionId::dii(generation(row, 0)?);
-    let number = transaction.0;
-    let version = transaction.version();
-    let identification = transaction.identification();
-    Ok(format!(in alloc; "{number:08x}, version {version}, identification {identification}")?)
+fn ahead(row: &Row<'_>) -> Line {
+    row.line()
+        .value("", &distance(version(row, 0), version(row, 1)))
 }

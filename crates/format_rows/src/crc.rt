@@ -3,24 +3,25 @@
 //! - `crc BYTES`: the CRC of the bytes.
 //! - `crc-step STATE BYTE`: the state after a byte more, of a state of four bytes.
 
-use crate::words::four;
+use crate::words::array;
 use section_crc::{crc, crc_step};
-use std::alloc::Global;
-use test_rows::{Row, RowFault};
+use test_rows::{Line, Row};
 
-pub(crate) fn call(alloc: Global, row: &Row<'_>) -> Result<Option<String>, RowFault> {
-    let state = match row.name() {
-        "crc" => crc(&row.bytes(alloc, 0)?),
-        "crc-step" => stepped(alloc, row)?,
-        _ => return Ok(None),
-    };
-    Ok(Some(format!(in alloc; "{state:08x}")?))
+pub(crate) fn call(row: &Row<'_>) -> Option<Line> {
+    match row.name() {
+        "crc" => Some(whole(row)),
+        "crc-step" => Some(stepped(row)),
+        _ => None,
+    }
 }
 
-fn stepped(alloc: Global, row: &Row<'_>) -> Result<u32, RowFault> {
-    let state = u32::from_be_bytes(four(alloc, row, 0)?);
-    match row.bytes(alloc, 1)?.as_slice() {
-        [byte] => Ok(crc_step(state, *byte)),
-        _ => Err(RowFault::BadRow),
-    }
+fn whole(row: &Row<'_>) -> Line {
+    let state = crc(&row.octets(0));
+    row.line().bytes("", &state.to_be_bytes())
+}
+
+fn stepped(row: &Row<'_>) -> Line {
+    let state = u32::from_be_bytes(array(row, 0));
+    let [byte]: [u8; 1] = array(row, 1);
+    row.line().bytes("", &crc_step(state, byte).to_be_bytes())
 }

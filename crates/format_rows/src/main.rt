@@ -9,16 +9,17 @@ mod objects;
 mod packets;
 mod paths;
 mod references;
-mod replies;
 mod sections;
+mod spelling;
 mod streams;
 mod tables;
+mod told;
 mod words;
 
 use path_tree::Tree;
 use std::alloc::Global;
 use std::io;
-use test_rows::{Calls, Row, RowFault, answer_rows};
+use test_rows::{Calls, Line, Row, RowFault, answer_rows};
 
 /// The calls of the formats, crate by crate, and the tree of files that edits change from row to row.
 #[derive(Drop)]
@@ -28,46 +29,57 @@ struct Formats {
 
 impl Calls for Formats {
     fn call(&mut self, alloc: Global, row: &Row<'_>) -> Result<String, RowFault> {
-        if let Some(answer) = messages(alloc, row)? {
-            return Ok(answer);
+        match self.answer(alloc, row) {
+            Some(line) => line.done(),
+            None => Err(RowFault::BadRow),
         }
-        if let Some(answer) = paths::call(alloc, row, &mut self.tree)? {
-            return Ok(answer);
+    }
+}
+
+impl Formats {
+    fn answer(&mut self, alloc: Global, row: &Row<'_>) -> Option<Line> {
+        if let Some(line) = messages(alloc, row) {
+            return Some(line);
         }
-        if let Some(answer) = objects::call(alloc, row)? {
-            return Ok(answer);
+        if let Some(line) = paths::call(alloc, row, &mut self.tree) {
+            return Some(line);
         }
-        if let Some(answer) = packets::call(alloc, row)? {
-            return Ok(answer);
-        }
-        if let Some(answer) = streams::call(alloc, row)? {
-            return Ok(answer);
-        }
-        if let Some(answer) = tables::call(alloc, row)? {
-            return Ok(answer);
-        }
-        Err(RowFault::BadRow)
+        carried(alloc, row)
     }
 }
 
 /// The answer, where the row is a call on bytes, a CRC, a section or a message in one.
-fn messages(alloc: Global, row: &Row<'_>) -> Result<Option<String>, RowFault> {
-    if let Some(answer) = bytes::call(alloc, row)? {
-        return Ok(Some(answer));
+fn messages(alloc: Global, row: &Row<'_>) -> Option<Line> {
+    if let Some(line) = bytes::call(alloc, row) {
+        return Some(line);
     }
-    if let Some(answer) = crc::call(alloc, row)? {
-        return Ok(Some(answer));
+    if let Some(line) = crc::call(row) {
+        return Some(line);
     }
-    if let Some(answer) = sections::call(alloc, row)? {
-        return Ok(Some(answer));
+    if let Some(line) = sections::call(alloc, row) {
+        return Some(line);
     }
-    if let Some(answer) = blocks::call(alloc, row)? {
-        return Ok(Some(answer));
+    if let Some(line) = blocks::call(alloc, row) {
+        return Some(line);
     }
-    if let Some(answer) = references::call(alloc, row)? {
-        return Ok(Some(answer));
+    if let Some(line) = references::call(alloc, row) {
+        return Some(line);
     }
     control::call(alloc, row)
+}
+
+/// The answer, where the row is a call on objects, or on packets and what is cut out of them.
+fn carried(alloc: Global, row: &Row<'_>) -> Option<Line> {
+    if let Some(line) = objects::call(alloc, row) {
+        return Some(line);
+    }
+    if let Some(line) = packets::call(row) {
+        return Some(line);
+    }
+    if let Some(line) = streams::call(alloc, row) {
+        return Some(line);
+    }
+    tables::call(alloc, row)
 }
 
 fn main(rt: HostRuntime) -> io::Result<()> {

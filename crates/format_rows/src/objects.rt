@@ -1,61 +1,82 @@
 //! Messages of files and folders, and what is found in modules of them.
 
-ghost use Rattle.std.specs.Prelude.{IfOk, ◌≡◌, length};
+ghost use Rattle.std.specs.Prelude.{IfOk, IfSome, IsSome, ◌≡◌, length};
 ghost use Rattle.biop_object.specs.Objects.{IsEntry};
+ghost use Rattle.biop_object.specs.ObjectReading.{bindings_of};
 
-use crate::replies::Replies;
+use crate::told::{Told, each};
 use biop_object::{
     Binding, Bound, FolderKind, Found, Module, ObjectFault, Written, encode_file, encode_folder,
 };
 use ior_tap::{Key, Location, biop_of};
 use path_tree::{MOST_CONTENT, Name};
 use std::alloc::{AllocError, Global};
-use test_rows::{Row, RowFault, hex_text};
+use test_rows::{Line, Row, RowFault};
 
 /// What a row of this file answers.
-pub(crate) fn call(alloc: Global, row: &Row<'_>) -> Result<Option<String>, RowFault> {
-    let answer = match row.name() {
-        "object-file" => file(alloc, row)?,
-        "object-folder" => folder(alloc, row)?,
-        "object-fault" => fault(alloc, row)?,
-        "object-find" => finds(alloc, row)?,
-        "object-bindings" => bindings(alloc, row)?,
-        "object-binding" => binding(alloc, row)?,
-        "module-size" => size(alloc, row)?,
-        _ => return Ok(None),
-    };
-    Ok(Some(answer))
+pub(crate) fn call(alloc: Global, row: &Row<'_>) -> Option<Line> {
+    match row.name() {
+        "object-file" => Some(file(alloc, row)),
+        "object-folder" => Some(folder(alloc, row)),
+        "object-fault" => Some(fault(row)),
+        "object-find" => Some(asked(alloc, row, Question::Find)),
+        "object-bindings" => Some(asked(alloc, row, Question::Bindings)),
+        "object-binding" => Some(asked(alloc, row, Question::Binding)),
+        "module-size" => Some(asked(alloc, row, Question::Size)),
+        _ => None,
+    }
 }
 
 /// `object-file KEY CONTENT`: the message of a file.
-fn file(alloc: Global, row: &Row<'_>) -> Result<String, RowFault> {
-    let key = key(alloc, number(row, 0)?)?;
-    let content = row.bytes(alloc, 1)?;
-    if content.len() > MOST_CONTENT {
-        return Err(RowFault::BadRow);
+fn file(alloc: Global, row: &Row<'_>) -> Line {
+    match key(alloc, row.long(0)) {
+        Ok(key) => file_of(alloc, row, &key),
+        Err(_) => row.failed(RowFault::NoMemory),
     }
-    let message = encode_file(alloc, &key, &content)?;
-    Ok(hex_text(alloc, &message)?)
+}
+
+fn file_of(alloc: Global, row: &Row<'_>, key: &Key) -> Line
+    requires { length key.now ≡ 4 }
+{
+    let content = row.octets(1);
+    if content.len() > MOST_CONTENT {
+        return row.failed(RowFault::BadRow);
+    }
+    row.line().outcome(encode_file(alloc, key, &content))
 }
 
 /// `object-folder KIND KEY`: the message of a folder without bindings; and with NAME SIZE KEY behind it that of a folder with
 /// one binding, of a file or, where the size is `-`, of a folder. Both lie in module 1 of carousel 1.
-fn folder(alloc: Global, row: &Row<'_>) -> Result<String, RowFault> {
-    let kind = match row.word(0)? {
+fn folder(alloc: Global, row: &Row<'_>) -> Line {
+    match key(alloc, row.long(1)) {
+        Ok(key) => folder_of(alloc, row, &key),
+        Err(_) => row.failed(RowFault::NoMemory),
+    }
+}
+
+fn folder_of(alloc: Global, row: &Row<'_>, key: &Key) -> Line
+    requires { length key.now ≡ 4 }
+{
+    let kind = kind_of(row);
+    if row.len() == 2 {
+        return row.line().outcome(encode_folder(alloc, kind, key, &[]));
+    }
+    match entry(alloc, row) {
+        Ok(entry) => row
+            .line()
+            .outcome(encode_folder(alloc, kind, key, &[entry])),
+        Err(fault) => row.failed(fault),
+    }
+}
+
+fn kind_of(row: &Row<'_>) -> FolderKind {
+    match row.text(0) {
         "directory" => FolderKind::Directory,
         "gateway" => FolderKind::Gateway,
-        _ => return Err(RowFault::BadRow),
-    };
-    let key = key(alloc, number(row, 1)?)?;
-    let message = if row.len() == 2 {
-        encode_folder(alloc, kind, &key, &[])
-    } else {
-        let entries = [entry(alloc, row)?];
-        encode_folder(alloc, kind, &key, &entries)
-    };
-    match message {
-        Ok(message) => Ok(hex_text(alloc, &message)?),
-        Err(fault) => Ok(format!(in alloc; "{fault}")?),
+        _ => {
+            row.fail(RowFault::BadRow);
+            FolderKind::Directory
+        }
     }
 }
 
@@ -63,24 +84,29 @@ fn folder(alloc: Global, row: &Row<'_>) -> Result<String, RowFault> {
 fn entry(alloc: Global, row: &Row<'_>) -> Result<Written, RowFault>
     ensures { IfOk result IsEntry }
 {
-    let name = row.bytes(alloc, 2)?;
-    if name.is_empty() || name.len() > 254 {
-        return Err(RowFault::BadRow);
-    }
-    let bound = match row.word(3)? {
-        "-" => Bound::Folder,
-        _ => Bound::File(row.number(3)?),
-    };
+    let bound = bound(row);
     let location = Location {
         carousel: 1,
         module: 1,
-        key: key(alloc, number(row, 4)?)?,
+        key: key(alloc, row.long(4))?,
     };
+    let name = row.octets(2);
+    if name.is_empty() || name.len() > 254 {
+        return Err(RowFault::BadRow);
+    }
     Ok(Written {
         name: Name::new(name),
         bound,
         location,
     })
+}
+
+/// A file of a size, or a folder.
+fn bound(row: &Row<'_>) -> Bound {
+    match row.text(3) {
+        "-" => Bound::Folder,
+        _ => Bound::File(row.wide(3)),
+    }
 }
 
 /// The key of four bytes that is a number.
@@ -90,93 +116,104 @@ fn key(alloc: Global, number: u32) -> Result<Key, AllocError>
     Ok(Key::new(Vec::from_slice(alloc, &number.to_be_bytes())?))
 }
 
-fn number(row: &Row<'_>, place: usize) -> Result<u32, RowFault> {
-    match u32::try_from(row.number(place)?) {
-        Ok(number) => Ok(number),
-        Err(_) => Err(RowFault::BadRow),
-    }
-}
-
 /// `object-fault NAME`: a fault's text.
-fn fault(alloc: Global, row: &Row<'_>) -> Result<String, RowFault> {
-    let fault = match row.word(0)? {
-        "TooLarge" => ObjectFault::TooLarge,
-        _ => return Err(RowFault::BadRow),
-    };
-    Ok(format!(in alloc; "{fault}")?)
-}
-
-/// The module that the first word of a row says.
-fn module(alloc: Global, row: &Row<'_>) -> Result<Module, RowFault> {
-    match Module::read(alloc, row.bytes(alloc, 0)?) {
-        Ok(module) => Ok(module),
-        Err(_) => Err(RowFault::NoMemory),
+fn fault(row: &Row<'_>) -> Line {
+    match row.text(0) {
+        "TooLarge" => row.line().value("", &ObjectFault::TooLarge),
+        _ => row.failed(RowFault::BadRow),
     }
 }
 
-/// `module-size MODULE`: the number of its bytes.
-fn size(alloc: Global, row: &Row<'_>) -> Result<String, RowFault> {
-    let size = module(alloc, row)?.bytes().len();
-    Ok(format!(in alloc; "{size}")?)
+/// What is asked of a module.
+#[derive(Clone, Copy, Drop)]
+enum Question {
+    /// `object-find MODULE KEY..`: what it has under each key.
+    Find,
+    /// `object-bindings MODULE KEY`: the bindings of the folder under a key.
+    Bindings,
+    /// `object-binding MODULE KEY NAME`: the first binding of a name in the folder under a key.
+    Binding,
+    /// `module-size MODULE`: the number of its bytes.
+    Size,
 }
 
-/// `object-find MODULE KEY..`: what the module has under each key.
-fn finds(alloc: Global, row: &Row<'_>) -> Result<String, RowFault> {
-    let module = module(alloc, row)?;
-    let mut replies = Replies::new(alloc);
+/// What the module answers that the first word of a row says.
+fn asked(alloc: Global, row: &Row<'_>, question: Question) -> Line {
+    match Module::read(alloc, row.octets(0)) {
+        Ok(module) => answer(row, &module, question),
+        Err(_) => row.failed(RowFault::NoMemory),
+    }
+}
+
+fn answer(row: &Row<'_>, module: &Module, question: Question) -> Line {
+    match question {
+        Question::Find => finds(row, module),
+        Question::Bindings => bindings(row, module),
+        Question::Binding => binding(row, module),
+        Question::Size => row.line().value("", &module.bytes().len()),
+    }
+}
+
+fn finds(row: &Row<'_>, module: &Module) -> Line {
+    let mut line = row.line();
     for place in 1..row.len() {
-        let key = row.bytes(alloc, place)?;
-        replies.put(found_text(alloc, module.find(&key))?.as_str())?;
+        line = found_text(line.between("; "), module.find(&row.octets(place)));
     }
-    Ok(replies.line())
+    line
 }
 
-fn found_text(alloc: Global, found: Found) -> Result<String, AllocError> {
+/// Puts what was found behind what stands.
+fn found_text(line: Line, found: Found) -> Line {
     match found {
-        Found::File(span) => {
-            let (first, length) = (span.first, span.length);
-            format!(in alloc; "file of {length} bytes at {first}")
+        Found::File(span) => line
+            .value("file of ", &span.length)
+            .value(" bytes at ", &span.first),
+        Found::Folder(number) => line.value("folder ", &number),
+        Found::Other => line.text("other"),
+        Found::Bad(place) => line.value("bad at ", &place),
+        Found::Missing => line.text("missing"),
+    }
+}
+
+/// The folder that the module has under the key that the second word of a row says.
+fn folder_in(row: &Row<'_>, module: &Module) -> Option<usize>
+    ensures { IfSome result (λ folder. IsSome (bindings_of module.now folder)) }
+{
+    match module.find(&row.octets(1)) {
+        Found::Folder(folder) => Some(folder),
+        _ => None,
+    }
+}
+
+fn bindings(row: &Row<'_>, module: &Module) -> Line {
+    match folder_in(row, module) {
+        Some(folder) => each(row.line(), "; ", module.bindings(folder)),
+        None => row.failed(RowFault::BadRow),
+    }
+}
+
+fn binding(row: &Row<'_>, module: &Module) -> Line {
+    match folder_in(row, module) {
+        Some(folder) => binding_text(row.line(), module.binding(folder, &row.octets(2))),
+        None => row.failed(RowFault::BadRow),
+    }
+}
+
+fn binding_text(line: Line, binding: Option<&Binding>) -> Line {
+    match binding {
+        Some(binding) => binding.told(line),
+        None => line.text("none"),
+    }
+}
+
+impl Told for Binding {
+    fn told(&self, line: Line) -> Line {
+        let line = line
+            .bytes("name ", self.name.bytes())
+            .bytes(", kind ", &self.kind);
+        match biop_of(&self.target) {
+            Some((location, _)) => line.bytes(", key ", location.key.bytes()),
+            None => line.text(", no key"),
         }
-        Found::Folder(number) => format!(in alloc; "folder {number}"),
-        Found::Other => String::from_str(alloc, "other"),
-        Found::Bad(place) => format!(in alloc; "bad at {place}"),
-        Found::Missing => String::from_str(alloc, "missing"),
-    }
-}
-
-/// `object-bindings MODULE KEY`: the bindings of the folder under a key.
-fn bindings(alloc: Global, row: &Row<'_>) -> Result<String, RowFault> {
-    let module = module(alloc, row)?;
-    let Found::Folder(folder) = module.find(&row.bytes(alloc, 1)?) else {
-        return Err(RowFault::BadRow);
-    };
-    let mut replies = Replies::new(alloc);
-    for binding in module.bindings(folder) {
-        replies.put(binding_text(alloc, binding)?.as_str())?;
-    }
-    Ok(replies.line())
-}
-
-/// `object-binding MODULE KEY NAME`: the first binding of a name in the folder under a key.
-fn binding(alloc: Global, row: &Row<'_>) -> Result<String, RowFault> {
-    let module = module(alloc, row)?;
-    let Found::Folder(folder) = module.find(&row.bytes(alloc, 1)?) else {
-        return Err(RowFault::BadRow);
-    };
-    match module.binding(folder, &row.bytes(alloc, 2)?) {
-        Some(binding) => Ok(binding_text(alloc, binding)?),
-        None => Ok(String::from_str(alloc, "none")?),
-    }
-}
-
-fn binding_text(alloc: Global, binding: &Binding) -> Result<String, AllocError> {
-    let name = hex_text(alloc, binding.name.bytes())?;
-    let kind = hex_text(alloc, &binding.kind)?;
-    match biop_of(&binding.target) {
-        Some((location, _)) => {
-            let key = hex_text(alloc, location.key.bytes())?;
-            format!(in alloc; "name {name}, kind {kind}, key {key}")
-        }
-        None => format!(in alloc; "name {name}, kind {kind}, no key"),
     }
 }

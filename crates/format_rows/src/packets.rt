@@ -1,108 +1,105 @@
 //! Transport packets: read, built, and on their way.
 
-use crate::replies::{Replies, packet_at, spelled};
-use std::alloc::{AllocError, Global};
-use test_rows::{Row, RowFault};
-use ts_packet::{Fate, build, parse};
+use crate::spelling::spelled;
+use crate::told::{Told, read};
+use crate::words::array;
+use test_rows::{Line, Row, RowFault};
+use ts_packet::{Fate, Packet, build, parse};
 
 /// What a row of this file answers.
-pub(crate) fn call(alloc: Global, row: &Row<'_>) -> Result<Option<String>, RowFault> {
-    let answer = match row.name() {
-        "packet" => parsed(alloc, row)?,
-        "packet-payload" => payloads(alloc, row)?,
-        "packet-built" => built(alloc, row)?,
-        "packet-fate" => arrived(alloc, row)?,
-        _ => return Ok(None),
-    };
-    Ok(Some(answer))
+pub(crate) fn call(row: &Row<'_>) -> Option<Line> {
+    match row.name() {
+        "packet" => Some(parsed(row)),
+        "packet-payload" => Some(payloads(row)),
+        "packet-built" => Some(built(row)),
+        "packet-fate" => Some(arrived(row)),
+        _ => None,
+    }
 }
 
 /// `packet BYTES`: the packet's fields, or its fault.
-fn parsed(alloc: Global, row: &Row<'_>) -> Result<String, RowFault> {
-    let text = match parse(&packet_at(alloc, row, 0)?) {
-        Ok(packet) => {
-            let (pid, counter) = (packet.pid, packet.counter);
-            let start = if packet.start { ", start" } else { "" };
-            let length = packet.payload.len();
-            format!(in alloc; "PID {pid}{start}, counter {counter}, payload of {length}")
-        }
-        Err(fault) => format!(in alloc; "{fault}"),
-    };
-    Ok(text?)
+fn parsed(row: &Row<'_>) -> Line {
+    read(row.line(), parse(&array(row, 0)))
+}
+
+impl Told for Packet<'_> {
+    fn told(&self, line: Line) -> Line {
+        let start = if self.start { ", start" } else { "" };
+        line.value("PID ", &self.pid)
+            .text(start)
+            .value(", counter ", &self.counter)
+            .value(", payload of ", &self.payload.len())
+    }
 }
 
 /// `packet-payload BYTES..`: the length of each packet's payload, or its fault.
-fn payloads(alloc: Global, row: &Row<'_>) -> Result<String, RowFault> {
-    let mut replies = Replies::new(alloc);
+fn payloads(row: &Row<'_>) -> Line {
+    let mut line = row.line();
     for place in 0..row.len() {
-        let bytes = packet_at(alloc, row, place)?;
-        replies.put(payload_text(alloc, &bytes)?.as_str())?;
+        line = payload_text(line.between("; "), &array(row, place));
     }
-    Ok(replies.line())
+    line
 }
 
-fn payload_text(alloc: Global, bytes: &[u8; 188]) -> Result<String, AllocError> {
-    match parse(bytes) {
-        Ok(packet) => {
-            let length = packet.payload.len();
-            format!(in alloc; "{length}")
-        }
-        Err(fault) => format!(in alloc; "{fault}"),
+/// Puts the length of a packet's payload behind what stands.
+fn payload_text(line: Line, packet: &[u8; 188]) -> Line {
+    match parse(packet) {
+        Ok(packet) => line.value("", &packet.payload.len()),
+        Err(fault) => line.value("", &fault),
     }
 }
 
 /// `packet-built PID START COUNTER PAYLOAD`: the bytes of the packet; START is `start` or `-`.
-fn built(alloc: Global, row: &Row<'_>) -> Result<String, RowFault> {
-    let start = match row.word(1)? {
+fn built(row: &Row<'_>) -> Line {
+    let (pid, start, counter) = (row.short(0), starts(row), row.byte(2));
+    if pid >= 8192 || counter >= 16 {
+        return row.failed(RowFault::BadRow);
+    }
+    spelled(row.line(), &build(pid, start, counter, &array(row, 3)))
+}
+
+/// Whether a section starts in the packet.
+fn starts(row: &Row<'_>) -> bool {
+    match row.text(1) {
         "start" => true,
         "-" => false,
-        _ => return Err(RowFault::BadRow),
-    };
-    let (Ok(pid), Ok(counter), Ok(payload)) = (
-        u16::try_from(row.number(0)?),
-        u8::try_from(row.number(2)?),
-        <[u8; 184]>::try_from(row.bytes(alloc, 3)?.as_slice()),
-    ) else {
-        return Err(RowFault::BadRow);
-    };
-    if pid >= 8192 || counter >= 16 {
-        return Err(RowFault::BadRow);
+        _ => {
+            row.fail(RowFault::BadRow);
+            false
+        }
     }
-    Ok(spelled(alloc, &build(pid, start, counter, &payload))?)
 }
 
 /// `packet-fate BYTES FATE`: what arrives of a packet that is kept, lost, or has the bit of a number inverted: each byte that
 /// is another one, as a row's change of bytes.
-fn arrived(alloc: Global, row: &Row<'_>) -> Result<String, RowFault> {
-    let packet = packet_at(alloc, row, 0)?;
-    let fate = match row.word(1)? {
+fn arrived(row: &Row<'_>) -> Line {
+    let packet = array(row, 0);
+    match fate(row).arrived(&packet) {
+        Some(bytes) => changes(row.line(), &packet, &bytes),
+        None => row.line().text("lost"),
+    }
+}
+
+fn fate(row: &Row<'_>) -> Fate {
+    match row.text(1) {
         "keep" => Fate::Keep,
         "lose" => Fate::Lose,
-        _ => Fate::Flip(bit(row)?),
-    };
-    match fate.arrived(&packet) {
-        Some(bytes) => Ok(changes(alloc, &packet, &bytes)?),
-        None => Ok(String::from_str(alloc, "lost")?),
+        _ => Fate::Flip(row.short(1)),
     }
 }
 
-fn bit(row: &Row<'_>) -> Result<u16, RowFault> {
-    match u16::try_from(row.number(1)?) {
-        Ok(bit) => Ok(bit),
-        Err(_) => Err(RowFault::BadRow),
-    }
-}
-
-/// The bytes that aren't as they were.
-fn changes(alloc: Global, before: &[u8; 188], after: &[u8; 188]) -> Result<String, AllocError> {
-    let mut changes = String::new(alloc);
+/// Puts the bytes that aren't as they were.
+fn changes(mut line: Line, before: &[u8; 188], after: &[u8; 188]) -> Line {
     for (place, (old, new)) in before.iter().zip(after).enumerate() {
-        if old != new {
-            changes.push_str(format!(in alloc; "@{place}:{new:02x}")?.as_str())?;
-        }
+        line = change(line, place, *old, *new);
     }
-    if changes.is_empty() {
-        changes.push_str("unchanged")?;
+    line.or("unchanged")
+}
+
+/// Puts a byte that isn't as it was behind what stands.
+fn change(line: Line, place: usize, old: u8, new: u8) -> Line {
+    if old == new {
+        return line;
     }
-    Ok(changes)
+    line.value("@", &place).bytes(":", &[new])
 }

@@ -1,151 +1,181 @@
 //! Texts of paths, trees of files, look-ups and edits.
 
-use crate::replies::Replies;
 use oc_bytes::Blob;
-use path_tree::{Edit, Edits, Lookup, Path, Tree, apply, print_name};
-use std::alloc::{AllocError, Global};
-use test_rows::{Row, RowFault, hex_text};
+use path_tree::{Edit, Edits, Lookup, Name, Path, Tree, apply, print_name};
+use std::alloc::Global;
+use test_rows::{Line, Row, RowFault};
 
 /// What a row of this file answers.
-pub(crate) fn call(
-    alloc: Global,
-    row: &Row<'_>,
-    tree: &mut Tree,
-) -> Result<Option<String>, RowFault> {
-    let answer = match row.name() {
-        "path" => printed_texts(alloc, row)?,
-        "path-shown" => shown(alloc, row)?,
-        "path-names" => names(alloc, row)?,
-        "path-above" => above(alloc, row)?,
-        "tree-new" => {
-            *tree = Tree::empty(alloc);
-            listed(alloc, tree)?
-        }
-        "tree-apply" => applied(alloc, row, tree)?,
-        "tree-files" => listed(alloc, tree)?,
-        "tree-look" => looked_up(alloc, tree, row.word(0)?)?,
-        _ => return Ok(None),
-    };
-    Ok(Some(answer))
+pub(crate) fn call(alloc: Global, row: &Row<'_>, tree: &mut Tree) -> Option<Line> {
+    match row.name() {
+        "path" => Some(printed(alloc, row)),
+        "path-shown" => Some(asked(alloc, row, Question::Shown)),
+        "path-names" => Some(asked(alloc, row, Question::Names)),
+        "path-above" => Some(asked(alloc, row, Question::Above)),
+        "tree-new" => Some(emptied(alloc, row, tree)),
+        "tree-apply" => Some(applied(alloc, row, tree)),
+        "tree-files" => Some(listed(alloc, row.line(), tree)),
+        "tree-look" => Some(looked_up(alloc, row, tree)),
+        _ => None,
+    }
 }
 
 /// `path TEXT..`: what the path of each text prints, or why it is none.
-fn printed_texts(alloc: Global, row: &Row<'_>) -> Result<String, RowFault> {
-    let mut replies = Replies::new(alloc);
+fn printed(alloc: Global, row: &Row<'_>) -> Line {
+    let mut line = row.line();
     for place in 0..row.len() {
-        let text = row.bytes(alloc, place)?;
-        replies.put(printed(alloc, &text)?.as_str())?;
+        line = printed_text(alloc, line.between("; "), &row.octets(place));
     }
-    Ok(replies.line())
+    line
 }
 
-fn printed(alloc: Global, text: &[u8]) -> Result<String, AllocError> {
+/// Puts the path of a text, or why it is none, behind what stands.
+fn printed_text(alloc: Global, line: Line, text: &[u8]) -> Line {
     match Path::parse(alloc, text) {
-        Ok(path) => path.print(),
-        Err(fault) => format!(in alloc; "{fault}"),
+        Ok(path) => line.made("", path.print()),
+        Err(fault) => line.value("", &fault),
     }
 }
 
-/// `path-shown TEXT`: how the path of a text is shown.
-fn shown(alloc: Global, row: &Row<'_>) -> Result<String, RowFault> {
-    let path = path_of(alloc, &row.bytes(alloc, 0)?)?;
-    Ok(format!(in alloc; "{path}")?)
+/// What is asked of the path of a text.
+#[derive(Clone, Copy, Drop)]
+enum Question {
+    /// `path-shown TEXT`: how it is shown.
+    Shown,
+    /// `path-names TEXT`: how many names it has, shared, and each of them in hex digits.
+    Names,
+    /// `path-above TEXT COUNT`: the path of its first names.
+    Above,
 }
 
-/// `path-names TEXT`: how many names the path of a text has, shared, and each of them in hex digits.
-fn names(alloc: Global, row: &Row<'_>) -> Result<String, RowFault> {
-    let path = path_of(alloc, &row.bytes(alloc, 0)?)?.share()?;
-    let count = path.len();
-    let mut text = format!(in alloc; "{count}")?;
+fn asked(alloc: Global, row: &Row<'_>, question: Question) -> Line {
+    match Path::parse(alloc, &row.octets(0)) {
+        Ok(path) => answer(row, &path, question),
+        Err(_) => row.failed(RowFault::BadRow),
+    }
+}
+
+fn answer(row: &Row<'_>, path: &Path, question: Question) -> Line {
+    match question {
+        Question::Shown => row.line().value("", path),
+        Question::Names => names(row, path),
+        Question::Above => above(row, path),
+    }
+}
+
+fn names(row: &Row<'_>, path: &Path) -> Line {
+    match path.share() {
+        Ok(path) => names_text(row.line(), &path),
+        Err(_) => row.failed(RowFault::NoMemory),
+    }
+}
+
+fn names_text(line: Line, path: &Path) -> Line {
+    let mut line = line.value("", &path.len());
     for i in 0..path.len() {
-        text.push(' ')?;
-        text.push_str(hex_text(alloc, path.name(i))?.as_str())?;
+        line = line.bytes(" ", path.name(i));
     }
-    Ok(text)
+    line
 }
 
-/// `path-above TEXT COUNT`: the path of the first names of a text's path.
-fn above(alloc: Global, row: &Row<'_>) -> Result<String, RowFault> {
-    let path = path_of(alloc, &row.bytes(alloc, 0)?)?;
-    match usize::try_from(row.number(1)?) {
-        Ok(names) if names <= path.len() => Ok(path.above(names)?.print()?),
-        _ => Err(RowFault::BadRow),
+fn above(row: &Row<'_>, path: &Path) -> Line {
+    let names = row.count(1);
+    if names > path.len() {
+        return row.failed(RowFault::BadRow);
     }
-}
-
-fn path_of(alloc: Global, text: &[u8]) -> Result<Path, RowFault> {
-    match Path::parse(alloc, text) {
-        Ok(path) => Ok(path),
-        Err(_) => Err(RowFault::BadRow),
+    match path.above(names) {
+        Ok(path) => row.line().made("", path.print()),
+        Err(_) => row.failed(RowFault::NoMemory),
     }
 }
 
 /// `tree-apply EDIT..`: the files of the tree after edits, or why they are refused.
-fn applied(alloc: Global, row: &Row<'_>, tree: &mut Tree) -> Result<String, RowFault> {
-    let edits = edits(alloc, row)?;
-    match apply(alloc, tree, edits.list()) {
+fn applied(alloc: Global, row: &Row<'_>, tree: &mut Tree) -> Line {
+    match apply(alloc, tree, edits(alloc, row).list()) {
         Ok(next) => {
             *tree = next;
-            listed(alloc, tree)
+            listed(alloc, row.line(), tree)
         }
-        Err(fault) => Ok(format!(in alloc; "{fault}")?),
+        Err(fault) => row.line().value("", &fault),
     }
 }
 
-fn edits(alloc: Global, row: &Row<'_>) -> Result<Edits, RowFault> {
+/// `tree-new`: the tree has no file from now on.
+fn emptied(alloc: Global, row: &Row<'_>, tree: &mut Tree) -> Line {
+    *tree = Tree::empty(alloc);
+    listed(alloc, row.line(), tree)
+}
+
+fn edits(alloc: Global, row: &Row<'_>) -> Edits {
     let mut edits = Vec::new(alloc);
     for place in 0..row.len() {
-        let edit = edit(alloc, row.word(place)?)?;
-        edits.push(edit).map_err(AllocError::from)?;
+        match edit(alloc, row.text(place)) {
+            Ok(edit) => row.push(&mut edits, edit),
+            Err(fault) => row.fail(fault),
+        }
     }
-    Ok(Edits::new(edits))
+    Edits::new(edits)
 }
 
 /// An edit: a path and what is put there after `=`, or a path that is removed.
 fn edit(alloc: Global, text: &str) -> Result<Edit, RowFault> {
     match text.split_once('=') {
-        Some((place, content)) => {
-            let path = path_of(alloc, place.as_bytes())?;
-            let bytes = Vec::from_slice(alloc, content.as_bytes())?;
-            Ok(Edit::Put(path, Blob::new(alloc, bytes)?))
-        }
-        None => Ok(Edit::Remove(path_of(alloc, text.as_bytes())?)),
+        Some((place, content)) => put(alloc, place, content),
+        None => Ok(Edit::Remove(path_of(alloc, text)?)),
+    }
+}
+
+fn put(alloc: Global, place: &str, content: &str) -> Result<Edit, RowFault> {
+    let bytes = Vec::from_slice(alloc, content.as_bytes())?;
+    let content = Blob::new(alloc, bytes)?;
+    Ok(Edit::Put(path_of(alloc, place)?, content))
+}
+
+fn path_of(alloc: Global, text: &str) -> Result<Path, RowFault> {
+    match Path::parse(alloc, text.as_bytes()) {
+        Ok(path) => Ok(path),
+        Err(_) => Err(RowFault::BadRow),
     }
 }
 
 /// `tree-files`: the path of each file, and its bytes after `=`.
-fn listed(alloc: Global, tree: &Tree) -> Result<String, RowFault> {
-    let mut text = String::new(alloc);
+fn listed(alloc: Global, mut line: Line, tree: &Tree) -> Line {
     for i in 0..tree.len() {
         let (path, content) = tree.file(i);
-        if !text.is_empty() {
-            text.push(' ')?;
-        }
-        text.push_str(path.print()?.as_str())?;
-        text.push('=')?;
-        text.push_str(print_name(alloc, content.bytes())?.as_str())?;
+        line = line
+            .between(" ")
+            .made("", path.print())
+            .made("=", print_name(alloc, content.bytes()));
     }
-    if text.is_empty() {
-        text.push_str("no files")?;
-    }
-    Ok(text)
+    line.or("no files")
 }
 
 /// `tree-look PATH`: a file's bytes, or a folder's names.
-fn looked_up(alloc: Global, tree: &Tree, text: &str) -> Result<String, RowFault> {
-    match tree.lookup(&path_of(alloc, text.as_bytes())?)? {
-        Lookup::File(content) => {
-            let bytes = print_name(alloc, content.bytes())?;
-            Ok(format!(in alloc; "file {bytes}")?)
-        }
-        Lookup::Folder(names) => {
-            let mut shown = String::from_str(alloc, "folder")?;
-            for name in &names {
-                shown.push(' ')?;
-                shown.push_str(print_name(alloc, name.bytes())?.as_str())?;
-            }
-            Ok(shown)
-        }
-        Lookup::NoSuch => Ok(String::from_str(alloc, "nothing")?),
+fn looked_up(alloc: Global, row: &Row<'_>, tree: &Tree) -> Line {
+    match path_of(alloc, row.text(0)) {
+        Ok(path) => found_at(alloc, row, tree, &path),
+        Err(fault) => row.failed(fault),
     }
+}
+
+fn found_at(alloc: Global, row: &Row<'_>, tree: &Tree, path: &Path) -> Line {
+    match tree.lookup(path) {
+        Ok(found) => found_text(alloc, row.line(), &found),
+        Err(_) => row.failed(RowFault::NoMemory),
+    }
+}
+
+fn found_text(alloc: Global, line: Line, found: &Lookup) -> Line {
+    match found {
+        Lookup::File(content) => line.made("file ", print_name(alloc, content.bytes())),
+        Lookup::Folder(names) => folder_text(alloc, line.text("folder"), names),
+        Lookup::NoSuch => line.text("nothing"),
+    }
+}
+
+fn folder_text(alloc: Global, mut line: Line, names: &[Name]) -> Line {
+    for name in names {
+        line = line.made(" ", print_name(alloc, name.bytes()));
+    }
+    line
 }

@@ -9,19 +9,19 @@ ghost use Rattle.std.specs.Prelude.{IfOk};
 ghost use Rattle.ior_tap.specs.Iors.{view, IsWritten};
 ghost use Rattle.ior_tap.specs.declared.Location.{Location};
 
-use crate::words::{four, long, short};
+use crate::told::{Told, each, read};
+use crate::words::array;
 use ior_tap::{Binder, Ior, Key, Location, Profile, Tap, biop_of, decode, delivery_of, encode};
 use std::alloc::{AllocError, Global};
-use test_rows::{Row, RowFault, hex_text};
+use test_rows::{Line, Row, RowFault};
 
-pub(crate) fn call(alloc: Global, row: &Row<'_>) -> Result<Option<String>, RowFault> {
-    let answer = match row.name() {
-        "ior-encode" => encoded(alloc, row)?,
-        "ior-decode" => decoded(alloc, row)?,
-        "ior-location" => located(alloc, row)?,
-        _ => return Ok(None),
-    };
-    Ok(Some(answer))
+pub(crate) fn call(alloc: Global, row: &Row<'_>) -> Option<Line> {
+    match row.name() {
+        "ior-encode" => Some(encoded(alloc, row)),
+        "ior-decode" => Some(decoded(alloc, row)),
+        "ior-location" => Some(located(alloc, row)),
+        _ => None,
+    }
 }
 
 /// The reference of this kind to the object with this key, in the form that is written.
@@ -34,13 +34,6 @@ pub(crate) fn reference(
 ) -> Result<Ior, AllocError>
     ensures { IfOk result (λ ior. (l : Location) × IsWritten (view ior) l) }
 {
-    let [first, second, third, fourth] = key;
-    let key = Key::new(Vec::from_slice(alloc, &[first, second, third, fourth])?);
-    let location = Location {
-        carousel,
-        module: module_id,
-        key,
-    };
     let tap = Tap {
         id: 0,
         use_code: 0x0016,
@@ -50,6 +43,13 @@ pub(crate) fn reference(
     let binder = Binder {
         taps: vec![in alloc; tap]?,
     };
+    let [first, second, third, fourth] = key;
+    let key = Key::new(Vec::from_slice(alloc, &[first, second, third, fourth])?);
+    let location = Location {
+        carousel,
+        module: module_id,
+        key,
+    };
     let [a, b, c, d] = kind;
     Ok(Ior {
         kind: [a, b, c, d],
@@ -57,70 +57,60 @@ pub(crate) fn reference(
     })
 }
 
-fn encoded(alloc: Global, row: &Row<'_>) -> Result<String, RowFault> {
-    let kind = four(alloc, row, 0)?;
-    let key = four(alloc, row, 3)?;
-    let ior = reference(alloc, kind, long(row, 1)?, short(row, 2)?, key)?;
-    Ok(hex_text(alloc, &encode(alloc, &ior)?)?)
-}
-
-fn decoded(alloc: Global, row: &Row<'_>) -> Result<String, RowFault> {
-    match decode(alloc, &row.bytes(alloc, 0)?) {
-        Ok((ior, count)) => {
-            let kind = hex_text(alloc, &ior.kind)?;
-            let profiles = profiles_text(alloc, &ior)?;
-            Ok(format!(in alloc; "{count} bytes, kind {kind}{profiles}")?)
-        }
-        Err(fault) => Ok(fault.to_string(alloc)?),
+fn encoded(alloc: Global, row: &Row<'_>) -> Line {
+    let (kind, key) = (array(row, 0), array(row, 3));
+    match reference(alloc, kind, row.long(1), row.short(2), key) {
+        Ok(ior) => row.line().outcome(encode(alloc, &ior)),
+        Err(_) => row.failed(RowFault::NoMemory),
     }
 }
 
-/// The profiles one after another, each behind a semicolon.
-fn profiles_text(alloc: Global, ior: &Ior) -> Result<String, AllocError> {
-    let mut text = String::new(alloc);
-    for profile in &ior.profiles {
-        text.push_str("; ")?;
-        text.push_str(profile_text(alloc, profile)?.as_str())?;
-    }
-    Ok(text)
+fn decoded(alloc: Global, row: &Row<'_>) -> Line {
+    read(row.line(), decode(alloc, &row.octets(0)))
 }
 
-fn profile_text(alloc: Global, profile: &Profile) -> Result<String, AllocError> {
-    match profile {
-        Profile::Biop(location, binder) => location_text(alloc, location, binder),
-        Profile::Other(tag, content) => {
-            let content = hex_text(alloc, content)?;
-            format!(in alloc; "tag {tag:08x}, bytes {content}")
+/// A reference, and how many bytes it has.
+impl Told for (Ior, usize) {
+    fn told(&self, line: Line) -> Line {
+        let line = line.value("", &self.1).bytes(" bytes, kind ", &self.0.kind);
+        each(line, "; ", &self.0.profiles)
+    }
+}
+
+impl Told for Profile {
+    fn told(&self, line: Line) -> Line {
+        match self {
+            Profile::Biop(location, binder) => location_text(line, location, binder),
+            Profile::Other(tag, content) => line
+                .bytes("tag ", &tag.to_be_bytes())
+                .bytes(", bytes ", content),
         }
     }
 }
 
-fn location_text(
-    alloc: Global,
-    location: &Location,
-    binder: &Binder,
-) -> Result<String, AllocError> {
-    let carousel = location.carousel;
-    let module_id = location.module;
-    let key = hex_text(alloc, location.key.bytes())?;
-    let delivery = match delivery_of(binder) {
-        Some(transaction) => format!(in alloc; "delivery {transaction:08x}")?,
-        None => String::from_str(alloc, "no delivery")?,
-    };
-    format!(in alloc; "carousel {carousel}, module {module_id}, key {key}, {delivery}")
-}
-
-fn located(alloc: Global, row: &Row<'_>) -> Result<String, RowFault> {
-    match decode(alloc, &row.bytes(alloc, 0)?) {
-        Ok((ior, _)) => Ok(place_text(alloc, &ior)?),
-        Err(fault) => Ok(fault.to_string(alloc)?),
+/// Puts a location, and how it is delivered, behind what stands.
+fn location_text(line: Line, location: &Location, binder: &Binder) -> Line {
+    let line = line
+        .value("carousel ", &location.carousel)
+        .value(", module ", &location.module)
+        .bytes(", key ", location.key.bytes());
+    match delivery_of(binder) {
+        Some(transaction) => line.bytes(", delivery ", &transaction.to_be_bytes()),
+        None => line.text(", no delivery"),
     }
 }
 
-/// The first location of a reference, if it has one.
-pub(crate) fn place_text(alloc: Global, ior: &Ior) -> Result<String, AllocError> {
+fn located(alloc: Global, row: &Row<'_>) -> Line {
+    match decode(alloc, &row.octets(0)) {
+        Ok((ior, _)) => place_text(row.line(), &ior),
+        Err(fault) => row.line().value("", &fault),
+    }
+}
+
+/// Puts the first location of a reference, if it has one, behind what stands.
+pub(crate) fn place_text(line: Line, ior: &Ior) -> Line {
     match biop_of(ior) {
-        Some((location, binder)) => location_text(alloc, location, binder),
-        None => String::from_str(alloc, "no location"),
+        Some((location, binder)) => location_text(line, location, binder),
+        None => line.text("no location"),
     }
 }

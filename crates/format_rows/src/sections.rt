@@ -7,47 +7,56 @@
 //! - `section-inverted CAUSE BYTES`: how many of the section's bits make it refused for this cause where one alone is inverted;
 //!   where the cause is `none`, with how many it is still read.
 
-use crate::words::{byte, short};
+ghost use Rattle.std.specs.Prelude.{◌<◌};
+
+use crate::told::{Told, read};
 use dsmcc_section::{EncodeFault, Section, SectionFault, Skip, Table, decode, encode, payload_of};
-use std::alloc::{AllocError, Global};
-use test_rows::{Row, RowFault, hex_text};
+use std::alloc::Global;
+use test_rows::{Line, Row, RowFault};
 
-pub(crate) fn call(alloc: Global, row: &Row<'_>) -> Result<Option<String>, RowFault> {
-    let answer = match row.name() {
-        "section-encode" => encoded(alloc, row)?,
-        "section-decode" => decoded(alloc, row)?,
-        "section-payload" => payload(alloc, row)?,
-        "section-inverted" => inverted(alloc, row)?,
-        _ => return Ok(None),
-    };
-    Ok(Some(answer))
+pub(crate) fn call(alloc: Global, row: &Row<'_>) -> Option<Line> {
+    match row.name() {
+        "section-encode" => Some(encoded(alloc, row)),
+        "section-decode" => Some(decoded(alloc, row)),
+        "section-payload" => Some(payload(row)),
+        "section-inverted" => Some(inverted(row)),
+        _ => None,
+    }
 }
 
-fn encoded(alloc: Global, row: &Row<'_>) -> Result<String, RowFault> {
-    let version = byte(row, 2)?;
-    if version > 31 {
-        return Err(RowFault::BadRow);
-    }
+fn encoded(alloc: Global, row: &Row<'_>) -> Line {
     let section = Section {
-        table: table(row)?,
-        extension: short(row, 1)?,
-        version,
-        number: byte(row, 3)?,
-        last: byte(row, 4)?,
-        payload: row.bytes(alloc, 5)?,
+        table: table(row),
+        extension: row.short(1),
+        version: version(row),
+        number: row.byte(3),
+        last: row.byte(4),
+        payload: row.octets(5),
     };
-    match encode(alloc, &section) {
-        Ok(bytes) => Ok(hex_text(alloc, &bytes)?),
-        Err(fault) => Ok(fault.to_string(alloc)?),
+    row.line().outcome(encode(alloc, &section))
+}
+
+fn table(row: &Row<'_>) -> Table {
+    match row.text(0) {
+        "control" => Table::Control,
+        "blocks" => Table::Blocks,
+        _ => {
+            row.fail(RowFault::BadRow);
+            Table::Control
+        }
     }
 }
 
-fn table(row: &Row<'_>) -> Result<Table, RowFault> {
-    match row.word(0)? {
-        "control" => Ok(Table::Control),
-        "blocks" => Ok(Table::Blocks),
-        _ => Err(RowFault::BadRow),
+/// The version that a row says: one that a section may have.
+fn version(row: &Row<'_>) -> u8
+    ensures { result < 32 }
+{
+    let version = row.byte(2);
+    if version < 32 {
+        return version;
     }
+    row.fail(RowFault::BadRow);
+    0
 }
 
 fn name_of(table: Table) -> &'static str {
@@ -57,38 +66,40 @@ fn name_of(table: Table) -> &'static str {
     }
 }
 
-fn decoded(alloc: Global, row: &Row<'_>) -> Result<String, RowFault> {
-    match decode(alloc, &row.bytes(alloc, 0)?) {
-        Ok(section) => Ok(section_text(alloc, &section)?),
-        Err(fault) => Ok(fault.to_string(alloc)?),
+fn decoded(alloc: Global, row: &Row<'_>) -> Line {
+    read(row.line(), decode(alloc, &row.octets(0)))
+}
+
+impl Told for Section {
+    fn told(&self, line: Line) -> Line {
+        line.text(name_of(self.table))
+            .value(", extension ", &self.extension)
+            .value(", version ", &self.version)
+            .value(", section ", &self.number)
+            .value(" of last ", &self.last)
+            .bytes(", payload ", &self.payload)
     }
 }
 
-fn section_text(alloc: Global, section: &Section) -> Result<String, AllocError> {
-    let table = name_of(section.table);
-    let payload = hex_text(alloc, &section.payload)?;
-    let extension = section.extension;
-    let version = section.version;
-    let number = section.number;
-    let last = section.last;
-    format!(in alloc;
-        "{table}, extension {extension}, version {version}, section {number} of last {last}, payload {payload}"
-    )
+fn payload(row: &Row<'_>) -> Line {
+    read(row.line(), payload_of(&row.octets(0)))
 }
 
-fn payload(alloc: Global, row: &Row<'_>) -> Result<String, RowFault> {
-    match payload_of(&row.bytes(alloc, 0)?) {
-        Ok((table, payload)) => {
-            let table = name_of(table);
-            let payload = hex_text(alloc, payload)?;
-            Ok(format!(in alloc; "{table}, payload {payload}")?)
-        }
-        Err(skip) => Ok(skip.to_string(alloc)?),
+impl Told for (Table, &[u8]) {
+    fn told(&self, line: Line) -> Line {
+        line.text(name_of(self.0)).bytes(", payload ", self.1)
     }
 }
 
-fn inverted(alloc: Global, row: &Row<'_>) -> Result<String, RowFault> {
-    let cause = match row.word(0)? {
+fn inverted(row: &Row<'_>) -> Line {
+    let cause = cause_of(row);
+    let mut bytes = row.octets(1);
+    row.line().value("", &inverted_in(&mut bytes, cause))
+}
+
+/// The cause that a word says, if it says one.
+fn cause_of(row: &Row<'_>) -> Option<Skip> {
+    match row.text(0) {
         "none" => None,
         "short" => Some(Skip::Short),
         "length" => Some(Skip::Length),
@@ -96,14 +107,20 @@ fn inverted(alloc: Global, row: &Row<'_>) -> Result<String, RowFault> {
         "syntax" => Some(Skip::NoSyntax),
         "current" => Some(Skip::NotCurrent),
         "crc" => Some(Skip::BadCrc),
-        _ => return Err(RowFault::BadRow),
-    };
-    let mut bytes = row.bytes(alloc, 1)?;
+        _ => {
+            row.fail(RowFault::BadRow);
+            None
+        }
+    }
+}
+
+/// With how many of the bits inverted, one at a time, the bytes are refused for this cause.
+fn inverted_in(bytes: &mut [u8], cause: Option<Skip>) -> u32 {
     let mut count: u32 = 0;
     for place in 0..bytes.len() {
-        count = count.saturating_add(inverted_at(&mut bytes, place, cause));
+        count = count.saturating_add(inverted_at(bytes, place, cause));
     }
-    Ok(count.to_string(alloc)?)
+    count
 }
 
 /// With how many bits of the byte at a place inverted, one at a time, the bytes are refused for this cause.

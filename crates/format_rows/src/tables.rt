@@ -1,111 +1,111 @@
 //! The tables by which a carousel is found: read, written, sent and heard.
 
-use crate::replies::{Replies, packet_at};
-use crate::streams::packets_text;
+use crate::told::{Told, each, read};
+use crate::words::array;
 use psi_tables::{
-    Announcer, Find, Finder, Pat, Pmt, PsiFault, decode_pat, decode_pmt, written_pat, written_pmt,
+    Announcer, Find, Finder, Pat, PatLine, Pmt, PmtLine, PsiFault, decode_pat, decode_pmt,
+    written_pat, written_pmt,
 };
-use std::alloc::{AllocError, Global};
-use test_rows::{Row, RowFault, hex_text};
+use std::alloc::Global;
+use test_rows::{Line, Row, RowFault};
 
 /// What a row of this file answers.
-pub(crate) fn call(alloc: Global, row: &Row<'_>) -> Result<Option<String>, RowFault> {
-    let answer = match row.name() {
-        "pat" => read_pat(alloc, row)?,
-        "pmt" => read_pmt(alloc, row)?,
-        "table-fault" => fault(alloc, row)?,
-        "pat-written" => hex_text(alloc, &written_pat(alloc)?)?,
-        "pmt-written" => hex_text(alloc, &written_pmt(alloc, carousel(row)?)?)?,
-        "tables-announced" => announced(alloc, row)?,
-        "finder" => found(alloc, row)?,
-        _ => return Ok(None),
-    };
-    Ok(Some(answer))
-}
-
-/// The carousel id that the first word of a row says.
-fn carousel(row: &Row<'_>) -> Result<u32, RowFault> {
-    match u32::try_from(row.number(0)?) {
-        Ok(carousel) => Ok(carousel),
-        Err(_) => Err(RowFault::BadRow),
+pub(crate) fn call(alloc: Global, row: &Row<'_>) -> Option<Line> {
+    match row.name() {
+        "pat" => Some(read_pat(alloc, row)),
+        "pmt" => Some(read_pmt(alloc, row)),
+        "table-fault" => Some(fault(row)),
+        "pat-written" => Some(row.line().outcome(written_pat(alloc))),
+        "pmt-written" => Some(row.line().outcome(written_pmt(alloc, row.long(0)))),
+        "tables-announced" => Some(announced(alloc, row)),
+        "finder" => Some(found(alloc, row)),
+        _ => None,
     }
 }
 
 /// `pat BYTES`: what is read of a section of the PAT, or its fault.
-fn read_pat(alloc: Global, row: &Row<'_>) -> Result<String, RowFault> {
-    match decode_pat(alloc, &row.bytes(alloc, 0)?) {
-        Ok(pat) => Ok(pat_text(alloc, &pat)?),
-        Err(fault) => Ok(format!(in alloc; "{fault}")?),
+fn read_pat(alloc: Global, row: &Row<'_>) -> Line {
+    read(row.line(), decode_pat(alloc, &row.octets(0)))
+}
+
+impl Told for Pat {
+    fn told(&self, line: Line) -> Line {
+        let line = line
+            .value("stream ", &self.stream)
+            .value(", version ", &self.version)
+            .value(", section ", &self.number);
+        each(line, "; ", &self.lines)
     }
 }
 
-fn pat_text(alloc: Global, pat: &Pat) -> Result<String, AllocError> {
-    let (stream, version, number) = (pat.stream, pat.version, pat.number);
-    let mut replies = Replies::new(alloc);
-    replies.put(format!(in alloc;
-        "stream {stream}, version {version}, section {number}"
-    )?.as_str())?;
-    for line in &pat.lines {
-        let (program, pid) = (line.program, line.pid);
-        replies.put(format!(in alloc; "program {program} on {pid}")?.as_str())?;
+impl Told for PatLine {
+    fn told(&self, line: Line) -> Line {
+        line.value("program ", &self.program)
+            .value(" on ", &self.pid)
     }
-    Ok(replies.line())
 }
 
 /// `pmt BYTES`: what is read of a program's map table, or its fault.
-fn read_pmt(alloc: Global, row: &Row<'_>) -> Result<String, RowFault> {
-    match decode_pmt(alloc, &row.bytes(alloc, 0)?) {
-        Ok(pmt) => Ok(pmt_text(alloc, &pmt)?),
-        Err(fault) => Ok(format!(in alloc; "{fault}")?),
+fn read_pmt(alloc: Global, row: &Row<'_>) -> Line {
+    read(row.line(), decode_pmt(alloc, &row.octets(0)))
+}
+
+impl Told for Pmt {
+    fn told(&self, line: Line) -> Line {
+        each(line.value("program ", &self.program), "; ", &self.lines)
     }
 }
 
-fn pmt_text(alloc: Global, pmt: &Pmt) -> Result<String, AllocError> {
-    let program = pmt.program;
-    let mut replies = Replies::new(alloc);
-    replies.put(format!(in alloc; "program {program}")?.as_str())?;
-    for line in &pmt.lines {
-        let pid = line.pid;
-        let mut text = format!(in alloc; "carousels on {pid}:")?;
-        for carousel in &line.carousels {
-            text.push_str(format!(in alloc; " {carousel}")?.as_str())?;
-        }
-        replies.put(text.as_str())?;
+impl Told for PmtLine {
+    fn told(&self, line: Line) -> Line {
+        let line = line.value("carousels on ", &self.pid).text(":");
+        each(line, " ", &self.carousels)
     }
-    Ok(replies.line())
+}
+
+impl Told for u32 {
+    fn told(&self, line: Line) -> Line {
+        line.value("", self)
+    }
 }
 
 /// `table-fault PLACE`: the text of a fault at a place.
-fn fault(alloc: Global, row: &Row<'_>) -> Result<String, RowFault> {
-    let Ok(place) = usize::try_from(row.number(0)?) else {
-        return Err(RowFault::BadRow);
-    };
-    let fault = PsiFault::NotPsi(place);
-    Ok(format!(in alloc; "{fault}")?)
+fn fault(row: &Row<'_>) -> Line {
+    row.line().value("", &PsiFault::NotPsi(row.count(0)))
 }
 
 /// `tables-announced CAROUSEL`: the packets of the tables that are sent with a carousel.
-fn announced(alloc: Global, row: &Row<'_>) -> Result<String, RowFault> {
+fn announced(alloc: Global, row: &Row<'_>) -> Line {
     let mut packets = Vec::new(alloc);
-    Announcer::new(alloc, carousel(row)?)?.packets(&mut packets)?;
-    packets_text(alloc, &packets)
+    match Announcer::new(alloc, row.long(0)) {
+        Ok(mut announcer) => row.keep(announcer.packets(&mut packets)),
+        Err(_) => row.fail(RowFault::NoMemory),
+    }
+    each(row.line(), "; ", &packets).or("no packets")
 }
 
 /// `finder CAROUSEL PACKET..`: where the carousel is after each packet.
-fn found(alloc: Global, row: &Row<'_>) -> Result<String, RowFault> {
-    let mut finder = Finder::new(alloc, carousel(row)?)?;
-    let mut replies = Replies::new(alloc);
-    for place in 1..row.len() {
-        finder.feed(&packet_at(alloc, row, place)?)?;
-        replies.put(find_text(alloc, finder.find())?.as_str())?;
+fn found(alloc: Global, row: &Row<'_>) -> Line {
+    match Finder::new(alloc, row.long(0)) {
+        Ok(mut finder) => found_by(row, &mut finder),
+        Err(_) => row.failed(RowFault::NoMemory),
     }
-    Ok(replies.line())
 }
 
-fn find_text(alloc: Global, find: Find) -> Result<String, AllocError> {
+fn found_by(row: &Row<'_>, finder: &mut Finder) -> Line {
+    let mut line = row.line();
+    for place in 1..row.len() {
+        row.keep(finder.feed(&array(row, place)));
+        line = find_text(line.between("; "), finder.find());
+    }
+    line
+}
+
+/// Puts where the carousel is behind what stands.
+fn find_text(line: Line, find: Find) -> Line {
     match find {
-        Find::NoPat => String::from_str(alloc, "no PAT"),
-        Find::NotNamed => String::from_str(alloc, "not named"),
-        Find::At(pid) => format!(in alloc; "PID {pid}"),
+        Find::NoPat => line.text("no PAT"),
+        Find::NotNamed => line.text("not named"),
+        Find::At(pid) => line.value("PID ", &pid),
     }
 }

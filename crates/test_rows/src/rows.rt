@@ -61,5 +61,6 @@ fn called<C: Calls>(
     line: &str,
 ) -> Result<String, RowFault> {
     let row = Row::new(alloc, named, line)?;
-    calls.call(alloc, &row)
+    let answer = calls.call(alloc, &row);
+    row.answered(answer)
 }

@@ -2,7 +2,7 @@ use Rattle.std.proofs.Common.{List, sym, subst}
 use Rattle.std.specs.List.{All, Contains}
 use Rattle.cycle_planner.specs.declared.Item.{Item}
 use Rattle.generation.specs.Layouts.{GenerationState, items_of}
-use Rattle.broadcaster_rows.proofs.catalogue.drawn_sections.Goals as goal
+use Rattle.broadcaster_rows.proofs.catalogue.sections_of_draw.Goals as goal
 
 pub sections_text-requires : goal.sections_text-requires
 sections_text-requires g c =

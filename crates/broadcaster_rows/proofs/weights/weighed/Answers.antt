@@ -1,8 +1,8 @@
 use Rattle.std.proofs.Common.{rules, ◌≡◌, ◌==◌, cond, sym, ◌∙◌, subst}
 use denote.Param.Callables.{held_fn}
-use Rattle.broadcaster_rows.proofs.cycle.call.OwnLists.{own-1}
+use Rattle.broadcaster_rows.proofs.weights.weighed.OwnLists.{own-1}
 use Rattle.cycle_planner.proofs.CallerLemmas.{are_twice_first, weighs_first_twice}
-use Rattle.broadcaster_rows.proofs.cycle.call.Goals as goal
+use Rattle.broadcaster_rows.proofs.weights.weighed.Goals as goal
 
 pub new-weigh-requires-clause-weights : goal.new-weigh-requires-clause-weights
 new-weigh-requires-clause-weights c = are_twice_first
