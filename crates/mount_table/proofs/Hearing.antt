@@ -10,6 +10,7 @@ use Rattle.std.proofs.lemmas.Option.{none-some, same_Some, slice_get-get_or, sli
 use Rattle.section_stream.specs.Cuts.{Bytes, candidates}
 use Rattle.section_stream.specs.Rules as streams
 use Rattle.tuner_core.specs.Stands as tuners
+use Rattle.tuner_core.specs.declared.tuner.Tuner.{Tuner}
 use Rattle.mount_table.specs.declared.mount.Mount.{Mount}
 use Rattle.mount_table.specs.declared.receiver.Receiver.{Receiver}
 use Rattle.mount_table.specs.Places.{pids_of, IsPlaceOf}
@@ -53,6 +54,13 @@ hears x new r s mine mount own stands cuts hear packets h =
       demux = subst (λ (q : ℕ). streams.StandsFor s.demux (with_header_pid q (packets ++ x ∷ []))) (sym same) demux;
       tuner = subst (λ (q : ℕ). tuners.StandsFor s.tuner (candidates q (packets ++ x ∷ []))) (sym same) tuner;
     }
+
+-- a packet that completed no section
+pub hears_none : {A : Type 0} (view : A → Bytes) (xs : List A) (t : Tuner) → (length xs == 0) ≡ true
+    → (heard : List Bytes) → tuners.StandsFor t heard → tuners.StandsFor t (heard ++ map view xs)
+hears_none view [] t e heard s = subst (λ (cs : List Bytes). tuners.StandsFor t cs) (sym (append-nil heard)) s
+hears_none view (x ∷ xs) t e heard s =
+    let some : (length (x ∷ xs) == 0) ≡ false = ne_eqb (length (x ∷ xs)) 0 (λ n. omega (arith, n)) in absurd (cc (e, some))
 
 abbrev pub Grows : ℕ → List Bytes → Bytes → Type 0
 Grows pid packets x = length (candidates pid packets) < length (candidates pid (packets ++ x ∷ []))

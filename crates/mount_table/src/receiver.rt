@@ -22,12 +22,13 @@ pub struct Receiver {
     pub tuner: Tuner,
 }
 
-/// A receiver hears sections, in order.
-fn hear_all(tuner: &mut Tuner, sections: &[Vec<u8>]) -> Result<(), NoMemory>
-    ensures stands { OnOk result ((heard : List Bytes) → tuners.StandsFor tuner.old heard → tuners.StandsFor tuner.new (heard ++ map view_bytes sections.now)) }
-    ensures some { IsErr result → 0 < length sections.now }
+/// A receiver hears the sections that a packet completed, in order.
+#[inline(never)]
+fn hear_all(tuner: &mut Tuner, sections: Vec<Vec<u8>>) -> Result<(), NoMemory>
+    ensures stands { OnOk result ((heard : List Bytes) → tuners.StandsFor tuner.old heard → tuners.StandsFor tuner.new (heard ++ map view_bytes sections.items)) }
+    ensures some { IsErr result → 0 < length sections.items }
 {
-    for section in sections {
+    for section in &sections {
         tuner.feed(section)?;
     }
     Ok(())
@@ -58,7 +59,7 @@ impl Receiver {
         })
     }
 
-    /// Takes a packet whose header has the mount's PID.
+    /// Takes a packet whose header has the mount's PID. Most packets complete no section, and then nothing is called.
     #[inline]
     pub fn hear(&mut self, packet: &[u8; 188]) -> Result<(), NoMemory>
         requires { header_pid packet.now ≡ self.old.mount.pid }
@@ -68,7 +69,10 @@ impl Receiver {
             → length (candidates self.old.mount.pid packets) < length (candidates self.old.mount.pid (packets ++ packet.now ∷ [])) }
     {
         let sections = self.demux.feed(packet)?;
-        hear_all(&mut self.tuner, &sections)
+        if sections.is_empty() {
+            return Ok(());
+        }
+        hear_all(&mut self.tuner, sections)
     }
 
     /// The answer to what follows the first name of a path.

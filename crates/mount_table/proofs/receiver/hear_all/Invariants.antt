@@ -5,4 +5,4 @@ use Rattle.tuner_core.specs.Stands.{StandsFor}
 use Rattle.mount_table.proofs.receiver.hear_all.Given as goal
 
 abbrev pub invariant-loop-section : goal.invariant-loop-section
-invariant-loop-section l = (heard : List Bytes) → StandsFor l.fn.tuner heard → StandsFor l.tuner (heard ++ map view_bytes (take l.section-index l.sections))
+invariant-loop-section l = (heard : List Bytes) → StandsFor l.fn.tuner heard → StandsFor l.tuner (heard ++ map view_bytes (take l.section-index l.fn.sections.items))
