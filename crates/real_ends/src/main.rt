@@ -1,9 +1,9 @@
 //! Real ends at their worst: the program makes a folder with links, loops of them and closed doors, a folder in an input's place,
-//! a full device, and a file that shrinks while it is read. It prints what the system's ends make of each, and the gate compares
-//! that.
+//! a full device, and a file that shrinks while it is read, and it writes files where something stands or nothing can. It prints what
+//! the system's ends make of each, and the gate compares that.
 #![tactic(auto)]
 
-use folder_store::{Folders, OsFolders};
+use folder_store::{Folders, OsFolders, OsStore, Store};
 use oc_bytes::{Sink, Source, StdSink, StdSource};
 use std::fs::{File, OpenFile, OpenOptions, Permissions};
 use std::os::unix;
@@ -32,6 +32,7 @@ fn main(rt: HostRuntime) -> io::Result<()> {
     print_folder_as_input(&rt)?;
     print_full_device(&rt)?;
     print_shrinking_file(&rt)?;
+    print_writing(&rt)?;
     fs::remove_dir_all(&rt, "F")
 }
 
@@ -77,6 +78,69 @@ fn print_read<F: Folders>(rt: &HostRuntime, folders: &mut F, path: &str) -> io::
         }
         Err(fault) => println!(rt; "{path} as a file: {fault:?}"),
     }
+}
+
+/// Folders and files that are made where nothing stands, where something does, and where nothing can.
+fn print_writing(rt: &HostRuntime) -> io::Result<()> {
+    let mut store = OsStore::new(rt);
+    for path in [
+        "F/new",
+        "F/new/d",
+        "F/new",
+        "F/a",
+        "F/loop",
+        "F/dangling",
+        "F/nowhere/d",
+        "F/a/b",
+    ] {
+        print_made(rt, &mut store, path)?;
+    }
+    for path in [
+        "F/new/a",
+        "F/new/a",
+        "F/new/d",
+        "F/new/.",
+        "F/new/..",
+        "F/new/.carousel-part",
+        "F/loop",
+        "F/dangling",
+        "F/nowhere/a",
+        "F/a/b",
+    ] {
+        print_written(rt, &mut store, path)?;
+    }
+    print_shut_out(rt, &mut store)?;
+    let faults = store.faults();
+    println!(rt; "{faults} faults")?;
+    let mut folders = OsFolders::new(rt);
+    print_list(rt, &mut folders, "F/new")?;
+    print_read(rt, &mut folders, "F/new/a")?;
+    print_read(rt, &mut folders, "F/.carousel-part")
+}
+
+/// Files below a folder in which nobody may write, of a name that is too long, and beside one that has the name under which files are
+/// written.
+fn print_shut_out<S: Store>(rt: &HostRuntime, store: &mut S) -> io::Result<()> {
+    File::open(rt, "F/new/d")?.set_permissions(Permissions::from_mode(0o555))?;
+    print_written(rt, store, "F/new/d/a")?;
+    let mut long = String::from_str(rt.alloc(), "F/new/")?;
+    for _ in 0..256u32 {
+        long.push('n')?;
+    }
+    let written = store.write_new(rt.alloc(), long.as_str(), b"hello");
+    println!(rt; "a name of 256 bytes written: {written:?}")?;
+    fs::write(rt, "F/.carousel-part", "of another")?;
+    print_written(rt, store, "F/b")
+}
+
+fn print_made<S: Store>(rt: &HostRuntime, store: &mut S, path: &str) -> io::Result<()> {
+    let made = store.make_folder(rt.alloc(), path);
+    println!(rt; "{path} made: {made:?}")
+}
+
+fn print_written<S: Store>(rt: &HostRuntime, store: &mut S, path: &str) -> io::Result<()> {
+    let written = store.write_new(rt.alloc(), path, b"hello");
+    println!(rt; "{path} written: {written:?}")
 }
 
 fn print_folder_as_input(rt: &HostRuntime) -> io::Result<()> {

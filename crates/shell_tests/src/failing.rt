@@ -34,6 +34,7 @@ pub(crate) enum End {
 pub(crate) struct Ended {
     pub(crate) code: u8,
     pub(crate) sink: MemSink,
+    store: MemStore,
 }
 
 /// The words of a line.
@@ -107,11 +108,11 @@ pub(crate) fn run(
         &mut store,
     )?;
     let code = status.code();
-    Ok(Ended { code, sink })
+    Ok(Ended { code, sink, store })
 }
 
 /// Whether a run ended as it should in which a call of this end failed: nothing was written, or what the writes of two bytes before it
-/// took, or the lines of what was stored before, or which path can't be read.
+/// took, or which path can't be read, or the lines of what was stored before, when each call before stored one file or folder.
 fn is_right(end: End, call: u64, good: &[u8], ended: &Ended) -> bool {
     let written = ended.sink.written();
     match end {
@@ -124,7 +125,9 @@ fn is_right(end: End, call: u64, good: &[u8], ended: &Ended) -> bool {
         End::Folders => {
             ended.code == 6 && (written.is_empty() || written.starts_with(b"unreadable /"))
         }
-        End::Store => ended.code == 6 && good.starts_with(written),
+        End::Store => {
+            ended.code == 6 && ended.store.count() as u64 == call && good.starts_with(written)
+        }
     }
 }
 
@@ -147,13 +150,18 @@ fn each_call_fails_in_turn(rt: HostRuntime) -> Result<(), Fail> {
     let alloc = rt.alloc();
     let published = run(alloc, "publish F 1 1", b"", (20, 2), None)?;
     let packets = published.sink.written();
-    let rows: [(&str, &[u8], [u64; 4]); 6] = [
+    // The packets are 564 bytes, 29 reads and one that finds their end. The texts are half as many writes as they have bytes: 127, 716 and
+    // 21 of the last three. A folder is listed and a file read; a folder is made and a file written.
+    let rows: [(&str, &[u8], [u64; 4]); 9] = [
         ("assemble 1 0 5 42", &HELLO, [3, 3, 0, 0]),
         ("publish F 1 1", b"", [0, 282, 2, 0]),
         ("record 256", packets, [30, 193, 0, 0]),
         ("list 256", packets, [30, 11, 0, 0]),
         ("open 256 /a /a/b", packets, [30, 15, 0, 0]),
         ("rehearse", NEWS, [8, 78, 0, 0]),
+        ("plan F 1 1000000", b"", [0, 64, 2, 0]),
+        ("inspect 256", packets, [30, 358, 0, 0]),
+        ("extract 256 G", packets, [30, 11, 0, 2]),
     ];
     for (line, input, [reads, writes, calls, stores]) in rows {
         let good = run(alloc, line, input, (20, 2), None)?;
@@ -166,5 +174,8 @@ fn each_call_fails_in_turn(rt: HostRuntime) -> Result<(), Fail> {
             assert_eq!(rt; failing(alloc, line, input, &good, end)?, count, "{line}");
         }
     }
+    let extracted = run(alloc, "extract 256 G", packets, (20, 2), None)?;
+    assert!(rt; extracted.store.is_folder("G"));
+    assert!(rt; extracted.store.content("G/a") == Some(b"hello".as_slice()));
     Ok(())
 }
