@@ -49,6 +49,24 @@ def extracted(held):
     return tree, Ended(0 if whole else 1, b"".join(line + b"\n" for line in lines), b"")
 
 
+def write(tree, folder):
+    """Writes such contents, each folder before what is in it."""
+    for path, content in tree.items():
+        place = os.path.join(os.fsencode(folder), *path)
+        if content is None:
+            os.mkdir(place)
+        else:
+            with open(place, "xb") as out:
+                out.write(content)
+
+
+def content_of(path):
+    if os.path.islink(path):
+        return os.readlink(path)
+    with open(path, "rb") as file:
+        return file.read()
+
+
 def tree_in(folder):
     """What stands in a folder of the system, as `extracted` has it; no paths where there is none. A link is its target's text."""
     folder, tree = os.fsencode(folder), {}
@@ -58,6 +76,5 @@ def tree_in(folder):
         front = () if at == folder else tuple(os.path.relpath(at, folder).split(b"/"))
         tree[front] = None
         for name in names + [name for name in folders if os.path.islink(os.path.join(at, name))]:
-            whole = os.path.join(at, name)
-            tree[front + (name,)] = os.readlink(whole) if os.path.islink(whole) else open(whole, "rb").read()
+            tree[front + (name,)] = content_of(os.path.join(at, name))
     return tree

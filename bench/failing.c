@@ -3,7 +3,8 @@
        FAILING=alloc:3        the third allocation finds no memory
        FAILING=read:1:5       the first read of standard input fails with error number 5
        FAILING=write:1:5      the first write to standard output
-       FAILING=folder:1:5     the first call on folders and files: open, stat, list, or read of another descriptor
+       FAILING=folder:1:5     the first call on folders and files: open, stat, list, or read or write of another descriptor; or one
+                              that makes a folder, gives a file a name, or takes one away
        FAILING=short:2        the second read or write of several bytes moves one byte
        STOP=folder:4          before its fourth call on folders and files the program stops (SIGSTOP), until it is continued
        PIECE=2                each read and each write moves at most two bytes
@@ -122,8 +123,10 @@ ssize_t read(int file, void *into, size_t size) {
 }
 
 ssize_t write(int file, const void *from, size_t size) {
-    if (file != 1)
+    if (file == 2)
         return syscall(SYS_write, file, from, size);
+    if (file != 1)
+        return fails(FOLDER) ? -1 : syscall(SYS_write, file, from, moved(size));
     if (write_failed)
         __atomic_add_fetch(&counts->writes_after, 1, __ATOMIC_RELAXED);
     if (fails(WRITE)) {
@@ -175,3 +178,11 @@ int fstatat(int folder, const char *path, struct stat *into, int flags) {
 int statx(int folder, const char *path, int flags, unsigned mask, struct statx *into) {
     return fails(FOLDER) ? -1 : syscall(SYS_statx, folder, path, flags, mask, into);
 }
+
+int mkdir(const char *path, mode_t mode) { return fails(FOLDER) ? -1 : syscall(SYS_mkdirat, AT_FDCWD, path, mode); }
+
+int link(const char *from, const char *to) { return fails(FOLDER) ? -1 : syscall(SYS_linkat, AT_FDCWD, from, AT_FDCWD, to, 0); }
+
+int unlink(const char *path) { return fails(FOLDER) ? -1 : syscall(SYS_unlinkat, AT_FDCWD, path, 0); }
+
+int rename(const char *from, const char *to) { return fails(FOLDER) ? -1 : syscall(SYS_renameat2, AT_FDCWD, from, AT_FDCWD, to, 0); }

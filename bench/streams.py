@@ -9,6 +9,7 @@ It shares no code with the crates, so that what they read of its streams says so
     streams.py --two-diis FOLDER > STREAM    as another sender may do it: two DIIs, and a second version of one file
     streams.py --two-carousels FOLDER FOLDER > STREAM    a cycle of each, as carousel 1 on PID 256 and 2 on PID 257, packet by packet in turn
     streams.py --update > STREAM             a cycle of a tree whose one file is /now, and one of the next, in which it says something else
+    streams.py --damaged FOLDER > STREAM     a cycle of the folder's files and a larger one, with losses and damage
 """
 
 import itertools
@@ -424,6 +425,16 @@ def update():
     return updated({(b"now",): b"The news\n"}, {(b"now",): b"The weather\n"}, rules=Rules(lay=packed, place=kept_placement))
 
 
+def damaged(files):
+    """A cycle of these files and of a larger one, in modules of up to 4,000 bytes, in which packets of two blocks are lost, one comes
+    twice, and a bit of another block is wrong."""
+    tree = {**files, (b"img", b"map.pbm"): b"P4\n400 400\n" + bytes(n * n // 7 % 251 for n in range(20_000))}
+    sent = [*packed([*cycle(generation(tree, place=partial(kept_placement, room=4_000)))])]
+    wrong = bytearray(sent[-5])
+    wrong[100] ^= 0x10
+    return [*sent[:40], *sent[60:70], sent[69], *sent[70:-5], bytes(wrong), *sent[-4:]]
+
+
 def files_in(folder):
     files = {}
     for at, _, names in os.walk(folder):
@@ -486,6 +497,8 @@ def main(words):
         parts = two_carousels(*map(files_in, words[1:]))
     elif words[:1] == ["--update"]:
         parts = update()
+    elif words[:1] == ["--damaged"]:
+        parts = damaged(files_in(words[1]))
     elif words[:1] == ["--sections"]:
         parts = cycle(generation(files_in(words[1])), BUILT.weights)
     else:
