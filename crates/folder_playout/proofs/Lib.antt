@@ -1,0 +1,10 @@
+pub mod Packing
+pub mod Casting
+pub mod Hearing
+pub mod Changing
+pub mod Judging
+pub mod Framing
+pub mod Unchanged
+pub mod Turning
+pub mod Finding
+pub mod Answered

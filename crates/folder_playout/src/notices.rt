@@ -1,0 +1,148 @@
+ghost use Rattle.std.specs.Prelude.{◌≡◌, ◌++◌, ◌∷◌, [], List, length};
+ghost use Rattle.std.specs.List.{sum_by};
+ghost use Rattle.std.specs.Option.{unwrap_or};
+ghost use Rattle.oc_bytes.specs.Outcome.{cap_at_u64};
+ghost use Rattle.biop_object.specs.Names.{module_in};
+ghost use Rattle.folder_playout.specs.Notices.{Notice, Began, bytes_changed, bytes_if_changed, difference_of, files_changed, is_changed, kept_notices, modules_changed, one_if, one_if_changed, one_if_gone, one_if_other};
+
+use crate::reading::Unread;
+use generation::Generation;
+use oc_bytes::Blob;
+use path_tree::{Path, Tree};
+
+/// Who is told of generations while a carousel is on the air. A playout goes on whatever becomes of it. This trait is this project's own.
+pub trait Notices {
+    ghost use Rattle.std.specs.Prelude.{List};
+    ghost use Rattle.folder_playout.specs.Notices.{Notice};
+
+    /// From the first value on to the second these notices were given, in order, and no other.
+    ghost told: { Self → Self → List Notice → Type 0 };
+
+    /// A generation of this number goes on the air with this cycle, counted from 1. In so much it differs from the one before.
+    fn began(&mut self, number: u64, cycle: u32, difference: Difference)
+        ensures { (start : Self) (before : List Notice) → told start self.old before → told start self.new (before ++ Began number cycle difference ∷ []) };
+
+    /// The generation of this number stays on the air at this cycle, counted from 1, since no tree was read, for this cause.
+    fn kept(&mut self, number: u64, cycle: u32, cause: &Unread)
+        ensures { (start : Self) (before : List Notice) → told start self.old before → told start self.new (before ++ kept_notices number cycle cause.now) };
+}
+
+/// What a receiver that has one generation fetches again for the next: how many files are new, gone or have other bytes, how many modules are new
+/// or have another version, and how many bytes these have. Each number stays at its type's end.
+#[derive(Clone, Copy, Debug, PartialEq, Eq)]
+pub struct Difference {
+    /// Files.
+    pub files: u64,
+    /// Modules.
+    pub modules: u64,
+    /// Bytes in these modules.
+    pub bytes: u64,
+}
+
+/// In what a generation differs from the one before.
+pub fn compared(before: &Generation, now: &Generation) -> Difference
+    ensures { result ≡ difference_of before.now now.now }
+{
+    Difference {
+        files: files_that_differ(before.tree(), now.tree()),
+        modules: modules_that_differ(before, now),
+        bytes: bytes_that_differ(before, now),
+    }
+}
+
+/// How many files are new, gone or have other bytes.
+fn files_that_differ(before: &Tree, now: &Tree) -> u64
+    ensures { result ≡ cap_at_u64 (files_changed before.now now.now) }
+{
+    files_that_are_other(before, now).saturating_add(files_that_are_gone(before, now))
+}
+
+/// How many files are new or have other bytes.
+fn files_that_are_other(before: &Tree, now: &Tree) -> u64
+    ensures { result ≡ cap_at_u64 (sum_by (one_if_other before.now) now.now) }
+{
+    let mut total = 0u64;
+    for file in now.iter().as_slice() {
+        total = total.saturating_add(u64::from(is_other(before, file)));
+    }
+    total
+}
+
+/// How many files are gone.
+fn files_that_are_gone(before: &Tree, now: &Tree) -> u64
+    ensures { result ≡ cap_at_u64 (sum_by (one_if_gone now.now) before.now) }
+{
+    let mut total = 0u64;
+    for file in before.iter().as_slice() {
+        total = total.saturating_add(u64::from(is_gone(now, file)));
+    }
+    total
+}
+
+/// Whether a file isn't there with these bytes.
+fn is_other(tree: &Tree, file: &(Path, Blob)) -> bool
+    ensures { one_if result ≡ one_if_other tree.now file.now }
+{
+    // Nothing is done with the number of files: its contract says that they stand in order.
+    let _files = tree.len();
+    match tree.find(&file.0) {
+        Some(place) => tree.file(place).1.bytes() != file.1.bytes(),
+        None => true,
+    }
+}
+
+/// Whether a file isn't there.
+fn is_gone(tree: &Tree, file: &(Path, Blob)) -> bool
+    ensures { one_if result ≡ one_if_gone tree.now file.now }
+{
+    tree.find(&file.0).is_none()
+}
+
+/// How many modules are new or have another version.
+fn modules_that_differ(before: &Generation, now: &Generation) -> u64
+    ensures { result ≡ cap_at_u64 (modules_changed before.now now.now) }
+{
+    let mut total = 0u64;
+    for line in now.lines() {
+        total = total.saturating_add(u64::from(has_changed(before, now, line.0)));
+    }
+    total
+}
+
+/// The bytes of these modules.
+fn bytes_that_differ(before: &Generation, now: &Generation) -> u64
+    ensures { result ≡ cap_at_u64 (bytes_changed before.now now.now) }
+{
+    let mut total = 0u64;
+    for line in now.lines() {
+        total = total.saturating_add(size_if_changed(before, now, line.0));
+    }
+    total
+}
+
+/// The bytes of a module that is new or has another version, else none.
+fn size_if_changed(before: &Generation, now: &Generation, id: u16) -> u64
+    ensures { result ≡ bytes_if_changed before.now now.now (id, 0) }
+{
+    if has_changed(before, now, id) {
+        return size_of(now, id);
+    }
+    0
+}
+
+/// Whether a module is new or has another version than in the generation before.
+fn has_changed(before: &Generation, now: &Generation, id: u16) -> bool
+    ensures { result ≡ is_changed before.now now.now id }
+{
+    now.count(id) != before.count(id)
+}
+
+/// The bytes of a module, none where there is no such one.
+fn size_of(generation: &Generation, id: u16) -> u64
+    ensures { result ≡ length (unwrap_or (module_in generation.now.layout id) []) }
+{
+    match generation.module(id) {
+        Some(module) => module.bytes().len() as u64,
+        None => 0,
+    }
+}

@@ -1,0 +1,118 @@
+ghost use Rattle.std.specs.Prelude.{◌≡◌, ◌<◌, ◌≤◌, [], ℕ, None, true, false, IfOk, OnOk};
+ghost use Rattle.std.specs.List.{All};
+ghost use Rattle.generation.specs.Layouts.{first_of, next_of};
+ghost use Rattle.generation.specs.Publication.{limit_of};
+ghost use Rattle.section_stream.specs.Packing.{IsSectionLike};
+ghost use Rattle.shell_streams.specs.Sending.{OutputState, HasPut, Puts};
+ghost use Rattle.dsi_dii.specs.declared.TheConstants.{LAST_GENERATION};
+ghost use Rattle.folder_playout.specs.OnAir.{OnAir, begun, groups_of, air_bytes, same_tree, with_cycle, with_tree};
+ghost use Rattle.folder_playout.specs.Notices.{difference_of};
+ghost use Rattle.folder_playout.specs.Standing.{StandsFor, given_bytes};
+
+use crate::notices::{Difference, compared};
+use crate::same::is_same_tree;
+use cycle_planner::Weigh;
+use cycle_sender::Sender;
+use dsi_dii::LAST_GENERATION;
+use generation::Generation;
+use oc_bytes::NoMemory;
+use path_tree::Tree;
+use shell_streams::{Output, OutputFault};
+use std::alloc::Global;
+
+/// A carousel on the air: the generation that is sent, and its sections on their way to the output.
+#[derive(Drop)]
+pub(crate) struct Playout {
+    pub(crate) sender: Sender,
+    pub(crate) generation: Generation,
+}
+
+impl Playout {
+    /// Generation 1 of a carousel, of which nothing is sent yet, and in what it differs from the one without files.
+    pub(crate) fn new(
+        alloc: Global,
+        pid: u16,
+        carousel: u32,
+        tree: Tree,
+    ) -> Result<(Playout, Difference), NoMemory>
+        requires in_range { pid < 8192 }
+        requires tree { limit_of tree ≡ None }
+        ensures stands { IfOk result (λ p. StandsFor p.0 pid (begun carousel tree)) }
+        ensures differs { IfOk result (λ p. p.1 ≡ difference_of (first_of carousel) (next_of (first_of carousel) tree)) }
+    {
+        let sender = Sender::new(alloc, pid);
+        let none = Generation::first(alloc, carousel)?;
+        let generation = none.next(tree)?;
+        let difference = compared(&none, &generation);
+        let playout = Playout { sender, generation };
+        Ok((playout, difference))
+    }
+
+    /// Whether this is another tree than that of the generation on the air.
+    pub(crate) fn is_new(&self, tree: &Tree) -> bool
+        ensures same { result ≡ false → same_tree tree.now self.now.generation.tree ≡ true }
+        ensures other { result ≡ true → same_tree tree.now self.now.generation.tree ≡ false }
+    {
+        !is_same_tree(tree, self.generation.tree())
+    }
+
+    /// The number of the generation on the air.
+    pub(crate) fn number(&self) -> u64
+        ensures { result ≡ self.now.generation.number }
+    {
+        self.generation.number()
+    }
+
+    /// Whether the generation on the air is the last that a carousel can have.
+    pub(crate) fn is_last(&self) -> bool
+        ensures last { result ≡ true → LAST_GENERATION ≤ self.now.generation.number }
+        ensures earlier { result ≡ false → self.now.generation.number < LAST_GENERATION }
+    {
+        self.generation.number() >= LAST_GENERATION
+    }
+
+    /// Makes the tree the next generation, and says in what it differs. The sections of this one end as a group.
+    pub(crate) fn renew<O: Output>(
+        &mut self,
+        tree: Tree,
+        out: &mut O,
+    ) -> Result<Difference, OutputFault>
+        requires tree { limit_of tree ≡ None }
+        requires number { self.old.generation.number < LAST_GENERATION }
+        ensures puts { (start : OutputState) (pid : ℕ) (s : OnAir) → StandsFor self.old pid s → All (All IsSectionLike) (groups_of s)
+            → HasPut start (O.state out.old) (given_bytes pid s) → Puts result start (O.state out.new) (given_bytes pid (with_tree tree s)) }
+        ensures stands { OnOk result ((pid : ℕ) (s : OnAir) → StandsFor self.old pid s → All (All IsSectionLike) (groups_of s) → StandsFor self.new pid (with_tree tree s)) }
+        ensures differs { IfOk result (λ d. d ≡ difference_of self.old.generation (next_of self.old.generation tree)) }
+    {
+        self.sender.finish(out)?;
+        let next = self.generation.next(tree)?;
+        let difference = compared(&self.generation, &next);
+        self.generation = next;
+        Ok(difference)
+    }
+
+    /// Sends one more cycle. All that can't change any more is written then.
+    pub(crate) fn send_cycle<O: Output>(
+        &mut self,
+        weigh: &Weigh,
+        out: &mut O,
+    ) -> Result<(), OutputFault>
+        ensures puts { (start : OutputState) (pid : ℕ) (s : OnAir) → StandsFor self.old pid s
+            → HasPut start (O.state out.old) (given_bytes pid s) → Puts result start (O.state out.new) (given_bytes pid (with_cycle weigh.now.weights s)) }
+        ensures stands { OnOk result ((pid : ℕ) (s : OnAir) → StandsFor self.old pid s → StandsFor self.new pid (with_cycle weigh.now.weights s)) }
+        ensures empty { OnOk result ((O.state out.new).pending ≡ []) }
+    {
+        self.sender.send_cycle(&self.generation, weigh, out)?;
+        out.flush()
+    }
+
+    /// Ends the last group.
+    pub(crate) fn end<O: Output>(&mut self, out: &mut O) -> Result<(), OutputFault>
+        ensures puts { (start : OutputState) (pid : ℕ) (s : OnAir) → StandsFor self.old pid s → All (All IsSectionLike) (groups_of s)
+            → HasPut start (O.state out.old) (given_bytes pid s) → Puts result start (O.state out.new) (air_bytes pid s) }
+        ensures empty { OnOk result ((O.state out.new).pending ≡ []) }
+    {
+        self.sender.finish(out)?;
+        out.flush()
+    }
+}
