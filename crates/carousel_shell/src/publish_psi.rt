@@ -10,10 +10,11 @@ ghost use Rattle.carousel_shell.specs.Announced.{cycles_sent, senders_start};
 ghost use Rattle.carousel_shell.specs.PublishPsi.{PublishesPsi};
 
 use crate::law::receptions;
-use crate::publish::{PID, Sender, first_generation, put_packets};
+use crate::publish::{PID, first_generation};
 use crate::status::Status;
 use carousel_world::publications_can_be_packed;
 use cycle_planner::Weigh;
+use cycle_sender::{Sender, put_packets};
 use folder_store::Folders;
 use generation::{Generation, generations_are_of_the_lists};
 use psi_tables::Announcer;

@@ -7,7 +7,8 @@ use Rattle.carousel_world.specs.Publishing.{repeat_list}
 use Rattle.shell_streams.proofs.CallerLemmas.{puts_nothing, puts_then, puts_stop, puts_as}
 use Rattle.section_stream.specs.Packing.{idle, past}
 use Rattle.section_stream.proofs.CallerLemmas.{between_idle}
-use Rattle.carousel_shell.proofs.Cycling.{packs_cycle, counts_cycle, packs_cycles, packs_group, packs_end, like_cycles}
+use Rattle.cycle_sender.proofs.CallerLemmas.{packs_group}
+use Rattle.carousel_shell.proofs.Cycling.{packs_cycle, counts_cycle, packs_cycles, packs_end, like_cycles}
 use Rattle.carousel_shell.proofs.publish.send.Goals as goal
 
 pub loop-init : goal.loop-init
