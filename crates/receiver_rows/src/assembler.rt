@@ -1,10 +1,9 @@
 //! A module out of its blocks.
 
-use crate::numbers::{number_16, number_32};
 use block_assembler::{Assembler, Offer};
 use ddb_block::block_count;
-use std::alloc::{AllocError, Global};
-use test_rows::{Row, RowFault, hex_text};
+use std::alloc::Global;
+use test_rows::{Line, Row, RowFault};
 
 /// The module that comes block by block, where a row has made one.
 #[derive(Drop)]
@@ -19,110 +18,100 @@ impl AssemblerRows {
     }
 
     /// What the call of a row answers, where it is one of these.
-    pub(crate) fn call(
-        &mut self,
-        alloc: Global,
-        row: &Row<'_>,
-    ) -> Result<Option<String>, RowFault> {
-        let text = match row.name() {
-            "assembler" => self.make(alloc, number_32(row, 0)?, number_16(row, 1)?)?,
-            "offer" => self.offer(alloc, number_16(row, 0)?, &row.bytes(alloc, 1)?)?,
-            "whole" => self.whole(alloc)?,
-            "finish" => self.finish(alloc)?,
-            "finish-and-refill" => self.finish_and_refill(alloc)?,
-            "forget-at-once" => {
-                let (size, block_size) = (number_32(row, 0)?, number_16(row, 1)?);
-                self.forget_at_once(alloc, size, block_size, number_16(row, 2)?)?
-            }
-            _ => return Ok(None),
-        };
-        Ok(Some(text))
+    pub(crate) fn call(&mut self, alloc: Global, row: &Row<'_>) -> Option<Line> {
+        match row.name() {
+            "assembler" => Some(self.make(alloc, row)),
+            "offer" => Some(self.offer(row)),
+            "whole" => Some(self.whole(row)),
+            "finish" => Some(self.finish(row)),
+            "finish-and-refill" => Some(self.finish_and_refill(row)),
+            "forget-at-once" => Some(self.forget_at_once(alloc, row)),
+            _ => None,
+        }
     }
 
     /// Makes an assembler of a module of so many bytes in blocks of so many bytes.
-    fn make(&mut self, alloc: Global, size: u32, block_size: u16) -> Result<String, AllocError> {
-        match Assembler::new(alloc, size, block_size) {
+    fn make(&mut self, alloc: Global, row: &Row<'_>) -> Line {
+        match Assembler::new(alloc, row.long(0), row.short(1)) {
             Ok(module) => {
                 self.module = Some(module);
-                String::from_str(alloc, "made")
+                row.line().text("made")
             }
-            Err(fault) => format!(in alloc; "{fault}"),
+            Err(fault) => row.line().value("", &fault),
         }
     }
 
     /// Makes an assembler, and forgets a block of it, of which none has come.
-    fn forget_at_once(
-        &mut self,
-        alloc: Global,
-        size: u32,
-        block_size: u16,
-        block: u16,
-    ) -> Result<String, AllocError> {
+    fn forget_at_once(&mut self, alloc: Global, row: &Row<'_>) -> Line {
+        let (size, block_size, block) = (row.long(0), row.short(1), row.short(2));
         match Assembler::new(alloc, size, block_size) {
             Ok(mut module) => {
                 if u32::from(block) < block_count(size, block_size) {
                     module.forget(block);
                 }
-                let text = missing_text(alloc, &module)?;
-                self.module = Some(module);
-                Ok(text)
+                self.keep(row.line(), module)
             }
-            Err(fault) => format!(in alloc; "{fault}"),
+            Err(fault) => row.line().value("", &fault),
         }
     }
 
     /// Offers a block: what became of it, and which block is missing then.
-    fn offer(&mut self, alloc: Global, block: u16, bytes: &[u8]) -> Result<String, RowFault> {
-        let Some(module) = &mut self.module else {
-            return Err(RowFault::BadRow);
-        };
-        let offered = offer_word(module.offer(block, bytes));
-        let missing = missing_text(alloc, module)?;
-        Ok(format!(in alloc; "{offered}, {missing}")?)
+    fn offer(&mut self, row: &Row<'_>) -> Line {
+        match &mut self.module {
+            Some(module) => {
+                let offer = module.offer(row.short(0), &row.octets(1));
+                missing_text(row.line().text(offer_word(offer)).text(", "), module)
+            }
+            None => row.failed(RowFault::BadRow),
+        }
     }
 
     /// The module's bytes, where it is whole.
-    fn whole(&self, alloc: Global) -> Result<String, RowFault> {
-        let Some(module) = &self.module else {
-            return Err(RowFault::BadRow);
-        };
-        match module.whole() {
-            Some(bytes) => Ok(hex_text(alloc, bytes)?),
-            None => Ok(missing_text(alloc, module)?),
+    fn whole(&self, row: &Row<'_>) -> Line {
+        match &self.module {
+            Some(module) => whole_text(row.line(), module),
+            None => row.failed(RowFault::BadRow),
         }
     }
 
     /// Gives the module's bytes away, where it is whole.
-    fn finish(&mut self, alloc: Global) -> Result<String, RowFault> {
+    fn finish(&mut self, row: &Row<'_>) -> Line {
         let Some(module) = self.module.take() else {
-            return Err(RowFault::BadRow);
+            return row.failed(RowFault::BadRow);
         };
         match module.finish() {
-            Ok((bytes, _left)) => Ok(hex_text(alloc, &bytes)?),
-            Err(module) => self.keep(alloc, module),
+            Ok((bytes, _left)) => row.line().bytes("", &bytes),
+            Err(module) => self.keep(row.line(), module),
         }
     }
 
     /// Gives the module's bytes away, and makes the module again with them: the bytes, and which block is missing then.
-    fn finish_and_refill(&mut self, alloc: Global) -> Result<String, RowFault> {
+    fn finish_and_refill(&mut self, row: &Row<'_>) -> Line {
         let Some(module) = self.module.take() else {
-            return Err(RowFault::BadRow);
+            return row.failed(RowFault::BadRow);
         };
         match module.finish() {
             Ok((bytes, left)) => {
-                let given = hex_text(alloc, &bytes)?;
-                let missing = self.keep(alloc, left.refill(bytes))?;
-                Ok(format!(in alloc; "{given}, {missing}")?)
+                let given = row.line().bytes("", &bytes).text(", ");
+                self.keep(given, left.refill(bytes))
             }
-            Err(module) => self.keep(alloc, module),
+            Err(module) => self.keep(row.line(), module),
         }
     }
 
-    /// Holds a module from now on.
-    fn keep(&mut self, alloc: Global, module: Assembler) -> Result<String, RowFault> {
-        let missing = missing_text(alloc, &module)?;
+    /// Holds a module from now on, and puts which block is missing behind what stands.
+    fn keep(&mut self, line: Line, module: Assembler) -> Line {
+        let line = missing_text(line, &module);
         self.module = Some(module);
-        Ok(missing)
+        line
+    }
+}
+
+/// Puts the module's bytes, where it is whole, behind what stands.
+fn whole_text(line: Line, module: &Assembler) -> Line {
+    match module.whole() {
+        Some(bytes) => line.bytes("", bytes),
+        None => missing_text(line, module),
     }
 }
 
@@ -136,10 +125,10 @@ fn offer_word(offer: Offer) -> &'static str {
     }
 }
 
-/// Which block is missing.
-fn missing_text(alloc: Global, module: &Assembler) -> Result<String, AllocError> {
+/// Puts which block is missing behind what stands.
+fn missing_text(line: Line, module: &Assembler) -> Line {
     match module.first_missing() {
-        Some(block) => format!(in alloc; "block {block} is missing"),
-        None => String::from_str(alloc, "no block is missing"),
+        Some(block) => line.value("block ", &block).text(" is missing"),
+        None => line.text("no block is missing"),
     }
 }

@@ -1,13 +1,13 @@
 //! The modules of the DIIs that are held.
 
-use crate::numbers::{number_8, number_16, number_32};
+use crate::told::{Told, each};
 use ddb_block::{Ddb, Parts};
 use dsi_dii::{Dii, ModuleLine, TransactionId};
 use module_cache::{
     Cache, Slot, Taken, Tuned, fits_beside, is_apart, is_identification_held, is_within,
 };
 use std::alloc::{AllocError, Global};
-use test_rows::{Row, RowFault};
+use test_rows::{Line, Row, RowFault};
 
 /// What is held of modules.
 #[derive(Drop)]
@@ -24,97 +24,117 @@ impl CacheRows {
     }
 
     /// What the call of a row answers, where it is one of these.
-    pub(crate) fn call(
-        &mut self,
-        alloc: Global,
-        row: &Row<'_>,
-    ) -> Result<Option<String>, RowFault> {
-        let text = match row.name() {
-            "cache" => {
-                self.cache = Cache::new(alloc);
-                String::from_str(alloc, "made")?
-            }
-            "cache-turn" => self.turn(alloc, row)?,
-            "cache-join" => self.join(alloc, row)?,
-            "cache-fits" => self.fits(alloc, row)?,
-            "cache-offer" => self.offer(alloc, row)?,
-            "cache-offer-message" => self.offer_message(alloc, row)?,
-            "cache-module" => slot_text(alloc, self.cache.module(number_16(row, 0)?))?,
-            "cache-held" => held_text(alloc, self.cache.held())?,
-            "is-within" => within_text(alloc, &dii_of(alloc, row, 0)?)?,
-            _ => return Ok(None),
-        };
-        Ok(Some(text))
+    pub(crate) fn call(&mut self, alloc: Global, row: &Row<'_>) -> Option<Line> {
+        match row.name() {
+            "cache" => Some(self.begin(alloc, row)),
+            "cache-turn" => Some(self.turn(alloc, row)),
+            "cache-join" => Some(self.join(alloc, row)),
+            "cache-fits" => Some(self.fits(alloc, row)),
+            "cache-offer" => Some(self.offer(row)),
+            "cache-offer-message" => Some(self.offer_message(row)),
+            "cache-module" => Some(self.module(row)),
+            "cache-held" => Some(self.told(row)),
+            "is-within" => Some(within(alloc, row)),
+            _ => None,
+        }
+    }
+
+    /// Holds nothing from now on.
+    fn begin(&mut self, alloc: Global, row: &Row<'_>) -> Line {
+        self.cache = Cache::new(alloc);
+        row.line().text("made")
+    }
+
+    /// The DIIs that are held.
+    fn told(&self, row: &Row<'_>) -> Line {
+        each(row.line(), "; ", self.cache.held()).or("no DII")
+    }
+
+    /// What is there of a module.
+    fn module(&self, row: &Row<'_>) -> Line {
+        slot_text(row.line(), self.cache.module(row.short(0)))
     }
 
     /// Turns to a DII, where it is within the limits, and keeps what is there or drops it.
-    fn turn(&mut self, alloc: Global, row: &Row<'_>) -> Result<String, RowFault> {
-        let keep = match row.word(0)? {
-            "keep" => true,
-            "drop" => false,
-            _ => return Err(RowFault::BadRow),
-        };
-        let dii = dii_of(alloc, row, 1)?;
-        if !is_within(&dii) {
-            return Ok(within_text(alloc, &dii)?);
+    fn turn(&mut self, alloc: Global, row: &Row<'_>) -> Line {
+        self.turn_to(row, &dii_of(alloc, row, 1))
+    }
+
+    fn turn_to(&mut self, row: &Row<'_>, dii: &Dii) -> Line {
+        if !is_within(dii) {
+            return within_text(row.line(), dii);
         }
-        self.cache.turn(&dii, keep)?;
-        Ok(held_text(alloc, self.cache.held())?)
+        row.keep(self.cache.turn(dii, keeps(row)));
+        self.told(row)
     }
 
     /// Joins a DII to those that are held, where it is within the limits and may join them.
-    fn join(&mut self, alloc: Global, row: &Row<'_>) -> Result<String, RowFault> {
-        let dii = dii_of(alloc, row, 0)?;
-        if !is_within(&dii) {
-            return Ok(within_text(alloc, &dii)?);
+    fn join(&mut self, alloc: Global, row: &Row<'_>) -> Line {
+        self.join_dii(row, &dii_of(alloc, row, 0))
+    }
+
+    fn join_dii(&mut self, row: &Row<'_>, dii: &Dii) -> Line {
+        if !is_within(dii) {
+            return within_text(row.line(), dii);
         }
-        let held = self.cache.held();
-        if is_identification_held(held, &dii) {
-            return Ok(String::from_str(alloc, "its identification is held")?);
+        if is_identification_held(self.cache.held(), dii) {
+            return row.line().text("its identification is held");
         }
-        if !is_apart(held, &dii) {
-            return Ok(String::from_str(alloc, "a module of it is listed")?);
+        if !is_apart(self.cache.held(), dii) {
+            return row.line().text("a module of it is listed");
         }
-        self.cache.join(&dii)?;
-        Ok(held_text(alloc, self.cache.held())?)
+        row.keep(self.cache.join(dii));
+        self.told(row)
     }
 
     /// Whether a DII's modules and those of the DIIs that are held are few enough bytes.
-    fn fits(&self, alloc: Global, row: &Row<'_>) -> Result<String, RowFault> {
-        let dii = dii_of(alloc, row, 0)?;
-        let text = if fits_beside(self.cache.held(), &dii) {
-            "fits beside them"
-        } else {
-            "does not fit beside them"
-        };
-        Ok(String::from_str(alloc, text)?)
+    fn fits(&self, alloc: Global, row: &Row<'_>) -> Line {
+        fits_text(row, fits_beside(self.cache.held(), &dii_of(alloc, row, 0)))
     }
 
     /// Offers a block whose bytes are lent.
-    fn offer(&mut self, alloc: Global, row: &Row<'_>) -> Result<String, RowFault> {
-        let bytes = row.bytes(alloc, 4)?;
+    fn offer(&mut self, row: &Row<'_>) -> Line {
+        let bytes = row.octets(4);
         let parts = Parts {
-            download: number_32(row, 0)?,
-            module: number_16(row, 1)?,
-            version: number_8(row, 2)?,
-            block: number_16(row, 3)?,
+            download: row.long(0),
+            module: row.short(1),
+            version: row.byte(2),
+            block: row.short(3),
             bytes: &bytes,
         };
-        let taken = self.cache.offer_parts(&parts)?;
-        Ok(taken_text(alloc, taken)?)
+        taken_text(row, self.cache.offer_parts(&parts))
     }
 
     /// Offers a block message.
-    fn offer_message(&mut self, alloc: Global, row: &Row<'_>) -> Result<String, RowFault> {
+    fn offer_message(&mut self, row: &Row<'_>) -> Line {
         let ddb = Ddb {
-            download: number_32(row, 0)?,
-            module: number_16(row, 1)?,
-            version: number_8(row, 2)?,
-            block: number_16(row, 3)?,
-            bytes: row.bytes(alloc, 4)?,
+            download: row.long(0),
+            module: row.short(1),
+            version: row.byte(2),
+            block: row.short(3),
+            bytes: row.octets(4),
         };
-        let taken = self.cache.offer(&ddb)?;
-        Ok(taken_text(alloc, taken)?)
+        taken_text(row, self.cache.offer(&ddb))
+    }
+}
+
+/// What became of a block.
+fn taken_text(row: &Row<'_>, taken: Result<Taken, AllocError>) -> Line {
+    match taken {
+        Ok(taken) => row.line().value("", &taken),
+        Err(_) => row.failed(RowFault::NoMemory),
+    }
+}
+
+/// Whether what is held is kept at a turn.
+fn keeps(row: &Row<'_>) -> bool {
+    match row.text(0) {
+        "keep" => true,
+        "drop" => false,
+        _ => {
+            row.fail(RowFault::BadRow);
+            false
+        }
     }
 }
 
@@ -129,44 +149,66 @@ struct Head {
 
 /// The fields of `VERSION`, of `VERSION:IDENTIFICATION`, and so on with `:DOWNLOAD` and `:BLOCKSIZE`. The identification is else 1,
 /// the downloadId 7 and the block size 4 bytes.
-fn head_of(word: &str) -> Result<Head, RowFault> {
+fn head_of(row: &Row<'_>, word: &str) -> Head {
     let mut fields = word.split(':');
-    Ok(Head {
-        version: field_16(fields.next(), 0)?,
-        identification: field_16(fields.next(), 1)?,
-        download: field_32(fields.next(), 7)?,
-        block_size: field_16(fields.next(), 4)?,
-    })
-}
-
-fn field_32(digits: Option<&str>, absent: u32) -> Result<u32, RowFault> {
-    match digits.map(|digits| digits.parse::<u32>()) {
-        None => Ok(absent),
-        Some(Ok(number)) => Ok(number),
-        Some(Err(_)) => Err(RowFault::BadRow),
+    Head {
+        version: field_16(row, fields.next(), ""),
+        identification: field_16(row, fields.next(), "1"),
+        download: field_32(row, fields.next(), "7"),
+        block_size: field_16(row, fields.next(), "4"),
     }
 }
 
-fn field_16(digits: Option<&str>, absent: u16) -> Result<u16, RowFault> {
-    match u16::try_from(field_32(digits, u32::from(absent))?) {
-        Ok(number) => Ok(number),
-        Err(_) => Err(RowFault::BadRow),
+/// The number of four bytes that a field says, or another text where there is no field.
+fn field_32(row: &Row<'_>, field: Option<&str>, absent: &str) -> u32 {
+    match field.unwrap_or(absent).parse::<u32>() {
+        Ok(number) => number,
+        Err(_) => {
+            row.fail(RowFault::BadRow);
+            0
+        }
+    }
+}
+
+/// The number of two bytes that a field says, or another text where there is no field.
+fn field_16(row: &Row<'_>, field: Option<&str>, absent: &str) -> u16 {
+    match field.unwrap_or(absent).parse::<u16>() {
+        Ok(number) => number,
+        Err(_) => {
+            row.fail(RowFault::BadRow);
+            0
+        }
+    }
+}
+
+/// The number of one byte that a field says.
+fn field_8(row: &Row<'_>, field: Option<&str>) -> u8 {
+    match field.unwrap_or("").parse::<u8>() {
+        Ok(number) => number,
+        Err(_) => {
+            row.fail(RowFault::BadRow);
+            0
+        }
     }
 }
 
 /// The DII of the fields that the word at a place says, and of the modules that the words behind it say.
-fn dii_of(alloc: Global, row: &Row<'_>, place: usize) -> Result<Dii, RowFault> {
-    let head = head_of(row.word(place)?)?;
-    let mut lines = Vec::new(alloc);
-    for next in place.saturating_add(1)..row.len() {
-        put_line(&mut lines, line_of(row.word(next)?)?)?;
-    }
-    Ok(Dii {
+fn dii_of(alloc: Global, row: &Row<'_>, place: usize) -> Dii {
+    let head = head_of(row, row.text(place));
+    Dii {
         download: head.download,
         block_size: head.block_size,
         transaction: transaction_of(head.version, head.identification),
-        modules: lines,
-    })
+        modules: modules_of(alloc, row, place.saturating_add(1)),
+    }
+}
+
+fn modules_of(alloc: Global, row: &Row<'_>, from: usize) -> Vec<ModuleLine> {
+    let mut lines = Vec::new(alloc);
+    for place in from..row.len() {
+        row.push(&mut lines, line_of(row, row.text(place)));
+    }
+    lines
 }
 
 fn transaction_of(version: u16, identification: u16) -> TransactionId {
@@ -175,83 +217,64 @@ fn transaction_of(version: u16, identification: u16) -> TransactionId {
     TransactionId(0x8000_0000 + version * 65536 + identification * 2)
 }
 
-fn put_line(lines: &mut Vec<ModuleLine>, line: ModuleLine) -> Result<(), AllocError> {
-    lines.push(line)?;
-    Ok(())
-}
-
 /// The module that `ID:SIZE:VERSION` says, or `ID:SIZE:VERSION:compressed`.
-fn line_of(word: &str) -> Result<ModuleLine, RowFault> {
-    let (fields, compressed) = match word.strip_suffix(":compressed") {
-        Some(fields) => (fields, true),
-        None => (word, false),
-    };
-    let Some((id, rest)) = fields.split_once(':') else {
-        return Err(RowFault::BadRow);
-    };
-    let Some((size, version)) = rest.split_once(':') else {
-        return Err(RowFault::BadRow);
-    };
-    match (
-        id.parse::<u16>(),
-        size.parse::<u32>(),
-        version.parse::<u8>(),
-    ) {
-        (Ok(id), Ok(size), Ok(version)) => Ok(ModuleLine {
-            id,
-            size,
-            version,
-            compressed,
-        }),
-        _ => Err(RowFault::BadRow),
+fn line_of(row: &Row<'_>, word: &str) -> ModuleLine {
+    let mut fields = word.split(':');
+    ModuleLine {
+        id: field_16(row, fields.next(), ""),
+        size: field_32(row, fields.next(), ""),
+        version: field_8(row, fields.next()),
+        compressed: is_compressed(row, fields.next()),
     }
 }
 
-fn taken_text(alloc: Global, taken: Taken) -> Result<String, AllocError> {
-    format!(in alloc; "{taken}")
+/// Whether the last field of a module says that it is compressed.
+fn is_compressed(row: &Row<'_>, field: Option<&str>) -> bool {
+    match field {
+        Some("compressed") => true,
+        Some(_) => {
+            row.fail(RowFault::BadRow);
+            false
+        }
+        None => false,
+    }
 }
 
-/// What is there of a module.
-fn slot_text(alloc: Global, slot: Slot<'_>) -> Result<String, AllocError> {
+/// Puts what is there of a module behind what stands.
+fn slot_text(line: Line, slot: Slot<'_>) -> Line {
     match slot {
-        Slot::Unlisted => String::from_str(alloc, "unlisted"),
-        Slot::Compressed => String::from_str(alloc, "compressed"),
-        Slot::Partial => String::from_str(alloc, "partial"),
-        Slot::Whole(module) => {
-            let size = module.bytes().len();
-            format!(in alloc; "whole {size}")
-        }
+        Slot::Unlisted => line.text("unlisted"),
+        Slot::Compressed => line.text("compressed"),
+        Slot::Partial => line.text("partial"),
+        Slot::Whole(module) => line.value("whole ", &module.bytes().len()),
     }
-}
-
-/// The DIIs that are held.
-fn held_text(alloc: Global, held: &[Tuned]) -> Result<String, AllocError> {
-    if held.is_empty() {
-        return String::from_str(alloc, "no DII");
-    }
-    let mut text = String::new(alloc);
-    for tuned in held {
-        if !text.is_empty() {
-            text.push_str("; ")?;
-        }
-        text.push_str(tuned_text(alloc, tuned)?.as_str())?;
-    }
-    Ok(text)
 }
 
 /// A DII that is held.
-fn tuned_text(alloc: Global, held: &Tuned) -> Result<String, AllocError> {
-    let (version, identification) = (held.version(), held.identification());
-    let modules = held.lines().len();
-    format!(in alloc; "version {version}, identification {identification}, modules {modules}")
+impl Told for Tuned {
+    fn told(&self, line: Line) -> Line {
+        line.value("version ", &self.version())
+            .value(", identification ", &self.identification())
+            .value(", modules ", &self.lines().len())
+    }
 }
 
-/// Whether a DII is within the receiver's limits.
-fn within_text(alloc: Global, dii: &Dii) -> Result<String, AllocError> {
-    let text = if is_within(dii) {
-        "within the limits"
-    } else {
-        "not within the limits"
-    };
-    String::from_str(alloc, text)
+/// Whether the DII of a row is within the receiver's limits.
+fn within(alloc: Global, row: &Row<'_>) -> Line {
+    within_text(row.line(), &dii_of(alloc, row, 0))
+}
+
+/// Puts whether a DII is within the receiver's limits behind what stands.
+fn within_text(line: Line, dii: &Dii) -> Line {
+    match is_within(dii) {
+        true => line.text("within the limits"),
+        false => line.text("not within the limits"),
+    }
+}
+
+fn fits_text(row: &Row<'_>, fits: bool) -> Line {
+    match fits {
+        true => row.line().text("fits beside them"),
+        false => row.line().text("does not fit beside them"),
+    }
 }

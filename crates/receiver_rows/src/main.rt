@@ -6,8 +6,8 @@
 mod assembler;
 mod cache;
 mod mounts;
-mod numbers;
 mod resolver;
+mod told;
 mod tuner;
 
 use crate::assembler::AssemblerRows;
@@ -17,7 +17,7 @@ use crate::resolver::ShotRows;
 use crate::tuner::TunerRows;
 use std::alloc::Global;
 use std::io;
-use test_rows::{Calls, Row, RowFault, answer_rows};
+use test_rows::{Calls, Line, Row, RowFault, answer_rows};
 
 /// What the rows so far have made.
 #[derive(Drop)]
@@ -31,33 +31,44 @@ struct Receiver {
 
 impl Calls for Receiver {
     fn call(&mut self, alloc: Global, row: &Row<'_>) -> Result<String, RowFault> {
-        if let Some(text) = self.assembler.call(alloc, row)? {
-            return Ok(text);
-        }
-        if let Some(text) = self.cache.call(alloc, row)? {
-            return Ok(text);
-        }
-        if let Some(text) = self.shot.call(alloc, row)? {
-            return Ok(text);
-        }
-        if let Some(text) = self.tuner.call(alloc, row)? {
-            return Ok(text);
-        }
-        match self.mounts.call(alloc, row)? {
-            Some(text) => Ok(text),
+        match self.answer(alloc, row) {
+            Some(line) => line.done(),
             None => Err(RowFault::BadRow),
         }
     }
 }
 
+impl Receiver {
+    /// Nothing has been made yet.
+    fn new(alloc: Global) -> Receiver {
+        Receiver {
+            assembler: AssemblerRows::new(),
+            cache: CacheRows::new(alloc),
+            shot: ShotRows::new(alloc),
+            tuner: TunerRows::new(alloc),
+            mounts: MountRows::new(),
+        }
+    }
+
+    /// The answer, where the row is a call of one of the parts.
+    fn answer(&mut self, alloc: Global, row: &Row<'_>) -> Option<Line> {
+        if let Some(line) = self.assembler.call(alloc, row) {
+            return Some(line);
+        }
+        if let Some(line) = self.cache.call(alloc, row) {
+            return Some(line);
+        }
+        if let Some(line) = self.shot.call(alloc, row) {
+            return Some(line);
+        }
+        if let Some(line) = self.tuner.call(alloc, row) {
+            return Some(line);
+        }
+        self.mounts.call(alloc, row)
+    }
+}
+
 fn main(rt: HostRuntime) -> io::Result<()> {
-    let alloc = rt.alloc();
-    let mut receiver = Receiver {
-        assembler: AssemblerRows::new(),
-        cache: CacheRows::new(alloc),
-        shot: ShotRows::new(alloc),
-        tuner: TunerRows::new(alloc),
-        mounts: MountRows::new(),
-    };
+    let mut receiver = Receiver::new(rt.alloc());
     answer_rows(&rt, &mut receiver)
 }

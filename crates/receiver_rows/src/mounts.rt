@@ -1,11 +1,10 @@
 //! Several carousels under names in one tree.
 
-use crate::numbers::number_16;
-use crate::resolver::{answer_text, path_of};
+use crate::resolver::{answer_text, path_at};
 use mount_table::{Mount, Mounted, Mounts};
-use path_tree::{Name, print_name};
-use std::alloc::{AllocError, Global};
-use test_rows::{Row, RowFault};
+use path_tree::{Name, Path, print_name};
+use std::alloc::Global;
+use test_rows::{Line, Row, RowFault};
 
 /// The table of mounts, where a row has made one.
 #[derive(Drop)]
@@ -20,119 +19,120 @@ impl MountRows {
     }
 
     /// What the call of a row answers, where it is one of these.
-    pub(crate) fn call(
-        &mut self,
-        alloc: Global,
-        row: &Row<'_>,
-    ) -> Result<Option<String>, RowFault> {
-        let text = match row.name() {
-            "mounts" => self.make(alloc, row)?,
-            "mounts-feed" => self.feed(alloc, row)?,
-            "mounts-open" => self.open(alloc, row)?,
-            _ => return Ok(None),
-        };
-        Ok(Some(text))
+    pub(crate) fn call(&mut self, alloc: Global, row: &Row<'_>) -> Option<Line> {
+        match row.name() {
+            "mounts" => Some(self.make(alloc, row)),
+            "mounts-feed" => Some(self.feed(row)),
+            "mounts-open" => Some(self.open(alloc, row)),
+            _ => None,
+        }
     }
 
     /// Makes a table of the mounts of a row: the mounts in its order, or why there is none.
-    fn make(&mut self, alloc: Global, row: &Row<'_>) -> Result<String, RowFault> {
-        match Mounts::new(alloc, mounts_of(alloc, row)?) {
+    fn make(&mut self, alloc: Global, row: &Row<'_>) -> Line {
+        match Mounts::new(alloc, mounts_of(alloc, row)) {
             Ok(table) => {
-                let text = table_text(alloc, &table)?;
+                let line = table_text(alloc, row.line(), &table);
                 self.table = Some(table);
-                Ok(text)
+                line
             }
             Err(fault) => {
                 self.table = None;
-                Ok(format!(in alloc; "{fault}")?)
+                row.line().value("", &fault)
             }
         }
     }
 
     /// Feeds the packets of a row, one after another.
-    fn feed(&mut self, alloc: Global, row: &Row<'_>) -> Result<String, RowFault> {
-        let Some(table) = &mut self.table else {
-            return Err(RowFault::BadRow);
-        };
-        for place in 0..row.len() {
-            table.feed(&packet_at(alloc, row, place)?)?;
+    fn feed(&mut self, row: &Row<'_>) -> Line {
+        match &mut self.table {
+            Some(table) => feed_all(row, table),
+            None => row.fail(RowFault::BadRow),
         }
-        Ok(String::from_str(alloc, "fed")?)
+        row.line().text("fed")
     }
 
     /// The answer to the path of a row.
-    fn open(&self, alloc: Global, row: &Row<'_>) -> Result<String, RowFault> {
-        let Some(table) = &self.table else {
-            return Err(RowFault::BadRow);
-        };
-        let path = path_of(alloc, row)?;
-        Ok(mounted_text(alloc, &table.open_path(&path)?)?)
+    fn open(&self, alloc: Global, row: &Row<'_>) -> Line {
+        match &self.table {
+            Some(table) => opened_at(alloc, row, table),
+            None => row.failed(RowFault::BadRow),
+        }
+    }
+}
+
+fn feed_all(row: &Row<'_>, table: &mut Mounts) {
+    for place in 0..row.len() {
+        row.keep(table.feed(&packet_at(row, place)));
+    }
+}
+
+fn opened_at(alloc: Global, row: &Row<'_>, table: &Mounts) -> Line {
+    match path_at(alloc, row, 0) {
+        Ok(path) => opened(row, table, &path),
+        Err(fault) => row.failed(fault),
+    }
+}
+
+fn opened(row: &Row<'_>, table: &Mounts, path: &Path) -> Line {
+    match table.open_path(path) {
+        Ok(mounted) => mounted_text(row.line(), &mounted),
+        Err(_) => row.failed(RowFault::NoMemory),
     }
 }
 
 /// The mounts of a row: each is a word for its name, and one for its PID.
-fn mounts_of(alloc: Global, row: &Row<'_>) -> Result<Vec<Mount>, RowFault> {
+fn mounts_of(alloc: Global, row: &Row<'_>) -> Vec<Mount> {
     let mut mounts = Vec::new(alloc);
     for place in (0..row.len()).step_by(2) {
-        put_mount(&mut mounts, mount_at(alloc, row, place)?)?;
+        put_mount(row, place, &mut mounts);
     }
-    Ok(mounts)
+    mounts
 }
 
-/// The mount whose name the word at a place says.
-fn mount_at(alloc: Global, row: &Row<'_>, place: usize) -> Result<Mount, RowFault> {
-    let name = row.bytes(alloc, place)?;
+/// Puts the mount whose name the word at a place says behind the others.
+fn put_mount(row: &Row<'_>, place: usize, mounts: &mut Vec<Mount>) {
+    let name = row.octets(place);
     if name.len() > 255 {
-        return Err(RowFault::BadRow);
+        return row.fail(RowFault::BadRow);
     }
-    Ok(Mount {
+    let mount = Mount {
         name: Name::new(name),
-        pid: number_16(row, place.saturating_add(1))?,
-    })
-}
-
-fn put_mount(mounts: &mut Vec<Mount>, mount: Mount) -> Result<(), AllocError> {
-    mounts.push(mount)?;
-    Ok(())
+        pid: row.short(place.saturating_add(1)),
+    };
+    row.push(mounts, mount);
 }
 
 /// The packet that the word at a place says.
-fn packet_at(alloc: Global, row: &Row<'_>, place: usize) -> Result<[u8; 188], RowFault> {
-    match <[u8; 188]>::try_from(row.bytes(alloc, place)?.as_slice()) {
-        Ok(packet) => Ok(packet),
-        Err(_) => Err(RowFault::BadRow),
+fn packet_at(row: &Row<'_>, place: usize) -> [u8; 188] {
+    match <[u8; 188]>::try_from(row.octets(place).as_slice()) {
+        Ok(packet) => packet,
+        Err(_) => {
+            row.fail(RowFault::BadRow);
+            [0; 188]
+        }
     }
 }
 
-/// The mounts in the table's order.
-fn table_text(alloc: Global, table: &Mounts) -> Result<String, AllocError> {
-    let mut text = String::new(alloc);
+/// Puts the mounts in the table's order behind what stands.
+fn table_text(alloc: Global, mut line: Line, table: &Mounts) -> Line {
     for i in 0..table.len() {
-        if !text.is_empty() {
-            text.push_str(" ")?;
-        }
-        text.push_str(mount_text(alloc, table.mount(i))?.as_str())?;
+        line = mount_text(alloc, line.between(" "), table.mount(i));
     }
-    if text.is_empty() {
-        text.push_str("no mounts")?;
-    }
-    Ok(text)
+    line.or("no mounts")
 }
 
-fn mount_text(alloc: Global, mount: &Mount) -> Result<String, AllocError> {
-    let name = print_name(alloc, mount.name.bytes())?;
-    let pid = mount.pid;
-    format!(in alloc; "{name}={pid}")
+/// Puts a mount behind what stands.
+fn mount_text(alloc: Global, line: Line, mount: &Mount) -> Line {
+    line.made("", print_name(alloc, mount.name.bytes()))
+        .value("=", &mount.pid)
 }
 
-/// What stands at a path: the root, no mount, or a mount's PID with its carousel's answer.
-fn mounted_text(alloc: Global, mounted: &Mounted) -> Result<String, AllocError> {
+/// Puts what stands at a path behind what stands: the root, no mount, or a mount's PID with its carousel's answer.
+fn mounted_text(line: Line, mounted: &Mounted) -> Line {
     match mounted {
-        Mounted::Root => String::from_str(alloc, "root"),
-        Mounted::NoMount => String::from_str(alloc, "no mount"),
-        Mounted::At(pid, answer) => {
-            let text = answer_text(alloc, answer)?;
-            format!(in alloc; "PID {pid}: {text}")
-        }
+        Mounted::Root => line.text("root"),
+        Mounted::NoMount => line.text("no mount"),
+        Mounted::At(pid, answer) => answer_text(line.value("PID ", pid).text(": "), answer),
     }
 }

@@ -1,6 +1,5 @@
 //! Answers to paths on a shot.
 
-use crate::numbers::{number_16, number_32};
 use biop_object::Module;
 use dsi_dii::ModuleLine;
 use ior_tap::{Key, Location};
@@ -10,12 +9,27 @@ use path_resolver::{
 use path_tree::{Path, PathFault, print_name};
 use std::alloc::{AllocError, Global};
 use std::sync::Arc;
-use test_rows::{Row, RowFault, hex_text};
+use test_rows::{Line, Row, RowFault};
 
 /// The shot on which paths are resolved.
 #[derive(Drop)]
 pub(crate) struct ShotRows {
     shot: Shot,
+}
+
+/// What is asked of the answer to a path.
+#[derive(Clone, Copy, Drop)]
+enum Question {
+    /// `resolve PATH`: what it is.
+    Answer,
+    /// `bytes PATH`: the bytes of the file.
+    Bytes,
+    /// `shared-bytes PATH`: the bytes of the file, lent from a second reference to it.
+    SharedBytes,
+    /// `names PATH`: the names of the folder.
+    Names,
+    /// `shared-names PATH`: the names of the folder, lent from a second reference to it.
+    SharedNames,
 }
 
 impl ShotRows {
@@ -27,154 +41,177 @@ impl ShotRows {
     }
 
     /// What the call of a row answers, where it is one of these.
-    pub(crate) fn call(
-        &mut self,
-        alloc: Global,
-        row: &Row<'_>,
-    ) -> Result<Option<String>, RowFault> {
-        let text = match row.name() {
-            "shot" => self.make(alloc, row)?,
-            "shot-gateway" => self.put_gateway(alloc, row)?,
-            "shot-module" => {
-                let module = module_of(alloc, row.bytes(alloc, 2)?)?;
-                self.put_line(alloc, row, false, Some(module))?
-            }
-            "shot-missing" => self.put_line(alloc, row, false, None)?,
-            "shot-compressed" => self.put_line(alloc, row, true, None)?,
-            "resolve" => answer_text(alloc, &self.answer(alloc, row)?)?,
-            "bytes" => self.bytes(alloc, row)?,
-            "shared-bytes" => self.shared_bytes(alloc, row)?,
-            "same" => self.compared(alloc, row)?,
-            "names" => self.names(alloc, row)?,
-            "shared-names" => self.shared_names(alloc, row)?,
-            "cross-threads" => {
-                cross_threads();
-                String::from_str(alloc, "shots and answers may cross threads")?
-            }
-            _ => return Ok(None),
-        };
-        Ok(Some(text))
+    pub(crate) fn call(&mut self, alloc: Global, row: &Row<'_>) -> Option<Line> {
+        match row.name() {
+            "shot" => Some(self.make(alloc, row)),
+            "shot-gateway" => Some(self.put_gateway(row)),
+            "shot-module" => Some(self.put_whole(alloc, row)),
+            "shot-missing" => Some(self.put_line(row, false, None)),
+            "shot-compressed" => Some(self.put_line(row, true, None)),
+            _ => self.asked(alloc, row),
+        }
+    }
+
+    /// The answer, where the row is a question on the shot.
+    fn asked(&self, alloc: Global, row: &Row<'_>) -> Option<Line> {
+        match row.name() {
+            "resolve" => Some(self.told(alloc, row, Question::Answer)),
+            "bytes" => Some(self.told(alloc, row, Question::Bytes)),
+            "shared-bytes" => Some(self.told(alloc, row, Question::SharedBytes)),
+            "same" => Some(self.compared(alloc, row)),
+            "names" => Some(self.told(alloc, row, Question::Names)),
+            "shared-names" => Some(self.told(alloc, row, Question::SharedNames)),
+            "cross-threads" => Some(crossing(row)),
+            _ => None,
+        }
     }
 
     /// Makes a shot anew, of a label or of `none`, and of the identifications of the DIIs that are held.
-    fn make(&mut self, alloc: Global, row: &Row<'_>) -> Result<String, RowFault> {
-        let label = match row.word(0)? {
-            "none" => None,
-            _ => Some(row.number(0)?),
-        };
-        self.shot = empty_shot(alloc, label);
+    fn make(&mut self, alloc: Global, row: &Row<'_>) -> Line {
+        self.shot = empty_shot(alloc, label_of(row));
         for place in 1..row.len() {
-            self.put_held(number_16(row, place)?)?;
+            row.push(&mut self.shot.held, row.short(place));
         }
-        Ok(String::from_str(alloc, "made")?)
-    }
-
-    /// Puts a DII behind those that are held.
-    fn put_held(&mut self, identification: u16) -> Result<(), AllocError> {
-        self.shot.held.push(identification)?;
-        Ok(())
+        row.line().text("made")
     }
 
     /// Puts the gateway at a carousel, a module and a key, delivered by a transactionId or by `none` that is known.
-    fn put_gateway(&mut self, alloc: Global, row: &Row<'_>) -> Result<String, RowFault> {
-        let key = row.bytes(alloc, 2)?;
+    fn put_gateway(&mut self, row: &Row<'_>) -> Line {
+        let key = row.octets(2);
         if key.len() > 255 {
-            return Err(RowFault::BadRow);
+            return row.failed(RowFault::BadRow);
         }
-        let delivery = match row.word(3)? {
-            "none" => None,
-            _ => Some(number_32(row, 3)?),
-        };
         let location = Location {
-            carousel: number_32(row, 0)?,
-            module: number_16(row, 1)?,
+            carousel: row.long(0),
+            module: row.short(1),
             key: Key::new(key),
         };
+        let delivery = delivery_of(row);
         self.shot.gateway = Some(Gateway { location, delivery });
-        Ok(String::from_str(alloc, "put")?)
+        row.line().text("put")
+    }
+
+    /// Puts a module that is whole behind those of the table.
+    fn put_whole(&mut self, alloc: Global, row: &Row<'_>) -> Line {
+        match module_of(alloc, row.octets(2)) {
+            Ok(module) => self.put_line(row, false, Some(module)),
+            Err(_) => row.failed(RowFault::NoMemory),
+        }
     }
 
     /// Puts a module of a DII behind those of the table; the row says the DII's identification and the module's id.
-    fn put_line(
-        &mut self,
-        alloc: Global,
-        row: &Row<'_>,
-        compressed: bool,
-        module: Option<Arc<Module>>,
-    ) -> Result<String, RowFault> {
-        let identification = number_16(row, 0)?;
+    fn put_line(&mut self, row: &Row<'_>, compressed: bool, module: Option<Arc<Module>>) -> Line {
         let line = ModuleLine {
-            id: number_16(row, 1)?,
+            id: row.short(1),
             size: 0,
             version: 0,
             compressed,
         };
-        self.put_module(Held {
-            identification,
+        let held = Held {
+            identification: row.short(0),
             line,
             module,
-        })?;
-        Ok(String::from_str(alloc, "put")?)
+        };
+        row.push(&mut self.shot.table, held);
+        row.line().text("put")
     }
 
-    fn put_module(&mut self, held: Held) -> Result<(), AllocError> {
-        self.shot.table.push(held)?;
-        Ok(())
-    }
-
-    /// The answer to the path of a row.
-    fn answer(&self, alloc: Global, row: &Row<'_>) -> Result<Answer, RowFault> {
-        self.answer_at(alloc, row, 0)
-    }
-
-    /// The answer to the path that the word at a place says.
-    fn answer_at(&self, alloc: Global, row: &Row<'_>, place: usize) -> Result<Answer, RowFault> {
-        let path = path_at(alloc, row, place)?;
-        Ok(resolve(&self.shot, &path)?)
+    /// What is asked of the answer to the path of a row.
+    fn told(&self, alloc: Global, row: &Row<'_>, question: Question) -> Line {
+        match answer_on(alloc, row, &self.shot, 0) {
+            Ok(answer) => told(alloc, row, &answer, question),
+            Err(fault) => row.failed(fault),
+        }
     }
 
     /// Whether the answers to the two paths of a row are the same.
-    fn compared(&self, alloc: Global, row: &Row<'_>) -> Result<String, RowFault> {
-        let first = self.answer_at(alloc, row, 0)?;
-        let second = self.answer_at(alloc, row, 1)?;
-        let text = if same(&first, &second) {
-            "the same"
-        } else {
-            "not the same"
-        };
-        Ok(String::from_str(alloc, text)?)
-    }
-
-    /// The bytes of the file at a path.
-    fn bytes(&self, alloc: Global, row: &Row<'_>) -> Result<String, RowFault> {
-        match self.answer(alloc, row)? {
-            Answer::File(file) => Ok(hex_text(alloc, file.bytes())?),
-            answer => Ok(answer_text(alloc, &answer)?),
+    fn compared(&self, alloc: Global, row: &Row<'_>) -> Line {
+        match answer_on(alloc, row, &self.shot, 0) {
+            Ok(first) => self.compared_to(alloc, row, &first),
+            Err(fault) => row.failed(fault),
         }
     }
 
-    /// The bytes of the file at a path, lent from a second reference to it.
-    fn shared_bytes(&self, alloc: Global, row: &Row<'_>) -> Result<String, RowFault> {
-        match self.answer(alloc, row)? {
-            Answer::File(file) => Ok(hex_text(alloc, FileRef::share(&file)?.bytes())?),
-            answer => Ok(answer_text(alloc, &answer)?),
+    /// Whether an answer and that to the second path of a row are the same.
+    fn compared_to(&self, alloc: Global, row: &Row<'_>, first: &Answer) -> Line {
+        match answer_on(alloc, row, &self.shot, 1) {
+            Ok(second) => compared_text(row.line(), same(first, &second)),
+            Err(fault) => row.failed(fault),
         }
     }
+}
 
-    /// The names of the folder at a path.
-    fn names(&self, alloc: Global, row: &Row<'_>) -> Result<String, RowFault> {
-        match self.answer(alloc, row)? {
-            Answer::Folder(folder) => Ok(names_text(alloc, &folder)?),
-            answer => Ok(answer_text(alloc, &answer)?),
-        }
+/// The answer on a shot to the path that the word at a place says.
+pub(crate) fn answer_on(
+    alloc: Global,
+    row: &Row<'_>,
+    shot: &Shot,
+    place: usize,
+) -> Result<Answer, RowFault> {
+    match path_at(alloc, row, place) {
+        Ok(path) => answer_to(shot, &path),
+        Err(fault) => Err(fault),
     }
+}
 
-    /// The names of the folder at a path, lent from a second reference to it.
-    fn shared_names(&self, alloc: Global, row: &Row<'_>) -> Result<String, RowFault> {
-        match self.answer(alloc, row)? {
-            Answer::Folder(folder) => Ok(names_text(alloc, &folder.share()?)?),
-            answer => Ok(answer_text(alloc, &answer)?),
-        }
+fn answer_to(shot: &Shot, path: &Path) -> Result<Answer, RowFault> {
+    match resolve(shot, path) {
+        Ok(answer) => Ok(answer),
+        Err(_) => Err(RowFault::NoMemory),
+    }
+}
+
+fn compared_text(line: Line, same: bool) -> Line {
+    match same {
+        true => line.text("the same"),
+        false => line.text("not the same"),
+    }
+}
+
+/// What is asked of an answer, or what it is where it isn't one of that.
+fn told(alloc: Global, row: &Row<'_>, answer: &Answer, question: Question) -> Line {
+    match (question, answer) {
+        (Question::Bytes, Answer::File(file)) => row.line().bytes("", file.bytes()),
+        (Question::SharedBytes, Answer::File(file)) => shared_bytes(row, file),
+        (Question::Names, Answer::Folder(folder)) => names_text(alloc, row.line(), folder),
+        (Question::SharedNames, Answer::Folder(folder)) => shared_names(alloc, row, folder),
+        _ => answer_text(row.line(), answer),
+    }
+}
+
+fn shared_bytes(row: &Row<'_>, file: &FileRef) -> Line {
+    match FileRef::share(file) {
+        Ok(file) => row.line().bytes("", file.bytes()),
+        Err(_) => row.failed(RowFault::NoMemory),
+    }
+}
+
+fn shared_names(alloc: Global, row: &Row<'_>, folder: &FolderRef) -> Line {
+    match folder.share() {
+        Ok(folder) => names_text(alloc, row.line(), &folder),
+        Err(_) => row.failed(RowFault::NoMemory),
+    }
+}
+
+/// Shots and answers may cross threads.
+fn crossing(row: &Row<'_>) -> Line {
+    cross_threads();
+    row.line().text("shots and answers may cross threads")
+}
+
+/// The label that a row says, or `none`.
+fn label_of(row: &Row<'_>) -> Option<u64> {
+    match row.text(0) {
+        "none" => None,
+        _ => Some(row.wide(0)),
+    }
+}
+
+/// The transactionId that a row says, or `none`.
+fn delivery_of(row: &Row<'_>) -> Option<u32> {
+    match row.text(3) {
+        "none" => None,
+        _ => Some(row.long(3)),
     }
 }
 
@@ -195,59 +232,54 @@ fn empty_shot(alloc: Global, label: Option<u64>) -> Shot {
 /// The module of these bytes.
 fn module_of(alloc: Global, bytes: Vec<u8>) -> Result<Arc<Module>, AllocError> {
     match Module::read(alloc, bytes) {
-        Ok(module) => Ok(Arc::new(alloc, module)?),
+        Ok(module) => shared(alloc, module),
         Err((error, _bytes)) => Err(error),
     }
 }
 
-/// The path that a row's first word says.
-pub(crate) fn path_of(alloc: Global, row: &Row<'_>) -> Result<Path, RowFault> {
-    path_at(alloc, row, 0)
+fn shared(alloc: Global, module: Module) -> Result<Arc<Module>, AllocError> {
+    Ok(Arc::new(alloc, module)?)
 }
 
 /// The path that the word at a place says.
-fn path_at(alloc: Global, row: &Row<'_>, place: usize) -> Result<Path, RowFault> {
-    match Path::parse(alloc, row.word(place)?.as_bytes()) {
+pub(crate) fn path_at(alloc: Global, row: &Row<'_>, place: usize) -> Result<Path, RowFault> {
+    match Path::parse(alloc, row.text(place).as_bytes()) {
         Ok(path) => Ok(path),
         Err(PathFault::NoMemory) => Err(RowFault::NoMemory),
         Err(_fault) => Err(RowFault::BadRow),
     }
 }
 
-/// An answer: a file with how many bytes it has, a folder with how many names it has, or the cause with its module and place.
-pub(crate) fn answer_text(alloc: Global, answer: &Answer) -> Result<String, AllocError> {
+/// Puts an answer behind what stands: a file with how many bytes it has, a folder with how many names it has, or the cause with its
+/// module and place.
+pub(crate) fn answer_text(line: Line, answer: &Answer) -> Line {
     match answer {
-        Answer::File(file) => {
-            let size = file.bytes().len();
-            format!(in alloc; "file {size}")
-        }
-        Answer::Folder(folder) => {
-            let count = folder.count();
-            format!(in alloc; "folder {count}")
-        }
-        Answer::NoSuch => String::from_str(alloc, "no-such"),
-        Answer::NotYet(module) => format!(in alloc; "not-yet {module}"),
-        Answer::NoCarousel => String::from_str(alloc, "no-carousel"),
-        Answer::Elsewhere => String::from_str(alloc, "elsewhere"),
-        Answer::Compressed(module) => format!(in alloc; "compressed {module}"),
-        Answer::Bad(module, place) => format!(in alloc; "bad {module} {place}"),
-        Answer::Dangling(module) => format!(in alloc; "dangling {module}"),
-        Answer::OtherKind(module) => format!(in alloc; "other-kind {module}"),
+        Answer::File(file) => line.value("file ", &file.bytes().len()),
+        Answer::Folder(folder) => line.value("folder ", &folder.count()),
+        Answer::NoSuch => line.text("no-such"),
+        Answer::NotYet(module) => line.value("not-yet ", module),
+        Answer::NoCarousel => line.text("no-carousel"),
+        Answer::Elsewhere => line.text("elsewhere"),
+        Answer::Compressed(module) => line.value("compressed ", module),
+        Answer::Bad(module, place) => line.value("bad ", module).value(" ", place),
+        Answer::Dangling(module) => line.value("dangling ", module),
+        Answer::OtherKind(module) => line.value("other-kind ", module),
     }
 }
 
-/// How many names a folder has, and the names in its order; one that stood before is in brackets.
-fn names_text(alloc: Global, folder: &FolderRef) -> Result<String, AllocError> {
-    let count = folder.count();
-    let mut text = format!(in alloc; "names {count}:")?;
-    for i in 0..count {
-        let name = print_name(alloc, folder.name(i))?;
-        let word = if folder.is_first(i) {
-            format!(in alloc; " {name}")?
-        } else {
-            format!(in alloc; " ({name})")?
-        };
-        text.push_str(word.as_str())?;
+/// Puts how many names a folder has, and the names in its order, behind what stands; one that stood before is in brackets.
+fn names_text(alloc: Global, line: Line, folder: &FolderRef) -> Line {
+    let mut line = line.value("names ", &folder.count()).text(":");
+    for i in 0..folder.count() {
+        let name = print_name(alloc, folder.name(i));
+        line = name_text(line, name, folder.is_first(i));
     }
-    Ok(text)
+    line
+}
+
+fn name_text(line: Line, name: Result<String, AllocError>, is_first: bool) -> Line {
+    match is_first {
+        true => line.made(" ", name),
+        false => line.made(" (", name).text(")"),
+    }
 }
