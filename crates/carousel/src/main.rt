@@ -1,11 +1,12 @@
 //! The program: it runs the command that its words name on standard input, standard output and the system's folders.
 #![tactic(auto)]
 
-ghost use Rattle.std.specs.Prelude.{◌≡◌, ◌==◌, if◌then◌else◌};
+ghost use Rattle.std.specs.Prelude.{◌≡◌, ◌==◌, [], if◌then◌else◌};
 ghost use Rattle.watch_desk.specs.Wanting.{is_wanted};
 
 use carousel_shell::Status;
 use cycle_planner::{GREATEST_ID, Weigh};
+use folder_playout::{Difference, Notices, Unread, began_text, kept_text};
 use folder_store::{Folders, OsFolders, OsStore, Store};
 use oc_bytes::{NoMemory, Sink, Source, StdSink, StdSource};
 use path_tree::Path;
@@ -27,6 +28,7 @@ fn main(rt: HostRuntime) -> ExitCode {
             let mut sink = StdSink::new(rt.stdout());
             let mut folders = OsFolders::new(&rt);
             let mut store = OsStore::new(&rt);
+            let mut notices = ErrorLines { rt: &rt };
             run(
                 &rt,
                 rt.alloc(),
@@ -35,6 +37,7 @@ fn main(rt: HostRuntime) -> ExitCode {
                 &mut sink,
                 &mut folders,
                 &mut store,
+                &mut notices,
             )
         }
         Err(status) => status,
@@ -45,8 +48,30 @@ fn main(rt: HostRuntime) -> ExitCode {
     ExitCode::from(status.code())
 }
 
+/// A line on standard error for each notice. Nothing comes of one that can't be written.
+#[derive(Drop)]
+struct ErrorLines<'a> {
+    rt: &'a HostRuntime,
+}
+
+impl Notices for ErrorLines<'_> {
+    ghost told = { λ _ _ _. Unit {0} };
+
+    fn began(&mut self, number: u64, cycle: u32, difference: Difference) {
+        if let Ok(line) = began_text(self.rt.alloc(), number, cycle, difference) {
+            let _ = eprint!(self.rt; "{line}");
+        }
+    }
+
+    fn kept(&mut self, number: u64, cycle: u32, cause: &Unread) {
+        if let Ok(Some(line)) = kept_text(self.rt.alloc(), number, cycle, cause) {
+            let _ = eprint!(self.rt; "{line}");
+        }
+    }
+}
+
 /// Runs the command that the words name. Module 1, in which the root lies, is sent twice a cycle, and every other module once.
-fn run<R: Threads + Wait + Sync, S: Source, K: Sink, F: Folders, T: Store>(
+fn run<R: Threads + Wait + Sync, S: Source, K: Sink, F: Folders, T: Store, N: Notices>(
     rt: &R,
     alloc: Global,
     words: &[String],
@@ -54,7 +79,10 @@ fn run<R: Threads + Wait + Sync, S: Source, K: Sink, F: Folders, T: Store>(
     sink: &mut K,
     folders: &mut F,
     store: &mut T,
-) -> Status {
+    notices: &mut N,
+) -> Status
+    requires untold { N.told notices.old notices.old [] }
+{
     let mut weights = [1; GREATEST_ID];
     weights[0] = 2;
     let call = Box::new(
@@ -71,7 +99,7 @@ fn run<R: Threads + Wait + Sync, S: Source, K: Sink, F: Folders, T: Store>(
         return Status::NoMemory;
     };
     match run_watched(
-        rt, alloc, words, &prefixes, source, sink, folders, store, weigh,
+        rt, alloc, words, &prefixes, source, sink, folders, store, notices, weigh,
     ) {
         Ok(status) => status,
         Err(_) => Status::NoMemory,
@@ -88,7 +116,7 @@ fn prefixes(alloc: Global) -> Result<Vec<Path>, NoMemory> {
 }
 
 /// Runs it with a watcher for each of the prefixes.
-fn run_watched<R: Threads + Wait + Sync, S: Source, K: Sink, F: Folders, T: Store>(
+fn run_watched<R: Threads + Wait + Sync, S: Source, K: Sink, F: Folders, T: Store, N: Notices>(
     rt: &R,
     alloc: Global,
     words: &[String],
@@ -97,8 +125,11 @@ fn run_watched<R: Threads + Wait + Sync, S: Source, K: Sink, F: Folders, T: Stor
     sink: &mut K,
     folders: &mut F,
     store: &mut T,
+    notices: &mut N,
     weigh: Weigh,
-) -> Result<Status, NoMemory> {
+) -> Result<Status, NoMemory>
+    requires untold { N.told notices.old notices.old [] }
+{
     let mut filters = Vec::new(alloc);
     for prefix in prefixes {
         let own = prefix.share()?;
@@ -111,7 +142,7 @@ fn run_watched<R: Threads + Wait + Sync, S: Source, K: Sink, F: Folders, T: Stor
         filters.push(Filter::new(prefix.share()?, call))?;
     }
     Ok(session_shell::run(
-        rt, alloc, words, source, sink, folders, store, &NoGate, weigh, filters,
+        rt, alloc, words, source, sink, folders, store, notices, &NoGate, weigh, filters,
     ))
 }
 

@@ -1,9 +1,9 @@
 -- One commit on a new carousel, and what is sent of the generation that it makes.
-use Rattle.std.proofs.Common.{◌≡◌, ℕ, zero, suc, ◌+◌, ◌<◌, ◌≤◌, Bool, true, false, ◌==◌, List, [], ◌∷◌, map, Option, Some, None, Result, Ok, Err, cond, ◌⊎◌, inl, inr, refl, ◌∙◌, sym, ap, subst, lit≤, arith, append-nil}
+use Rattle.std.proofs.Common.{◌≡◌, ℕ, ◌+◌, ◌<◌, ◌≤◌, Bool, true, false, ◌==◌, List, [], ◌∷◌, map, Option, Some, None, Result, Ok, Err, cond, ◌⊎◌, inl, inr, refl, ◌∙◌, sym, ap, subst, lit≤, arith, append-nil}
 use Rattle.std.specs.Prelude.{nat_lt, MatchOption, ⊤}
-use Rattle.std.specs.List.{All, Contains}
+use Rattle.std.specs.List.{All}
 use Rattle.std.proofs.lemmas.Bool.{cond-true, ltb-false}
-use Rattle.std.proofs.lemmas.List.Elements.{All-append, All-head, All-tail, All-nil, All-weaker}
+use Rattle.std.proofs.lemmas.List.Elements.{All-head}
 use Rattle.oc_bytes.specs.Outcome.{cap_at_u64}
 use Rattle.path_tree.specs.Trees.{Tree}
 use Rattle.path_tree.specs.Edits.{apply_all}
@@ -11,11 +11,8 @@ use Rattle.path_tree.specs.declared.tree.Edit.{Edit}
 use Rattle.path_tree.specs.declared.tree.EditFault.{EditFault}
 use Rattle.cycle_planner.specs.Cycle.{cycle_of}
 use Rattle.cycle_planner.specs.Weights.{AreWeights}
-use Rattle.cycle_planner.specs.declared.Item.{Item}
-use Rattle.cycle_planner.proofs.CallerLemmas.{cycle_only}
-use Rattle.biop_object.specs.Names.{Layout}
-use Rattle.generation.specs.Layouts.{GenerationState, generation_of, lines_of, lines_in, items_of, section_of}
-use Rattle.generation.specs.Lawful.{IsPublishable, section_in}
+use Rattle.generation.specs.Layouts.{GenerationState, generation_of, lines_of, section_of}
+use Rattle.generation.specs.Lawful.{IsPublishable}
 use Rattle.generation.specs.Kept.{IsGenerationOf, GenerationsAreOfTheLists}
 use Rattle.generation_catalogue.specs.History.{CatalogueState, current_of, trees_of, journal_of, put_bytes, outcome_of, unless_edit, or_same, is_entered, with_entry, with_commit}
 use Rattle.generation_catalogue.specs.Requests.{commit_cause}
@@ -30,9 +27,8 @@ use Rattle.folder_store.specs.declared.reading.TreeFault.{TreeFault}
 use Rattle.folder_store.specs.declared.reading.ReadTree.{ReadTree}
 use Rattle.folder_store.specs.declared.reading.ReadTree.TheVariants as reads
 use Rattle.section_stream.specs.Packing.{IsSectionLike}
-use Rattle.carousel_world.specs.Publishing.{repeat_list, published_bytes, publication, layouts_for, PublicationsCanBePacked}
-use Rattle.carousel_world.specs.Broadcasts.{sections}
-use Rattle.carousel_world.proofs.CallerLemmas.{published_sections}
+use Rattle.carousel_world.specs.Publishing.{repeat_list, published_bytes, PublicationsCanBePacked}
+use Rattle.folder_playout.proofs.CallerLemmas.{sent_sections}
 use Rattle.shell_streams.specs.Cuts.{Bytes}
 use Rattle.shell_streams.specs.Sending.{OutputState, Puts, HasPut}
 use Rattle.shell_streams.specs.declared.output.OutputFault.{OutputFault}
@@ -50,30 +46,6 @@ use Rattle.carousel_shell.specs.declared.status.Status.{Status}
 use Rattle.carousel_shell.specs.declared.status.Status.TheVariants as status
 
 -- ---- what is sent
-
-map_same : {X Y : Type 0} (f h : X → Y) (xs : List X) → All (λ x. f x ≡ h x) xs → map f xs ≡ map h xs
-map_same f h [] e = refl
-map_same f h (x ∷ xs) e =
-    ap (λ y. y ∷ map f xs) (All-head (λ y. f y ≡ h y) x xs e) ∙ ap (λ ys. h x ∷ ys) (map_same f h xs (All-tail (λ y. f y ≡ h y) x xs e))
-
-All-repeated : {X : Type 0} (P : X → Type 0) (n : ℕ) (xs : List X) → All P xs → All P (repeat_list n xs)
-All-repeated P zero xs h = All-nil P
-All-repeated P (suc n) xs h = All-append P xs (repeat_list n xs) h (All-repeated P n xs h)
-
-sent_items : (carousel : ℕ) (weights : List ℕ) (cycles : ℕ) (layouts : List Layout) (g : GenerationState)
-    → ((item : Item) → Contains (items_of g) item → section_of g item ≡ section_in carousel layouts 1 item)
-    → map (section_of g) (repeat_list cycles (cycle_of weights (lines_of g))) ≡ map (section_in carousel layouts 1) (repeat_list cycles (cycle_of weights (lines_of g)))
-sent_items carousel weights cycles layouts g same =
-    map_same (section_of g) (section_in carousel layouts 1) (repeat_list cycles (cycle_of weights (lines_of g)))
-    (All-repeated (λ item. section_of g item ≡ section_in carousel layouts 1 item) cycles (cycle_of weights (lines_of g))
-    (All-weaker (Contains (items_of g)) (λ item. section_of g item ≡ section_in carousel layouts 1 item) same (cycle_of weights (lines_of g)) (cycle_only weights (lines_of g))))
-
-sent_sections : (carousel : ℕ) (weights : List ℕ) (cycles : ℕ) (t : Tree) (g : GenerationState) → IsGenerationOf carousel (t ∷ []) 1 g
-    → map (section_of g) (repeat_list cycles (cycle_of weights (lines_of g))) ≡ sections (publication carousel weights cycles t)
-sent_sections carousel weights cycles t g is =
-    sent_items carousel weights cycles (layouts_for carousel t) g is.sections
-    ∙ ap (λ (l : Layout). map (section_in carousel (layouts_for carousel t) 1) (repeat_list cycles (cycle_of weights (lines_in l)))) is.layout
-    ∙ sym (published_sections carousel weights cycles t)
 
 -- the packets of the cycles of generation 1 are those that are published
 pub published_is : (pid carousel : ℕ) (weights : List ℕ) (cycles : ℕ) (t : Tree) (g : GenerationState) → GenerationsAreOfTheLists → g ≡ generation_of carousel (t ∷ [])

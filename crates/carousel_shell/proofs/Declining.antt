@@ -4,6 +4,8 @@ use Rattle.cycle_planner.specs.Weights.{AreWeights}
 use Rattle.oc_bytes.specs.Outcome.{Known}
 use Rattle.path_tree.specs.Paths.{PathNames}
 use Rattle.folder_store.specs.Folders.{FolderTree}
+use Rattle.folder_playout.specs.Laws.{PlayoutsMeet}
+use Rattle.folder_playout.specs.Notices.{Notice}
 use Rattle.shell_words.specs.Words as commands
 use Rattle.shell_words.specs.Complaints.{complaint_line}
 use Rattle.shell_streams.specs.Cuts.{Bytes}
@@ -15,6 +17,7 @@ use Rattle.shell_streams.proofs.CallerLemmas.{told_same}
 use Rattle.carousel_shell.specs.Over.{Over, over, IsUntouched, TakesPrefix, WritesPrefix, Appends}
 use Rattle.carousel_shell.specs.Record.{AreFirst, Records}
 use Rattle.carousel_shell.specs.Open.{Question, Answers, answers_to, asks_paths, asks_all}
+use Rattle.carousel_shell.specs.Air.{WereRead}
 use Rattle.carousel_shell.specs.Watch.{Watches}
 use Rattle.carousel_shell.specs.Find.{place_of}
 use Rattle.carousel_shell.specs.OpenId.{sections_by_id}
@@ -57,51 +60,59 @@ watches_nothing : (pid : ℕ) (prefixes paths : List PathNames) (source sink : O
 watches_nothing pid prefixes paths source sink e f =
     record { ends = record { sections = []; first = first_untouched pid source e; writes = nothing_written sink f }; takes = takes_nothing source e }
 
--- there was no memory before a command began
-memory_promises : (weights : List ℕ) (prefixes : List PathNames) (c : commands.Named) (source sink : Over Bytes) (folders store : Over FolderTree) → Receptions → AreWeights weights → IsUntouched source → IsUntouched sink → IsUntouched store → Promises weights prefixes c status.NoMemory source sink folders store
-memory_promises weights prefixes (commands.Assemble id version size download) source sink folders store law are e f k = record { ends = inl f; takes = takes_nothing source e }
-memory_promises weights prefixes (commands.OpenSections paths) source sink folders store law are e f k = answers_nothing (carriers.Sections 16777216) (asks_paths paths) source sink law e f
-memory_promises weights prefixes (commands.Open pid paths) source sink folders store law are e f k = answers_nothing (carriers.Packets pid) (asks_paths paths) source sink law e f
-memory_promises weights prefixes (commands.Record pid) source sink folders store law are e f k = records_nothing pid source sink e f
-memory_promises weights prefixes (commands.ListAll pid) source sink folders store law are e f k = answers_nothing (carriers.Packets pid) asks_all source sink law e f
-memory_promises weights prefixes (commands.Publish folder carousel cycles) source sink folders store law are e f k =
-    record { unread = e; keeps = record { ends = inl f; needs = λ t h n. inr refl; heard = law.sent 256 carousel weights cycles are } }
-memory_promises weights prefixes commands.Rehearse source sink folders store law are e f k = record { ends = inl f; takes = takes_nothing source e }
-memory_promises weights prefixes commands.Session source sink folders store law are e f k = record { ends = inr refl; unread = e; unwritten = f }
-memory_promises weights prefixes (commands.Big n) source sink folders store law are e f k = record { ends = inr refl; unread = e; unwritten = f }
-memory_promises weights prefixes (commands.Find carousel) source sink folders store law are e f k =
-    finds_by carousel status.NoMemory source sink law (replies_nothing all_packets (place_of carousel) source sink (takes_nothing source e) f)
-memory_promises weights prefixes (commands.OpenId carousel paths) source sink folders store law are e f k =
-    opens_by carousel paths status.NoMemory source sink law (replies_nothing (sections_by_id carousel) (answers_to (asks_paths paths)) source sink (takes_nothing source e) f)
-memory_promises weights prefixes (commands.PublishPsi folder carousel cycles) source sink folders store law are e f k =
-    record { unread = e; keeps = record { ends = inl f; needs = λ t h n. inr refl; heard = law.cycles carousel weights cycles are } }
-memory_promises weights prefixes (commands.PublishOn pid folder carousel cycles) source sink folders store law are e f k =
-    record { unread = e; keeps = record { ends = inl f; needs = λ t h n. inr refl; heard = law.sent pid carousel weights cycles are } }
-memory_promises weights prefixes (commands.Mounts entries paths) source sink folders store law are e f k = serves_no_memory entries paths source sink law e f
-memory_promises weights prefixes (commands.Watch pid paths) source sink folders store law are e f k = watches_nothing pid prefixes paths source sink e f
-memory_promises weights prefixes (commands.Plan folder carousel bitrate) source sink folders store law are e f k = record { unread = e; keeps = plan_nothing folder carousel weights bitrate sink folders f }
-memory_promises weights prefixes (commands.Inspect pid) source sink folders store law are e f k = inspects_nothing pid source sink (takes_nothing source e) f
-memory_promises weights prefixes (commands.Extract pid folder) source sink folders store law are e f k = extracts_nothing pid folder source sink store (takes_nothing source e) (f, k)
-memory_promises weights prefixes (commands.Why complaint) source sink folders store law are e f k = record { unread = e; keeps = record { ends = prefix_untouched sink (complaint_line complaint) f } }
+-- nothing was read of the folders, and nothing told
+pub record HasDoneNothing (folders : Over FolderTree) (told : List Notice → Type 0) : Type 0 where
+  pub unread : (folder : Bytes) → WereRead folder folders []
+  pub untold : told []
+  pub law : PlayoutsMeet
 
-pub memory_keeps : (weights : List ℕ) (prefixes : List PathNames) (r : Result commands.Named commands.Misfit) (source sink : Over Bytes) (folders store : Over FolderTree) → Receptions → AreWeights weights → IsUntouched source → IsUntouched sink → IsUntouched store
-    → Keeps weights prefixes r status.NoMemory source sink folders store
-memory_keeps weights prefixes (Ok c) source sink folders store law are e f k = memory_promises weights prefixes c source sink folders store law are e f k
-memory_keeps weights prefixes (Err misfit) source sink folders store law are e f k = record { ends = inr refl; unread = e; unwritten = f }
+-- there was no memory before a command began
+memory_promises : (weights : List ℕ) (prefixes : List PathNames) (c : commands.Named) (source sink : Over Bytes) (folders store : Over FolderTree) (refused : Option Bytes) (told : List Notice → Type 0) → Receptions → AreWeights weights → IsUntouched source → IsUntouched sink → IsUntouched store → HasDoneNothing folders told → Promises weights prefixes c status.NoMemory source sink folders store refused told
+memory_promises weights prefixes (commands.Assemble id version size download) source sink folders store refused told law are e f k none = record { ends = inl f; takes = takes_nothing source e }
+memory_promises weights prefixes (commands.OpenSections paths) source sink folders store refused told law are e f k none = answers_nothing (carriers.Sections 16777216) (asks_paths paths) source sink law e f
+memory_promises weights prefixes (commands.Open pid paths) source sink folders store refused told law are e f k none = answers_nothing (carriers.Packets pid) (asks_paths paths) source sink law e f
+memory_promises weights prefixes (commands.Record pid) source sink folders store refused told law are e f k none = records_nothing pid source sink e f
+memory_promises weights prefixes (commands.ListAll pid) source sink folders store refused told law are e f k none = answers_nothing (carriers.Packets pid) asks_all source sink law e f
+memory_promises weights prefixes (commands.Publish folder carousel cycles) source sink folders store refused told law are e f k none =
+    record { unread = e; keeps = record { ends = inl f; needs = λ t h n. inr refl; heard = law.sent 256 carousel weights cycles are } }
+memory_promises weights prefixes commands.Rehearse source sink folders store refused told law are e f k none = record { ends = inl f; takes = takes_nothing source e }
+memory_promises weights prefixes commands.Session source sink folders store refused told law are e f k none = record { ends = inr refl; unread = e; unwritten = f }
+memory_promises weights prefixes (commands.Big n) source sink folders store refused told law are e f k none = record { ends = inr refl; unread = e; unwritten = f }
+memory_promises weights prefixes (commands.Find carousel) source sink folders store refused told law are e f k none =
+    finds_by carousel status.NoMemory source sink law (replies_nothing all_packets (place_of carousel) source sink (takes_nothing source e) f)
+memory_promises weights prefixes (commands.OpenId carousel paths) source sink folders store refused told law are e f k none =
+    opens_by carousel paths status.NoMemory source sink law (replies_nothing (sections_by_id carousel) (answers_to (asks_paths paths)) source sink (takes_nothing source e) f)
+memory_promises weights prefixes (commands.PublishPsi folder carousel cycles) source sink folders store refused told law are e f k none =
+    record { unread = e; keeps = record { ends = inl f; needs = λ t h n. inr refl; heard = law.cycles carousel weights cycles are } }
+memory_promises weights prefixes (commands.PublishOn pid folder carousel cycles) source sink folders store refused told law are e f k none =
+    record { unread = e; keeps = record { ends = inl f; needs = λ t h n. inr refl; heard = law.sent pid carousel weights cycles are } }
+memory_promises weights prefixes (commands.Mounts entries paths) source sink folders store refused told law are e f k none = serves_no_memory entries paths source sink law e f
+memory_promises weights prefixes (commands.Watch pid paths) source sink folders store refused told law are e f k none = watches_nothing pid prefixes paths source sink e f
+memory_promises weights prefixes (commands.Plan folder carousel bitrate) source sink folders store refused told law are e f k none = record { unread = e; keeps = plan_nothing folder carousel weights bitrate sink folders refused f }
+memory_promises weights prefixes (commands.Inspect pid) source sink folders store refused told law are e f k none = inspects_nothing pid source sink (takes_nothing source e) f
+memory_promises weights prefixes (commands.Extract pid folder) source sink folders store refused told law are e f k none = extracts_nothing pid folder source sink store (takes_nothing source e) (f, k)
+memory_promises weights prefixes (commands.Air pid folder carousel cycles) source sink folders store refused told law are e f k none =
+    record { unread = e; keeps = record { ends = inl (record { read = none.unread folder; told = none.untold; unwritten = f }); heard = none.law } }
+memory_promises weights prefixes (commands.Why complaint) source sink folders store refused told law are e f k none = record { unread = e; keeps = record { ends = prefix_untouched sink (complaint_line complaint) f } }
+
+pub memory_keeps : (weights : List ℕ) (prefixes : List PathNames) (r : Result commands.Named commands.Misfit) (source sink : Over Bytes) (folders store : Over FolderTree) (refused : Option Bytes) (told : List Notice → Type 0) → Receptions → AreWeights weights → IsUntouched source → IsUntouched sink → IsUntouched store → HasDoneNothing folders told
+    → Keeps weights prefixes r status.NoMemory source sink folders store refused told
+memory_keeps weights prefixes (Ok c) source sink folders store refused told law are e f k none = memory_promises weights prefixes c source sink folders store refused told law are e f k none
+memory_keeps weights prefixes (Err misfit) source sink folders store refused told law are e f k none = record { ends = inr refl; unread = e; unwritten = f }
 
 -- the words don't fit
-pub words_keep : (weights : List ℕ) (prefixes : List PathNames) (r : Result commands.Named commands.Misfit) (source sink : Over Bytes) (folders store : Over FolderTree) → r ≡ Err commands.Words → IsUntouched source → IsUntouched sink
-    → Keeps weights prefixes r status.Words source sink folders store
-words_keep weights prefixes r source sink folders store is e f =
-    let P : Result commands.Named commands.Misfit → Type 0 = λ x. Keeps weights prefixes x status.Words source sink folders store in
+pub words_keep : (weights : List ℕ) (prefixes : List PathNames) (r : Result commands.Named commands.Misfit) (source sink : Over Bytes) (folders store : Over FolderTree) (refused : Option Bytes) (told : List Notice → Type 0) → r ≡ Err commands.Words → IsUntouched source → IsUntouched sink
+    → Keeps weights prefixes r status.Words source sink folders store refused told
+words_keep weights prefixes r source sink folders store refused told is e f =
+    let P : Result commands.Named commands.Misfit → Type 0 = λ x. Keeps weights prefixes x status.Words source sink folders store refused told in
     subst P (sym is) (record { ends = inl refl; unread = e; unwritten = f })
 
 -- the sink that the output lends is the one that was handed in
-pub promises_over : {X : Type 0} (weights : List ℕ) (prefixes : List PathNames) (c : commands.Named) (s : Status) (source : Over Bytes) (folders store : Over FolderTree) (content : X → Option Bytes) (faults : X → ℕ) (begin end first last : X)
-    → begin ≡ first → end ≡ last → Promises weights prefixes c s source (over content faults begin end) folders store → Promises weights prefixes c s source (over content faults first last) folders store
-promises_over {X} weights prefixes c s source folders store content faults begin end first last a b p =
-    let P : X → Type 0 = λ x. Promises weights prefixes c s source (over content faults x end) folders store in
-    let Q : X → Type 0 = λ x. Promises weights prefixes c s source (over content faults first x) folders store in
+pub promises_over : {X : Type 0} (weights : List ℕ) (prefixes : List PathNames) (c : commands.Named) (s : Status) (source : Over Bytes) (folders store : Over FolderTree) (refused : Option Bytes) (told : List Notice → Type 0) (content : X → Option Bytes) (faults : X → ℕ) (begin end first last : X)
+    → begin ≡ first → end ≡ last → Promises weights prefixes c s source (over content faults begin end) folders store refused told → Promises weights prefixes c s source (over content faults first last) folders store refused told
+promises_over {X} weights prefixes c s source folders store refused told content faults begin end first last a b p =
+    let P : X → Type 0 = λ x. Promises weights prefixes c s source (over content faults x end) folders store refused told in
+    let Q : X → Type 0 = λ x. Promises weights prefixes c s source (over content faults first x) folders store refused told in
     subst Q b (subst P a p)
 
 -- nor is a write tried there after one that failed

@@ -1,12 +1,12 @@
 -- What `why` promises, by what was put.
-use Rattle.std.proofs.Common.{◌≡◌, [], Ok, Err, refl}
+use Rattle.std.proofs.Common.{◌≡◌, [], Err, refl}
 use Rattle.shell_words.specs.Complaints.{complaint_line}
 use Rattle.shell_words.specs.declared.places.Complaint.{Complaint}
 use Rattle.shell_words.specs.declared.places.Complaint.TheVariants as complaints
 use Rattle.shell_streams.specs.Sending.{OutputState, HasPut, Puts}
 use Rattle.shell_streams.specs.declared.output.OutputFault.{OutputFault}
 use Rattle.shell_streams.specs.declared.output.OutputFault.TheVariants as outputs
-use Rattle.carousel_shell.specs.Over.{Over, sink_over, WritesAll}
+use Rattle.carousel_shell.specs.Over.{sink_over, WritesAll}
 use Rattle.carousel_shell.specs.Statuses.{output_status}
 use Rattle.carousel_shell.specs.Why.{EndsWhy, SaysWhy, why_status}
 use Rattle.carousel_shell.proofs.Writing.{writes_all, writes_prefix}

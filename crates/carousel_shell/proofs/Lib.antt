@@ -28,3 +28,4 @@ mod Unpacking
 mod Planning
 mod Cycling
 mod Declining
+mod Airing

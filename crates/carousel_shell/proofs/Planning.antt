@@ -1,5 +1,5 @@
 -- What `plan` promises, by what was told.
-use Rattle.std.proofs.Common.{◌≡◌, ℕ, Bool, true, false, cond, List, [], Option, Some, Result, Ok, Err, inl, inr, refl, sym, ap, ◌∙◌, subst}
+use Rattle.std.proofs.Common.{◌≡◌, ℕ, Bool, true, false, cond, List, [], Option, Some, Result, Ok, Err, inl, inr, refl, ap, ◌∙◌}
 use Rattle.path_tree.specs.Trees.{Tree}
 use Rattle.path_tree.specs.Edits.{apply_all}
 use Rattle.path_tree.specs.declared.tree.Edit.{Edit}
@@ -69,9 +69,9 @@ module _ (folder : Bytes) (weights : List ℕ) (carousel bitrate : ℕ) (t : Fol
 
 -- ---- what was told
 
-module _ (folder : Bytes) (weights : List ℕ) (carousel bitrate : ℕ) (folders : Over FolderTree) (old new : OutputState) (begin : old.pending ≡ []) where
-  ends_told : (r : Result PlanEnd OutputFault) → plans.EndsPlan folder weights carousel bitrate folders.before (Failed folders) r old new
-      → EndsPlan folder carousel weights bitrate (sink_over old new) folders (plan_status r)
+module _ (folder : Bytes) (weights : List ℕ) (carousel bitrate : ℕ) (folders : Over FolderTree) (refused : Option Bytes) (old new : OutputState) (begin : old.pending ≡ []) where
+  ends_told : (r : Result PlanEnd OutputFault) → plans.EndsPlan folder weights carousel bitrate folders.before (Failed folders) refused r old new
+      → EndsPlan folder carousel weights bitrate (sink_over old new) folders refused (plan_status r)
   ends_told (Ok planned.Published) e = record { text = e.tells.text; is = e.tells.is; writes = writes_all begin e.empty e.tells.puts }
   ends_told (Ok planned.Refused) e = record { text = e.tells.text; is = e.tells.is; writes = writes_all begin e.empty e.tells.puts }
   ends_told (Ok planned.Unreadable) e = record { text = e.tells.text; is = e.tells.is; writes = writes_all begin e.empty e.tells.puts }
@@ -79,7 +79,7 @@ module _ (folder : Bytes) (weights : List ℕ) (carousel bitrate : ℕ) (folders
   ends_told (Err outputs.NoMemory) (inl same) = inl (ap (λ (o : OutputState). o.written) same)
   ends_told (Err outputs.NoMemory) (inr e) = inr (record { end = e.end; text = e.tells.text; is = e.tells.is; writes = writes_prefix begin e.tells.puts })
 
-  ends_alike : (r : Result PlanEnd OutputFault) → plans.EndsPlan folder weights carousel bitrate folders.before (Failed folders) r old new → NeedsFolder folder folders.before r
+  ends_alike : (r : Result PlanEnd OutputFault) → plans.EndsPlan folder weights carousel bitrate folders.before (Failed folders) refused r old new → NeedsFolder folder folders.before r
       → (t : FolderTree) → folders.before ≡ Some t → EndsAlike folder carousel t (plan_status r)
   ends_alike (Ok planned.Published) e needs t told = alike_whole folder weights carousel bitrate t e.tells.text (needs t told) (e.tells.is.known t told)
   ends_alike (Ok planned.Refused) e needs t told = alike_refused folder weights carousel bitrate t e.tells.text (needs t told) (e.tells.is t told)
@@ -87,11 +87,11 @@ module _ (folder : Bytes) (weights : List ℕ) (carousel bitrate : ℕ) (folders
   ends_alike (Err outputs.Failed) e needs t told = tt
   ends_alike (Err outputs.NoMemory) e needs t told = tt
 
-  pub plan_told : (r : Result PlanEnd OutputFault) → Plans folder weights carousel bitrate r old new folders.before (Failed folders)
-      → TellsPlan folder carousel weights bitrate (plan_status r) (sink_over old new) folders
+  pub plan_told : (r : Result PlanEnd OutputFault) → Plans folder weights carousel bitrate r old new folders.before (Failed folders) refused
+      → TellsPlan folder carousel weights bitrate (plan_status r) (sink_over old new) folders refused
   plan_told r p = record { ends = ends_told r p.ends; alike = ends_alike r p.ends p.needs }
 
 -- there was no memory before it began
-pub plan_nothing : (folder : Bytes) (carousel : ℕ) (weights : List ℕ) (bitrate : ℕ) (sink : Over Bytes) (folders : Over FolderTree) → IsUntouched sink
-    → TellsPlan folder carousel weights bitrate status.NoMemory sink folders
-plan_nothing folder carousel weights bitrate sink folders none = record { ends = inl none; alike = λ t told. tt }
+pub plan_nothing : (folder : Bytes) (carousel : ℕ) (weights : List ℕ) (bitrate : ℕ) (sink : Over Bytes) (folders : Over FolderTree) (refused : Option Bytes) → IsUntouched sink
+    → TellsPlan folder carousel weights bitrate status.NoMemory sink folders refused
+plan_nothing folder carousel weights bitrate sink folders refused none = record { ends = inl none; alike = λ t told. tt }

@@ -18,7 +18,7 @@ use Rattle.shell_streams.specs.declared.input.InputFault.TheVariants as inputs
 use Rattle.shell_streams.specs.declared.output.OutputFault.{OutputFault}
 use Rattle.shell_streams.specs.declared.output.OutputFault.TheVariants as outputs
 use Rattle.shell_streams.proofs.CallerLemmas.{told_weaker, all_rear}
-use Rattle.carousel_shell.specs.Over.{Over, sink_over, Failed, IsUntouched, TakesPrefix}
+use Rattle.carousel_shell.specs.Over.{Over, sink_over, Failed, TakesPrefix}
 use Rattle.carousel_shell.specs.Open.{AllAnswers, Hears}
 use Rattle.carousel_shell.specs.Statuses.{input_status}
 use Rattle.carousel_shell.specs.Extract.{all_entries, NothingMade, EndsExtract, Extracts, extract_status}

@@ -1,6 +1,6 @@
 -- What `extract PID FOLDER` promises: the sections of one PID are heard by one receiver, and each file and folder that it then answers is
 -- written into a folder that is made.
-use Rattle.std.specs.Prelude.{◌≡◌, ◌⊎◌, ℕ, Bool, true, false, List, ◌∷◌, ◌++◌, Option, Result, Ok, Err}
+use Rattle.std.specs.Prelude.{◌≡◌, ◌⊎◌, ℕ, Bool, true, false, List, ◌∷◌, ◌++◌, Result, Ok, Err}
 use Rattle.path_tree.specs.Paths.{PathNames}
 use Rattle.folder_store.specs.Folders.{FolderTree, MayFail}
 use Rattle.folder_store.specs.Stores.{can_add, with_entries}

@@ -23,6 +23,7 @@ pub mod Plan
 pub mod Assemble
 pub mod Record
 pub mod Publish
+pub mod Air
 pub mod PublishPsi
 pub mod Rehearse
 pub mod Promises

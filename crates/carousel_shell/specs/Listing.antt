@@ -1,5 +1,5 @@
 -- What `list` writes: the paths of a carousel's tree from the root on, each with its answer. It is this project's own rule.
-use Rattle.std.specs.Prelude.{Bool, ◌&&◌, List, [], ◌++◌, length, take, nat_le, codes, if◌then◌else◌}
+use Rattle.std.specs.Prelude.{Bool, ◌&&◌, [], ◌++◌, length, take, nat_le, codes, if◌then◌else◌}
 use Rattle.std.specs.List.{flat_map, list_all}
 use Rattle.path_tree.specs.Paths.{PathNames}
 use Rattle.path_resolver.specs.declared.answer.Answer.{Answer}

@@ -1,5 +1,5 @@
 -- What `plan FOLDER CAROUSEL BITRATE` promises: what `publish` would send of the folder is told, or why it can't be published.
-use Rattle.std.specs.Prelude.{◌≡◌, ◌⊎◌, ℕ, List, Some, Result, Ok, Err}
+use Rattle.std.specs.Prelude.{◌≡◌, ◌⊎◌, ℕ, List, Option, Some, Result, Ok, Err}
 use Rattle.folder_store.specs.Folders.{FolderTree}
 use Rattle.folder_store.specs.declared.reading.TreeFault.{TreeFault}
 use Rattle.publication_plan.specs.Plans.{IsTextOf}
@@ -13,26 +13,26 @@ use Rattle.carousel_shell.specs.Statuses.{output_status}
 use Rattle.carousel_shell.specs.declared.status.Status.{Status}
 use Rattle.carousel_shell.specs.declared.status.Status.TheVariants as status
 
--- the whole text of a plan that ends so was written
-pub record Planned (folder : Bytes) (carousel : ℕ) (weights : List ℕ) (bitrate : ℕ) (end : PlanEnd) (sink : Over Bytes) (folders : Over FolderTree) : Type 0 where
+-- The whole text of a plan that ends so was written; `refused` is the path text that the folders refused last.
+pub record Planned (folder : Bytes) (carousel : ℕ) (weights : List ℕ) (bitrate : ℕ) (end : PlanEnd) (sink : Over Bytes) (folders : Over FolderTree) (refused : Option Bytes) : Type 0 where
   pub text : Bytes
-  pub is : IsTextOf folder weights carousel bitrate folders.before (Failed folders) end text
+  pub is : IsTextOf folder weights carousel bitrate folders.before (Failed folders) refused end text
   pub writes : WritesAll sink text
 
 -- a prefix of one was
-pub record Planning (folder : Bytes) (carousel : ℕ) (weights : List ℕ) (bitrate : ℕ) (sink : Over Bytes) (folders : Over FolderTree) : Type 0 where
+pub record Planning (folder : Bytes) (carousel : ℕ) (weights : List ℕ) (bitrate : ℕ) (sink : Over Bytes) (folders : Over FolderTree) (refused : Option Bytes) : Type 0 where
   pub end : PlanEnd
   pub text : Bytes
-  pub is : IsTextOf folder weights carousel bitrate folders.before (Failed folders) end text
+  pub is : IsTextOf folder weights carousel bitrate folders.before (Failed folders) refused end text
   pub writes : WritesPrefix sink text
 
-abbrev pub EndsPlan : (folder : Bytes) (carousel : ℕ) (weights : List ℕ) (bitrate : ℕ) → Over Bytes → Over FolderTree → Status → Type 0
-EndsPlan folder carousel weights bitrate sink folders status.Done = Planned folder carousel weights bitrate planned.Published sink folders
-EndsPlan folder carousel weights bitrate sink folders status.NotAll = Planned folder carousel weights bitrate planned.Refused sink folders
-EndsPlan folder carousel weights bitrate sink folders status.FolderFault = Planned folder carousel weights bitrate planned.Unreadable sink folders
-EndsPlan folder carousel weights bitrate sink folders status.WriteFault = Failed sink × Planning folder carousel weights bitrate sink folders
-EndsPlan folder carousel weights bitrate sink folders status.NoMemory = IsUntouched sink ⊎ Planning folder carousel weights bitrate sink folders
-EndsPlan folder carousel weights bitrate sink folders _ = ⊥
+abbrev pub EndsPlan : (folder : Bytes) (carousel : ℕ) (weights : List ℕ) (bitrate : ℕ) → Over Bytes → Over FolderTree → Option Bytes → Status → Type 0
+EndsPlan folder carousel weights bitrate sink folders refused status.Done = Planned folder carousel weights bitrate planned.Published sink folders refused
+EndsPlan folder carousel weights bitrate sink folders refused status.NotAll = Planned folder carousel weights bitrate planned.Refused sink folders refused
+EndsPlan folder carousel weights bitrate sink folders refused status.FolderFault = Planned folder carousel weights bitrate planned.Unreadable sink folders refused
+EndsPlan folder carousel weights bitrate sink folders refused status.WriteFault = Failed sink × Planning folder carousel weights bitrate sink folders refused
+EndsPlan folder carousel weights bitrate sink folders refused status.NoMemory = IsUntouched sink ⊎ Planning folder carousel weights bitrate sink folders refused
+EndsPlan folder carousel weights bitrate sink folders refused _ = ⊥
 
 -- Publishing a known folder ends alike: with all of it sent where the plan is whole, and with a refused tree where the plan says so. A
 -- tree without the folder has neither.
@@ -41,8 +41,8 @@ EndsAlike folder carousel t status.Done = publish_end folder carousel t ≡ stat
 EndsAlike folder carousel t status.NotAll = (fault : TreeFault) × (publish_end folder carousel t ≡ status.TreeRefused fault)
 EndsAlike folder carousel t _ = Unit {0}
 
-pub record TellsPlan (folder : Bytes) (carousel : ℕ) (weights : List ℕ) (bitrate : ℕ) (s : Status) (sink : Over Bytes) (folders : Over FolderTree) : Type 0 where
-  pub ends : EndsPlan folder carousel weights bitrate sink folders s
+pub record TellsPlan (folder : Bytes) (carousel : ℕ) (weights : List ℕ) (bitrate : ℕ) (s : Status) (sink : Over Bytes) (folders : Over FolderTree) (refused : Option Bytes) : Type 0 where
+  pub ends : EndsPlan folder carousel weights bitrate sink folders refused s
   pub alike : (t : FolderTree) → folders.before ≡ Some t → EndsAlike folder carousel t s
 
 -- ---- the status of a plan

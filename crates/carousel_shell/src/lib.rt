@@ -6,6 +6,7 @@
 //!
 //! use carousel_shell::run_plain;
 //! use cycle_planner::{GREATEST_ID, Weigh};
+//! use folder_playout::NoNotices;
 //! use folder_store::{MemFolders, MemStore};
 //! use oc_bytes::{MemSink, MemSource};
 //!
@@ -16,12 +17,13 @@
 //! let mut folders = MemFolders::new(Vec::new(alloc), Vec::new(alloc));
 //! let mut store = MemStore::new(alloc, Vec::new(alloc));
 //! let filters = Vec::new(alloc);
-//! let status = run_plain(alloc, &words, &mut source, &mut sink, &mut folders, &mut store, weigh, filters);
+//! let status = run_plain(alloc, &words, &mut source, &mut sink, &mut folders, &mut store, &mut NoNotices, weigh, filters);
 //! assert_eq!(rt; status.code(), 0);
 //! assert_eq!(rt; sink.written(), b"commit 1 generation 1\ndraw 1 0 3\nopen 2 1 /a no-such\n".as_slice());
 //! ```
 #![tactic(auto)]
 
+mod air;
 mod answers;
 mod assemble;
 mod extract;

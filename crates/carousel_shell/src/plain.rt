@@ -4,8 +4,9 @@ ghost use Rattle.shell_words.specs.Words as commands;
 ghost use Rattle.watch_desk.specs.Prefixes.{prefixes_of};
 ghost use Rattle.shell_streams.specs.Sending.{IsInTime};
 ghost use Rattle.carousel_shell.specs.Over.{over, sink_over};
-ghost use Rattle.carousel_shell.specs.Promises.{Promises, Keeps, writes_store};
+ghost use Rattle.carousel_shell.specs.Promises.{Promises, Keeps, gives_notices, writes_store};
 
+use crate::air::air;
 use crate::assemble::{Wanted, assemble};
 use crate::extract::extract;
 use crate::find::find;
@@ -23,6 +24,7 @@ use crate::status::Status;
 use crate::watch::watch;
 use crate::why::why;
 use cycle_planner::Weigh;
+use folder_playout::{Notices, playouts_meet};
 use folder_store::{Folders, Store};
 use oc_bytes::{Sink, Source};
 use shell_streams::{Buffered, Carrier, Output, room};
@@ -34,8 +36,8 @@ use watch_desk::Filter;
 pub const MOST_OPENED: u32 = 16_777_216;
 
 /// Runs the command that the words name: they are the command line without the program's name. The input comes from the
-/// source, the output goes to the sink, the folders are those that `publish`, `publish-on`, `publish-psi` and `plan` read, and the store is
-/// the one that `extract` writes into, which every other command leaves as it is. `weigh` says how often each module is sent in every cycle.
+/// source, the output goes to the sink, the folders are those that `publish`, `publish-on`, `publish-psi`, `air` and `plan` read, the store is
+/// the one that `extract` writes into, which every other command leaves as it is, and the notices are those that `air` gives, of which none was given before. `weigh` says how often each module is sent in every cycle.
 /// `filters` are the watchers that `watch` tells of changes, the first [`watch_desk::MOST_FILTERS`] of them.
 ///
 /// - `Words` comes before all else: where the words name no command with its values, or one that needs threads, which are
@@ -57,6 +59,9 @@ pub const MOST_OPENED: u32 = 16_777_216;
 /// - `publish`, `publish-on` and `publish-psi` read no input. While one reads the folder come `FolderFault` and the `TreeRefused` of a name or of depth,
 ///   whichever is met first, and then the `TreeRefused` of the commit; nothing was written. While it writes comes
 ///   `WriteFault`, and a prefix of the packets was written; `Done` comes when all of them were.
+/// - `air` reads no input. While it reads the folder for the first time come `FolderFault` and `TreeRefused`, as at `publish`; nothing was written. Later on
+///   `TreeRefused` comes only where the carousel has had all of its generations, when all cycles so far were written. While it writes comes
+///   `WriteFault`, and a prefix of the packets was written; `Done` comes when all of them were.
 /// - `plan` reads no input. `Done`, `NotAll` and `FolderFault` come where its whole text was written: that of a folder that can be published, of
 ///   one that is refused, and of one that can't be read; `WriteFault` when a prefix of it was.
 /// - `why` reads nothing. `Done` and `NotAll` come where its line was written, of words that don't fit and of words that do; `WriteFault` when a
@@ -69,22 +74,26 @@ pub const MOST_OPENED: u32 = 16_777_216;
 ///
 /// What was written stands after what the sink had. A write that fails is the last one that is tried, where none had failed
 /// before. These rules are this project's own.
-pub fn run_plain<S: Source, K: Sink, F: Folders, T: Store>(
+pub fn run_plain<S: Source, K: Sink, F: Folders, T: Store, N: Notices>(
     alloc: Global,
     words: &[String],
     source: &mut S,
     sink: &mut K,
     folders: &mut F,
     store: &mut T,
+    notices: &mut N,
     weigh: Weigh,
     filters: Vec<Filter>,
 ) -> Status
+    requires untold { N.told notices.old notices.old [] }
     ensures keeps { Keeps weigh.weights (prefixes_of filters.items) (commands.command_of (map string_bytes words.now)) result (over S.left S.faults source.old source.new)
-        (over K.written K.faults sink.old sink.new) (over F.tree F.faults folders.old folders.new) (over T.tree T.faults store.old store.new) }
+        (over K.written K.faults sink.old sink.new) (over F.tree F.faults folders.old folders.new) (over T.tree T.faults store.old store.new) (F.refused folders.new) (N.told notices.old notices.new) }
     ensures stored { writes_store (commands.command_of (map string_bytes words.now)) ≡ false → store.new ≡ store.old }
+    ensures quiet { gives_notices (commands.command_of (map string_bytes words.now)) ≡ false → notices.new ≡ notices.old }
     ensures in_time { K.failed sink.old ≡ false → K.late sink.new ≡ K.late sink.old }
 {
     receptions();
+    playouts_meet();
     let command = match command(alloc, words) {
         Ok(command) => command,
         Err(WordsFault::Words) => return Status::Words,
@@ -95,27 +104,30 @@ pub fn run_plain<S: Source, K: Sink, F: Folders, T: Store>(
     };
     let mut out = Buffered::new(sink, &mut room);
     run_command(
-        alloc, command, source, &mut out, folders, store, weigh, filters,
+        alloc, command, source, &mut out, folders, store, notices, weigh, filters,
     )
 }
 
 /// Runs a command; one that needs threads is none here.
-fn run_command<S: Source, O: Output, F: Folders, T: Store>(
+fn run_command<S: Source, O: Output, F: Folders, T: Store, N: Notices>(
     alloc: Global,
     command: Command,
     source: &mut S,
     out: &mut O,
     folders: &mut F,
     store: &mut T,
+    notices: &mut N,
     weigh: Weigh,
     filters: Vec<Filter>,
 ) -> Status
     requires sized { commands.IsSized command }
     requires pending { (O.state out.old).pending ≡ [] }
+    requires untold { N.told notices.old notices.old [] }
     ensures promises { Promises weigh.weights (prefixes_of filters.items) (commands.view command) result (over S.left S.faults source.old source.new) (sink_over (O.state out.old) (O.state out.new))
-        (over F.tree F.faults folders.old folders.new) (over T.tree T.faults store.old store.new) }
+        (over F.tree F.faults folders.old folders.new) (over T.tree T.faults store.old store.new) (F.refused folders.new) (N.told notices.old notices.new) }
     ensures same { (O.state out.new).name ≡ (O.state out.old).name }
     ensures stored { writes_store (Ok (commands.view command)) ≡ false → store.new ≡ store.old }
+    ensures quiet { gives_notices (Ok (commands.view command)) ≡ false → notices.new ≡ notices.old }
     ensures in_time { IsInTime (O.state out.old) (O.state out.new) }
 {
     match command {
@@ -193,6 +205,19 @@ fn run_command<S: Source, O: Output, F: Folders, T: Store>(
         Command::Inspect(pid) => inspect(alloc, pid, source, out),
         Command::Extract(pid, folder) => {
             extract(alloc, pid, folder.as_str(), source, out, store)
+        }
+        Command::Air(pid, folder, carousel, cycles) => {
+            air(
+                alloc,
+                pid,
+                folder.as_str(),
+                carousel,
+                cycles,
+                &weigh,
+                out,
+                folders,
+                notices,
+            )
         }
         Command::Why(complaint) => why(alloc, complaint, out),
         Command::Session | Command::Big(_) => Status::Words,

@@ -3,8 +3,10 @@ ghost use Rattle.std.specs.String.{string_bytes};
 ghost use Rattle.std.specs.Option.{option_map};
 ghost use Rattle.carousel_shell.specs.Statuses.{code_of, line_of, script_text as text_of_script, tree_text as text_of_tree};
 
+use dsi_dii::LAST_GENERATION;
+use folder_playout::{AirFault, Unread};
 use folder_store::{ReadTree, TreeFault};
-use generation_catalogue::CommitFault;
+use generation_catalogue::{CommitFault, Refusal};
 use mount_table::TableFault;
 use oc_bytes::NoMemory;
 use reception_report::{SyncPlace, sync_text};
@@ -33,10 +35,11 @@ pub enum Status {
     ReadFault,
     /// The sink failed.
     WriteFault,
-    /// The folders failed, or the folder that `publish`, `publish-on`, `publish-psi` or `plan` names is none. `extract`: the store failed, or
+    /// The folders failed, or the folder that `publish`, `publish-on`, `publish-psi`, `air` or `plan` names is none. `extract`: the store failed, or
     /// something is in the way of what it writes.
     FolderFault,
-    /// `publish`, `publish-on`, `publish-psi`: the folder's files make no tree that can be sent.
+    /// `publish`, `publish-on`, `publish-psi`, `air`: the folder's files make no tree that can be sent. `air`: or the carousel has had all of its
+    /// generations.
     TreeRefused(TreeFault),
     /// The input goes on after the most that the command takes.
     InputTooLong,
@@ -198,6 +201,36 @@ impl From<TableFault> for Status {
             | TableFault::BadPid(_)
             | TableFault::NameTwice(_)
             | TableFault::PidTwice(_) => Status::Words,
+        }
+    }
+}
+
+impl From<Unread> for Status {
+    ghost use Rattle.carousel_shell.specs.Air.{unread_status};
+
+    ghost from_gives = { λ fault s. s ≡ unread_status fault };
+
+    fn from(fault: Unread) -> Status {
+        match fault {
+            Unread::Failed(_) => Status::FolderFault,
+            Unread::Refused(fault, _) => Status::TreeRefused(fault),
+            Unread::NoMemory => Status::NoMemory,
+        }
+    }
+}
+
+impl From<AirFault> for Status {
+    ghost use Rattle.carousel_shell.specs.Air.{fault_status};
+
+    ghost from_gives = { λ fault s. s ≡ fault_status fault };
+
+    fn from(fault: AirFault) -> Status {
+        match fault {
+            AirFault::Unread(fault) => Status::from(fault),
+            AirFault::SeasonFull => {
+                Status::TreeRefused(TreeFault::Commit(Refusal::SeasonFull(LAST_GENERATION)))
+            }
+            AirFault::Output(fault) => Status::from(fault),
         }
     }
 }

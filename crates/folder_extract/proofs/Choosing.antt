@@ -1,5 +1,5 @@
 -- One path, by its names and its answer.
-use Rattle.std.proofs.Common.{◌≡◌, ℕ, Bool, cond, true, false, ◌&&◌, List, [], ◌∷◌, Option, Result, Ok, Err, refl, sym, ap, ◌∙◌, subst}
+use Rattle.std.proofs.Common.{◌≡◌, Bool, cond, true, false, ◌&&◌, List, [], Option, Result, Ok, Err, refl, sym, ap, ◌∙◌, subst}
 use Rattle.std.specs.Prelude.{IfOk}
 use Rattle.path_tree.specs.Paths.{Bytes, PathNames}
 use Rattle.path_resolver.specs.declared.answer.Answer.{Answer}
@@ -7,7 +7,7 @@ use Rattle.path_resolver.specs.declared.answer.Answer.TheVariants as answers
 use Rattle.folder_store.specs.Folders.{FolderTree}
 use Rattle.folder_store.specs.Stores.{with_entries}
 use Rattle.folder_store.specs.Walk.{text_below}
-use Rattle.shell_streams.specs.Sending.{OutputState, HasPut, Puts}
+use Rattle.shell_streams.specs.Sending.{OutputState, Puts}
 use Rattle.shell_streams.specs.declared.output.OutputFault.{OutputFault}
 use Rattle.shell_streams.specs.declared.output.OutputFault.TheVariants as outputs
 use Rattle.shell_streams.proofs.CallerLemmas.{puts_as, puts_none, puts_ok, puts_err}

@@ -1,5 +1,5 @@
 -- What was written and told of some paths, and then of one more.
-use Rattle.std.proofs.Common.{◌≡◌, ℕ, ◌+◌, ◌<◌, ◌≤◌, Bool, cond, true, false, ◌&&◌, nat_le, List, [], ◌∷◌, ◌++◌, length, get_or, take, drop, Option, Some, None, Result, Ok, Err, inl, inr, refl, sym, ap, ◌∙◌, subst, arith, append-nil, append_assoc}
+use Rattle.std.proofs.Common.{◌≡◌, ℕ, ◌+◌, ◌<◌, ◌≤◌, Bool, cond, true, false, ◌&&◌, List, [], ◌∷◌, ◌++◌, length, get_or, take, drop, Option, Some, None, Ok, Err, inl, inr, refl, sym, ap, ◌∙◌, subst, append-nil, append_assoc}
 use Rattle.std.specs.List.{flat_map, list_all}
 use Rattle.std.proofs.lemmas.List.{take_all, take_more, drop_more, take-append-drop}
 use Rattle.std.proofs.lemmas.List.Folds.{list_all-append}
@@ -13,7 +13,7 @@ use Rattle.shell_streams.specs.declared.output.OutputFault.{OutputFault}
 use Rattle.shell_streams.proofs.CallerLemmas.{puts_nothing, puts_then, puts_stop, puts_as, puts_err, puts_ok}
 use Rattle.shell_words.specs.Texts.{is_found}
 use Rattle.folder_extract.specs.Naming.{can_stand}
-use Rattle.folder_extract.specs.Telling.{listed, line_for, lines_for, extract_text, all_extracted, are_all_listed, is_whole, more_unless}
+use Rattle.folder_extract.specs.Telling.{listed, line_for, lines_for, extract_text, are_all_listed, is_whole, more_unless}
 use Rattle.folder_extract.specs.Extracting.{Ends, WrotePart, EndsWhole, StopsAt, entries_at, entries_for}
 use Rattle.folder_extract.specs.declared.extracting.Extracted.TheVariants as ends
 use Rattle.folder_extract.specs.Writing.{Wrote, FailsAt, Breaks}

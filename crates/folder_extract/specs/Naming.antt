@@ -1,5 +1,5 @@
 -- Which names of a carousel can be those of files, and where a path stands in a folder of the outside. It is this project's own rule.
-use Rattle.std.specs.Prelude.{◌-◌, Bool, not, ◌&&◌, ◌||◌, ◌==◌, length, take, Option, Some, None, codes, if◌then◌else◌}
+use Rattle.std.specs.Prelude.{◌-◌, Bool, not, ◌&&◌, ◌||◌, length, take, Option, Some, None, codes, if◌then◌else◌}
 use Rattle.std.specs.List.{list_all}
 use Rattle.std.specs.Str.{is_utf8}
 use Rattle.path_tree.specs.Paths.{Bytes, PathNames, same_name}

@@ -1,21 +1,24 @@
 -- What is answered when a folder is read once more.
 use Rattle.std.proofs.Common.{◌≡◌, ◌≤◌, ◌⊎◌, inl, inr, ℕ, Bool, true, false, cond, List, [], ◌∷◌, ◌++◌, Option, Some, None, Result, Ok, Err, refl, ◌∙◌, sym, ap, subst, arith, append-nil}
-use Rattle.std.specs.Prelude.{MatchOption, ⊤, Contains}
+use Rattle.std.specs.Prelude.{Contains}
 use Rattle.std.proofs.lemmas.List.Elements.{All-nil, All-push, Contains-push_cases}
 use Rattle.oc_bytes.specs.Outcome.{Rose}
 use Rattle.path_tree.specs.Paths.{Bytes}
+use Rattle.path_tree.specs.Texts.{text_of}
+use Rattle.path_tree.specs.Trees.{Tree}
 use Rattle.path_tree.specs.declared.tree.Edit.{Edit}
-use Rattle.generation_catalogue.specs.Requests.{commit_cause}
-use Rattle.generation_catalogue.specs.declared.entry.CommitFault.{CommitFault}
-use Rattle.generation_catalogue.specs.declared.entry.CommitFault.TheVariants as commits
+use Rattle.generation_catalogue.specs.declared.entry.Refusal.{Refusal}
 use Rattle.folder_store.specs.Folders.{FolderTree, MayFail, is_folder_at}
-use Rattle.folder_store.specs.Walk.{edits_of}
+use Rattle.folder_store.specs.Surveys.{Look, Stands, names_at, survey_of}
+use Rattle.folder_store.specs.Walk.{WalkFault, IsTooDeep, IsBadName, edits_of}
 use Rattle.folder_store.specs.declared.reading.ReadTree.{ReadTree}
 use Rattle.folder_store.specs.declared.reading.ReadTree.TheVariants as walks
+use Rattle.folder_store.specs.declared.reading.TreeFault.{TreeFault}
 use Rattle.folder_store.specs.declared.reading.TreeFault.TheVariants as trees
 use Rattle.shell_streams.proofs.CallerLemmas.{rose_first, rose_last}
-use Rattle.folder_playout.specs.Faults.{of_commit}
-use Rattle.folder_playout.specs.Readings.{AreRead, Reading, Refused, Failed, by_judgement, by_walk, judged, reading_in, reading_of}
+use Rattle.folder_playout.specs.Faults.{Tells, of_walk}
+use Rattle.folder_playout.specs.Readings.{AreRead, IsFailed, Reading, Refused, Failed, broken_in, broken_path, by_judgement, by_walk, judged, reading_in, reading_of}
+use Rattle.folder_playout.specs.declared.reading.Unread.{Unread}
 
 may_first : (t : Option FolderTree) (W : FolderTree → Type 0) (a b c : ℕ) → MayFail (Rose a b) t W → b ≤ c → MayFail (Rose a c) t W
 may_first None W a b c r le = rose_first r le
@@ -32,9 +35,14 @@ NoFolder folder t = is_folder_at t folder ≡ false
 
 -- nothing was read yet
 pub nothing_read : (folder : Bytes) (t : Option FolderTree) (faults : ℕ) → AreRead folder t t faults faults []
-nothing_read folder t faults = record { same = refl; later = omega arith; known = λ u e. All-nil (λ r. (r ≡ Failed) ⊎ (r ≡ reading_of u folder)); failed = λ c. absurd (none c) } where
-  none : Contains [] Failed → ⊥
-  none c = omega (arith, c.1)
+nothing_read folder t faults = record {
+  same = refl;
+  later = omega arith;
+  known = λ u e. All-nil (λ r. IsFailed r ⊎ (r ≡ reading_of u folder));
+  failed = λ path c. absurd (none path c);
+} where
+  none : (path : Bytes) → Contains [] (Failed path) → ⊥
+  none path c = omega (arith, c.1)
 
 -- want of memory is no answer
 pub read_none : (folder : Bytes) (t u v : Option FolderTree) (a b c : ℕ) (before : List Reading) → AreRead folder t u a b before → v ≡ u → b ≤ c → AreRead folder t v a c (before ++ [])
@@ -43,39 +51,94 @@ read_none folder t u v a b c before h same le =
       same = same ∙ h.same;
       later = let l = h.later in omega (arith, l, le);
       known = h.known;
-      failed = λ x. may_first t (NoFolder folder) a b c (h.failed x) le;
+      failed = λ path x. may_first t (NoFolder folder) a b c (h.failed path x) le;
     } in
     subst (AreRead folder t v a c) (sym (append-nil before)) plain
 
 pub read_more : (folder : Bytes) (t u v : Option FolderTree) (a b c : ℕ) (before : List Reading) (r : Reading) → AreRead folder t u a b before → v ≡ u → b ≤ c
-    → ((k : FolderTree) → u ≡ Some k → (r ≡ Failed) ⊎ (r ≡ reading_of k folder)) → (r ≡ Failed → MayFail (Rose b c) u (NoFolder folder)) → AreRead folder t v a c (before ++ r ∷ [])
+    → ((k : FolderTree) → u ≡ Some k → IsFailed r ⊎ (r ≡ reading_of k folder)) → (IsFailed r → MayFail (Rose b c) u (NoFolder folder)) → AreRead folder t v a c (before ++ r ∷ [])
 read_more folder t u v a b c before r h same le each fail = record {
   same = same ∙ h.same;
   later = let l = h.later in omega (arith, l, le);
-  known = λ k e. All-push (λ x. (x ≡ Failed) ⊎ (x ≡ reading_of k folder)) before r (h.known k e) (each k (h.same ∙ e));
-  failed = λ x. by (Contains-push_cases before r Failed x);
+  known = λ k e. All-push (λ x. IsFailed x ⊎ (x ≡ reading_of k folder)) before r (h.known k e) (each k (h.same ∙ e));
+  failed = λ path x. by path (Contains-push_cases before r (Failed path) x);
 } where
-  by : Contains before Failed ⊎ (r ≡ Failed) → MayFail (Rose a c) t (NoFolder folder)
-  by (inl x) = may_first t (NoFolder folder) a b c (h.failed x) le
-  by (inr x) = may_last t (NoFolder folder) a b c h.later (subst (λ y. MayFail (Rose b c) y (NoFolder folder)) h.same (fail x))
+  by : (path : Bytes) → Contains before (Failed path) ⊎ (r ≡ Failed path) → MayFail (Rose a c) t (NoFolder folder)
+  by path (inl x) = may_first t (NoFolder folder) a b c (h.failed path x) le
+  by path (inr x) = may_last t (NoFolder folder) a b c h.later (subst (λ y. MayFail (Rose b c) y (NoFolder folder)) h.same (fail (path, x)))
 
 -- ---- what a walk gave
 
--- a folder whose edits were read is there
-abbrev pub NoWalk : {X : Type 0} → Result X ReadTree → Type 0
-NoWalk r = (r ≡ Err walks.FolderFault) ⊎ (r ≡ Err walks.NoMemory)
+pub is_there : (b : Bool) → (b ≡ false → ⊥) → b ≡ true
+is_there true none = refl
+is_there false none = absurd (none refl)
 
-pub is_there : {X : Type 0} (b : Bool) (x : X) → (b ≡ false → NoWalk {X = X} (Ok x)) → b ≡ true
-is_there true x none = refl
-is_there false x none = elim (none refl) [ inl e ↦ absurd (cc) | inr e ↦ absurd (cc) ]
+-- what the definitions give of a folder that is there
+known_judged : (t : FolderTree) (folder : Bytes) (edits : List Edit) → is_folder_at t folder ≡ true → edits_of t folder ≡ Ok edits → reading_of t folder ≡ by_judgement edits (judged edits)
+known_judged t folder edits there e = ap (λ b. cond b (by_walk (broken_path t folder) (edits_of t folder)) (Failed (text_of []))) there ∙ ap (by_walk (broken_path t folder)) e
 
-pub known_judged : (t : FolderTree) (folder : Bytes) (edits : List Edit) → is_folder_at t folder ≡ true → edits_of t folder ≡ Ok edits → reading_of t folder ≡ by_judgement (judged edits)
-known_judged t folder edits there e = ap (λ b. cond b (by_walk (edits_of t folder)) Failed) there ∙ ap by_walk e
+known_broken : (t : FolderTree) (folder : Bytes) (rule : WalkFault) (s : Stands) → is_folder_at t folder ≡ true → edits_of t folder ≡ Err rule → survey_of t folder ≡ Err s
+    → reading_of t folder ≡ by_walk (text_of (names_at s)) (Err rule)
+known_broken t folder rule s there e at =
+    ap (λ b. cond b (by_walk (broken_path t folder) (edits_of t folder)) (Failed (text_of []))) there ∙ ap (by_walk (broken_path t folder)) e
+    ∙ ap (λ (l : Result Look Stands). by_walk (text_of (names_at (broken_in l))) (Err rule)) at
 
--- the edits were refused, or there was no memory
-pub read_refused : (folder : Bytes) (t u v : Option FolderTree) (a b c : ℕ) (before : List Reading) (edits : List Edit) (fault : CommitFault) → AreRead folder t u a b before → v ≡ u → b ≤ c
-    → ((k : FolderTree) → u ≡ Some k → reading_of k folder ≡ by_judgement (judged edits)) → MatchOption (commit_cause fault) ⊤ (λ f. judged edits ≡ Err f)
-    → AreRead folder t v a c (before ++ reading_in (Err (of_commit fault)))
-read_refused folder t u v a b c before edits (commits.Refused refusal) h same le is e =
-    read_more folder t u v a b c before (Refused (trees.Commit refusal)) h same le (λ k x. inr (sym (is k x ∙ ap by_judgement e))) (λ x. absurd (cc))
-read_refused folder t u v a b c before edits commits.NoMemory h same le is e = read_none folder t u v a b c before h same le
+-- a judgement is no failure
+judged_read : (edits : List Edit) (r : Result Tree Refusal) → IsFailed (by_judgement edits r) → ⊥
+judged_read edits (Ok tree) f = let e = f.1 in cc
+judged_read edits (Err refusal) f = let e = f.1 in cc
+
+-- the edits were judged, or there was no memory
+pub read_judged : (folder : Bytes) (t u v : Option FolderTree) (a b c : ℕ) (before : List Reading) (edits : List Edit) (read : Result Tree Unread) → AreRead folder t u a b before → v ≡ u → b ≤ c
+    → ((k : FolderTree) → u ≡ Some k → edits_of k folder ≡ Ok edits) → ((k : FolderTree) → u ≡ Some k → is_folder_at k folder ≡ false → ⊥) → Tells read (by_judgement edits (judged edits) ∷ [])
+    → AreRead folder t v a c (before ++ reading_in read)
+read_judged folder t u v a b c before edits read h same le walked there (inr e) = subst (λ rs. AreRead folder t v a c (before ++ rs)) (sym e) (read_none folder t u v a b c before h same le)
+read_judged folder t u v a b c before edits read h same le walked there (inl e) =
+    subst (λ rs. AreRead folder t v a c (before ++ rs)) (sym e)
+    (read_more folder t u v a b c before (by_judgement edits (judged edits)) h same le
+    (λ k x. inr (sym (known_judged k folder edits (is_there (is_folder_at k folder) (there k x)) (walked k x)))) (λ f. absurd (judged_read edits (judged edits) f)))
+
+-- the facts of a survey's fault
+pub record IsFault (folder : Bytes) (u : Option FolderTree) (rose : Type 0) (cause : ReadTree) (at : Stands) : Type 0 where
+  pub deep : cause ≡ walks.TooDeep → (k : FolderTree) → u ≡ Some k → (edits_of k folder ≡ Err IsTooDeep) × (survey_of k folder ≡ Err at)
+  pub bad : cause ≡ walks.BadName → (k : FolderTree) → u ≡ Some k → (edits_of k folder ≡ Err IsBadName) × (survey_of k folder ≡ Err at)
+  pub fault : cause ≡ walks.FolderFault → MayFail rose u (NoFolder folder)
+  pub none : (k : FolderTree) → u ≡ Some k → is_folder_at k folder ≡ false → (cause ≡ walks.FolderFault) ⊎ (cause ≡ walks.NoMemory)
+
+not_deep : (walks.TooDeep ≡ walks.FolderFault) ⊎ (walks.TooDeep ≡ walks.NoMemory) → ⊥
+not_deep (inl e) = cc
+not_deep (inr e) = cc
+
+not_bad : (walks.BadName ≡ walks.FolderFault) ⊎ (walks.BadName ≡ walks.NoMemory) → ⊥
+not_bad (inl e) = cc
+not_bad (inr e) = cc
+
+refused_read : (fault : TreeFault) (path : Option Bytes) → IsFailed (Refused fault path) → ⊥
+refused_read fault path f = let e = f.1 in cc
+
+read_fault : (folder : Bytes) (t u v : Option FolderTree) (a b c : ℕ) (before : List Reading) (cause : ReadTree) (at : Stands) → AreRead folder t u a b before → v ≡ u → b ≤ c → IsFault folder u (Rose b c) cause at
+    → AreRead folder t v a c (before ++ of_walk cause (text_of (names_at at)))
+read_fault folder t u v a b c before walks.NoMemory at h same le is = read_none folder t u v a b c before h same le
+read_fault folder t u v a b c before walks.FolderFault at h same le is =
+    let path = text_of (names_at at) in
+    read_more folder t u v a b c before (Failed path) h same le (λ k x. inl (path, refl)) (λ f. is.fault refl)
+read_fault folder t u v a b c before walks.TooDeep at h same le is =
+    let path = text_of (names_at at) in
+    read_more folder t u v a b c before (Refused trees.TooDeep (Some path)) h same le
+    (λ k x. let d = is.deep refl k x in inr (sym (known_broken k folder IsTooDeep at (is_there (is_folder_at k folder) (λ e. not_deep (is.none k x e))) d.0 d.1)))
+    (λ f. absurd (refused_read trees.TooDeep (Some path) f))
+read_fault folder t u v a b c before walks.BadName at h same le is =
+    let path = text_of (names_at at) in
+    read_more folder t u v a b c before (Refused trees.BadName (Some path)) h same le
+    (λ k x. let d = is.bad refl k x in inr (sym (known_broken k folder IsBadName at (is_there (is_folder_at k folder) (λ e. not_bad (is.none k x e))) d.0 d.1)))
+    (λ f. absurd (refused_read trees.BadName (Some path) f))
+
+-- the walk was refused, or came to what can't be read
+pub read_broken : (folder : Bytes) (t u v : Option FolderTree) (a b c : ℕ) (before : List Reading) (cause : ReadTree) (at : Stands) (unread : Unread) → AreRead folder t u a b before → v ≡ u → b ≤ c
+    → IsFault folder u (Rose b c) cause at → reading_in (Err unread) ≡ of_walk cause (text_of (names_at at)) → AreRead folder t v a c (before ++ reading_in (Err unread))
+read_broken folder t u v a b c before cause at unread h same le is e =
+    subst (λ rs. AreRead folder t v a c (before ++ rs)) (sym e) (read_fault folder t u v a b c before cause at h same le is)
+
+-- the folder by another name for its text
+pub of_same : (f g : Bytes) (t u v : Option FolderTree) (a b c : ℕ) (before after : List Reading) → f ≡ g → (AreRead f t u a b before → AreRead f t v a c after) → AreRead g t u a b before → AreRead g t v a c after
+of_same f g t u v a b c before after e step = subst (λ x. AreRead x t u a b before → AreRead x t v a c after) e step

@@ -172,8 +172,8 @@ cast_taken carousel weights s (Found tree) is r = by (same_tree tree s.generatio
   by : (b : Bool) → IsCast carousel weights (cond b s (with_tree tree s))
   by true = r.cast
   by false = cast_tree carousel weights tree s is r.cast r.more r.some
-cast_taken carousel weights s (Refused fault) is r = r.cast
-cast_taken carousel weights s Failed is r = r.cast
+cast_taken carousel weights s (Refused fault path) is r = r.cast
+cast_taken carousel weights s (Failed path) is r = r.cast
 
 cast_turns : (carousel : ℕ) (weights : List ℕ) (s : OnAir) (readings : List Reading) → All CanBeSent readings → IsRunning carousel weights s → IsRunning carousel weights (fold (turn weights) s readings)
 cast_turns carousel weights s [] all r = r

@@ -70,8 +70,8 @@ taken_stands s (Found tree) h = by (same_tree tree s.generation.tree) refl where
   by : (b : Bool) → same_tree tree s.generation.tree ≡ b → Stands (cond b s (with_tree tree s))
   by true e = h
   by false e = record { last = last_push None s.trees tree; change = change_push None s.trees tree s.generation.tree h.last e h.change }
-taken_stands s (Refused fault) h = h
-taken_stands s Failed h = h
+taken_stands s (Refused fault path) h = h
+taken_stands s (Failed path) h = h
 
 turns_stand : (weights : List ℕ) (s : OnAir) (readings : List Reading) → Stands s → Stands (fold (turn weights) s readings)
 turns_stand weights s [] h = h

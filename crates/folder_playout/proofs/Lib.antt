@@ -8,3 +8,4 @@ pub mod Unchanged
 pub mod Turning
 pub mod Finding
 pub mod Answered
+pub mod CallerLemmas

@@ -1,6 +1,8 @@
 -- A playout from reading to reading: what stands before a cycle and after it, and how it ends.
 use Rattle.std.proofs.Common.{◌≡◌, ◌≤◌, ◌<◌, ◌⊎◌, inl, inr, ℕ, ◌+◌, Bool, true, false, cond, List, [], ◌∷◌, ◌++◌, length, Result, Ok, Err, Option, Some, None, IfOk, OnOk, refl, ◌∙◌, sym, ap, subst, arith, append_assoc, append-nil, length-append}
 use Rattle.std.specs.List.{All, concat, fold}
+use Rattle.std.specs.Option.{option_map}
+use Rattle.std.specs.String.{string_bytes}
 use Rattle.std.proofs.lemmas.List.Elements.{All-nil, All-push}
 use Rattle.std.proofs.lemmas.List.Sums.{fold_push}
 use Rattle.path_tree.specs.Trees.{Tree}
@@ -54,8 +56,8 @@ counted_taken a (Found tree) e = by (same_tree tree a.generation.tree) where
   by : (b : Bool) → Counted (cond b a (with_tree tree a))
   by true = e
   by false = omega (arith, e, length-append a.trees (tree ∷ []))
-counted_taken a (Refused fault) e = e
-counted_taken a Failed e = e
+counted_taken a (Refused fault path) e = e
+counted_taken a (Failed path) e = e
 
 counted_turns : (weights : List ℕ) (a : OnAir) (rs : List Reading) → Counted a → Counted (fold (turn weights) a rs)
 counted_turns weights a [] e = e
@@ -199,8 +201,8 @@ unread_ends laws s cycles done cycle Read Next Told Says start now p read fault 
 -- a reading's tree can be sent
 sendable : (read : Result Tree Unread) (r : Reading) → reading_in read ≡ r ∷ [] → IfOk read IsPublishable → CanBeSent r
 sendable (Ok tree) r e is = let same : Found tree ≡ r = cc in subst CanBeSent same is
-sendable (Err unread.Failed) r e is = let same : Failed ≡ r = cc in subst CanBeSent same tt
-sendable (Err (unread.Refused fault)) r e is = let same : Refused fault ≡ r = cc in subst CanBeSent same tt
+sendable (Err (unread.Failed path)) r e is = let same : Failed (string_bytes path) ≡ r = cc in subst CanBeSent same tt
+sendable (Err (unread.Refused fault path)) r e is = let same : Refused fault (option_map string_bytes path) ≡ r = cc in subst CanBeSent same tt
 sendable (Err unread.NoMemory) r e is = absurd (cc)
 
 -- it leaves the generation on the air
@@ -442,10 +444,12 @@ same_read g cycle read tree e same =
 
 pub kept_read : (g : GenerationState) (cycle : ℕ) (read : Result Tree Unread) (cause : Unread) → read ≡ Err cause → is_no_memory cause ≡ false → IsNext g cycle read (Ok None)
 kept_read g cycle read unread.NoMemory e other = absurd (cc)
-kept_read g cycle read unread.Failed e other =
-    subst (λ r. IsNext g cycle r (Ok None)) (sym e) (Failed, refl, λ s gen. (refl, ap (λ (x : GenerationState). Kept x.number cycle Failed ∷ []) gen))
-kept_read g cycle read (unread.Refused fault) e other =
-    subst (λ r. IsNext g cycle r (Ok None)) (sym e) (Refused fault, refl, λ s gen. (refl, ap (λ (x : GenerationState). Kept x.number cycle (Refused fault) ∷ []) gen))
+kept_read g cycle read (unread.Failed path) e other =
+    let failed = Failed (string_bytes path) in
+    subst (λ r. IsNext g cycle r (Ok None)) (sym e) (failed, refl, λ s gen. (refl, ap (λ (x : GenerationState). Kept x.number cycle failed ∷ []) gen))
+kept_read g cycle read (unread.Refused fault path) e other =
+    let refused = Refused fault (option_map string_bytes path) in
+    subst (λ r. IsNext g cycle r (Ok None)) (sym e) (refused, refl, λ s gen. (refl, ap (λ (x : GenerationState). Kept x.number cycle refused ∷ []) gen))
 
 pub kept_told : (Says : List Notice → Type 0) (before : List Notice) (number given cycle : ℕ) (read : Result Tree Unread) (cause : Unread) → read ≡ Err cause → given ≡ number
     → Says (before ++ kept_notices given cycle cause) → Says (before ++ told_next number cycle read)
@@ -454,8 +458,8 @@ kept_told Says before number given cycle read cause e n told =
 
 pub memory_is : (cause : Unread) → is_no_memory cause ≡ true → cause ≡ unread.NoMemory
 memory_is unread.NoMemory e = refl
-memory_is unread.Failed e = absurd (cc)
-memory_is (unread.Refused fault) e = absurd (cc)
+memory_is (unread.Failed path) e = absurd (cc)
+memory_is (unread.Refused fault path) e = absurd (cc)
 
 -- what holds whatever a call answers
 pub on_ok : {T E : Type 0} {P : Type 0} (r : Result T E) → P → OnOk r P

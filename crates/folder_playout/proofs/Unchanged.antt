@@ -19,7 +19,7 @@ use Rattle.carousel_world.specs.Broadcasts.{sections}
 use Rattle.carousel_world.specs.Publishing.{layouts_for, publication, published_bytes, repeat_list}
 use Rattle.carousel_world.proofs.CallerLemmas.{published_sections}
 use Rattle.folder_playout.specs.OnAir.{OnAir, air_bytes, on_air, same_tree, taken, turn, with_cycle, with_tree}
-use Rattle.folder_playout.specs.Readings.{AreOfFolder, Reading, Found, Refused, Failed, reading_of}
+use Rattle.folder_playout.specs.Readings.{AreOfFolder, Reading, Found, Refused, Failed, IsFailed, reading_of}
 use Rattle.folder_playout.specs.Laws.{Stays, UnchangedIsPublished}
 use Rattle.folder_playout.proofs.Changing.{same_alike}
 
@@ -42,7 +42,7 @@ sent_items carousel weights cycles layouts g same =
     (All-repeated (λ item. section_of g item ≡ section_in carousel layouts 1 item) cycles (cycle_of weights (lines_of g))
     (All-weaker (Contains (items_of g)) (λ item. section_of g item ≡ section_in carousel layouts 1 item) same (cycle_of weights (lines_of g)) (cycle_only weights (lines_of g))))
 
-sent_sections : (carousel : ℕ) (weights : List ℕ) (cycles : ℕ) (t : Tree) (g : GenerationState) → IsGenerationOf carousel (t ∷ []) 1 g
+pub sent_sections : (carousel : ℕ) (weights : List ℕ) (cycles : ℕ) (t : Tree) (g : GenerationState) → IsGenerationOf carousel (t ∷ []) 1 g
     → map (section_of g) (repeat_list cycles (cycle_of weights (lines_of g))) ≡ sections (publication carousel weights cycles t)
 sent_sections carousel weights cycles t g is =
     sent_items carousel weights cycles (layouts_for carousel t) g is.sections
@@ -81,8 +81,8 @@ steady_taken carousel weights tree n (Found t) e =
     let s = steady carousel weights tree n in
     let same : same_tree t tree ≡ true = ap (λ u. same_tree u tree) e ∙ same_alike tree in
     ap (λ b. cond b s (with_tree t s)) same
-steady_taken carousel weights tree n (Refused fault) e = refl
-steady_taken carousel weights tree n Failed e = refl
+steady_taken carousel weights tree n (Refused fault path) e = refl
+steady_taken carousel weights tree n (Failed path) e = refl
 
 steady_turns : (carousel : ℕ) (weights : List ℕ) (tree : Tree) (n : ℕ) (readings : List Reading) → All (Stays tree) readings
     → fold (turn weights) (steady carousel weights tree n) readings ≡ steady carousel weights tree (n + length readings)
@@ -106,23 +106,26 @@ unchanged_bytes law pid carousel weights tree readings all =
 
 -- ---- a known folder
 
-stays_of : (tree : Tree) (r : Reading) → (r ≡ Failed) ⊎ (r ≡ Found tree) → Stays tree r
-stays_of tree (Found t) (inl e) = absurd (cc)
-stays_of tree (Found t) (inr e) = cc
-stays_of tree (Refused fault) e = tt
-stays_of tree Failed e = tt
+not_failed : (t : Tree) (path : Bytes) → Found t ≡ Failed path → ⊥
+not_failed t path e = cc
 
-first_read : (t : FolderTree) (folder : Bytes) (tree : Tree) → (Found tree ≡ Failed) ⊎ (Found tree ≡ reading_of t folder) → reading_of t folder ≡ Found tree
-first_read t folder tree (inl e) = absurd (cc)
+stays_of : (tree : Tree) (r : Reading) → IsFailed r ⊎ (r ≡ Found tree) → Stays tree r
+stays_of tree (Found t) (inl f) = absurd (not_failed t f.0 f.1)
+stays_of tree (Found t) (inr e) = cc
+stays_of tree (Refused fault path) e = tt
+stays_of tree (Failed path) e = tt
+
+first_read : (t : FolderTree) (folder : Bytes) (tree : Tree) → IsFailed (Found tree) ⊎ (Found tree ≡ reading_of t folder) → reading_of t folder ≡ Found tree
+first_read t folder tree (inl f) = absurd (not_failed tree f.0 f.1)
 first_read t folder tree (inr e) = sym e
 
 known_stays : (t : FolderTree) (folder : Bytes) (tree : Tree) (readings : List Reading) → AreOfFolder t folder (Found tree ∷ readings)
     → (reading_of t folder ≡ Found tree) × All (Stays tree) readings
 known_stays t folder tree readings all =
-    let P : Reading → Type 0 = λ r. (r ≡ Failed) ⊎ (r ≡ reading_of t folder) in
-    let Q : Reading → Type 0 = λ r. (r ≡ Failed) ⊎ (r ≡ Found tree) in
+    let P : Reading → Type 0 = λ r. IsFailed r ⊎ (r ≡ reading_of t folder) in
+    let Q : Reading → Type 0 = λ r. IsFailed r ⊎ (r ≡ Found tree) in
     let first = first_read t folder tree (All-head P (Found tree) readings all) in
-    (first, All-weaker P (Stays tree) (λ r h. stays_of tree r (subst (λ x. (r ≡ Failed) ⊎ (r ≡ x)) first h)) readings (All-tail P (Found tree) readings all))
+    (first, All-weaker P (Stays tree) (λ r h. stays_of tree r (subst (λ x. IsFailed r ⊎ (r ≡ x)) first h)) readings (All-tail P (Found tree) readings all))
 
 pub unchanged : GenerationsAreOfTheLists → UnchangedIsPublished
 unchanged law = record { bytes = unchanged_bytes law; of_folder = known_stays }

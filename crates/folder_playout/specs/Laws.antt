@@ -24,8 +24,8 @@ use Rattle.folder_playout.specs.Readings.{AreOfFolder, Reading, Found, Refused, 
 -- trees that can be sent
 abbrev pub CanBeSent : Reading → Type 0
 CanBeSent (Found tree) = IsPublishable tree
-CanBeSent (Refused fault) = Unit {0}
-CanBeSent Failed = Unit {0}
+CanBeSent (Refused fault path) = Unit {0}
+CanBeSent (Failed path) = Unit {0}
 
 -- the items of a group are one or more whole cycles of its generation
 abbrev pub IsOfCycles : List ℕ → List Layout → Group → Type 0
@@ -79,8 +79,8 @@ pub record TreesChange : Type 0 where
 -- this tree was read, or none
 abbrev pub Stays : Tree → Reading → Type 0
 Stays tree (Found t) = t ≡ tree
-Stays tree (Refused fault) = Unit {0}
-Stays tree Failed = Unit {0}
+Stays tree (Refused fault path) = Unit {0}
+Stays tree (Failed path) = Unit {0}
 
 -- While no other tree is read than the first, the bytes are those of so many cycles of its publication. So it is with a known folder.
 pub record UnchangedIsPublished : Type 0 where

@@ -5,3 +5,4 @@ pub mod Playing
 pub mod Standing
 pub mod Laws
 pub mod Notices
+pub mod Lines

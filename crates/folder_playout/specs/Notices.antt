@@ -77,8 +77,8 @@ began_notice before now cycle = Began now.number cycle (difference_of before now
 -- of a reading before the cycle of this number: one notice of each other tree, and one of each reading that gave none
 abbrev pub told_of : OnAir → ℕ → Reading → List Notice
 told_of s cycle (Found tree) = if same_tree tree s.generation.tree then [] else began_notice s.generation (next_of s.generation tree) cycle ∷ []
-told_of s cycle (Refused fault) = Kept s.generation.number cycle (Refused fault) ∷ []
-told_of s cycle Failed = Kept s.generation.number cycle Failed ∷ []
+told_of s cycle (Refused fault path) = Kept s.generation.number cycle (Refused fault path) ∷ []
+told_of s cycle (Failed path) = Kept s.generation.number cycle (Failed path) ∷ []
 
 abbrev pub told_from : List ℕ → OnAir → ℕ → List Reading → List Notice
 told_from weights s cycle [] = []

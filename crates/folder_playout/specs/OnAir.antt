@@ -46,8 +46,8 @@ with_tree tree s = record { trees = s.trees ++ tree ∷ []; generation = next_of
 -- Only another tree than that of the generation on the air makes a generation. One that is refused, or can't be read, leaves it there.
 abbrev pub taken : OnAir → Reading → OnAir
 taken s (Found tree) = if same_tree tree s.generation.tree then s else with_tree tree s
-taken s (Refused fault) = s
-taken s Failed = s
+taken s (Refused fault path) = s
+taken s (Failed path) = s
 
 -- a reading, and then a cycle
 abbrev pub turn : List ℕ → OnAir → Reading → OnAir

@@ -1,16 +1,22 @@
-ghost use Rattle.std.specs.Prelude.{◌≡◌, ◌+◌, IfOk};
+ghost use Rattle.std.specs.Prelude.{◌≡◌, ◌+◌, ◌∷◌, [], Err, IfOk};
+ghost use Rattle.std.specs.Option.{option_map};
+ghost use Rattle.std.specs.String.{string_bytes};
 ghost use Rattle.oc_bytes.specs.Outcome.{Gives, cap_at_u64};
+ghost use Rattle.path_tree.specs.Texts.{text_of};
 ghost use Rattle.generation.specs.Lawful.{IsPublishable};
 ghost use Rattle.generation_catalogue.specs.History.{put_bytes, put_size};
 ghost use Rattle.generation_catalogue.specs.Requests.{commit_cause};
-ghost use Rattle.folder_playout.specs.Readings.{judged};
+ghost use Rattle.folder_store.specs.Surveys.{at_in, names_at};
+ghost use Rattle.folder_playout.specs.Faults.{Tells, of_walk};
+ghost use Rattle.folder_playout.specs.Readings.{by_judgement, judged, path_told, reading_in};
 
 use crate::reading::{Trees, Unread};
-use folder_store::{Folders, ReadTree, TreeFault, read_tree};
+use folder_store::{Folders, ReadTree, SurveyFault, TreeFault, place_text, survey};
 use generation::check;
 use generation_catalogue::{CommitFault, MOST_PUT_BYTES, Refusal};
-use path_tree::{Edit, Tree, apply};
-use std::alloc::Global;
+use oc_bytes::NoMemory;
+use path_tree::{Edit, EditFault, Tree, apply};
+use std::alloc::{AllocError, Global};
 
 /// A folder of the outside, whose tree is read anew each time.
 #[derive(Drop)]
@@ -43,8 +49,51 @@ impl<F: Folders> Trees for FolderTrees<'_, F> {
 
     /// The tree of the folder's files, as `publish` makes it: what it refuses is refused in the same order.
     fn read(&mut self) -> Result<Tree, Unread> {
-        let edits = read_tree(self.alloc, self.folders, self.folder)?;
-        Ok(judge(self.alloc, &edits)?)
+        match survey(self.alloc, self.folders, self.folder) {
+            Ok(survey) => tree_of(self.alloc, &survey.edits),
+            Err(fault) => Err(walk_fault(self.alloc, &fault)?),
+        }
+    }
+}
+
+/// Why a survey gave no tree, with the path that it names.
+fn walk_fault(alloc: Global, fault: &SurveyFault) -> Result<Unread, NoMemory>
+    ensures { IfOk result (λ unread. reading_in (Err unread) ≡ of_walk fault.now.cause (text_of (names_at (at_in fault.now.at)))) }
+{
+    let path = place_text(alloc, &fault.at)?;
+    match fault.cause {
+        ReadTree::FolderFault => Ok(Unread::Failed(path)),
+        ReadTree::TooDeep => Ok(Unread::Refused(TreeFault::TooDeep, Some(path))),
+        ReadTree::BadName => Ok(Unread::Refused(TreeFault::BadName, Some(path))),
+        ReadTree::NoMemory => Err(AllocError),
+    }
+}
+
+/// The tree that edits make of the empty one, or the first refusal that holds, with the path at fault.
+fn tree_of(alloc: Global, edits: &[Edit]) -> Result<Tree, Unread>
+    ensures tells { Tells result (by_judgement edits.now (judged edits.now) ∷ []) }
+    ensures publishable { IfOk result IsPublishable }
+{
+    match judge(alloc, edits) {
+        Ok(tree) => Ok(tree),
+        Err(CommitFault::Refused(refusal)) => {
+            let path = path_told(alloc, edits, &refusal)?;
+            Err(Unread::Refused(TreeFault::Commit(refusal), path))
+        }
+        Err(CommitFault::NoMemory) => Err(Unread::NoMemory),
+    }
+}
+
+/// The path of the file that is too large. That of a folder is in the refusal itself, and no other refusal of a folder's files is of one path.
+fn path_told(alloc: Global, edits: &[Edit], refusal: &Refusal) -> Result<Option<String>, NoMemory>
+    ensures { IfOk result (λ path. option_map string_bytes path ≡ path_told edits.now refusal.now) }
+{
+    match refusal {
+        Refusal::Edit(place, EditFault::FileTooLarge) => match edits.get(*place) {
+            Some(edit) => Ok(Some(edit.path().print()?)),
+            None => Ok(None),
+        },
+        _ => Ok(None),
     }
 }
 
@@ -80,33 +129,5 @@ fn size_put(edit: &Edit) -> u64
     match edit {
         Edit::Put(_, content) => content.bytes().len() as u64,
         Edit::Remove(_) => 0,
-    }
-}
-
-impl From<ReadTree> for Unread {
-    ghost use Rattle.folder_playout.specs.Faults.{of_walk};
-
-    ghost from_gives = { λ fault e. e ≡ of_walk fault };
-
-    fn from(fault: ReadTree) -> Unread {
-        match fault {
-            ReadTree::FolderFault => Unread::Failed,
-            ReadTree::TooDeep => Unread::Refused(TreeFault::TooDeep),
-            ReadTree::BadName => Unread::Refused(TreeFault::BadName),
-            ReadTree::NoMemory => Unread::NoMemory,
-        }
-    }
-}
-
-impl From<CommitFault> for Unread {
-    ghost use Rattle.folder_playout.specs.Faults.{of_commit};
-
-    ghost from_gives = { λ fault e. e ≡ of_commit fault };
-
-    fn from(fault: CommitFault) -> Unread {
-        match fault {
-            CommitFault::Refused(refusal) => Unread::Refused(TreeFault::Commit(refusal)),
-            CommitFault::NoMemory => Unread::NoMemory,
-        }
     }
 }

@@ -146,3 +146,15 @@ fn size_of(generation: &Generation, id: u16) -> u64
         None => 0,
     }
 }
+
+/// Nobody, who is told nothing.
+#[derive(Clone, Copy, Debug, Drop)]
+pub struct NoNotices;
+
+impl Notices for NoNotices {
+    ghost told = { λ _ _ _. Unit {0} };
+
+    fn began(&mut self, _number: u64, _cycle: u32, _difference: Difference) {}
+
+    fn kept(&mut self, _number: u64, _cycle: u32, _cause: &Unread) {}
+}

@@ -4,20 +4,33 @@ ghost use Rattle.folder_playout.specs.Readings.{Reading, reading_in};
 
 use folder_store::TreeFault;
 use path_tree::Tree;
+use std::alloc::AllocError;
 use thiserror::Error;
 
-/// Why there is no tree to be sent.
+/// Why there is no tree to be sent. The texts of paths begin with `/`, which alone is the folder itself.
 #[derive(Debug, Drop, Error)]
 pub enum Unread {
-    /// The outside failed, or what was asked for isn't there.
-    #[error("the tree could not be read")]
-    Failed,
-    /// What stands there makes no tree that can be sent.
+    /// The outside failed, or what was asked for isn't there. With it the text of the path that was come to last.
+    #[error("{0} could not be read")]
+    Failed(String),
+    /// What stands there makes no tree that can be sent. With it the text of the path at fault, where there is one that the refusal itself
+    /// doesn't have.
     #[error("the tree is refused: {0}")]
-    Refused(TreeFault),
+    Refused(TreeFault, Option<String>),
     /// There is no memory.
     #[error("out of memory")]
     NoMemory,
+}
+
+impl From<AllocError> for Unread {
+    ghost use Rattle.std.specs.Prelude.{◌≡◌};
+    ghost use Rattle.folder_playout.specs.declared.reading.Unread.TheVariants as unread;
+
+    ghost from_gives = { λ _ e. e ≡ unread.NoMemory };
+
+    fn from(_error: AllocError) -> Unread {
+        Unread::NoMemory
+    }
 }
 
 impl Unread {

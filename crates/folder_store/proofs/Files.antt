@@ -300,7 +300,7 @@ entry_in (f ∷ t) text e h = go (true_or_false (same_name f.0 text)) h (λ k. e
 
 -- ---- each edit is a file
 
-text_more : (root : Bytes) (path : PathNames) (name : Bytes) → text_below root (path ++ name ∷ []) ≡ text_below root path ++ 47 ∷ name
+pub text_more : (root : Bytes) (path : PathNames) (name : Bytes) → text_below root (path ++ name ∷ []) ≡ text_below root path ++ 47 ∷ name
 text_more root path name =
     ap (λ (x : Bytes). root ++ x) (flat_map-append (λ (n : Bytes). 47 ∷ n) path (name ∷ []) ∙ ap (λ (x : Bytes). flat_map (λ (n : Bytes). 47 ∷ n) path ++ x) (append-nil (47 ∷ name)))
     ∙ sym (append_assoc root (flat_map (λ (n : Bytes). 47 ∷ n) path) (47 ∷ name))

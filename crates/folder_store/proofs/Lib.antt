@@ -5,7 +5,9 @@ pub mod MemoryLists
 pub mod MemoryTexts
 pub mod MemoryTrees
 pub mod Naming
+pub mod PlaceTexts
 pub mod RealReads
+pub mod Refusing
 pub mod Sorting
 pub mod Walking
 pub mod Storing

@@ -1,7 +1,7 @@
 -- What a walk comes by beside the files, one part after another.
 use Rattle.std.proofs.Common.{◌≡◌, ℕ, zero, suc, ◌+◌, ◌-◌, ◌<◌, ◌≤◌, Bool, true, false, cond, nat_lt, List, [], ◌∷◌, ◌++◌, length, map, take, drop, Option, Some, None, Result, Ok, Err, refl, sym, ap, ◌∙◌, subst, arith, append_assoc, append-nil, length-append}
 use Rattle.std.specs.Prelude.{MatchOption, OnOk, ⊤}
-use Rattle.std.specs.List.{flat_map, sum_by}
+use Rattle.std.specs.List.{flat_map}
 use Rattle.std.specs.String.{string_bytes}
 use Rattle.std.proofs.lemmas.Bool.{le-ltb, ltb-false}
 use Rattle.std.proofs.lemmas.List.{length-map, take_all}
@@ -21,7 +21,7 @@ use Rattle.folder_store.specs.Gathering.{IsSortedListing, after, broken_rule}
 use Rattle.folder_store.specs.Surveys.{Stands, Mark, Left, Broken, Large, Look, first_of, large_mark, look_from, marks_at, marks_below, marks_past, survey_of}
 use Rattle.folder_store.specs.Sighting.{HasRoom, Tells, marks_one, with_file}
 use Rattle.folder_store.proofs.Walking.{Found, Goes as WalkGoes, after_all, content_is, one_more, room_left, walked_file, whole}
-use Rattle.folder_store.proofs.Files.{total, total_is, walked_whole}
+use Rattle.folder_store.proofs.Files.{total, walked_whole}
 
 -- all this was come by, and no rule was broken
 abbrev pub Goes : List Mark → Look → Look → Type 0

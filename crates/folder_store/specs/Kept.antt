@@ -1,5 +1,8 @@
 -- What folders in memory hold, and which of their calls fail.
-use Rattle.std.specs.Prelude.{ℕ, List}
+use Rattle.std.specs.Prelude.{ℕ, List, Option}
+use Rattle.std.specs.Option.{option_map}
+use Rattle.std.specs.String.{string_bytes}
+use Rattle.path_tree.specs.Paths.{Bytes}
 use Rattle.folder_store.specs.Folders.{FolderTree}
 use Rattle.folder_store.specs.Memory.{entries_in, tree_of}
 use Rattle.folder_store.specs.declared.memory.MemFolders.{MemFolders}
@@ -18,3 +21,7 @@ calls_made f = f.calls
 -- how many calls failed as planned
 abbrev pub calls_failed : MemFolders → ℕ
 calls_failed f = f.failures
+
+-- the path text of the last call that failed, where there was memory to keep it
+abbrev pub last_refused : MemFolders → Option Bytes
+last_refused f = option_map string_bytes f.refused

@@ -1,5 +1,5 @@
 -- A walk on its way: what it came by beside the files.
-use Rattle.std.specs.Prelude.{◌≡◌, ℕ, zero, suc, List, [], ◌++◌, map, Bool, true, false, nat_lt, Option, Some, None, Result, Ok, Err, ⊤, MatchOption, if◌then◌else◌}
+use Rattle.std.specs.Prelude.{◌≡◌, ℕ, zero, suc, List, ◌++◌, map, false, nat_lt, Result, Ok, Err, ⊤, MatchOption, if◌then◌else◌}
 use Rattle.std.specs.Option.{option_map}
 use Rattle.std.specs.String.{string_bytes}
 use Rattle.path_tree.specs.Paths.{Bytes, PathNames}

@@ -6,9 +6,11 @@ use Rattle.std.specs.String.{string_bytes}
 use Rattle.path_tree.specs.Paths.{Bytes, PathNames}
 use Rattle.path_tree.specs.Texts.{is_name}
 use Rattle.path_tree.specs.declared.text.TheConstants.{MOST_NAMES}
+use Rattle.path_tree.specs.declared.tree.Edit.{Edit}
+use Rattle.path_tree.specs.declared.tree.Edit.TheVariants.{Put, Remove}
 use Rattle.path_tree.specs.declared.tree.TheConstants.{MOST_CONTENT}
 use Rattle.folder_store.specs.Folders.{Entry, AFile, AFolder, AnOther, FolderTree, entries_below}
-use Rattle.folder_store.specs.Walk.{sort_entries}
+use Rattle.folder_store.specs.Walk.{sort_entries, text_below}
 use Rattle.folder_store.specs.declared.reading.TheConstants.{MOST_READ}
 use Rattle.folder_store.specs.declared.sights.Standing.{Standing}
 use Rattle.folder_store.specs.declared.surveying.Surveyed.{Surveyed}
@@ -28,6 +30,21 @@ at_in None = ([], [])
 -- its names, the outermost first
 abbrev pub names_at : Stands → PathNames
 names_at s = s.0 ++ s.1 ∷ []
+
+-- the names that lead to it from the folder that is read; none lead to that folder itself
+abbrev pub names_to : Option Standing → PathNames
+names_to (Some s) = names_at (view_standing s)
+names_to None = []
+
+-- its path text
+abbrev pub text_at : (root : Bytes) → Option Standing → Bytes
+text_at root at = text_below root (names_to at)
+
+-- the path text of the first file that these edits put with more bytes than one of a carousel has
+abbrev pub first_large : (root : Bytes) → List Edit → Option Bytes
+first_large root [] = None
+first_large root (Put path content ∷ edits) = if nat_lt MOST_CONTENT (length content) then Some (text_below root path) else first_large root edits
+first_large root (Remove path ∷ edits) = first_large root edits
 
 -- what the walk comes by: an entry that it passes over, one that breaks a rule, or a file, by its path text, that has more bytes than
 -- one of a carousel

@@ -1,5 +1,8 @@
 ghost use Rattle.std.specs.Prelude.{◌≡◌, ◌≤◌, ℕ, Bool, Some, Option, map, true, false, None, is_some, IfOk, IsErrOf};
+ghost use Rattle.std.specs.Option.{option_map};
+ghost use Rattle.std.specs.String.{string_bytes};
 ghost use Rattle.oc_bytes.specs.Outcome.{Rose};
+ghost use Rattle.folder_store.specs.Folders.{IsRefused};
 
 use oc_bytes::NoMemory;
 use std::alloc::{AllocError, AllocFailed, Global};
@@ -54,7 +57,8 @@ impl From<AllocError> for FolderFault {
 /// A path text is the names of a file or a folder, the outermost first, with a `/` between two of them:
 /// `site/img/logo.png`. No call changes what stands there, nor whether that is known.
 pub trait Folders {
-    ghost use Rattle.folder_store.specs.Folders.{FolderTree, entry_at, content_of, is_folder_at, view_entry, IsListed, IsRead, MayFail};
+    ghost use Rattle.path_tree.specs.Paths.{Bytes};
+    ghost use Rattle.folder_store.specs.Folders.{FolderTree, entry_at, content_of, is_folder_at, view_entry, IsListed, IsRead, IsRefused, MayFail};
 
     /// What stands there, where it is known.
     ghost tree: { Self → Option FolderTree };
@@ -65,6 +69,9 @@ pub trait Folders {
     /// Whether a call asked for a folder or a file that isn't there, where what stands there is known.
     ghost strayed: { Self → Bool };
 
+    /// The path text of the last call that answered `Failed`, where it is kept.
+    ghost refused: { Self → Option Bytes };
+
     /// The entries right below the folder `path`, each once, in no stated order.
     fn list(&mut self, alloc: Global, path: &str) -> Result<Vec<FolderEntry>, FolderFault>
         ensures same { tree self.new ≡ tree self.old }
@@ -72,7 +79,9 @@ pub trait Folders {
         ensures later { faults self.old ≤ faults self.new }
         ensures cause { IsErrOf result FolderFault.Failed → MayFail (Rose (faults self.old) (faults self.new)) (tree self.old) (λ t. is_folder_at t path.now ≡ false) }
         ensures owed { (t : FolderTree) → tree self.old ≡ Some t → is_folder_at t path.now ≡ true → strayed self.new ≡ strayed self.old }
-        ensures strays { (t : FolderTree) → tree self.old ≡ Some t → is_folder_at t path.now ≡ false → strayed self.new ≡ true };
+        ensures strays { (t : FolderTree) → tree self.old ≡ Some t → is_folder_at t path.now ≡ false → strayed self.new ≡ true }
+        ensures failed { IsErrOf result FolderFault.Failed → IsRefused (refused self.new) path.now }
+        ensures kept { (IsErrOf result FolderFault.Failed → ⊥) → refused self.new ≡ refused self.old };
 
     /// The first `most` bytes of the file `path`, or all of them where it has fewer.
     fn read(&mut self, alloc: Global, path: &str, most: usize) -> Result<Vec<u8>, FolderFault>
@@ -81,9 +90,18 @@ pub trait Folders {
         ensures later { faults self.old ≤ faults self.new }
         ensures cause { IsErrOf result FolderFault.Failed → MayFail (Rose (faults self.old) (faults self.new)) (tree self.old) (λ t. content_of (entry_at t path.now) ≡ None) }
         ensures owed { (t : FolderTree) → tree self.old ≡ Some t → is_some (content_of (entry_at t path.now)) ≡ true → strayed self.new ≡ strayed self.old }
-        ensures strays { (t : FolderTree) → tree self.old ≡ Some t → content_of (entry_at t path.now) ≡ None → strayed self.new ≡ true };
+        ensures strays { (t : FolderTree) → tree self.old ≡ Some t → content_of (entry_at t path.now) ≡ None → strayed self.new ≡ true }
+        ensures failed { IsErrOf result FolderFault.Failed → IsRefused (refused self.new) path.now }
+        ensures kept { (IsErrOf result FolderFault.Failed → ⊥) → refused self.new ≡ refused self.old };
 
     /// The count of faults, which stays at the greatest `u64`.
     fn faults(&self) -> u64
         ensures { result ≡ faults self.now };
+}
+
+/// A path text that was refused, where there is memory to keep it.
+pub(crate) fn kept_text(alloc: Global, path: &str) -> Option<String>
+    ensures { IsRefused (option_map string_bytes result) path.now }
+{
+    String::from_str(alloc, path).ok()
 }

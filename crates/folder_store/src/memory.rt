@@ -1,10 +1,11 @@
-ghost use Rattle.std.specs.Prelude.{◌≡◌, ◌<◌, ◌≤◌, ◌+◌, ◌↔◌, ◌⊎◌, ◌++◌, ◌∷◌, [], ◌==◌, Some, None, true, false, map, is_some, Contains, IfOk, IfErr, OnOk, IsErrOf, if◌then◌else◌};
-ghost use Rattle.std.specs.Option.{option_copied};
+ghost use Rattle.std.specs.Prelude.{◌≡◌, ◌<◌, ◌≤◌, ◌+◌, ◌↔◌, ◌⊎◌, ◌++◌, ◌∷◌, [], ◌==◌, Some, None, true, false, map, is_some, Contains, IfOk, IfErr, OnErr, OnOk, IsErrOf, if◌then◌else◌};
+ghost use Rattle.std.specs.Option.{option_copied, option_map};
+ghost use Rattle.std.specs.String.{string_bytes};
 ghost use Rattle.oc_bytes.specs.Outcome.{Rose, cap_at_u64};
-ghost use Rattle.folder_store.specs.Folders.{FolderTree, after_prefix, content_of, entry_at, is_folder_at, view_entry, IsFolderTree, IsListed, IsRead, MayFail};
+ghost use Rattle.folder_store.specs.Folders.{FolderTree, after_prefix, content_of, entry_at, is_folder_at, view_entry, IsFolderTree, IsListed, IsRead, IsRefused, MayFail};
 ghost use Rattle.folder_store.specs.Memory.{AreEntries, entries_in, tree_of, ends_in_slash, file_name, folder_name, files_below, folders_below, with_folder};
 
-use crate::folders::{EntryKind, FolderEntry, FolderFault, Folders};
+use crate::folders::{EntryKind, FolderEntry, FolderFault, Folders, kept_text};
 use oc_bytes::{Blob, NoMemory};
 use std::alloc::Global;
 
@@ -19,6 +20,7 @@ pub struct MemFolders {
     calls: u64,
     failures: u64,
     strayed: bool,
+    refused: Option<String>,
     ghost form: { AreEntries (entries_in entries.items) },
 }
 
@@ -45,14 +47,17 @@ impl MemFolders {
             calls: 0,
             failures: 0,
             strayed: false,
+            refused: None,
         }
     }
 
     /// Counts a call, and fails where its number is planned to.
-    fn begin(&mut self) -> Result<(), FolderFault>
+    fn begin(&mut self, alloc: Global, path: &str) -> Result<(), FolderFault>
         ensures entries { self.new.entries ≡ self.old.entries }
         ensures plan { self.new.fail_at ≡ self.old.fail_at }
         ensures strayed { self.new.strayed ≡ self.old.strayed }
+        ensures failed { OnErr result (IsRefused (option_map string_bytes self.new.refused) path.now) }
+        ensures kept { OnOk result (self.new.refused ≡ self.old.refused) }
         ensures made { self.new.calls ≡ cap_at_u64 (self.old.calls + 1) }
         ensures later { self.old.failures ≤ self.new.failures }
         ensures err { IfErr result (λ e. (e ≡ FolderFault.Failed) × Contains self.old.fail_at.items self.old.calls × (self.new.failures ≡ cap_at_u64 (self.old.failures + 1))) }
@@ -62,6 +67,7 @@ impl MemFolders {
         self.calls = self.calls.saturating_add(1);
         if self.fail_at.contains(&call) {
             self.failures = self.failures.saturating_add(1);
+            self.refused = kept_text(alloc, path);
             return Err(FolderFault::Failed);
         }
         Ok(())
@@ -69,13 +75,15 @@ impl MemFolders {
 }
 
 impl Folders for MemFolders {
-    ghost use Rattle.folder_store.specs.Kept.{tree_in, failing_calls, calls_made, calls_failed};
+    ghost use Rattle.folder_store.specs.Kept.{tree_in, failing_calls, calls_made, calls_failed, last_refused};
 
     ghost tree = { λ f. Some (tree_in f) };
 
     ghost faults = { λ f. f.failures };
 
     ghost strayed = { λ f. f.strayed };
+
+    ghost refused = { last_refused };
 
     fn list(&mut self, alloc: Global, path: &str) -> Result<Vec<FolderEntry>, FolderFault>
         ensures same { Some (tree_in self.new) ≡ Some (tree_in self.old) }
@@ -84,6 +92,8 @@ impl Folders for MemFolders {
         ensures cause { IsErrOf result FolderFault.Failed → MayFail (Rose (calls_failed self.old) (calls_failed self.new)) (Some (tree_in self.old)) (λ t. is_folder_at t path.now ≡ false) }
         ensures owed { (t : FolderTree) → Some (tree_in self.old) ≡ Some t → is_folder_at t path.now ≡ true → self.new.strayed ≡ self.old.strayed }
         ensures strays { (t : FolderTree) → Some (tree_in self.old) ≡ Some t → is_folder_at t path.now ≡ false → self.new.strayed ≡ true }
+        ensures failed { IsErrOf result FolderFault.Failed → IsRefused (last_refused self.new) path.now }
+        ensures kept { (IsErrOf result FolderFault.Failed → ⊥) → last_refused self.new ≡ last_refused self.old }
         // The plan of failures.
         ensures planned { IsErrOf result FolderFault.Failed ↔ (Contains (failing_calls self.old) (calls_made self.old) ⊎ (is_folder_at (tree_in self.old) path.now ≡ false)) }
         ensures counted { Contains (failing_calls self.old) (calls_made self.old) → calls_failed self.new ≡ cap_at_u64 (calls_failed self.old + 1) }
@@ -93,8 +103,9 @@ impl Folders for MemFolders {
     {
         let is_there = is_folder(&self.entries, path);
         self.strayed = self.strayed || !is_there;
-        self.begin()?;
+        self.begin(alloc, path)?;
         if !is_there {
+            self.refused = kept_text(alloc, path);
             return Err(FolderFault::Failed);
         }
         Ok(listing(alloc, &self.entries, path)?)
@@ -107,6 +118,8 @@ impl Folders for MemFolders {
         ensures cause { IsErrOf result FolderFault.Failed → MayFail (Rose (calls_failed self.old) (calls_failed self.new)) (Some (tree_in self.old)) (λ t. content_of (entry_at t path.now) ≡ None) }
         ensures owed { (t : FolderTree) → Some (tree_in self.old) ≡ Some t → is_some (content_of (entry_at t path.now)) ≡ true → self.new.strayed ≡ self.old.strayed }
         ensures strays { (t : FolderTree) → Some (tree_in self.old) ≡ Some t → content_of (entry_at t path.now) ≡ None → self.new.strayed ≡ true }
+        ensures failed { IsErrOf result FolderFault.Failed → IsRefused (last_refused self.new) path.now }
+        ensures kept { (IsErrOf result FolderFault.Failed → ⊥) → last_refused self.new ≡ last_refused self.old }
         // The plan of failures.
         ensures planned { IsErrOf result FolderFault.Failed ↔ (Contains (failing_calls self.old) (calls_made self.old) ⊎ (content_of (entry_at (tree_in self.old) path.now) ≡ None)) }
         ensures counted { Contains (failing_calls self.old) (calls_made self.old) → calls_failed self.new ≡ cap_at_u64 (calls_failed self.old + 1) }
@@ -116,8 +129,9 @@ impl Folders for MemFolders {
     {
         let is_there = content_at(&self.entries, path).is_some();
         self.strayed = self.strayed || !is_there;
-        self.begin()?;
+        self.begin(alloc, path)?;
         let Some(content) = content_at(&self.entries, path) else {
+            self.refused = kept_text(alloc, path);
             return Err(FolderFault::Failed);
         };
         Ok(Vec::from_slice(alloc, &content[..most.min(content.len())])?)

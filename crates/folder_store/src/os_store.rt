@@ -94,16 +94,21 @@ impl<R: Files + Drop> OsStore<R> {
         Err(StoreFault::Failed)
     }
 
-    /// Takes the name `part` away, where it is still there. Where that fails a name is left that nobody asked for, and an error more is
-    /// counted.
+    /// Takes the name `part` away, where it is still there, and tries again where a signal interrupts it. Where that fails a name is left
+    /// that nobody asked for. Each error is counted.
     fn clear(&mut self, part: &str)
         ensures { self.old.faults ≤ self.new.faults }
     {
-        match fs::remove_file(&self.rt, part) {
-            Err(error) if error.kind() != ErrorKind::NotFound => {
-                self.faults = self.faults.saturating_add(1);
+        for _ in 0..TRIES {
+            match fs::remove_file(&self.rt, part) {
+                Err(error) if error.kind() != ErrorKind::NotFound => {
+                    self.faults = self.faults.saturating_add(1);
+                    if error.kind() != ErrorKind::Interrupted {
+                        return;
+                    }
+                }
+                _ => return,
             }
-            _ => {}
         }
     }
 }

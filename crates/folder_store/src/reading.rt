@@ -3,10 +3,10 @@ ghost use Rattle.std.specs.String.{string_bytes};
 ghost use Rattle.oc_bytes.specs.Outcome.{Rose};
 ghost use Rattle.path_tree.specs.Paths.{Bytes};
 ghost use Rattle.path_tree.specs.Texts.{is_name};
-ghost use Rattle.folder_store.specs.Folders.{Entry, AFile, FolderTree, IsFolderTree, is_folder_at, kind_of, entry_at, content_of, view_entry, MayFail};
-ghost use Rattle.folder_store.specs.Walk.{PutsFiles, edits_of, met_below, IsTooDeep, IsBadName};
+ghost use Rattle.folder_store.specs.Folders.{Entry, AFile, FolderTree, IsFolderTree, is_folder_at, kind_of, entry_at, content_of, view_entry, IsRefused, MayFail};
+ghost use Rattle.folder_store.specs.Walk.{PutsFiles, edits_of, met_below, text_below, IsTooDeep, IsBadName};
 ghost use Rattle.folder_store.specs.Gathering.{IsSortedListing, Walks, met_one, kind_at};
-ghost use Rattle.folder_store.specs.Surveys.{at_in, marks_below};
+ghost use Rattle.folder_store.specs.Surveys.{at_in, first_large, marks_below, text_at};
 ghost use Rattle.folder_store.specs.Sighting.{Tells, look_in, marks_one, with_file};
 
 use crate::folders::{EntryKind, FolderEntry, FolderFault, Folders};
@@ -157,6 +157,7 @@ fn sorted_entries<F: Folders>(
     ensures entries { IfOk result (λ es. (t : FolderTree) → F.tree folders.old ≡ Some t → IsSortedListing t path.now (map view_entry es.items)) }
     ensures fault { IsErrOf result ReadTree.FolderFault → MayFail (Rose (F.faults folders.old) (F.faults folders.new)) (F.tree folders.old) (λ t. is_folder_at t path.now ≡ false) }
     ensures owed { (t : FolderTree) → F.tree folders.old ≡ Some t → is_folder_at t path.now ≡ true → F.strayed folders.new ≡ F.strayed folders.old }
+    ensures failed { IsErrOf result ReadTree.FolderFault → IsRefused (F.refused folders.new) path.now }
     ensures not_deep { IsErrOf result ReadTree.TooDeep → ⊥ }
     ensures not_bad { IsErrOf result ReadTree.BadName → ⊥ }
     ensures same { F.tree folders.new ≡ F.tree folders.old }
@@ -180,6 +181,10 @@ fn read_file<F: Folders>(
         → Walks (Ok (Edit.Put place.path (take MOST_READ content)) ∷ []) gathered.old.edits.items gathered.old.read result gathered.new.edits.items gathered.new.read }
     ensures look { (t : FolderTree) (content : Bytes) → F.tree folders.old ≡ Some t → entry_at t (string_bytes place.text) ≡ Some (AFile content)
         → OnOk result (look_in sights.new ≡ with_file (look_in sights.old) (string_bytes place.text) (length (take MOST_READ content))) }
+    ensures large { (root : Bytes) → string_bytes place.text ≡ text_below root place.path → (look_in sights.old).large ≡ first_large root gathered.old.edits.items
+        → OnOk result ((look_in sights.new).large ≡ first_large root gathered.new.edits.items) }
+    ensures at { sights.new.at ≡ sights.old.at }
+    ensures failed { IsErrOf result ReadTree.FolderFault → IsRefused (F.refused folders.new) (string_bytes place.text) }
     ensures not_deep { IsErrOf result ReadTree.TooDeep → ⊥ }
     ensures not_bad { IsErrOf result ReadTree.BadName → ⊥ }
     ensures fault { IsErrOf result ReadTree.FolderFault → MayFail (Rose (F.faults folders.old) (F.faults folders.new)) (F.tree folders.old) (λ t. content_of (entry_at t (string_bytes place.text)) ≡ None) }
@@ -206,6 +211,10 @@ pub(crate) fn walk_folder<F: Folders>(
         → Walks (met_below t (MOST_NAMES - length place.now.path) place.now.path (string_bytes place.now.text)) gathered.old.edits.items gathered.old.read result gathered.new.edits.items gathered.new.read }
     ensures tells { (t : FolderTree) → F.tree folders.old ≡ Some t
         → Tells (marks_below t (MOST_NAMES - length place.now.path) place.now.path (string_bytes place.now.text)) (look_in sights.old) gathered.old.read result (look_in sights.new) gathered.new.read (at_in sights.new.at) }
+    ensures large { (root : Bytes) → string_bytes place.now.text ≡ text_below root place.now.path → (look_in sights.old).large ≡ first_large root gathered.old.edits.items
+        → OnOk result ((look_in sights.new).large ≡ first_large root gathered.new.edits.items) }
+    ensures named { (root : Bytes) → string_bytes place.now.text ≡ text_below root place.now.path → text_at root sights.old.at ≡ string_bytes place.now.text
+        → IsErrOf result ReadTree.FolderFault → IsRefused (F.refused folders.new) (text_at root sights.new.at) }
     ensures fault { IsErrOf result ReadTree.FolderFault → MayFail (Rose (F.faults folders.old) (F.faults folders.new)) (F.tree folders.old) (λ t. is_folder_at t (string_bytes place.now.text) ≡ false) }
     ensures no_folder { (t : FolderTree) → F.tree folders.old ≡ Some t → is_folder_at t (string_bytes place.now.text) ≡ false
         → (result ≡ Err ReadTree.FolderFault) ⊎ (result ≡ Err ReadTree.NoMemory) }
@@ -234,6 +243,10 @@ fn walk_entry<F: Folders>(
         → Walks (met_one t (MOST_NAMES - length place.now.path) place.now.path (string_bytes place.now.text) (string_bytes entry.now.name, e)) gathered.old.edits.items gathered.old.read result gathered.new.edits.items gathered.new.read }
     ensures tells { (t : FolderTree) (e : Entry) → F.tree folders.old ≡ Some t → entry_at t (string_bytes place.now.text ++ 47 ∷ string_bytes entry.now.name) ≡ Some e → kind_of e ≡ entry.now.kind
         → Tells (marks_one t (MOST_NAMES - length place.now.path) place.now.path (string_bytes place.now.text) (string_bytes entry.now.name, e)) (look_in sights.old) gathered.old.read result (look_in sights.new) gathered.new.read (at_in sights.new.at) }
+    ensures large { (root : Bytes) → string_bytes place.now.text ≡ text_below root place.now.path → (look_in sights.old).large ≡ first_large root gathered.old.edits.items
+        → OnOk result ((look_in sights.new).large ≡ first_large root gathered.new.edits.items) }
+    ensures named { (root : Bytes) → string_bytes place.now.text ≡ text_below root place.now.path → IsErrOf result ReadTree.FolderFault
+        → IsRefused (F.refused folders.new) (text_at root sights.new.at) }
     ensures fault { IsErrOf result ReadTree.FolderFault → MayFail (Rose (F.faults folders.old) (F.faults folders.new)) (F.tree folders.old)
         (λ t. kind_at t (string_bytes place.now.text ++ 47 ∷ string_bytes entry.now.name) ≡ Some entry.now.kind → ⊥) }
     ensures owed { (t : FolderTree) → F.tree folders.old ≡ Some t → kind_at t (string_bytes place.now.text ++ 47 ∷ string_bytes entry.now.name) ≡ Some entry.now.kind

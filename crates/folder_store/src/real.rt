@@ -1,8 +1,11 @@
 ghost use Rattle.std.specs.Prelude.{◌≡◌, ◌≤◌, ◌+◌, ◌-◌, ◌^◌, ◌<◌, [], length, take, min, None, false, IfOk, OnOk, IsErrOf};
+ghost use Rattle.std.specs.Option.{option_map};
+ghost use Rattle.std.specs.String.{string_bytes};
 ghost use Rattle.oc_bytes.specs.Outcome.{Rose, Known};
 ghost use Rattle.oc_bytes.specs.Streams.{Takes};
+ghost use Rattle.folder_store.specs.Folders.{IsRefused};
 
-use crate::folders::{EntryKind, FolderEntry, FolderFault, Folders};
+use crate::folders::{EntryKind, FolderEntry, FolderFault, Folders, kept_text};
 use oc_bytes::{Failed, Source, StdSource};
 use std::alloc::Global;
 use std::fs::{File, FileType, OpenFile};
@@ -26,6 +29,8 @@ const PIECE: usize = 65_536;
 pub struct OsFolders<R: Drop> {
     rt: R,
     faults: u64,
+    /// The path text of the last call that failed, where there was memory to keep it. Only contracts speak of it.
+    refused: Option<String>,
 }
 
 impl<R: Files + Drop> OsFolders<R> {
@@ -33,14 +38,20 @@ impl<R: Files + Drop> OsFolders<R> {
     pub fn new(rt: R) -> OsFolders<R>
         ensures { result.faults ≡ 0 }
     {
-        OsFolders { rt, faults: 0 }
+        OsFolders {
+            rt,
+            faults: 0,
+            refused: None,
+        }
     }
 
     /// Counts an error, and fails unless a signal interrupted the call.
-    fn note(&mut self, error: &Error) -> Result<(), FolderFault>
+    fn note(&mut self, alloc: Global, path: &str, error: &Error) -> Result<(), FolderFault>
         ensures later { self.old.faults ≤ self.new.faults }
         ensures again { OnOk result (min (self.old.faults + 1) (2 ^ 64 - 1) ≤ self.new.faults) }
         ensures cause { IsErrOf result FolderFault.Failed → Rose self.old.faults self.new.faults }
+        ensures failed { IsErrOf result FolderFault.Failed → IsRefused (option_map string_bytes self.new.refused) path.now }
+        ensures kept { (IsErrOf result FolderFault.Failed → ⊥) → self.new.refused ≡ self.old.refused }
     {
         if is_want_of_memory(error) {
             return Err(FolderFault::NoMemory);
@@ -48,21 +59,27 @@ impl<R: Files + Drop> OsFolders<R> {
         self.faults = self.faults.saturating_add(1);
         match error.kind() {
             ErrorKind::Interrupted => Ok(()),
-            _ => Err(FolderFault::Failed),
+            _ => {
+                self.refused = kept_text(alloc, path);
+                Err(FolderFault::Failed)
+            }
         }
     }
 
     /// Opens a file, and says how many bytes it seems to have.
-    fn open(&mut self, path: &str) -> Result<(R::File, u64), FolderFault>
+    fn open(&mut self, alloc: Global, path: &str) -> Result<(R::File, u64), FolderFault>
         ensures later { self.old.faults ≤ self.new.faults }
         ensures cause { IsErrOf result FolderFault.Failed → Rose self.old.faults self.new.faults }
+        ensures failed { IsErrOf result FolderFault.Failed → IsRefused (option_map string_bytes self.new.refused) path.now }
+        ensures kept { (IsErrOf result FolderFault.Failed → ⊥) → self.new.refused ≡ self.old.refused }
     {
         for _ in 0..TRIES {
             match open_once(&self.rt, path) {
                 Ok(opened) => return Ok(opened),
-                Err(error) => self.note(&error)?,
+                Err(error) => self.note(alloc, path, &error)?,
             }
         }
+        self.refused = kept_text(alloc, path);
         Err(FolderFault::Failed)
     }
 }
@@ -74,21 +91,27 @@ impl<R: Files + Clone + Drop> Folders for OsFolders<R> {
 
     ghost strayed = { λ _. false };
 
+    ghost refused = { λ f. option_map string_bytes f.refused };
+
     fn list(&mut self, alloc: Global, path: &str) -> Result<Vec<FolderEntry>, FolderFault> {
         for _ in 0..TRIES {
             match list_once(&self.rt, alloc, path) {
                 Ok(entries) => return Ok(entries),
-                Err(error) => self.note(&error)?,
+                Err(error) => self.note(alloc, path, &error)?,
             }
         }
+        self.refused = kept_text(alloc, path);
         Err(FolderFault::Failed)
     }
 
     fn read(&mut self, alloc: Global, path: &str, most: usize) -> Result<Vec<u8>, FolderFault> {
-        let (file, len) = self.open(path)?;
+        let (file, len) = self.open(alloc, path)?;
         let mut source = StdSource::new(file);
         let read = read_front(alloc, &mut source, most, len);
         self.faults = self.faults.saturating_add(source.faults());
+        if matches!(read, Err(FolderFault::Failed)) {
+            self.refused = kept_text(alloc, path);
+        }
         read
     }
 

@@ -1,6 +1,6 @@
 ghost use Rattle.std.specs.Prelude.{◌≡◌, ◌++◌, ◌∷◌, [], map, IfOk, OnOk};
 ghost use Rattle.std.specs.String.{string_bytes};
-ghost use Rattle.folder_store.specs.Surveys.{at_in, view_standing};
+ghost use Rattle.folder_store.specs.Surveys.{at_in, names_to, view_standing};
 ghost use Rattle.folder_store.specs.Sighting.{look_in, with_file};
 
 use oc_bytes::NoMemory;
@@ -44,6 +44,7 @@ impl Sights {
     /// Comes to a file or a folder.
     pub(crate) fn reach(&mut self, alloc: Global, folder: &Path, name: &str) -> Result<(), NoMemory>
         ensures at { OnOk result (at_in self.new.at ≡ (folder.now, name.now)) }
+        ensures names { OnOk result (names_to self.new.at ≡ folder.now ++ name.now ∷ []) }
         ensures look { OnOk result (look_in self.new ≡ look_in self.old) }
     {
         self.at = Some(Standing::new(alloc, folder, name)?);
@@ -62,6 +63,7 @@ impl Sights {
     /// Notes the path text of a file of which so many bytes were read.
     pub(crate) fn note(&mut self, text: String, read: usize)
         ensures look { look_in self.new ≡ with_file (look_in self.old) (string_bytes text) read }
+        ensures at { self.new.at ≡ self.old.at }
     {
         if read > MOST_CONTENT && self.large.is_none() {
             self.large = Some(text);

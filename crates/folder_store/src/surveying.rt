@@ -2,9 +2,9 @@ ghost use Rattle.std.specs.Prelude.{◌≡◌, ◌≤◌, ◌⊎◌, Some, Ok, E
 ghost use Rattle.oc_bytes.specs.Outcome.{Rose};
 ghost use Rattle.generation_catalogue.specs.History.{put_bytes};
 ghost use Rattle.generation_catalogue.specs.declared.journal.TheConstants.{MOST_PUT_BYTES};
-ghost use Rattle.folder_store.specs.Folders.{FolderTree, is_folder_at, MayFail};
+ghost use Rattle.folder_store.specs.Folders.{FolderTree, is_folder_at, IsRefused, MayFail};
 ghost use Rattle.folder_store.specs.Walk.{edits_of, IsTooDeep, IsBadName};
-ghost use Rattle.folder_store.specs.Surveys.{at_in, survey_of, view_survey};
+ghost use Rattle.folder_store.specs.Surveys.{at_in, first_large, survey_of, text_at, view_survey};
 
 use crate::folders::Folders;
 use crate::reading::{Gathered, Place, ReadTree, walk_folder};
@@ -51,7 +51,8 @@ impl From<AllocError> for SurveyFault {
 ///
 /// Where no more than [`generation_catalogue::MOST_PUT_BYTES`] are read, all that is passed over below `root` is told, and the
 /// first file of more than [`path_tree::MOST_CONTENT`] bytes. Where a rule is broken, `at` is the first entry in the order of paths that
-/// breaks one. After a `FolderFault` it is what the walk came to last. These rules are this project's own.
+/// breaks one. After a `FolderFault` it is what the walk came to last, whose path text is the one that was refused. These rules are this
+/// project's own.
 pub fn survey<F: Folders>(
     alloc: Global,
     folders: &mut F,
@@ -59,9 +60,11 @@ pub fn survey<F: Folders>(
 ) -> Result<Surveyed, SurveyFault>
     ensures edits { IfOk result (λ s. (t : FolderTree) → F.tree folders.old ≡ Some t → edits_of t root.now ≡ Ok s.edits.items) }
     ensures look { IfOk result (λ s. (t : FolderTree) → F.tree folders.old ≡ Some t → nat_lt MOST_PUT_BYTES (put_bytes s.edits.items) ≡ false → survey_of t root.now ≡ Ok (view_survey s)) }
+    ensures large { IfOk result (λ s. (view_survey s).large ≡ first_large root.now s.edits.items) }
     ensures too_deep { IfErr result (λ f. f.cause ≡ ReadTree.TooDeep → (t : FolderTree) → F.tree folders.old ≡ Some t → (edits_of t root.now ≡ Err IsTooDeep) × (survey_of t root.now ≡ Err (at_in f.at))) }
     ensures bad_name { IfErr result (λ f. f.cause ≡ ReadTree.BadName → (t : FolderTree) → F.tree folders.old ≡ Some t → (edits_of t root.now ≡ Err IsBadName) × (survey_of t root.now ≡ Err (at_in f.at))) }
     ensures fault { IfErr result (λ f. f.cause ≡ ReadTree.FolderFault → MayFail (Rose (F.faults folders.old) (F.faults folders.new)) (F.tree folders.old) (λ t. is_folder_at t root.now ≡ false)) }
+    ensures named { IfErr result (λ f. f.cause ≡ ReadTree.FolderFault → IsRefused (F.refused folders.new) (text_at root.now f.at)) }
     ensures no_folder { (t : FolderTree) → F.tree folders.old ≡ Some t → is_folder_at t root.now ≡ false
         → IsErrAnd result (λ f. (f.cause ≡ ReadTree.FolderFault) ⊎ (f.cause ≡ ReadTree.NoMemory)) }
     ensures owed { (t : FolderTree) → F.tree folders.old ≡ Some t → is_folder_at t root.now ≡ true → F.strayed folders.new ≡ F.strayed folders.old }

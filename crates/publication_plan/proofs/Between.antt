@@ -1,11 +1,10 @@
 -- What was passed over, at its place between the objects.
-use Rattle.std.proofs.Common.{◌≡◌, ℕ, zero, suc, ◌+◌, ◌-◌, ◌<◌, ◌≤◌, Bool, true, false, cond, List, [], ◌∷◌, ◌++◌, length, map, take, drop, get_or, refl, ◌∙◌, sym, ap, subst, arith, append_assoc, append-nil, add-one, length-drop}
-use Rattle.std.specs.List.{flat_map, list_any}
+use Rattle.std.proofs.Common.{◌≡◌, ℕ, zero, suc, ◌+◌, ◌-◌, ◌<◌, ◌≤◌, Bool, true, false, cond, List, [], ◌∷◌, ◌++◌, length, map, take, drop, get_or, refl, ◌∙◌, sym, ap, arith, append_assoc, append-nil, add-one, length-drop}
+use Rattle.std.specs.List.{flat_map}
 use Rattle.std.proofs.lemmas.Grind.{flat_map-append}
 use Rattle.std.proofs.lemmas.List.{drop-drop, drop-map, get_or-map, length-map, take-map, take_all, take_more}
-use Rattle.std.proofs.lemmas.List.Folds.{list_any-append}
 use Rattle.path_tree.specs.Paths.{Bytes, PathNames}
-use Rattle.path_tree.specs.Texts.{printed_byte, printed_name, text_of}
+use Rattle.path_tree.specs.Texts.{text_of}
 use Rattle.path_tree.specs.Trees.{Tree}
 use Rattle.cycle_planner.specs.Cycle.{cycle_of}
 use Rattle.generation.specs.Layouts.{GenerationState, lines_of}
@@ -146,17 +145,6 @@ pub mapped_more : {W X Y : Type 0} (view : W → X) (f : X → List Y) (xs : Lis
 mapped_more view f xs i x text line next begun within is t l n =
     let size = length-map xs view in
     lines_more f (map view xs) i (view x) text line next begun (omega (arith, within, size)) (ap view is ∙ sym (get_or-map view xs i x (view x) within)) t l n
-
--- ---- paths as texts
-
--- a name more behind a path of some names
-pub text_more : (path : PathNames) (name : Bytes) → 0 < length path → text_of (path ++ name ∷ []) ≡ text_of path ++ printed_name name
-text_more [] name some = absurd (omega (arith, some))
-text_more (n ∷ ns) name some = flat_map-append printed_name (n ∷ ns) (name ∷ []) ∙ ap (λ bs. flat_map printed_name (n ∷ ns) ++ bs) (append-nil (printed_name name))
-
-pub text_first : (path : PathNames) (name : Bytes) → length path ≡ 0 → text_of (path ++ name ∷ []) ≡ printed_name name
-text_first [] name none = append-nil (printed_name name)
-text_first (n ∷ ns) name none = absurd (omega (arith, none))
 
 -- ---- the whole text
 

@@ -1,23 +1,20 @@
 -- What a commit on a new carousel answers.
-use Rattle.std.proofs.Common.{◌≡◌, ℕ, ◌+◌, ◌-◌, ◌^◌, ◌<◌, ◌≤◌, Bool, true, false, cond, min, List, [], Option, Some, None, Result, Ok, Err, refl, ◌∙◌, sym, ap, subst, arith, zero-add}
+use Rattle.std.proofs.Common.{◌≡◌, ℕ, ◌<◌, ◌≤◌, Bool, true, false, cond, List, [], Option, Some, None, Ok, Err, refl, ◌∙◌, sym, ap, subst, arith, zero-add}
 use Rattle.std.specs.Prelude.{nat_lt, MatchOption, ⊤}
 use Rattle.std.proofs.lemmas.Bool.{lt-ltb, ltb-true, ltb-false, le-ltb}
 use Rattle.oc_bytes.specs.Outcome.{cap_at_u64}
 use Rattle.path_tree.specs.Edits.{apply_all, apply_cause}
 use Rattle.path_tree.specs.Trees.{Tree, IsTree}
 use Rattle.path_tree.specs.declared.tree.Edit.{Edit}
-use Rattle.path_tree.specs.declared.tree.EditFault.{EditFault}
 use Rattle.path_tree.specs.declared.tree.ApplyFault.{ApplyFault}
 use Rattle.path_tree.specs.declared.tree.ApplyFault.TheVariants as applies
 use Rattle.generation.specs.Publication.{Passed, limit_of}
 use Rattle.generation.specs.Limits.{check_of, limit_cause, unless_passed}
-use Rattle.generation.specs.Lawful.{IsPublishable}
 use Rattle.generation.specs.declared.limit.Limit.{Limit}
 use Rattle.generation.specs.declared.limit.Limit.TheVariants as limits
 use Rattle.generation_catalogue.specs.History.{put_bytes, refusal_of, unless_edit, unless_limit}
 use Rattle.generation_catalogue.specs.Requests.{commit_cause, of_edits, of_limit}
 use Rattle.generation_catalogue.specs.declared.entry.CommitFault.{CommitFault}
-use Rattle.generation_catalogue.specs.declared.entry.Refusal.{Refusal}
 use Rattle.generation_catalogue.specs.declared.entry.Refusal.TheVariants as refusals
 use Rattle.publication_plan.specs.Plans.{first_outcome}
 use Rattle.publication_plan.specs.Judging.{IsAccepted}

@@ -1,5 +1,5 @@
 -- The packets of a cycle, counted section by section.
-use Rattle.std.proofs.Common.{◌≡◌, ℕ, zero, suc, ◌+◌, ◌*◌, ◌<◌, ◌≤◌, List, [], ◌∷◌, ◌++◌, length, map, refl, ◌∙◌, sym, ap, subst, arith, length-append}
+use Rattle.std.proofs.Common.{◌≡◌, ℕ, suc, ◌+◌, ◌*◌, ◌<◌, ◌≤◌, List, [], ◌∷◌, length, map, ◌∙◌, sym, ap, subst, arith, length-append}
 use Rattle.std.specs.List.{All, AllPairs, fold, sum_by}
 use Rattle.std.proofs.lemmas.List.{length-map}
 use Rattle.std.proofs.lemmas.List.Elements.{All-head, All-tail}
@@ -10,7 +10,7 @@ use Rattle.cycle_planner.proofs.CallerLemmas.{cycle_at_most}
 use Rattle.path_tree.specs.Paths.{Bytes}
 use Rattle.section_stream.specs.Groups.{packets_of_group}
 use Rattle.section_stream.specs.Packing.{IsSectionLike, MuxState, idle, last_of, packets_of, packets_of_all, past}
-use Rattle.section_stream.proofs.CallerLemmas.{between_idle, calls_give, few_last, few_packets}
+use Rattle.section_stream.proofs.CallerLemmas.{between_idle, calls_give, few_packets}
 
 -- these items are still to be sent, and so many packets were given for those before them
 pub record IsCounting {X : Type 0} (f : X → Bytes) (start mux : MuxState) (all left : List X) (packets : ℕ) : Type 0 where

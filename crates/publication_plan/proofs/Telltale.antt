@@ -1,6 +1,6 @@
 -- From what was read to what is told of it.
-use Rattle.std.proofs.Common.{◌≡◌, ◌⊎◌, ℕ, ◌<◌, ◌≤◌, Bool, true, false, cond, List, [], ◌∷◌, ◌++◌, length, map, take, Option, Some, None, Result, Ok, Err, refl, ◌∙◌, sym, ap, subst, inl, inr, lit≤, arith, append-nil}
-use Rattle.std.specs.Prelude.{IfOk, nat_lt}
+use Rattle.std.proofs.Common.{◌≡◌, ◌⊎◌, ℕ, ◌<◌, ◌≤◌, Bool, true, false, cond, List, [], ◌∷◌, length, map, take, Option, Some, None, Result, Ok, Err, refl, ◌∙◌, sym, ap, subst, inl, inr, lit≤, arith, append-nil}
+use Rattle.std.specs.Prelude.{IfOk, IsSomeAnd, nat_lt}
 use Rattle.std.specs.List.{All, Contains}
 use Rattle.std.specs.Option.{option_map}
 use Rattle.std.specs.String.{string_bytes}
@@ -28,21 +28,21 @@ use Rattle.section_stream.specs.Packing.{IsSectionLike}
 use Rattle.carousel_world.specs.Broadcasts.{sections}
 use Rattle.carousel_world.specs.Publishing.{PublicationsCanBePacked, layouts_for, publication, repeat_list}
 use Rattle.carousel_world.proofs.CallerLemmas.{published_sections}
-use Rattle.folder_store.specs.Folders.{FolderTree, IsRead, MayFail, is_folder_at}
-use Rattle.folder_store.specs.Surveys.{Look, Stands, at_in, names_at, survey_of, view_standing, view_survey}
-use Rattle.folder_store.specs.Walk.{Walked, WalkFault, IsTooDeep, IsBadName, edits_of}
+use Rattle.folder_store.specs.Folders.{FolderTree, IsRead, IsRefused, MayFail, is_folder_at}
+use Rattle.folder_store.specs.Surveys.{Look, Stands, at_in, first_large, names_at, names_to, survey_of, text_at, view_standing, view_survey}
+use Rattle.folder_store.specs.Walk.{WalkFault, IsTooDeep, IsBadName, edits_of, text_below}
 use Rattle.folder_store.specs.declared.reading.ReadTree.{ReadTree}
 use Rattle.folder_store.specs.declared.reading.ReadTree.TheVariants as causes
 use Rattle.folder_store.specs.declared.sights.Standing.{Standing}
 use Rattle.folder_store.specs.declared.surveying.Surveyed.{Surveyed}
-use Rattle.folder_store.specs.declared.surveying.SurveyFault.{SurveyFault}
 use Rattle.publication_plan.specs.Judging.{FaultTells, IsAccepted, RefusalTells, SizeFails}
-use Rattle.publication_plan.specs.Plans.{CantBeRead, IsPlan, IsTextOf, IsUnreadable, NeedsFolder, broken_in, commit_text, first_outcome, look_in, plan_of, walk_text}
+use Rattle.publication_plan.specs.Plans.{CantBeRead, IsPlan, IsTextOf, NeedsFolder, broken_in, commit_text, first_outcome, look_in, plan_of, walk_text}
 use Rattle.publication_plan.specs.Refusals.{IsNoFile, commit_line, refused_path, rule_line, size_at}
-use Rattle.publication_plan.specs.Telling.{cycle_sections, plan_text}
+use Rattle.publication_plan.specs.Telling.{cycle_sections, plan_text, unreadable_line}
 use Rattle.publication_plan.specs.declared.planning.PlanEnd.{PlanEnd}
 use Rattle.publication_plan.specs.declared.planning.PlanEnd.TheVariants as ends
 use Rattle.publication_plan.proofs.Judgement.{SaysWhy, outcome_is}
+use Rattle.publication_plan.proofs.TooLarge.{too_large}
 
 -- ---- what is sent
 
@@ -107,29 +107,36 @@ rule_is : (folder : Bytes) (weights : List ℕ) (carousel bitrate : ℕ) (t : Fo
 rule_is folder weights carousel bitrate t rule s text walked looked is =
     ap (walk_text weights carousel bitrate t (survey_of t folder)) walked ∙ ap (λ (l : Result Look Stands). Err (rule_line rule (names_at (broken_in l)))) looked ∙ ap Err (sym is)
 
+-- the folder's own line has no names
+same_line : (at : Option Standing) → unreadable_line (names_at (at_in at)) ≡ unreadable_line (names_to at)
+same_line None = refl
+same_line (Some s) = refl
+
 -- a fault of the survey
-pub fault_text : (folder : Bytes) (weights : List ℕ) (carousel bitrate : ℕ) (told : Option FolderTree) (rose : Type 0) (cause : ReadTree) (at : Option Standing) (end : PlanEnd) (text : Bytes)
+pub fault_text : (folder : Bytes) (weights : List ℕ) (carousel bitrate : ℕ) (told : Option FolderTree) (rose : Type 0) (refused : Option Bytes) (cause : ReadTree) (at : Option Standing) (end : PlanEnd) (text : Bytes)
     → FaultTells (record { cause = cause; at = at }) end text
     → (cause ≡ causes.TooDeep → (t : FolderTree) → told ≡ Some t → (edits_of t folder ≡ Err IsTooDeep) × (survey_of t folder ≡ Err (at_in at)))
     → (cause ≡ causes.BadName → (t : FolderTree) → told ≡ Some t → (edits_of t folder ≡ Err IsBadName) × (survey_of t folder ≡ Err (at_in at)))
     → (cause ≡ causes.FolderFault → MayFail rose told (λ t. is_folder_at t folder ≡ false))
-    → IsTextOf folder weights carousel bitrate told rose end text
-fault_text folder weights carousel bitrate told rose causes.FolderFault at ends.Unreadable text tells deep bad failed = record {
-  path = names_at (at_in at);
-  text_is = tells;
+    → (cause ≡ causes.FolderFault → IsRefused refused (text_at folder at))
+    → IsTextOf folder weights carousel bitrate told rose refused end text
+fault_text folder weights carousel bitrate told rose refused causes.FolderFault at ends.Unreadable text tells deep bad failed named = record {
+  path = names_to at;
+  text_is = tells ∙ same_line at;
+  named = named refl;
   fault = may_weaken told rose (λ t. is_folder_at t folder ≡ false) (CantBeRead folder) (λ t h e. inl e) (failed refl);
 }
-fault_text folder weights carousel bitrate told rose causes.TooDeep at ends.Refused text tells deep bad failed = λ t h.
+fault_text folder weights carousel bitrate told rose refused causes.TooDeep at ends.Refused text tells deep bad failed named = λ t h.
     let d = deep refl t h in rule_is folder weights carousel bitrate t IsTooDeep (at_in at) text d.0 d.1 tells
-fault_text folder weights carousel bitrate told rose causes.BadName at ends.Refused text tells deep bad failed = λ t h.
+fault_text folder weights carousel bitrate told rose refused causes.BadName at ends.Refused text tells deep bad failed named = λ t h.
     let d = bad refl t h in rule_is folder weights carousel bitrate t IsBadName (at_in at) text d.0 d.1 tells
-fault_text folder weights carousel bitrate told rose causes.FolderFault at ends.Published text tells deep bad failed = absurd tells
-fault_text folder weights carousel bitrate told rose causes.FolderFault at ends.Refused text tells deep bad failed = absurd tells
-fault_text folder weights carousel bitrate told rose causes.TooDeep at ends.Published text tells deep bad failed = absurd tells
-fault_text folder weights carousel bitrate told rose causes.TooDeep at ends.Unreadable text tells deep bad failed = absurd tells
-fault_text folder weights carousel bitrate told rose causes.BadName at ends.Published text tells deep bad failed = absurd tells
-fault_text folder weights carousel bitrate told rose causes.BadName at ends.Unreadable text tells deep bad failed = absurd tells
-fault_text folder weights carousel bitrate told rose causes.NoMemory at end text tells deep bad failed = absurd tells
+fault_text folder weights carousel bitrate told rose refused causes.FolderFault at ends.Published text tells deep bad failed named = absurd tells
+fault_text folder weights carousel bitrate told rose refused causes.FolderFault at ends.Refused text tells deep bad failed named = absurd tells
+fault_text folder weights carousel bitrate told rose refused causes.TooDeep at ends.Published text tells deep bad failed named = absurd tells
+fault_text folder weights carousel bitrate told rose refused causes.TooDeep at ends.Unreadable text tells deep bad failed named = absurd tells
+fault_text folder weights carousel bitrate told rose refused causes.BadName at ends.Published text tells deep bad failed named = absurd tells
+fault_text folder weights carousel bitrate told rose refused causes.BadName at ends.Unreadable text tells deep bad failed named = absurd tells
+fault_text folder weights carousel bitrate told rose refused causes.NoMemory at end text tells deep bad failed named = absurd tells
 
 pub fault_needs : (folder : Bytes) (told : Option FolderTree) (cause : ReadTree) (at : Option Standing) (end : PlanEnd) (text : Bytes) → FaultTells (record { cause = cause; at = at }) end text
     → ((t : FolderTree) → told ≡ Some t → is_folder_at t folder ≡ false → (cause ≡ causes.FolderFault) ⊎ (cause ≡ causes.NoMemory)) → NeedsFolder folder told (Ok end)
@@ -147,6 +154,7 @@ fault_needs folder told causes.NoMemory at end text tells none = absurd tells
 -- what a survey that isn't refused says of a known tree
 pub record Surveys (folder : Bytes) (told : Option FolderTree) (s : Surveyed) : Type 0 where
   pub edits : (t : FolderTree) → told ≡ Some t → edits_of t folder ≡ Ok s.edits.items
+  pub large : option_map string_bytes s.large ≡ first_large folder s.edits.items
   pub look : (t : FolderTree) → told ≡ Some t → nat_lt 536870912 (put_bytes s.edits.items) ≡ false → survey_of t folder ≡ Ok (view_survey s)
 
 -- the plan of an accepted commit
@@ -184,23 +192,24 @@ line_is folder carousel told s refusal t surveys out h applied = elim (full_or c
 ]
 
 -- a refusal of the commit, or a size that can't be read
-pub refusal_text : (folder : Bytes) (weights : List ℕ) (carousel bitrate : ℕ) (told : Option FolderTree) (rose : Type 0) (s : Surveyed) (refusal : Refusal) (end : PlanEnd) (text : Bytes) → Surveys folder told s
-    → first_outcome carousel s.edits.items ≡ Err refusal → RefusalTells told rose s refusal end text → IsTextOf folder weights carousel bitrate told rose end text
-refusal_text folder weights carousel bitrate told rose s refusal ends.Published text surveys out tells = absurd tells
-refusal_text folder weights carousel bitrate told rose s refusal ends.Refused text surveys out tells = λ t h.
+pub refusal_text : (folder : Bytes) (weights : List ℕ) (carousel bitrate : ℕ) (told : Option FolderTree) (rose : Type 0) (refused : Option Bytes) (s : Surveyed) (refusal : Refusal) (end : PlanEnd) (text : Bytes) → Surveys folder told s
+    → first_outcome carousel s.edits.items ≡ Err refusal → RefusalTells told rose refused s refusal end text → IsTextOf folder weights carousel bitrate told rose refused end text
+refusal_text folder weights carousel bitrate told rose refused s refusal ends.Published text surveys out tells = absurd tells
+refusal_text folder weights carousel bitrate told rose refused s refusal ends.Refused text surveys out tells = λ t h.
     let es : List Edit = s.edits.items in
     ap (walk_text weights carousel bitrate t (survey_of t folder)) (surveys.edits t h)
     ∙ ap (λ (r : Result ℕ Refusal). commit_text weights carousel bitrate t (look_in (survey_of t folder)) es r (apply_all [] es)) out
     ∙ ap Err (line_is folder carousel told s refusal t surveys out h (apply_all [] es) ∙ sym (tells t h))
-refusal_text folder weights carousel bitrate told rose s refusal ends.Unreadable text surveys out tells = record {
+refusal_text folder weights carousel bitrate told rose refused s refusal ends.Unreadable text surveys out tells = record {
   path = refused_path s.edits.items refusal;
   text_is = tells.0;
+  named = names refusal tells.1 out;
   fault = may_weaken told rose (IsNoFile (option_map string_bytes s.large)) (CantBeRead folder)
       (λ t h none. inr (subst (λ (l : Option Bytes). IsNoFile l t) (sym (large_is t h)) none)) (fails refusal tells.1);
 }
   where
-    fails : (r : Refusal) → SizeFails told rose s r → MayFail rose told (IsNoFile (option_map string_bytes s.large))
-    fails (refusals.Edit place edits.FileTooLarge) h = h
+    fails : (r : Refusal) → SizeFails told rose refused s r → MayFail rose told (IsNoFile (option_map string_bytes s.large))
+    fails (refusals.Edit place edits.FileTooLarge) h = h.0
     fails (refusals.Edit place edits.NoSuchFile) h = absurd h
     fails (refusals.Edit place edits.FolderThere) h = absurd h
     fails (refusals.Edit place edits.ThroughFile) h = absurd h
@@ -211,8 +220,21 @@ refusal_text folder weights carousel bitrate told rose s refusal ends.Unreadable
     fails (refusals.TooManyBytes n) h = absurd h
     fails (refusals.TooManyModules n) h = absurd h
 
-    journal_fails : (r : Refusal) (n : ℕ) → r ≡ refusals.JournalFull n → SizeFails told rose s r → ⊥
-    journal_fails r n e h = let g : SizeFails told rose s (refusals.JournalFull n) = subst (SizeFails told rose s) e h in g
+    names : (r : Refusal) → SizeFails told rose refused s r → first_outcome carousel s.edits.items ≡ Err r → IsRefused refused (text_below folder (refused_path s.edits.items r))
+    names (refusals.Edit place edits.FileTooLarge) h why =
+        subst (λ (l : Option Bytes). IsSomeAnd l (IsRefused refused)) (surveys.large ∙ too_large folder carousel s.edits.items place why) h.1
+    names (refusals.Edit place edits.NoSuchFile) h why = absurd h
+    names (refusals.Edit place edits.FolderThere) h why = absurd h
+    names (refusals.Edit place edits.ThroughFile) h why = absurd h
+    names (refusals.SeasonFull n) h why = absurd h
+    names (refusals.JournalFull n) h why = absurd h
+    names (refusals.TooManyObjects n) h why = absurd h
+    names (refusals.FolderTooLarge p) h why = absurd h
+    names (refusals.TooManyBytes n) h why = absurd h
+    names (refusals.TooManyModules n) h why = absurd h
+
+    journal_fails : (r : Refusal) (n : ℕ) → r ≡ refusals.JournalFull n → SizeFails told rose refused s r → ⊥
+    journal_fails r n e h = let g : SizeFails told rose refused s (refusals.JournalFull n) = subst (SizeFails told rose refused s) e h in g
 
     large_is : (t : FolderTree) → told ≡ Some t → (look_in (survey_of t folder)).large ≡ option_map string_bytes s.large
     large_is t h = elim (full_or carousel s.edits.items refusal out) [
@@ -220,24 +242,24 @@ refusal_text folder weights carousel bitrate told rose s refusal ends.Unreadable
       | inr full ↦ absurd (journal_fails refusal full.0 full.1 tells.1)
     ]
 
-fails_wider : (told : Option FolderTree) (s : Surveyed) (r : Refusal) (a b c : ℕ) → a ≤ b → SizeFails told (Rose b c) s r → SizeFails told (Rose a c) s r
-fails_wider told s (refusals.Edit place edits.FileTooLarge) a b c le h = may_wider told (IsNoFile (option_map string_bytes s.large)) a b c le h
-fails_wider told s (refusals.Edit place edits.NoSuchFile) a b c le h = absurd h
-fails_wider told s (refusals.Edit place edits.FolderThere) a b c le h = absurd h
-fails_wider told s (refusals.Edit place edits.ThroughFile) a b c le h = absurd h
-fails_wider told s (refusals.SeasonFull n) a b c le h = absurd h
-fails_wider told s (refusals.JournalFull n) a b c le h = absurd h
-fails_wider told s (refusals.TooManyObjects n) a b c le h = absurd h
-fails_wider told s (refusals.FolderTooLarge p) a b c le h = absurd h
-fails_wider told s (refusals.TooManyBytes n) a b c le h = absurd h
-fails_wider told s (refusals.TooManyModules n) a b c le h = absurd h
+fails_wider : (told : Option FolderTree) (refused : Option Bytes) (s : Surveyed) (r : Refusal) (a b c : ℕ) → a ≤ b → SizeFails told (Rose b c) refused s r → SizeFails told (Rose a c) refused s r
+fails_wider told refused s (refusals.Edit place edits.FileTooLarge) a b c le h = (may_wider told (IsNoFile (option_map string_bytes s.large)) a b c le h.0, h.1)
+fails_wider told refused s (refusals.Edit place edits.NoSuchFile) a b c le h = absurd h
+fails_wider told refused s (refusals.Edit place edits.FolderThere) a b c le h = absurd h
+fails_wider told refused s (refusals.Edit place edits.ThroughFile) a b c le h = absurd h
+fails_wider told refused s (refusals.SeasonFull n) a b c le h = absurd h
+fails_wider told refused s (refusals.JournalFull n) a b c le h = absurd h
+fails_wider told refused s (refusals.TooManyObjects n) a b c le h = absurd h
+fails_wider told refused s (refusals.FolderTooLarge p) a b c le h = absurd h
+fails_wider told refused s (refusals.TooManyBytes n) a b c le h = absurd h
+fails_wider told refused s (refusals.TooManyModules n) a b c le h = absurd h
 
 -- faults are counted from the beginning on, and what is known stays
-pub refusal_wider : (told later : Option FolderTree) (s : Surveyed) (r : Refusal) (end : PlanEnd) (text : Bytes) (a b c : ℕ) → a ≤ b → later ≡ told → RefusalTells later (Rose b c) s r end text → RefusalTells told (Rose a c) s r end text
-refusal_wider told later s r end text a b c le same h = by end (subst (λ (o : Option FolderTree). RefusalTells o (Rose b c) s r end text) same h) where
-  by : (end : PlanEnd) → RefusalTells told (Rose b c) s r end text → RefusalTells told (Rose a c) s r end text
+pub refusal_wider : (told later : Option FolderTree) (refused : Option Bytes) (s : Surveyed) (r : Refusal) (end : PlanEnd) (text : Bytes) (a b c : ℕ) → a ≤ b → later ≡ told → RefusalTells later (Rose b c) refused s r end text → RefusalTells told (Rose a c) refused s r end text
+refusal_wider told later refused s r end text a b c le same h = by end (subst (λ (o : Option FolderTree). RefusalTells o (Rose b c) refused s r end text) same h) where
+  by : (end : PlanEnd) → RefusalTells told (Rose b c) refused s r end text → RefusalTells told (Rose a c) refused s r end text
   by ends.Refused k = k
-  by ends.Unreadable k = (k.0, fails_wider told s r a b c le k.1)
+  by ends.Unreadable k = (k.0, fails_wider told refused s r a b c le k.1)
   by ends.Published k = absurd k
 
 pub surveyed_needs : (folder : Bytes) (told : Option FolderTree) (end : PlanEnd) → ((t : FolderTree) → told ≡ Some t → is_folder_at t folder ≡ false → ⊥) → NeedsFolder folder told (Ok end)

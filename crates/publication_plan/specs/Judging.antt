@@ -1,5 +1,5 @@
 -- What is told of a survey.
-use Rattle.std.specs.Prelude.{◌≡◌, ℕ, false, nat_lt, List, [], Option, Some, Ok}
+use Rattle.std.specs.Prelude.{◌≡◌, ℕ, false, nat_lt, List, [], Option, Some, Ok, IsSomeAnd}
 use Rattle.std.specs.Option.{option_map}
 use Rattle.std.specs.String.{string_bytes}
 use Rattle.path_tree.specs.Edits.{apply_all}
@@ -12,7 +12,7 @@ use Rattle.generation_catalogue.specs.History.{put_bytes}
 use Rattle.generation_catalogue.specs.declared.entry.Refusal.{Refusal}
 use Rattle.generation_catalogue.specs.declared.entry.Refusal.TheVariants as refusals
 use Rattle.generation_catalogue.specs.declared.journal.TheConstants.{MOST_PUT_BYTES}
-use Rattle.folder_store.specs.Folders.{FolderTree, MayFail}
+use Rattle.folder_store.specs.Folders.{FolderTree, IsRefused, MayFail}
 use Rattle.folder_store.specs.Surveys.{at_in, names_at, view_survey}
 use Rattle.folder_store.specs.Walk.{IsTooDeep, IsBadName}
 use Rattle.folder_store.specs.declared.reading.ReadTree.{ReadTree}
@@ -41,13 +41,14 @@ FaultTells fault end text = go fault.cause end where
   go causes.BadName ends.Refused = text ≡ rule_line IsBadName (names_at (at_in fault.at))
   go _ _ = ⊥
 
--- the file that is too large can't be read again
-abbrev pub SizeFails : (told : Option FolderTree) (rose : Type 0) → Surveyed → Refusal → Type 0
-SizeFails told rose survey (refusals.Edit place edits.FileTooLarge) = MayFail rose told (IsNoFile (option_map string_bytes survey.large))
-SizeFails told rose survey _ = ⊥
+-- the file that is too large can't be read again: its path text was refused last
+abbrev pub SizeFails : (told : Option FolderTree) (rose : Type 0) (refused : Option Bytes) → Surveyed → Refusal → Type 0
+SizeFails told rose refused survey (refusals.Edit place edits.FileTooLarge) =
+    MayFail rose told (IsNoFile (option_map string_bytes survey.large)) × IsSomeAnd (option_map string_bytes survey.large) (IsRefused refused)
+SizeFails told rose refused survey _ = ⊥
 
 -- the line of a commit's refusal, or of the file whose size can't be read
-abbrev pub RefusalTells : (told : Option FolderTree) (rose : Type 0) → Surveyed → Refusal → PlanEnd → Bytes → Type 0
-RefusalTells told rose survey refusal ends.Refused text = (t : FolderTree) → told ≡ Some t → text ≡ commit_line t (view_survey survey) survey.edits.items (apply_all [] survey.edits.items) refusal
-RefusalTells told rose survey refusal ends.Unreadable text = (text ≡ unreadable_line (refused_path survey.edits.items refusal)) × SizeFails told rose survey refusal
-RefusalTells told rose survey refusal ends.Published text = ⊥
+abbrev pub RefusalTells : (told : Option FolderTree) (rose : Type 0) (refused : Option Bytes) → Surveyed → Refusal → PlanEnd → Bytes → Type 0
+RefusalTells told rose refused survey refusal ends.Refused text = (t : FolderTree) → told ≡ Some t → text ≡ commit_line t (view_survey survey) survey.edits.items (apply_all [] survey.edits.items) refusal
+RefusalTells told rose refused survey refusal ends.Unreadable text = (text ≡ unreadable_line (refused_path survey.edits.items refusal)) × SizeFails told rose refused survey refusal
+RefusalTells told rose refused survey refusal ends.Published text = ⊥

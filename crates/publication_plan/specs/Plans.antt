@@ -9,10 +9,10 @@ use Rattle.generation.specs.Lawful.{IsPublishable}
 use Rattle.generation.specs.Layouts.{generation_of}
 use Rattle.generation_catalogue.specs.History.{CatalogueState, outcome_of}
 use Rattle.generation_catalogue.specs.declared.entry.Refusal.{Refusal}
-use Rattle.folder_store.specs.Folders.{FolderTree, MayFail, is_folder_at}
-use Rattle.folder_store.specs.Walk.{Walked, edits_of}
+use Rattle.folder_store.specs.Folders.{FolderTree, IsRefused, MayFail, is_folder_at}
+use Rattle.folder_store.specs.Walk.{Walked, edits_of, text_below}
 use Rattle.folder_store.specs.Surveys.{Look, Stands, names_at, survey_of}
-use Rattle.shell_streams.specs.Sending.{OutputState, Puts, HasPut}
+use Rattle.shell_streams.specs.Sending.{OutputState, Puts}
 use Rattle.shell_streams.specs.declared.output.OutputFault.{OutputFault}
 use Rattle.shell_streams.specs.declared.output.OutputFault.TheVariants as faults
 use Rattle.publication_plan.specs.Refusals.{IsNoFile, commit_line, rule_line}
@@ -66,38 +66,40 @@ pub record IsPlan (folder : Bytes) (weights : List ℕ) (carousel bitrate : ℕ)
   pub text_is : text ≡ plan_text weights bitrate (generation_of carousel (tree ∷ [])) left
   pub known : (t : FolderTree) → told ≡ Some t → plan_of folder weights carousel bitrate t ≡ Ok text
 
--- a path that couldn't be read, where a fault was counted or what is known isn't there
-pub record IsUnreadable (folder : Bytes) (told : Option FolderTree) (rose : Type 0) (text : Bytes) : Type 0 where
+-- a path that couldn't be read, that of the folder itself without names: its text was refused last, and a fault was counted or what is
+-- known isn't there
+pub record IsUnreadable (folder : Bytes) (told : Option FolderTree) (rose : Type 0) (refused : Option Bytes) (text : Bytes) : Type 0 where
   pub path : PathNames
   pub text_is : text ≡ unreadable_line path
+  pub named : IsRefused refused (text_below folder path)
   pub fault : MayFail rose told (CantBeRead folder)
 
--- the text of each end; `rose` says that a fault of the folders was counted
-abbrev pub IsTextOf : (folder : Bytes) (weights : List ℕ) (carousel bitrate : ℕ) → Option FolderTree → Type 0 → PlanEnd → Bytes → Type 0
-IsTextOf folder weights carousel bitrate told rose ends.Published text = IsPlan folder weights carousel bitrate told text
-IsTextOf folder weights carousel bitrate told rose ends.Refused text = (t : FolderTree) → told ≡ Some t → plan_of folder weights carousel bitrate t ≡ Err text
-IsTextOf folder weights carousel bitrate told rose ends.Unreadable text = IsUnreadable folder told rose text
+-- the text of each end; `rose` says that a fault of the folders was counted, `refused` which path text they refused last
+abbrev pub IsTextOf : (folder : Bytes) (weights : List ℕ) (carousel bitrate : ℕ) → Option FolderTree → Type 0 → Option Bytes → PlanEnd → Bytes → Type 0
+IsTextOf folder weights carousel bitrate told rose refused ends.Published text = IsPlan folder weights carousel bitrate told text
+IsTextOf folder weights carousel bitrate told rose refused ends.Refused text = (t : FolderTree) → told ≡ Some t → plan_of folder weights carousel bitrate t ≡ Err text
+IsTextOf folder weights carousel bitrate told rose refused ends.Unreadable text = IsUnreadable folder told rose refused text
 
 -- its text, and how it was put
-pub record Tells (folder : Bytes) (weights : List ℕ) (carousel bitrate : ℕ) (told : Option FolderTree) (rose : Type 0) (end : PlanEnd) (result : Result (Unit {0}) OutputFault) (old new : OutputState) : Type 0 where
+pub record Tells (folder : Bytes) (weights : List ℕ) (carousel bitrate : ℕ) (told : Option FolderTree) (rose : Type 0) (refused : Option Bytes) (end : PlanEnd) (result : Result (Unit {0}) OutputFault) (old new : OutputState) : Type 0 where
   pub text : Bytes
-  pub is : IsTextOf folder weights carousel bitrate told rose end text
+  pub is : IsTextOf folder weights carousel bitrate told rose refused end text
   pub puts : Puts result old new text
 
 -- all of it, and nothing is pending
-pub record TellsAll (folder : Bytes) (weights : List ℕ) (carousel bitrate : ℕ) (told : Option FolderTree) (rose : Type 0) (end : PlanEnd) (old new : OutputState) : Type 0 where
-  pub tells : Tells folder weights carousel bitrate told rose end (Ok tt) old new
+pub record TellsAll (folder : Bytes) (weights : List ℕ) (carousel bitrate : ℕ) (told : Option FolderTree) (rose : Type 0) (refused : Option Bytes) (end : PlanEnd) (old new : OutputState) : Type 0 where
+  pub tells : Tells folder weights carousel bitrate told rose refused end (Ok tt) old new
   pub empty : new.pending ≡ []
 
 -- a front of it
-pub record TellsPart (folder : Bytes) (weights : List ℕ) (carousel bitrate : ℕ) (told : Option FolderTree) (rose : Type 0) (fault : OutputFault) (old new : OutputState) : Type 0 where
+pub record TellsPart (folder : Bytes) (weights : List ℕ) (carousel bitrate : ℕ) (told : Option FolderTree) (rose : Type 0) (refused : Option Bytes) (fault : OutputFault) (old new : OutputState) : Type 0 where
   pub end : PlanEnd
-  pub tells : Tells folder weights carousel bitrate told rose end (Err fault) old new
+  pub tells : Tells folder weights carousel bitrate told rose refused end (Err fault) old new
 
-abbrev pub EndsPlan : (folder : Bytes) (weights : List ℕ) (carousel bitrate : ℕ) → Option FolderTree → Type 0 → Result PlanEnd OutputFault → (old new : OutputState) → Type 0
-EndsPlan folder weights carousel bitrate told rose (Ok end) old new = TellsAll folder weights carousel bitrate told rose end old new
-EndsPlan folder weights carousel bitrate told rose (Err faults.Failed) old new = TellsPart folder weights carousel bitrate told rose faults.Failed old new
-EndsPlan folder weights carousel bitrate told rose (Err faults.NoMemory) old new = (new ≡ old) ⊎ TellsPart folder weights carousel bitrate told rose faults.NoMemory old new
+abbrev pub EndsPlan : (folder : Bytes) (weights : List ℕ) (carousel bitrate : ℕ) → Option FolderTree → Type 0 → Option Bytes → Result PlanEnd OutputFault → (old new : OutputState) → Type 0
+EndsPlan folder weights carousel bitrate told rose refused (Ok end) old new = TellsAll folder weights carousel bitrate told rose refused end old new
+EndsPlan folder weights carousel bitrate told rose refused (Err faults.Failed) old new = TellsPart folder weights carousel bitrate told rose refused faults.Failed old new
+EndsPlan folder weights carousel bitrate told rose refused (Err faults.NoMemory) old new = (new ≡ old) ⊎ TellsPart folder weights carousel bitrate told rose refused faults.NoMemory old new
 
 -- a known tree without the folder is unreadable, unless the output fails or there is no memory
 abbrev pub NeedsFolder : (folder : Bytes) → Option FolderTree → Result PlanEnd OutputFault → Type 0
@@ -105,6 +107,6 @@ NeedsFolder folder told (Ok ends.Unreadable) = Unit {0}
 NeedsFolder folder told (Ok _) = (t : FolderTree) → told ≡ Some t → is_folder_at t folder ≡ false → ⊥
 NeedsFolder folder told (Err fault) = Unit {0}
 
-pub record Plans (folder : Bytes) (weights : List ℕ) (carousel bitrate : ℕ) (result : Result PlanEnd OutputFault) (old new : OutputState) (told : Option FolderTree) (rose : Type 0) : Type 0 where
-  pub ends : EndsPlan folder weights carousel bitrate told rose result old new
+pub record Plans (folder : Bytes) (weights : List ℕ) (carousel bitrate : ℕ) (result : Result PlanEnd OutputFault) (old new : OutputState) (told : Option FolderTree) (rose : Type 0) (refused : Option Bytes) : Type 0 where
+  pub ends : EndsPlan folder weights carousel bitrate told rose refused result old new
   pub needs : NeedsFolder folder told result

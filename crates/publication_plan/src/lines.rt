@@ -6,7 +6,6 @@ ghost use Rattle.std.specs.Option.{unwrap_or};
 ghost use Rattle.std.specs.String.{string_bytes};
 ghost use Rattle.biop_object.specs.Names.{module_in};
 ghost use Rattle.path_tree.specs.Trees.{node_at};
-ghost use Rattle.path_tree.specs.Texts.{text_of};
 ghost use Rattle.generation.specs.Layouts.{lines_of};
 ghost use Rattle.generation.specs.Objects.{object_of};
 ghost use Rattle.section_stream.specs.Packing.{IsSectionLike};
@@ -17,10 +16,10 @@ ghost use Rattle.publication_plan.specs.declared.counting.TheConstants.{MOST_PAC
 
 use crate::counting::{Cycle, count_cycle, time_of};
 use cycle_planner::Weigh;
-use folder_store::Standing;
+use folder_store::{Standing, standing_text};
 use generation::{Generation, Object, ObjectKind};
 use oc_bytes::NoMemory;
-use path_tree::{Lookup, Path, Tree, print_name};
+use path_tree::{Lookup, Path, Tree};
 use std::alloc::Global;
 
 /// The whole plan of a generation and of what was passed over on the way to it.
@@ -125,19 +124,6 @@ fn left_joined(alloc: Global, path: &str, hidden: &str) -> Result<String, NoMemo
     ensures { IfOk result (λ text. string_bytes text ≡ line (codes "left " ++ path.now ++ hidden.now)) }
 {
     format!(in alloc; "left {path}{hidden}\n")
-}
-
-/// The text of the path at which something stands.
-pub(crate) fn standing_text(alloc: Global, standing: &Standing) -> Result<String, NoMemory>
-    ensures { IfOk result (λ text. string_bytes text ≡ text_of (names_at (view_standing standing.now))) }
-{
-    let name = print_name(alloc, standing.name.as_bytes())?;
-    let name = name.as_str();
-    let folder = &standing.folder;
-    if folder.len() == 0 {
-        return format!(in alloc; "/{name}");
-    }
-    format!(in alloc; "{folder}/{name}")
 }
 
 fn standing_mark(standing: &Standing) -> &'static str

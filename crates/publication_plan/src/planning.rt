@@ -11,11 +11,11 @@ ghost use Rattle.publication_plan.specs.Telling.{plan_text};
 use crate::judging::judge;
 use crate::lines::plan_lines;
 use crate::refusing::{
-    MOST_NAME, cause_of, limit_in, place_text, refused_text, rule_text, size_of, unread_text,
+    MOST_NAME, cause_of, limit_in, refused_text, rule_text, size_of, unread_text,
 };
 use carousel_world::publications_can_be_packed;
 use cycle_planner::Weigh;
-use folder_store::{FolderFault, Folders, ReadTree, SurveyFault, Surveyed, survey};
+use folder_store::{FolderFault, Folders, ReadTree, SurveyFault, Surveyed, place_text, survey};
 use generation::{Generation, generations_are_of_the_lists};
 use generation_catalogue::{CommitFault, Refusal};
 use oc_bytes::NoMemory;
@@ -52,8 +52,8 @@ struct Told {
 /// long these take at `bitrate` bits a second, rounded up.
 ///
 /// Where the folder can't be published the one line is `refused CAUSE` with the path, the size and the limit where there are any, and where a
-/// file or a folder can't be read it is `unreadable PATH`. The size of a file that is too large is counted up to
-/// [`MOST_SIZED`](crate::MOST_SIZED).
+/// file or a folder can't be read it is `unreadable PATH` with the path of that file or folder, `/` for `folder` itself. The size of a file
+/// that is too large is counted up to [`MOST_SIZED`](crate::MOST_SIZED).
 ///
 /// `folder` is a path text of the folders, `carousel` the carousel's id, any 32-bit number, `bitrate` is at least 1, and `weigh` says how often
 /// each module is sent in a cycle. Nothing may be pending in the output when it is called. After a fault of the output, or out of
@@ -68,7 +68,7 @@ pub fn plan<O: Output, F: Folders>(
     folders: &mut F,
 ) -> Result<PlanEnd, OutputFault>
     requires rate { 1 ≤ bitrate }
-    ensures plans { Plans folder.now weigh.now.weights carousel bitrate result (O.state out.old) (O.state out.new) (F.tree folders.old) (Rose (F.faults folders.old) (F.faults folders.new)) }
+    ensures plans { Plans folder.now weigh.now.weights carousel bitrate result (O.state out.old) (O.state out.new) (F.tree folders.old) (Rose (F.faults folders.old) (F.faults folders.new)) (F.refused folders.new) }
     ensures name { (O.state out.new).name ≡ (O.state out.old).name }
     ensures in_time { IsInTime (O.state out.old) (O.state out.new) }
     ensures same { F.tree folders.new ≡ F.tree folders.old }
@@ -98,7 +98,7 @@ fn tell<F: Folders>(
     folders: &mut F,
 ) -> Result<Told, NoMemory>
     requires rate { 1 ≤ bitrate }
-    ensures text { IfOk result (λ r. IsTextOf folder.now weigh.now.weights carousel bitrate (F.tree folders.old) (Rose (F.faults folders.old) (F.faults folders.new)) r.end (string_bytes r.text)) }
+    ensures text { IfOk result (λ r. IsTextOf folder.now weigh.now.weights carousel bitrate (F.tree folders.old) (Rose (F.faults folders.old) (F.faults folders.new)) (F.refused folders.new) r.end (string_bytes r.text)) }
     ensures needs { IfOk result (λ r. NeedsFolder folder.now (F.tree folders.old) (Ok r.end)) }
     ensures same { F.tree folders.new ≡ F.tree folders.old }
     ensures later { F.faults folders.old ≤ F.faults folders.new }
@@ -167,7 +167,7 @@ fn tell_refusal<F: Folders>(
     survey: &Surveyed,
     refusal: &Refusal,
 ) -> Result<Told, NoMemory>
-    ensures text { IfOk result (λ r. RefusalTells (F.tree folders.old) (Rose (F.faults folders.old) (F.faults folders.new)) survey.now refusal.now r.end (string_bytes r.text)) }
+    ensures text { IfOk result (λ r. RefusalTells (F.tree folders.old) (Rose (F.faults folders.old) (F.faults folders.new)) (F.refused folders.new) survey.now refusal.now r.end (string_bytes r.text)) }
     ensures same { F.tree folders.new ≡ F.tree folders.old }
     ensures later { F.faults folders.old ≤ F.faults folders.new }
 {

@@ -1,22 +1,20 @@
 //! Why a folder can't be published.
 
-ghost use Rattle.std.specs.Prelude.{◌≡◌, ◌≤◌, ◌++◌, ◌∷◌, [], Some, None, IfOk, IsErrOf, codes};
+ghost use Rattle.std.specs.Prelude.{◌≡◌, ◌≤◌, ◌++◌, ◌∷◌, [], Some, None, IfOk, IsErrOf, IsSomeAnd, codes};
 ghost use Rattle.std.specs.Option.{option_map};
 ghost use Rattle.std.specs.String.{string_bytes};
 ghost use Rattle.oc_bytes.specs.Outcome.{Rose};
 ghost use Rattle.path_tree.specs.Edits.{apply_all};
-ghost use Rattle.path_tree.specs.Texts.{text_of};
-ghost use Rattle.folder_store.specs.Folders.{FolderTree, MayFail};
-ghost use Rattle.folder_store.specs.Surveys.{at_in, names_at, view_survey};
+ghost use Rattle.folder_store.specs.Folders.{FolderTree, IsRefused, MayFail};
+ghost use Rattle.folder_store.specs.Surveys.{view_survey};
 ghost use Rattle.publication_plan.specs.Judging.{SizeFails};
 ghost use Rattle.publication_plan.specs.Refusals.{IsNoFile, cause_text, limit_of, refused_path, size_at, size_in, size_told};
 ghost use Rattle.publication_plan.specs.Telling.{number_text, refused_line, unreadable_line};
 ghost use Rattle.shell_words.specs.Texts.{line};
 
-use crate::lines::standing_text;
 use biop_object::MOST_FOLDER_SIZE;
 use dsi_dii::{MOST_MODULES, MOST_TOTAL_SIZE};
-use folder_store::{FolderFault, Folders, Standing, Surveyed};
+use folder_store::{FolderFault, Folders, Surveyed};
 use generation::{MOST_OBJECTS, large_folder_size};
 use generation_catalogue::{MOST_PUT_BYTES, Refusal};
 use oc_bytes::NoMemory;
@@ -89,16 +87,6 @@ fn number_text(alloc: Global, number: Option<u64>) -> Result<String, NoMemory>
     }
 }
 
-/// The text of the path that a survey names. That of the folder itself is `/`.
-pub(crate) fn place_text(alloc: Global, at: &Option<Standing>) -> Result<String, NoMemory>
-    ensures { IfOk result (λ text. string_bytes text ≡ text_of (names_at (at_in at.now))) }
-{
-    match at {
-        Some(standing) => standing_text(alloc, standing),
-        None => String::from_str(alloc, "/"),
-    }
-}
-
 /// The cause of a refusal. A file that is too large is named by its path.
 pub(crate) fn cause_of(alloc: Global, edits: &[Edit], refusal: &Refusal) -> Result<String, NoMemory>
     ensures { IfOk result (λ text. string_bytes text ≡ cause_text edits.now refusal.now) }
@@ -138,7 +126,7 @@ pub(crate) fn size_of<F: Folders>(
     refusal: &Refusal,
 ) -> Result<Option<u64>, FolderFault>
     ensures size { IfOk result (λ n. (t : FolderTree) → F.tree folders.old ≡ Some t → n ≡ size_told t (view_survey survey.now) (apply_all [] survey.now.edits.items) refusal.now) }
-    ensures fault { IsErrOf result FolderFault.Failed → SizeFails (F.tree folders.old) (Rose (F.faults folders.old) (F.faults folders.new)) survey.now refusal.now }
+    ensures fault { IsErrOf result FolderFault.Failed → SizeFails (F.tree folders.old) (Rose (F.faults folders.old) (F.faults folders.new)) (F.refused folders.new) survey.now refusal.now }
     ensures same { F.tree folders.new ≡ F.tree folders.old }
     ensures later { F.faults folders.old ≤ F.faults folders.new }
 {
@@ -156,6 +144,7 @@ fn file_size<F: Folders>(
 ) -> Result<Option<u64>, FolderFault>
     ensures size { IfOk result (λ n. (t : FolderTree) → F.tree folders.old ≡ Some t → n ≡ size_at t (option_map string_bytes large.now)) }
     ensures fault { IsErrOf result FolderFault.Failed → MayFail (Rose (F.faults folders.old) (F.faults folders.new)) (F.tree folders.old) (IsNoFile (option_map string_bytes large.now)) }
+    ensures failed { IsErrOf result FolderFault.Failed → IsSomeAnd (option_map string_bytes large.now) (IsRefused (F.refused folders.new)) }
     ensures same { F.tree folders.new ≡ F.tree folders.old }
     ensures later { F.faults folders.old ≤ F.faults folders.new }
 {

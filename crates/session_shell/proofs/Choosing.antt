@@ -10,11 +10,12 @@ use Rattle.oc_bytes.specs.Decimals.{decimal_in}
 use Rattle.oc_bytes.specs.Outcome.{Known}
 use Rattle.path_tree.specs.Paths.{Bytes, PathNames}
 use Rattle.folder_store.specs.Folders.{FolderTree}
+use Rattle.folder_playout.specs.Notices.{Notice}
 use Rattle.shell_words.specs.Words as commands
 use Rattle.shell_words.specs.Words.{Named, Misfit, ◌>>=◌, begins_with_dash, or_misfit, plain_command_of, command_of}
 use Rattle.shell_words.specs.Places.{complaint_of}
 use Rattle.shell_words.specs.declared.places.Complaint.{Complaint}
-use Rattle.shell_words.specs.declared.parsing.TheConstants.{MOST_CYCLES, MOST_BITRATE}
+use Rattle.shell_words.specs.declared.parsing.TheConstants.{MOST_CYCLES, MOST_AIR_CYCLES, MOST_BITRATE}
 use Rattle.shell_streams.specs.Held.{IsRear}
 use Rattle.shell_streams.proofs.CallerLemmas.{told_same}
 use Rattle.carousel_shell.specs.Over.{Over, over, IsUntouched, TakesPrefix}
@@ -85,6 +86,10 @@ publish_on : (words : List Bytes) → says_session (commands.publish_on_by words
 publish_on [] = refl
 publish_on (pid ∷ words) = both_mapped (λ q p. commands.PublishOn q p.0 p.1 p.2) (λ q p. refl) (commands.pid_in pid) (commands.publication_in MOST_CYCLES words)
 
+air : (words : List Bytes) → says_session (commands.air_by words) ≡ false
+air [] = refl
+air (pid ∷ words) = both_mapped (λ q p. commands.Air q p.0 p.1 p.2) (λ q p. refl) (commands.pid_in pid) (commands.publication_in MOST_AIR_CYCLES words)
+
 open_mounted : (words : List Bytes) → says_session (commands.mounts_by words) ≡ false
 open_mounted [] = refl
 open_mounted (table ∷ words) = both_mapped commands.Mounts (λ t paths. refl) (commands.table_in table) (commands.paths_in words)
@@ -144,7 +149,7 @@ named word words other small = among word words commands.commands (
                   λ e. find_one words,
                   (
                     λ e. open_by_id words,
-                    (λ e. mapped (λ p. commands.PublishPsi p.0 p.1 p.2) (λ a. refl) (commands.publication_in MOST_CYCLES words), (λ e. publish_on words, (λ e. open_mounted words, (λ e. watch_paths words, (λ e. mapped (λ p. commands.Plan p.0 p.1 p.2) (λ a. refl) (commands.publication_in MOST_BITRATE words), (λ e. mapped commands.Inspect (λ a. refl) (commands.pid_by words), (λ e. extract words, tt))))))),
+                    (λ e. mapped (λ p. commands.PublishPsi p.0 p.1 p.2) (λ a. refl) (commands.publication_in MOST_CYCLES words), (λ e. publish_on words, (λ e. open_mounted words, (λ e. watch_paths words, (λ e. mapped (λ p. commands.Plan p.0 p.1 p.2) (λ a. refl) (commands.publication_in MOST_BITRATE words), (λ e. mapped commands.Inspect (λ a. refl) (commands.pid_by words), (λ e. extract words, (λ e. air words, tt)))))))),
                   ),
                 ),
               ),
@@ -184,15 +189,15 @@ not_named (word ∷ words) other = or_why (bytes_eq word (codes "why")) (complai
 takes_nothing : (source : Over Bytes) → IsUntouched source → TakesPrefix source
 takes_nothing source e = let P : Option Bytes → Type 0 = λ a. Known source.before a IsRear in subst P (sym e) (told_same source.before (λ x. record { taken = []; whole = refl }))
 
-keeps_by : (ws : List ℕ) (ps : List PathNames) (b : Bool) (r : Result Named Misfit) (s : Status) (source sink : Over Bytes) (folders store : Over FolderTree) → b ≡ false → Keeps ws ps r s source sink folders store
-    → PlaysOrKeeps ws ps b r s source sink folders store
-keeps_by ws ps true r s source sink folders store other k = absurd (true≢false other)
-keeps_by ws ps false r s source sink folders store other k = k
+keeps_by : (ws : List ℕ) (ps : List PathNames) (b : Bool) (r : Result Named Misfit) (s : Status) (source sink : Over Bytes) (folders store : Over FolderTree) (refused : Option Bytes) (told : List Notice → Type 0) → b ≡ false → Keeps ws ps r s source sink folders store refused told
+    → PlaysOrKeeps ws ps b r s source sink folders store refused told
+keeps_by ws ps true r s source sink folders store refused told other k = absurd (true≢false other)
+keeps_by ws ps false r s source sink folders store refused told other k = k
 
 -- where the first word is another one
-pub keeps_plain : (ws : List ℕ) (ps : List PathNames) (words : List Bytes) (s : Status) (source sink : Over Bytes) (folders store : Over FolderTree) → begins_session words ≡ false
-    → Keeps ws ps (command_of words) s source sink folders store → KeepsAll ws ps (command_of words) s source sink folders store
-keeps_plain ws ps words s source sink folders store other k = keeps_by ws ps (names_session (command_of words)) (command_of words) s source sink folders store (not_named words other) k
+pub keeps_plain : (ws : List ℕ) (ps : List PathNames) (words : List Bytes) (s : Status) (source sink : Over Bytes) (folders store : Over FolderTree) (refused : Option Bytes) (told : List Notice → Type 0) → begins_session words ≡ false
+    → Keeps ws ps (command_of words) s source sink folders store refused told → KeepsAll ws ps (command_of words) s source sink folders store refused told
+keeps_plain ws ps words s source sink folders store refused told other k = keeps_by ws ps (names_session (command_of words)) (command_of words) s source sink folders store refused told (not_named words other) k
 
 -- whether they name a session or nothing
 abbrev is_session_or_none : Result Named Misfit → Bool
@@ -227,22 +232,22 @@ behind false true word words e f h =
     subst (λ (w : Bytes). is_session_or_none (command_of (w ∷ words)) ≡ true) (sym is) (behind_big words)
 behind false false word words e f h = absurd (true≢false (sym h))
 
-by_session : (ws : List ℕ) (ps : List PathNames) (b : Bool) (c : Named) (s : Status) (source sink : Over Bytes) (folders store : Over FolderTree) → b ≡ true → KeepsSession ws (Ok c) s source sink
-    → PlaysOrKeeps ws ps b (Ok c) s source sink folders store
-by_session ws ps true c s source sink folders store e k = k
-by_session ws ps false c s source sink folders store e k = absurd (true≢false (sym e))
+by_session : (ws : List ℕ) (ps : List PathNames) (b : Bool) (c : Named) (s : Status) (source sink : Over Bytes) (folders store : Over FolderTree) (refused : Option Bytes) (told : List Notice → Type 0) → b ≡ true → KeepsSession ws (Ok c) s source sink
+    → PlaysOrKeeps ws ps b (Ok c) s source sink folders store refused told
+by_session ws ps true c s source sink folders store refused told e k = k
+by_session ws ps false c s source sink folders store refused told e k = absurd (true≢false (sym e))
 
-by_words : (ws : List ℕ) (ps : List PathNames) (r : Result Named Misfit) (s : Status) (source sink : Over Bytes) (folders store : Over FolderTree) → is_session_or_none r ≡ true → KeepsSession ws r s source sink
-    → KeepsAll ws ps r s source sink folders store
-by_words ws ps (Ok c) s source sink folders store e k = by_session ws ps (is_session c) c s source sink folders store e k
-by_words ws ps (Err misfit) s source sink folders store e k = k
+by_words : (ws : List ℕ) (ps : List PathNames) (r : Result Named Misfit) (s : Status) (source sink : Over Bytes) (folders store : Over FolderTree) (refused : Option Bytes) (told : List Notice → Type 0) → is_session_or_none r ≡ true → KeepsSession ws r s source sink
+    → KeepsAll ws ps r s source sink folders store refused told
+by_words ws ps (Ok c) s source sink folders store refused told e k = by_session ws ps (is_session c) c s source sink folders store refused told e k
+by_words ws ps (Err misfit) s source sink folders store refused told e k = k
 
 -- where the first word is that of a session
-pub keeps_session : (ws : List ℕ) (ps : List PathNames) (words : List Bytes) (s : Status) (source sink : Over Bytes) (folders store : Over FolderTree) → begins_session words ≡ true → KeepsSession ws (command_of words) s source sink
-    → KeepsAll ws ps (command_of words) s source sink folders store
-keeps_session ws ps [] s source sink folders store first k = absurd (true≢false (sym first))
-keeps_session ws ps (word ∷ words) s source sink folders store first k =
-    by_words ws ps (command_of (word ∷ words)) s source sink folders store (behind (bytes_eq word (codes "session")) (bytes_eq word (codes "big")) word words refl refl first) k
+pub keeps_session : (ws : List ℕ) (ps : List PathNames) (words : List Bytes) (s : Status) (source sink : Over Bytes) (folders store : Over FolderTree) (refused : Option Bytes) (told : List Notice → Type 0) → begins_session words ≡ true → KeepsSession ws (command_of words) s source sink
+    → KeepsAll ws ps (command_of words) s source sink folders store refused told
+keeps_session ws ps [] s source sink folders store refused told first k = absurd (true≢false (sym first))
+keeps_session ws ps (word ∷ words) s source sink folders store refused told first k =
+    by_words ws ps (command_of (word ∷ words)) s source sink folders store refused told (behind (bytes_eq word (codes "session")) (bytes_eq word (codes "big")) word words refl refl first) k
 
 -- the words name nothing, so nothing was done
 pub words_decline : (ws : List ℕ) (r : Result Named Misfit) (misfit : Misfit) (source sink : Over Bytes) → r ≡ Err misfit → IsUntouched source → IsUntouched sink → KeepsSession ws r status.Words source sink
@@ -270,6 +275,7 @@ others_decline ws (code.Watch pid paths) source sink other small e f = record { 
 others_decline ws (code.Plan folder carousel bitrate) source sink other small e f = record { ends = inl refl; unread = e; unwritten = f }
 others_decline ws (code.Inspect pid) source sink other small e f = record { ends = inl refl; unread = e; unwritten = f }
 others_decline ws (code.Extract pid folder) source sink other small e f = record { ends = inl refl; unread = e; unwritten = f }
+others_decline ws (code.Air pid folder carousel cycles) source sink other small e f = record { ends = inl refl; unread = e; unwritten = f }
 others_decline ws (code.Why complaint) source sink other small e f = record { ends = inl refl; unread = e; unwritten = f }
 
 -- there was no memory before a session began
@@ -296,6 +302,7 @@ memory_declines ws (Ok command) source sink e f = by command
     by (commands.Plan folder carousel bitrate) = record { ends = inr refl; unread = e; unwritten = f }
     by (commands.Inspect pid) = record { ends = inr refl; unread = e; unwritten = f }
     by (commands.Extract pid folder) = record { ends = inr refl; unread = e; unwritten = f }
+    by (commands.Air pid folder carousel cycles) = record { ends = inr refl; unread = e; unwritten = f }
     by (commands.Why complaint) = record { ends = inr refl; unread = e; unwritten = f }
 
 -- the sink that the output lends is the one that was handed in

@@ -1,9 +1,10 @@
 -- What is promised of all commands: of `session` and `big` what their own pages say, and of every other one what a run without threads
 -- promises.
-use Rattle.std.specs.Prelude.{ℕ, Bool, true, false, ◌||◌, List, [], ◌∷◌, Result, Ok, Err, codes}
+use Rattle.std.specs.Prelude.{ℕ, Bool, true, false, ◌||◌, List, [], ◌∷◌, Option, Result, Ok, Err, codes}
 use Rattle.std.specs.Str.{bytes_eq}
 use Rattle.path_tree.specs.Paths.{PathNames}
 use Rattle.folder_store.specs.Folders.{FolderTree}
+use Rattle.folder_playout.specs.Notices.{Notice}
 use Rattle.shell_words.specs.Words as commands
 use Rattle.shell_streams.specs.Cuts.{Bytes}
 use Rattle.carousel_shell.specs.Over.{Over}
@@ -43,10 +44,10 @@ KeepsSession weights (Err misfit) s source sink = Declines s source sink
 
 -- ---- what is promised of all words
 
-abbrev pub PlaysOrKeeps : List ℕ → List PathNames → Bool → Result commands.Named commands.Misfit → Status → Over Bytes → Over Bytes → Over FolderTree → Over FolderTree → Type 0
-PlaysOrKeeps weights prefixes true words s source sink folders store = KeepsSession weights words s source sink
-PlaysOrKeeps weights prefixes false words s source sink folders store = Keeps weights prefixes words s source sink folders store
+abbrev pub PlaysOrKeeps : List ℕ → List PathNames → Bool → Result commands.Named commands.Misfit → Status → Over Bytes → Over Bytes → Over FolderTree → Over FolderTree → Option Bytes → (List Notice → Type 0) → Type 0
+PlaysOrKeeps weights prefixes true words s source sink folders store refused told = KeepsSession weights words s source sink
+PlaysOrKeeps weights prefixes false words s source sink folders store refused told = Keeps weights prefixes words s source sink folders store refused told
 
 -- the words name a session, or what they name runs without threads
-abbrev pub KeepsAll : List ℕ → List PathNames → Result commands.Named commands.Misfit → Status → Over Bytes → Over Bytes → Over FolderTree → Over FolderTree → Type 0
-KeepsAll weights prefixes words s source sink folders store = PlaysOrKeeps weights prefixes (names_session words) words s source sink folders store
+abbrev pub KeepsAll : List ℕ → List PathNames → Result commands.Named commands.Misfit → Status → Over Bytes → Over Bytes → Over FolderTree → Over FolderTree → Option Bytes → (List Notice → Type 0) → Type 0
+KeepsAll weights prefixes words s source sink folders store refused told = PlaysOrKeeps weights prefixes (names_session words) words s source sink folders store refused told

@@ -4,6 +4,7 @@
 //! ghost use Rattle.std.specs.Prelude.{◌≡◌};
 //!
 //! use cycle_planner::{GREATEST_ID, Weigh};
+//! use folder_playout::NoNotices;
 //! use folder_store::{MemFolders, MemStore};
 //! use oc_bytes::{MemSink, MemSource};
 //! use section_workers::NoGate;
@@ -16,7 +17,7 @@
 //! let mut folders = MemFolders::new(Vec::new(alloc), Vec::new(alloc));
 //! let mut store = MemStore::new(alloc, Vec::new(alloc));
 //! let filters = Vec::new(alloc);
-//! let status = run(&rt, alloc, &words, &mut source, &mut sink, &mut folders, &mut store, &NoGate, weigh, filters);
+//! let status = run(&rt, alloc, &words, &mut source, &mut sink, &mut folders, &mut store, &mut NoNotices, &NoGate, weigh, filters);
 //! assert_eq!(rt; status.code(), 0);
 //! let report = b"commit 1 generation 1\ndraw 1 0 3\ndraw 1 0 3\nopen 2 1 /a no-such\n";
 //! assert_eq!(rt; sink.written(), report.as_slice());

@@ -4,13 +4,14 @@ ghost use Rattle.shell_words.specs.Words as commands;
 ghost use Rattle.watch_desk.specs.Prefixes.{prefixes_of};
 ghost use Rattle.shell_streams.specs.Sending.{IsInTime};
 ghost use Rattle.carousel_shell.specs.Over.{over, sink_over};
-ghost use Rattle.carousel_shell.specs.Promises.{writes_store};
+ghost use Rattle.carousel_shell.specs.Promises.{gives_notices, writes_store};
 ghost use Rattle.session_shell.specs.Commands.{KeepsAll, KeepsSession, PromisesSession, begins_session};
 
 use crate::generated::play_generated;
 use crate::sessions::play_session;
 use carousel_shell::{Status, run_plain};
 use cycle_planner::Weigh;
+use folder_playout::Notices;
 use folder_store::{Folders, Store};
 use oc_bytes::{Sink, Source};
 use section_workers::Gate;
@@ -24,11 +25,12 @@ use watch_desk::Filter;
 /// Runs the command that the words name: they are the command line without the program's name. `session` and `big` run by `run_session`,
 /// and every other command by `run_plain`, which says what each of them answers. The first word alone decides between the two.
 ///
-/// The input comes from the source, the output goes to the sink, the folders are those that `publish`, `publish-on`, `publish-psi` and
-/// `plan` read, and the store is the one that `extract` writes into, which every other command leaves as it is. Each actor of a session
+/// The input comes from the source, the output goes to the sink, the folders are those that `publish`, `publish-on`, `publish-psi`, `air` and
+/// `plan` read, the store is the one that `extract` writes into, which every other command leaves as it is, and the notices are those that `air`
+/// gives, of which none was given before. Each actor of a session
 /// passes the gate before each of its steps. Each module is sent as often a cycle as it weighs. The filters are the watchers that `watch` tells
 /// of changes. A write that fails is the last one that is tried, where none had failed before. These rules are this project's own.
-pub fn run<R: Threads + Wait + Sync, S: Source, K: Sink, F: Folders, T: Store, G: Gate>(
+pub fn run<R: Threads + Wait + Sync, S: Source, K: Sink, F: Folders, T: Store, N: Notices, G: Gate>(
     rt: &R,
     alloc: Global,
     words: &[String],
@@ -36,19 +38,24 @@ pub fn run<R: Threads + Wait + Sync, S: Source, K: Sink, F: Folders, T: Store, G
     sink: &mut K,
     folders: &mut F,
     store: &mut T,
+    notices: &mut N,
     gate: &G,
     weigh: Weigh,
     filters: Vec<Filter>,
 ) -> Status
+    requires untold { N.told notices.old notices.old [] }
     ensures keeps { KeepsAll weigh.weights (prefixes_of filters.items) (commands.command_of (map string_bytes words.now)) result (over S.left S.faults source.old source.new)
-        (over K.written K.faults sink.old sink.new) (over F.tree F.faults folders.old folders.new) (over T.tree T.faults store.old store.new) }
+        (over K.written K.faults sink.old sink.new) (over F.tree F.faults folders.old folders.new) (over T.tree T.faults store.old store.new) (F.refused folders.new) (N.told notices.old notices.new) }
     ensures stored { writes_store (commands.command_of (map string_bytes words.now)) ≡ false → store.new ≡ store.old }
+    ensures quiet { gives_notices (commands.command_of (map string_bytes words.now)) ≡ false → notices.new ≡ notices.old }
     ensures in_time { K.failed sink.old ≡ false → K.late sink.new ≡ K.late sink.old }
 {
     if begins_a_session(words) {
         run_session(rt, alloc, words, source, sink, gate, weigh)
     } else {
-        run_plain(alloc, words, source, sink, folders, store, weigh, filters)
+        run_plain(
+            alloc, words, source, sink, folders, store, notices, weigh, filters,
+        )
     }
 }
 

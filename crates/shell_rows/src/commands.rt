@@ -2,6 +2,7 @@
 
 use crate::ends::Ends;
 use crate::folders::Folder;
+use crate::notices::Lines;
 use crate::texts::{bytes_text, output_text, spelled};
 use crate::watchers::prefixes_of;
 use crate::weights::{run_first_twice, run_once};
@@ -27,6 +28,8 @@ pub(crate) struct Commands {
     /// What the watchers want: these paths, and what is below them.
     prefixes: Vec<Path>,
     output: Vec<u8>,
+    /// The lines of the last command's notices.
+    notices: String,
     status: Status,
 }
 
@@ -40,6 +43,7 @@ impl Commands {
             store: MemStore::new(alloc, Vec::new(alloc)),
             prefixes: Vec::new(alloc),
             output: Vec::new(alloc),
+            notices: String::new(alloc),
             status: Status::Done,
         }
     }
@@ -56,6 +60,8 @@ impl Commands {
             "run" => self.run(alloc, row, false),
             "run-first-twice" => self.run(alloc, row, true),
             "written" => self.written(alloc, row),
+            "same" => self.same(alloc),
+            "notices" => Ok(output_text(alloc, self.notices.as_bytes())?),
             "stored" => self.stored(alloc, row),
             "line" => self.line(alloc),
             "status" => self.set_status(alloc, row),
@@ -110,6 +116,7 @@ impl Commands {
             run_once(alloc, &words, &self.prefixes, &mut ends, &mut self.store)?
         };
         self.output = Vec::from_slice(alloc, ends.sink.written())?;
+        self.notices = ends.notices.into_text();
         Ok(self.outcome(alloc)?)
     }
 
@@ -120,6 +127,7 @@ impl Commands {
             source: MemSource::new(input, Vec::new(alloc), self.read_piece.max(1)),
             sink: MemSink::new(alloc, Vec::new(alloc), self.written_piece.max(1)),
             folders: self.folder.made(alloc)?,
+            notices: Lines::new(alloc),
         })
     }
 
@@ -128,6 +136,16 @@ impl Commands {
         let code = self.status.code();
         let output = output_text(alloc, &self.output)?;
         format!(in alloc; "{code} {output}")
+    }
+
+    /// `same`: whether the last command wrote what the commands read.
+    fn same(&self, alloc: Global) -> Result<String, RowFault> {
+        let text = if self.output.as_slice() == self.input.as_slice() {
+            "the same"
+        } else {
+            "others"
+        };
+        Ok(String::from_str(alloc, text)?)
     }
 
     /// `written BYTES`: whether the last command wrote these bytes, and which it did where it wrote others.

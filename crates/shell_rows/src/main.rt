@@ -5,6 +5,7 @@
 mod commands;
 mod ends;
 mod folders;
+mod notices;
 mod reports;
 mod scripts;
 mod texts;

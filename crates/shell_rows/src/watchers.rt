@@ -55,6 +55,9 @@ pub(crate) fn run_watched(
         source,
         sink,
         folders,
+        notices,
     } = ends;
-    Ok(run_plain(alloc, words, source, sink, folders, store, weigh, filters))
+    Ok(run_plain(
+        alloc, words, source, sink, folders, store, notices, weigh, filters,
+    ))
 }

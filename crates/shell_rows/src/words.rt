@@ -95,6 +95,9 @@ fn command_text(alloc: Global, command: &Command) -> Result<String, AllocError> 
         }
         Command::Inspect(pid) => format!(in alloc; "inspect {pid}"),
         Command::Extract(pid, folder) => format!(in alloc; "extract {pid} {folder}"),
+        Command::Air(pid, folder, carousel, cycles) => {
+            format!(in alloc; "air {pid} {folder} {carousel} {cycles}")
+        }
         Command::Why(complaint) => {
             let line = complaint_text(alloc, *complaint)?;
             let line = on_one_line(alloc, line.as_str())?;

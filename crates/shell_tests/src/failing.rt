@@ -3,6 +3,7 @@ ghost use Rattle.std.specs.Prelude.{◌≡◌};
 
 use carousel_shell::{Status, run_plain};
 use cycle_planner::{GREATEST_ID, Weigh};
+use folder_playout::NoNotices;
 use folder_store::{Folders, MemFolders, MemStore, Store};
 use oc_bytes::{Blob, MemSink, MemSource, NoMemory};
 use std::alloc::Global;
@@ -71,7 +72,17 @@ pub(crate) fn run_once<F: Folders, T: Store>(
     )?;
     let weigh = Weigh::new([1; GREATEST_ID], call);
     let filters = Vec::new(alloc);
-    Ok(run_plain(alloc, words, source, sink, folders, store, weigh, filters))
+    Ok(run_plain(
+        alloc,
+        words,
+        source,
+        sink,
+        folders,
+        store,
+        &mut NoNotices,
+        weigh,
+        filters,
+    ))
 }
 
 /// Runs a command on an input that comes in pieces of `read` bytes, and with a sink that takes `written`, both at least 1. One call of
@@ -151,8 +162,8 @@ fn each_call_fails_in_turn(rt: HostRuntime) -> Result<(), Fail> {
     let published = run(alloc, "publish F 1 1", b"", (20, 2), None)?;
     let packets = published.sink.written();
     // The packets are 564 bytes, 29 reads and one that finds their end. The texts are half as many writes as they have bytes: 127, 716 and
-    // 21 of the last three. A folder is listed and a file read; a folder is made and a file written.
-    let rows: [(&str, &[u8], [u64; 4]); 9] = [
+    // 21 of `plan`, `inspect` and `extract`. A folder is listed and a file read; a folder is made and a file written.
+    let rows: [(&str, &[u8], [u64; 4]); 10] = [
         ("assemble 1 0 5 42", &HELLO, [3, 3, 0, 0]),
         ("publish F 1 1", b"", [0, 282, 2, 0]),
         ("record 256", packets, [30, 193, 0, 0]),
@@ -162,6 +173,7 @@ fn each_call_fails_in_turn(rt: HostRuntime) -> Result<(), Fail> {
         ("plan F 1 1000000", b"", [0, 64, 2, 0]),
         ("inspect 256", packets, [30, 358, 0, 0]),
         ("extract 256 G", packets, [30, 11, 0, 2]),
+        ("air 256 F 1 1", b"", [0, 282, 2, 0]),
     ];
     for (line, input, [reads, writes, calls, stores]) in rows {
         let good = run(alloc, line, input, (20, 2), None)?;
@@ -174,6 +186,19 @@ fn each_call_fails_in_turn(rt: HostRuntime) -> Result<(), Fail> {
             assert_eq!(rt; failing(alloc, line, input, &good, end)?, count, "{line}");
         }
     }
+    // Only the first of two readings has to succeed.
+    let aired = run(
+        alloc,
+        "air 256 F 1 2",
+        b"",
+        (20, 2),
+        Some((End::Folders, 2)),
+    )?;
+    let twice = run(alloc, "publish F 1 2", b"", (20, 2), None)?;
+    assert_eq!(rt;
+        (aired.code, aired.sink.written()),
+        (0, twice.sink.written())
+    );
     let extracted = run(alloc, "extract 256 G", packets, (20, 2), None)?;
     assert!(rt; extracted.store.is_folder("G"));
     assert!(rt; extracted.store.content("G/a") == Some(b"hello".as_slice()));

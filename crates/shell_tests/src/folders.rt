@@ -35,6 +35,8 @@ impl Folders for ManyFiles {
 
     ghost strayed = { λ f. false };
 
+    ghost refused = { λ f. None };
+
     fn list(&mut self, alloc: Global, _path: &str) -> Result<Vec<FolderEntry>, FolderFault> {
         match ManyFiles::entries(alloc) {
             Ok(entries) => Ok(entries),

@@ -5,6 +5,7 @@ use crate::failing::words;
 use crate::meeting::Meeting;
 use crate::steps::Steps;
 use cycle_planner::{GREATEST_ID, Weigh};
+use folder_playout::NoNotices;
 use folder_store::{MemFolders, MemStore};
 use oc_bytes::{MemSink, MemSource};
 use section_workers::{Gate, NoGate};
@@ -95,6 +96,7 @@ fn outcome<R: Threads + Wait + Sync, G: Gate>(
         &mut sink,
         &mut folders,
         &mut store,
+        &mut NoNotices,
         gate,
         weigh,
         Vec::new(alloc),

@@ -17,9 +17,9 @@ use Rattle.shell_words.specs.Complaints.{FitsIsAccepted}
 use Rattle.shell_words.specs.Keywords.{words_by, words_after}
 use Rattle.shell_words.specs.Places.{keyword_table, keyword_of, slot_at, needed, suits, has_value, breaks, complaint_at, complaint_after, complaint_by, complaint_behind, first_breaking, asks_why, complaint_of, plain_complaint_of}
 use Rattle.shell_words.specs.Values.{◌>>=◌, begins_with_dash, pid_in, any_u32_in, folder_in, path_in, onto, each_in, watched_in, Entry, table_in}
-use Rattle.shell_words.proofs.Naming.{same_length}
+use Rattle.shell_words.proofs.Naming.{same_length, published_on, on_air}
 use Rattle.shell_words.specs.Words as commands
-use Rattle.shell_words.specs.Words.{Named, OpenSections, Open, OpenId, Publish, PublishPsi, PublishOn, Mounts, Watch, Plan, Why, Words, Misfit, command_named, or_misfit, plain_command_of, command_of}
+use Rattle.shell_words.specs.Words.{Named, OpenSections, Open, OpenId, Publish, PublishPsi, Mounts, Watch, Plan, Why, Words, Misfit, command_named, or_misfit, plain_command_of, command_of}
 
 -- ---- tests
 
@@ -75,6 +75,9 @@ named_by word words (k ∷ table) = here (bytes_eq word k.0) (named_by word word
 
 pub named : (word : Bytes) (words : List Bytes) → command_named word words ≡ words_after words (keyword_of word)
 named word words = named_by word words keyword_table
+
+pub reads_as : (word : Bytes) (o : Option Keyword) → o ≡ keyword_of word → (words : List Bytes) → command_named word words ≡ words_after words o
+reads_as word o is words = named word words ∙ ap (words_after words) (sym is)
 
 -- no keyword begins with a dash
 dash_names_none : (c : ℕ) (cs : Bytes) → c ≡ 45 → keyword_of (c ∷ cs) ≡ None
@@ -193,6 +196,11 @@ publication_on : (named : ℕ → Bytes × ℕ × ℕ → Named) (q : Option ℕ
     → ((is_some q && (is_some f && (is_some c && (is_some n && true)))) && true) ≡ is_some (q >>= λ p. option_map (named p) (c >>= λ x. n >>= λ y. f >>= λ z. Some (z, x, y)))
 publication_on named None f c n = refl
 publication_on named (Some p) f c n = publication (named p) f c n
+
+-- nothing is sent on a PID alone
+nothing : (named : ℕ → Bytes × ℕ × ℕ → Named) (o : Option ℕ) → false ≡ is_some (o >>= λ q. option_map (named q) None)
+nothing named None = refl
+nothing named (Some q) = refl
 
 -- ---- paths behind a first word
 
@@ -330,27 +338,12 @@ values keywords.PublishPsi (a ∷ b ∷ []) = off _
 values keywords.PublishPsi (a ∷ b ∷ c ∷ []) = publication (λ p. PublishPsi p.0 p.1 p.2) (folder_in a) (any_u32_in b) (decimal_in 1 1000 c)
 values keywords.PublishPsi (a ∷ b ∷ c ∷ d ∷ ws) = long_3 (has_value slots.Folder a) (has_value slots.Carousel b) (has_value slots.Cycles c) (is_enough keywords.PublishPsi (a ∷ b ∷ c ∷ d ∷ ws))
 values keywords.PublishOn [] = refl
-values keywords.PublishOn (a ∷ []) = off _ ∙ nothing (pid_in a)
-  where
-    nothing : (o : Option ℕ) → false ≡ is_some (o >>= λ q. option_map (λ (p : Bytes × ℕ × ℕ). PublishOn q p.0 p.1 p.2) None)
-    nothing None = refl
-    nothing (Some q) = refl
-values keywords.PublishOn (a ∷ b ∷ []) = off _ ∙ nothing (pid_in a)
-  where
-    nothing : (o : Option ℕ) → false ≡ is_some (o >>= λ q. option_map (λ (p : Bytes × ℕ × ℕ). PublishOn q p.0 p.1 p.2) None)
-    nothing None = refl
-    nothing (Some q) = refl
-values keywords.PublishOn (a ∷ b ∷ c ∷ []) = off _ ∙ nothing (pid_in a)
-  where
-    nothing : (o : Option ℕ) → false ≡ is_some (o >>= λ q. option_map (λ (p : Bytes × ℕ × ℕ). PublishOn q p.0 p.1 p.2) None)
-    nothing None = refl
-    nothing (Some q) = refl
-values keywords.PublishOn (a ∷ b ∷ c ∷ d ∷ []) = publication_on (λ q p. PublishOn q p.0 p.1 p.2) (pid_in a) (folder_in b) (any_u32_in c) (decimal_in 1 1000 d)
-values keywords.PublishOn (a ∷ b ∷ c ∷ d ∷ e ∷ ws) = long_4 (has_value slots.Pid a) (has_value slots.Folder b) (has_value slots.Carousel c) (has_value slots.Cycles d) (is_enough keywords.PublishOn (a ∷ b ∷ c ∷ d ∷ e ∷ ws)) ∙ nothing (pid_in a)
-  where
-    nothing : (o : Option ℕ) → false ≡ is_some (o >>= λ q. option_map (λ (p : Bytes × ℕ × ℕ). PublishOn q p.0 p.1 p.2) None)
-    nothing None = refl
-    nothing (Some q) = refl
+values keywords.PublishOn (a ∷ []) = off _ ∙ nothing published_on (pid_in a)
+values keywords.PublishOn (a ∷ b ∷ []) = off _ ∙ nothing published_on (pid_in a)
+values keywords.PublishOn (a ∷ b ∷ c ∷ []) = off _ ∙ nothing published_on (pid_in a)
+values keywords.PublishOn (a ∷ b ∷ c ∷ d ∷ []) = publication_on published_on (pid_in a) (folder_in b) (any_u32_in c) (decimal_in 1 1000 d)
+values keywords.PublishOn (a ∷ b ∷ c ∷ d ∷ e ∷ ws) =
+    long_4 (has_value slots.Pid a) (has_value slots.Folder b) (has_value slots.Carousel c) (has_value slots.Cycles d) (is_enough keywords.PublishOn (a ∷ b ∷ c ∷ d ∷ e ∷ ws)) ∙ nothing published_on (pid_in a)
 values keywords.Mounts [] = refl
 values keywords.Mounts (a ∷ []) = off _ ∙ first_and_paths_none (table_in a)
   where
@@ -382,6 +375,13 @@ values keywords.Extract [] = refl
 values keywords.Extract (a ∷ []) = off _
 values keywords.Extract (a ∷ b ∷ []) = two_values commands.Extract (pid_in a) (folder_in b)
 values keywords.Extract (a ∷ b ∷ c ∷ ws) = long_2 (has_value slots.Pid a) (has_value slots.Folder b) (is_enough keywords.Extract (a ∷ b ∷ c ∷ ws))
+values keywords.Air [] = refl
+values keywords.Air (a ∷ []) = off _ ∙ nothing on_air (pid_in a)
+values keywords.Air (a ∷ b ∷ []) = off _ ∙ nothing on_air (pid_in a)
+values keywords.Air (a ∷ b ∷ c ∷ []) = off _ ∙ nothing on_air (pid_in a)
+values keywords.Air (a ∷ b ∷ c ∷ d ∷ []) = publication_on on_air (pid_in a) (folder_in b) (any_u32_in c) (decimal_in 1 4294967295 d)
+values keywords.Air (a ∷ b ∷ c ∷ d ∷ e ∷ ws) =
+    long_4 (has_value slots.Pid a) (has_value slots.Folder b) (has_value slots.Carousel c) (has_value slots.AirCycles d) (is_enough keywords.Air (a ∷ b ∷ c ∷ d ∷ e ∷ ws)) ∙ nothing on_air (pid_in a)
 
 -- ---- the words of a command line
 

@@ -18,7 +18,7 @@ use Rattle.shell_words.specs.Words.{begins_with_dash}
 use Rattle.shell_words.specs.Counting.{Fits, single, two_app, four_app, open_app, publish_app, app_of_keyword}
 use Rattle.shell_words.proofs.Naming.{any_map, same_length}
 use Rattle.shell_words.specs.declared.keyword.Keyword.{Keyword}
-use Rattle.shell_words.specs.declared.keyword.Keyword.TheVariants.{Assemble, Open, Record, List as ListAll, Publish, Rehearse, Session, Big, Find, OpenId, PublishPsi, PublishOn, Mounts, Watch, Plan, Inspect, Extract}
+use Rattle.shell_words.specs.declared.keyword.Keyword.TheVariants.{Assemble, Open, Record, List as ListAll, Publish, Rehearse, Session, Big, Find, OpenId, PublishPsi, PublishOn, Mounts, Watch, Plan, Inspect, Extract, Air}
 
 -- a walk between two words, where the next one goes to the positional at place n
 abbrev between : Held → Bool → ℕ → Walk
@@ -274,6 +274,7 @@ counted Watch words p = open_0 (codes "watch") words p
 counted Plan words p = publish_0 (codes "plan") words p
 counted Inspect words p = single_0 (codes "inspect") words p
 counted Extract words p = two_0 (codes "extract") words p
+counted Air words p = four_0 (codes "air") words p
 
 -- no positional has a rule on another, and there are no options
 pub is_free : (keyword : Keyword) → is_simple_and_free (app_of_keyword keyword) ≡ true
@@ -294,6 +295,7 @@ is_free Watch = refl
 is_free Plan = refl
 is_free Inspect = refl
 is_free Extract = refl
+is_free Air = refl
 
 no_subcommand : (s : Shape) (words : List Text) (stop : Option (Text × List Text))
     → level_fault s [] nothing_held words (is_some (entered (record { top = s; subs = [] }) stop)) (entered_fault (record { top = s; subs = [] }) stop) ≡ faults_from s (between nothing_held false 1) words
@@ -318,6 +320,7 @@ faults_are Watch first words = no_subcommand (shape (app_of_keyword Watch)) word
 faults_are Plan first words = no_subcommand (shape (app_of_keyword Plan)) words _
 faults_are Inspect first words = no_subcommand (shape (app_of_keyword Inspect)) words _
 faults_are Extract first words = no_subcommand (shape (app_of_keyword Extract)) words _
+faults_are Air first words = no_subcommand (shape (app_of_keyword Air)) words _
 
 behind : {A : Type 0} (f : A → Text) (w : A) (ws : List A) → length (w ∷ ws) - 1 ≡ length (map f ws)
 behind f w ws = omega (arith, same_length f ws)

@@ -4,3 +4,4 @@ pub mod Tabling
 pub mod Faults
 pub mod Complaining
 pub mod Firsts
+pub mod Reading

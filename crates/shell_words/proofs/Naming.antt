@@ -15,7 +15,7 @@ use Rattle.shell_words.specs.declared.keyword.Keyword.TheVariants as keywords
 use Rattle.shell_words.specs.Keywords.{words_by}
 use Rattle.shell_words.specs.Counting.{Fits}
 use Rattle.shell_words.specs.Values.{◌>>=◌, pid_in, any_u32_in, path_in, onto, each_in, paths_in, watched_in, table_in}
-use Rattle.shell_words.specs.Words.{Named, Open, OpenId, PublishOn, Mounts, Watch, Words, begins_with_dash, or_misfit, command_named, plain_command_of, view, cause}
+use Rattle.shell_words.specs.Words.{Named, Open, OpenId, PublishOn, Mounts, Watch, Air, Words, begins_with_dash, or_misfit, command_named, plain_command_of, view, cause}
 
 pub same_length : {A : Type 0} (f : A → List ℕ) (words : List A) → length words ≡ length (map f words)
 same_length f [] = refl
@@ -129,8 +129,14 @@ nowhere : {A B : Type 0} (named : A → B → Named) (o : Option A) → (o >>= �
 nowhere named None = refl
 nowhere named (Some a) = refl
 
-publishes_nothing : (o : Option ℕ) → (o >>= λ q. option_map (λ (p : List ℕ × ℕ × ℕ). PublishOn q p.0 p.1 p.2) None) ≡ None
-publishes_nothing o = nowhere {A = ℕ} {B = List ℕ × ℕ × ℕ} (λ q p. PublishOn q p.0 p.1 p.2) o
+publishes_nothing : (named : ℕ → List ℕ × ℕ × ℕ → Named) (o : Option ℕ) → (o >>= λ q. option_map (named q) None) ≡ None
+publishes_nothing named o = nowhere {A = ℕ} {B = List ℕ × ℕ × ℕ} named o
+
+abbrev pub published_on : ℕ → List ℕ × ℕ × ℕ → Named
+published_on q p = PublishOn q p.0 p.1 p.2
+
+abbrev pub on_air : ℕ → List ℕ × ℕ × ℕ → Named
+on_air q p = Air q p.0 p.1 p.2
 
 -- words of another number than the keyword's command takes say nothing
 misfit_none : (keyword : Keyword) (words : List (List ℕ)) → (Fits keyword (length words) → ⊥) → words_by keyword words ≡ None
@@ -173,11 +179,11 @@ misfit_none keywords.PublishPsi (a ∷ b ∷ []) h = refl
 misfit_none keywords.PublishPsi (a ∷ b ∷ c ∷ []) h = absurd (h (omega arith))
 misfit_none keywords.PublishPsi (a ∷ b ∷ c ∷ d ∷ words) h = refl
 misfit_none keywords.PublishOn [] h = refl
-misfit_none keywords.PublishOn (a ∷ []) h = publishes_nothing (pid_in a)
-misfit_none keywords.PublishOn (a ∷ b ∷ []) h = publishes_nothing (pid_in a)
-misfit_none keywords.PublishOn (a ∷ b ∷ c ∷ []) h = publishes_nothing (pid_in a)
+misfit_none keywords.PublishOn (a ∷ []) h = publishes_nothing published_on (pid_in a)
+misfit_none keywords.PublishOn (a ∷ b ∷ []) h = publishes_nothing published_on (pid_in a)
+misfit_none keywords.PublishOn (a ∷ b ∷ c ∷ []) h = publishes_nothing published_on (pid_in a)
 misfit_none keywords.PublishOn (a ∷ b ∷ c ∷ d ∷ []) h = absurd (h (omega arith))
-misfit_none keywords.PublishOn (a ∷ b ∷ c ∷ d ∷ e ∷ words) h = publishes_nothing (pid_in a)
+misfit_none keywords.PublishOn (a ∷ b ∷ c ∷ d ∷ e ∷ words) h = publishes_nothing published_on (pid_in a)
 misfit_none keywords.Mounts [] h = refl
 misfit_none keywords.Mounts (t ∷ []) h = nowhere Mounts (table_in t)
 misfit_none keywords.Mounts (t ∷ word ∷ words) h = absurd (h (omega arith))
@@ -196,6 +202,12 @@ misfit_none keywords.Extract [] h = refl
 misfit_none keywords.Extract (pid ∷ []) h = refl
 misfit_none keywords.Extract (pid ∷ folder ∷ []) h = absurd (h (omega arith))
 misfit_none keywords.Extract (pid ∷ folder ∷ word ∷ words) h = refl
+misfit_none keywords.Air [] h = refl
+misfit_none keywords.Air (a ∷ []) h = publishes_nothing on_air (pid_in a)
+misfit_none keywords.Air (a ∷ b ∷ []) h = publishes_nothing on_air (pid_in a)
+misfit_none keywords.Air (a ∷ b ∷ c ∷ []) h = publishes_nothing on_air (pid_in a)
+misfit_none keywords.Air (a ∷ b ∷ c ∷ d ∷ []) h = absurd (h (omega arith))
+misfit_none keywords.Air (a ∷ b ∷ c ∷ d ∷ e ∷ words) h = publishes_nothing on_air (pid_in a)
 
 length_behind : {A : Type 0} (f : A → List ℕ) (words : List A) → length (map f (drop 1 words)) ≡ length words - 1
 length_behind f [] = refl

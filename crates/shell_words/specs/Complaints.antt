@@ -6,7 +6,7 @@ use Rattle.shell_words.specs.Places.{range_of, complaint_of}
 use Rattle.shell_words.specs.Texts.{line}
 use Rattle.shell_words.specs.Words.{command_of}
 use Rattle.shell_words.specs.declared.places.Slot.{Slot}
-use Rattle.shell_words.specs.declared.places.Slot.TheVariants.{Command, Id, Version, Size, Download, Pid, Source, Path, Folder, Carousel, Cycles, Bitrate, Editors, Table}
+use Rattle.shell_words.specs.declared.places.Slot.TheVariants.{Command, Id, Version, Size, Download, Pid, Source, Path, Folder, Carousel, Cycles, AirCycles, Bitrate, Editors, Table}
 use Rattle.shell_words.specs.declared.places.Complaint.{Complaint}
 use Rattle.shell_words.specs.declared.places.Complaint.TheVariants as complaints
 use Rattle.shell_words.specs.declared.table.TheConstants.{MOST_MOUNT_NAME}
@@ -25,6 +25,7 @@ slot_name Path = codes "PATH"
 slot_name Folder = codes "FOLDER"
 slot_name Carousel = codes "CAROUSEL"
 slot_name Cycles = codes "CYCLES"
+slot_name AirCycles = codes "CYCLES"
 slot_name Bitrate = codes "BITRATE"
 slot_name Editors = codes "N"
 slot_name Table = codes "TABLE"

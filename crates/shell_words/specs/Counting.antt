@@ -3,7 +3,7 @@ use Rattle.std.specs.Prelude.{◌≡◌, ◌≤◌, ℕ, Some, true, codes}
 use Rattle.clap.specs.Words.{App, Rule, Text, new_app, new_rule, with_rule}
 use Rattle.clap.specs.declared.builder.ArgAction.TheVariants.{Append}
 use Rattle.shell_words.specs.declared.keyword.Keyword.{Keyword}
-use Rattle.shell_words.specs.declared.keyword.Keyword.TheVariants.{Assemble, Open, Record, List as ListAll, Publish, Rehearse, Session, Big, Find, OpenId, PublishPsi, PublishOn, Mounts, Watch, Plan, Inspect, Extract}
+use Rattle.shell_words.specs.declared.keyword.Keyword.TheVariants.{Assemble, Open, Record, List as ListAll, Publish, Rehearse, Session, Big, Find, OpenId, PublishPsi, PublishOn, Mounts, Watch, Plan, Inspect, Extract, Air}
 
 abbrev pub Fits : Keyword → ℕ → Type 0
 Fits Assemble n = n ≡ 4
@@ -23,6 +23,7 @@ Fits Watch n = 2 ≤ n
 Fits Plan n = n ≡ 3
 Fits Inspect n = n ≡ 1
 Fits Extract n = n ≡ 2
+Fits Air n = n ≡ 4
 
 -- a positional that one word is for
 abbrev pub one : Text → Rule
@@ -70,3 +71,4 @@ app_of_keyword Watch = open_app (codes "watch")
 app_of_keyword Plan = publish_app (codes "plan")
 app_of_keyword Inspect = single (codes "inspect")
 app_of_keyword Extract = two_app (codes "extract")
+app_of_keyword Air = four_app (codes "air")

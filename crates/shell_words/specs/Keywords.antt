@@ -4,7 +4,7 @@ use Rattle.path_tree.specs.Paths.{Bytes}
 use Rattle.shell_words.specs.Words as commands
 use Rattle.shell_words.specs.Words.{Named}
 use Rattle.shell_words.specs.declared.keyword.Keyword.{Keyword}
-use Rattle.shell_words.specs.declared.keyword.Keyword.TheVariants.{Assemble, Open, Record, List as ListAll, Publish, Rehearse, Session, Big, Find, OpenId, PublishPsi, PublishOn, Mounts, Watch, Plan, Inspect, Extract}
+use Rattle.shell_words.specs.declared.keyword.Keyword.TheVariants.{Assemble, Open, Record, List as ListAll, Publish, Rehearse, Session, Big, Find, OpenId, PublishPsi, PublishOn, Mounts, Watch, Plan, Inspect, Extract, Air}
 
 abbrev pub words_by : Keyword → List Bytes → Option Named
 words_by Assemble words = commands.assemble_by words
@@ -24,6 +24,7 @@ words_by Watch words = commands.watch_by words
 words_by Plan words = commands.plan_by words
 words_by Inspect words = commands.inspect_by words
 words_by Extract words = commands.extract_by words
+words_by Air words = commands.air_by words
 
 -- what the words after the first one say, where that is a keyword
 abbrev pub words_after : List Bytes → Option Keyword → Option Named

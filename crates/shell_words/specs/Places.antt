@@ -10,12 +10,12 @@ use Rattle.shell_words.specs.Values.{begins_with_dash, pid_in, folder_in, path_i
 use Rattle.shell_words.specs.declared.keyword.Keyword.{Keyword}
 use Rattle.shell_words.specs.declared.keyword.Keyword.TheVariants as keywords
 use Rattle.shell_words.specs.declared.places.Slot.{Slot}
-use Rattle.shell_words.specs.declared.places.Slot.TheVariants.{Command, Id, Version, Size, Download, Pid, Source, Path, Folder, Carousel, Cycles, Bitrate, Editors, Table}
+use Rattle.shell_words.specs.declared.places.Slot.TheVariants.{Command, Id, Version, Size, Download, Pid, Source, Path, Folder, Carousel, Cycles, AirCycles, Bitrate, Editors, Table}
 use Rattle.shell_words.specs.declared.places.Paths.{Paths}
 use Rattle.shell_words.specs.declared.places.Paths.TheVariants.{NoPaths, AnyPaths, UpTo}
 use Rattle.shell_words.specs.declared.places.Complaint.{Complaint}
 use Rattle.shell_words.specs.declared.places.Complaint.TheVariants as complaints
-use Rattle.shell_words.specs.declared.parsing.TheConstants.{MOST_CYCLES, MOST_BITRATE, MOST_BIG}
+use Rattle.shell_words.specs.declared.parsing.TheConstants.{MOST_CYCLES, MOST_AIR_CYCLES, MOST_BITRATE, MOST_BIG}
 use Rattle.shell_words.specs.declared.values.TheConstants.{MOST_PID, MOST_WATCHED}
 
 -- ---- the commands' words
@@ -26,7 +26,8 @@ keyword_table =
     ∷ (codes "publish", keywords.Publish) ∷ (codes "rehearse", keywords.Rehearse) ∷ (codes "session", keywords.Session) ∷ (codes "big", keywords.Big)
     ∷ (codes "find", keywords.Find) ∷ (codes "open-id", keywords.OpenId) ∷ (codes "publish-psi", keywords.PublishPsi)
     ∷ (codes "publish-on", keywords.PublishOn) ∷ (codes "mounts", keywords.Mounts) ∷ (codes "watch", keywords.Watch)
-    ∷ (codes "plan", keywords.Plan) ∷ (codes "inspect", keywords.Inspect) ∷ (codes "extract", keywords.Extract) ∷ []
+    ∷ (codes "plan", keywords.Plan) ∷ (codes "inspect", keywords.Inspect) ∷ (codes "extract", keywords.Extract)
+    ∷ (codes "air", keywords.Air) ∷ []
 
 abbrev pub keyword_of : Bytes → Option Keyword
 keyword_of word = option_map (λ k. k.1) (find (λ k. bytes_eq word k.0) keyword_table)
@@ -52,6 +53,7 @@ first_slots keywords.Watch = Pid ∷ []
 first_slots keywords.Plan = Folder ∷ Carousel ∷ Bitrate ∷ []
 first_slots keywords.Inspect = Pid ∷ []
 first_slots keywords.Extract = Pid ∷ Folder ∷ []
+first_slots keywords.Air = Pid ∷ Folder ∷ Carousel ∷ AirCycles ∷ []
 
 -- the paths behind these
 abbrev pub paths_behind : Keyword → Paths
@@ -92,6 +94,7 @@ range_of Download = Some (0, 4294967295)
 range_of Pid = Some (0, MOST_PID)
 range_of Carousel = Some (0, 4294967295)
 range_of Cycles = Some (1, MOST_CYCLES)
+range_of AirCycles = Some (1, MOST_AIR_CYCLES)
 range_of Bitrate = Some (1, MOST_BITRATE)
 range_of Editors = Some (1, MOST_BIG)
 range_of _ = None

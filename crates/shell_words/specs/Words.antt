@@ -15,7 +15,7 @@ use Rattle.shell_words.specs.declared.words.Command.TheVariants as code
 use Rattle.shell_words.specs.declared.words.WordsFault.{WordsFault}
 use Rattle.shell_words.specs.declared.words.WordsFault.TheVariants as faults
 use Rattle.block_assembler.specs.declared.TheConstants.{MOST_MODULE_SIZE}
-use Rattle.shell_words.specs.declared.parsing.TheConstants.{MOST_CYCLES, MOST_BITRATE, MOST_BIG}
+use Rattle.shell_words.specs.declared.parsing.TheConstants.{MOST_CYCLES, MOST_AIR_CYCLES, MOST_BITRATE, MOST_BIG}
 use Rattle.shell_words.specs.declared.values.TheConstants.{MOST_PID, MOST_WATCHED}
 
 pub data Named : Type 0 where
@@ -37,6 +37,7 @@ pub data Named : Type 0 where
   Plan : Bytes → ℕ → ℕ → Named
   Inspect : ℕ → Named
   Extract : ℕ → Bytes → Named
+  Air : ℕ → Bytes → ℕ → ℕ → Named
   Why : Complaint → Named
 
 abbrev pub view : Command → Named
@@ -58,6 +59,7 @@ view (code.Watch pid paths) = Watch pid paths.items
 view (code.Plan folder carousel bitrate) = Plan (string_bytes folder) carousel bitrate
 view (code.Inspect pid) = Inspect pid
 view (code.Extract pid folder) = Extract pid (string_bytes folder)
+view (code.Air pid folder carousel cycles) = Air pid (string_bytes folder) carousel cycles
 view (code.Why complaint) = Why complaint
 
 -- the words don't fit
@@ -121,6 +123,10 @@ abbrev pub publish_on_by : List Bytes → Option Named
 publish_on_by [] = None
 publish_on_by (pid ∷ words) = pid_in pid >>= λ q. option_map (λ p. PublishOn q p.0 p.1 p.2) (publication_in MOST_CYCLES words)
 
+abbrev pub air_by : List Bytes → Option Named
+air_by [] = None
+air_by (pid ∷ words) = pid_in pid >>= λ q. option_map (λ p. Air q p.0 p.1 p.2) (publication_in MOST_AIR_CYCLES words)
+
 abbrev pub plan_by : List Bytes → Option Named
 plan_by words = option_map (λ p. Plan p.0 p.1 p.2) (publication_in MOST_BITRATE words)
 
@@ -167,7 +173,8 @@ commands =
     ∷ (codes "publish", publish_by) ∷ (codes "rehearse", rehearse_by) ∷ (codes "session", session_by) ∷ (codes "big", big_by)
     ∷ (codes "find", find_by) ∷ (codes "open-id", open_id_by) ∷ (codes "publish-psi", publish_psi_by)
     ∷ (codes "publish-on", publish_on_by) ∷ (codes "mounts", mounts_by) ∷ (codes "watch", watch_by)
-    ∷ (codes "plan", plan_by) ∷ (codes "inspect", inspect_by) ∷ (codes "extract", extract_by) ∷ []
+    ∷ (codes "plan", plan_by) ∷ (codes "inspect", inspect_by) ∷ (codes "extract", extract_by)
+    ∷ (codes "air", air_by) ∷ []
 
 abbrev pub command_named : Bytes → List Bytes → Option Named
 command_named word words = find (λ c. bytes_eq word c.0) commands >>= λ c. c.1 words
@@ -209,4 +216,5 @@ IsSized (code.Watch pid paths) = (pid ≤ MOST_PID) × (length paths.items ≤ M
 IsSized (code.Plan folder carousel bitrate) = IsPublication MOST_BITRATE (string_bytes folder) bitrate
 IsSized (code.Inspect pid) = pid ≤ MOST_PID
 IsSized (code.Extract pid folder) = (pid ≤ MOST_PID) × (0 < length (string_bytes folder))
+IsSized (code.Air pid folder carousel cycles) = (pid ≤ MOST_PID) × IsPublication MOST_AIR_CYCLES (string_bytes folder) cycles
 IsSized (code.Why complaint) = Unit {0}

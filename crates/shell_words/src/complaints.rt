@@ -57,7 +57,7 @@ fn slot_name(slot: Slot) -> &'static str
         Slot::Path => "PATH",
         Slot::Folder => "FOLDER",
         Slot::Carousel => "CAROUSEL",
-        Slot::Cycles => "CYCLES",
+        Slot::Cycles | Slot::AirCycles => "CYCLES",
         Slot::Bitrate => "BITRATE",
         Slot::Editors => "N",
         Slot::Table => "TABLE",

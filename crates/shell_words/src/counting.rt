@@ -55,6 +55,7 @@ fn syntax<'a>(alloc: Global, keyword: Keyword) -> Result<Command<'a>, AllocError
         Keyword::Plan => publish(alloc, "plan"),
         Keyword::Inspect => single(alloc, "inspect"),
         Keyword::Extract => two(alloc, "extract"),
+        Keyword::Air => four(alloc, "air"),
     }
 }
 

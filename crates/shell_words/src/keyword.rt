@@ -1,8 +1,8 @@
-ghost use Rattle.std.specs.Prelude.{◌≡◌, List};
+ghost use Rattle.std.specs.Prelude.{◌≡◌, List, map};
 ghost use Rattle.path_tree.specs.Paths.{Bytes};
 ghost use Rattle.shell_words.specs.Words.{command_named};
 ghost use Rattle.shell_words.specs.Keywords.{words_after};
-ghost use Rattle.shell_words.specs.Places.{keyword_of};
+ghost use Rattle.shell_words.specs.Places.{keyword_of, keyword_table};
 
 /// The first word of a command.
 #[derive(Clone, Copy)]
@@ -24,6 +24,33 @@ pub enum Keyword {
     Plan,
     Inspect,
     Extract,
+    Air,
+}
+
+/// The words of commands, each with its keyword.
+fn keywords() -> &'static [(&'static str, Keyword)]
+    ensures { map (λ k. (k.0.now, k.1)) result.now ≡ keyword_table }
+{
+    &[
+        ("assemble", Keyword::Assemble),
+        ("open", Keyword::Open),
+        ("record", Keyword::Record),
+        ("list", Keyword::List),
+        ("publish", Keyword::Publish),
+        ("rehearse", Keyword::Rehearse),
+        ("session", Keyword::Session),
+        ("big", Keyword::Big),
+        ("find", Keyword::Find),
+        ("open-id", Keyword::OpenId),
+        ("publish-psi", Keyword::PublishPsi),
+        ("publish-on", Keyword::PublishOn),
+        ("mounts", Keyword::Mounts),
+        ("watch", Keyword::Watch),
+        ("plan", Keyword::Plan),
+        ("inspect", Keyword::Inspect),
+        ("extract", Keyword::Extract),
+        ("air", Keyword::Air),
+    ]
 }
 
 impl Keyword {
@@ -32,42 +59,11 @@ impl Keyword {
         ensures words { (words : List Bytes) → command_named word.now words ≡ words_after words result }
         ensures keyword { result ≡ keyword_of word.now }
     {
-        if word == "assemble" {
-            Some(Keyword::Assemble)
-        } else if word == "open" {
-            Some(Keyword::Open)
-        } else if word == "record" {
-            Some(Keyword::Record)
-        } else if word == "list" {
-            Some(Keyword::List)
-        } else if word == "publish" {
-            Some(Keyword::Publish)
-        } else if word == "rehearse" {
-            Some(Keyword::Rehearse)
-        } else if word == "session" {
-            Some(Keyword::Session)
-        } else if word == "big" {
-            Some(Keyword::Big)
-        } else if word == "find" {
-            Some(Keyword::Find)
-        } else if word == "open-id" {
-            Some(Keyword::OpenId)
-        } else if word == "publish-psi" {
-            Some(Keyword::PublishPsi)
-        } else if word == "publish-on" {
-            Some(Keyword::PublishOn)
-        } else if word == "mounts" {
-            Some(Keyword::Mounts)
-        } else if word == "watch" {
-            Some(Keyword::Watch)
-        } else if word == "plan" {
-            Some(Keyword::Plan)
-        } else if word == "inspect" {
-            Some(Keyword::Inspect)
-        } else if word == "extract" {
-            Some(Keyword::Extract)
-        } else {
-            None
+        for (name, keyword) in keywords() {
+            if word == *name {
+                return Some(*keyword);
+            }
         }
+        None
     }
 }

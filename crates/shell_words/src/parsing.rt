@@ -20,6 +20,9 @@ use std::alloc::Global;
 /// The most cycles of one publication.
 pub const MOST_CYCLES: u32 = 1_000;
 
+/// The most cycles of a folder that stays on the air.
+pub const MOST_AIR_CYCLES: u32 = u32::MAX;
+
 /// The most bits that are sent in a second.
 pub const MOST_BITRATE: u32 = u32::MAX;
 
@@ -110,6 +113,7 @@ fn read(alloc: Global, keyword: Keyword, words: &[String]) -> Result<Command, Wo
             None => Err(WordsFault::Words),
         },
         Keyword::Extract => extract(alloc, words),
+        Keyword::Air => air(alloc, words),
     }
 }
 
@@ -195,6 +199,19 @@ fn publish_on(alloc: Global, words: &[String]) -> Result<Command, WordsFault>
     };
     let (folder, carousel, cycles) = publication(alloc, &words[1..], MOST_CYCLES)?;
     Ok(Command::PublishOn(pid, folder, carousel, cycles))
+}
+
+/// A PID, and what stays on the air on it.
+fn air(alloc: Global, words: &[String]) -> Result<Command, WordsFault>
+    requires { length words.now ≡ 4 }
+    ensures gives { Gives commands.view commands.cause result (commands.or_misfit (commands.air_by (map string_bytes words.now))) }
+    ensures sized { IfOk result commands.IsSized }
+{
+    let Some(pid) = values::pid(words[0].as_str()) else {
+        return Err(WordsFault::Words);
+    };
+    let (folder, carousel, cycles) = publication(alloc, &words[1..], MOST_AIR_CYCLES)?;
+    Ok(Command::Air(pid, folder, carousel, cycles))
 }
 
 /// A PID, and the folder that is made.

@@ -7,7 +7,7 @@ ghost use Rattle.shell_words.specs.Values.{path_in, table_in};
 ghost use Rattle.shell_words.specs.Complaints.{FitsIsAccepted, FirstIsNamed};
 
 use crate::keyword::Keyword;
-use crate::parsing::{MOST_BIG, MOST_BITRATE, MOST_CYCLES};
+use crate::parsing::{MOST_AIR_CYCLES, MOST_BIG, MOST_BITRATE, MOST_CYCLES};
 use crate::table::table;
 use crate::values;
 use crate::values::{MOST_PID, MOST_WATCHED, begins_with_dash};
@@ -42,6 +42,8 @@ pub enum Slot {
     Carousel,
     /// How many cycles are sent.
     Cycles,
+    /// How many cycles are sent of a folder that stays on the air.
+    AirCycles,
     /// How many bits are sent in a second.
     Bitrate,
     /// The size of a generated session.
@@ -92,6 +94,7 @@ fn first_slots(keyword: Keyword) -> &'static [Slot]
         Keyword::Record | Keyword::List | Keyword::Watch | Keyword::Inspect => &[Slot::Pid],
         Keyword::Plan => &[Slot::Folder, Slot::Carousel, Slot::Bitrate],
         Keyword::Extract => &[Slot::Pid, Slot::Folder],
+        Keyword::Air => &[Slot::Pid, Slot::Folder, Slot::Carousel, Slot::AirCycles],
     }
 }
 
@@ -114,7 +117,8 @@ fn paths_behind(keyword: Keyword) -> Paths
         | Keyword::PublishOn
         | Keyword::Plan
         | Keyword::Inspect
-        | Keyword::Extract => Paths::NoPaths,
+        | Keyword::Extract
+        | Keyword::Air => Paths::NoPaths,
     }
 }
 
@@ -169,6 +173,7 @@ impl Slot {
             Slot::Download | Slot::Carousel => Some((0, u32::MAX)),
             Slot::Pid => Some((0, MOST_PID)),
             Slot::Cycles => Some((1, MOST_CYCLES)),
+            Slot::AirCycles => Some((1, MOST_AIR_CYCLES)),
             Slot::Bitrate => Some((1, MOST_BITRATE)),
             Slot::Editors => Some((1, MOST_BIG)),
             Slot::Command | Slot::Source | Slot::Path | Slot::Folder | Slot::Table => None,

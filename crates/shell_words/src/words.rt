@@ -57,6 +57,9 @@ pub enum Command {
     /// `extract PID FOLDER`: the files that the packets of a PID, 0 to 8,190, bring, into a folder that is made. Its name has at
     /// least one byte.
     Extract(u16, String),
+    /// `air PID FOLDER CAROUSEL CYCLES`: a folder that stays on the air, on a PID, 0 to 8,190. The folder's name has at least one byte, the
+    /// carousel's id is any 32-bit number, and 1 to 4,294,967,295 cycles are sent.
+    Air(u16, String, u32, u32),
     /// `why WORDS..`: what is wrong with other words, if anything is.
     Why(Complaint),
 }

@@ -61,3 +61,9 @@ plan-requires-clause-rate g c = (rw c.in-Plan.is at c.requires.sized).1
 
 pub returns-in-Plan-clause-promises : goal.returns-in-Plan-clause-promises
 returns-in-Plan-clause-promises g c = rw c.in-Plan.is (record { unread = refl; keeps = rw c.as_str-in-Plan.ensures.value at c.plan.ensures.tells })
+
+pub returns-in-Air-clause-promises : goal.returns-in-Air-clause-promises
+returns-in-Air-clause-promises g c = rw c.in-Air.is (record { unread = refl; keeps = rw c.as_str-in-Air.ensures.value at c.air.ensures.stays })
+
+pub returns-in-Air-clause-quiet : goal.returns-in-Air-clause-quiet
+returns-in-Air-clause-quiet g c = rw c.in-Air.is (λ none. absurd (true≢false none))

@@ -1,19 +1,20 @@
 use Rattle.std.proofs.Common.{rules, refl, ◌∙◌}
 use Rattle.shell_words.specs.Words as commands
 use Rattle.watch_desk.specs.Prefixes.{prefixes_of}
+use Rattle.folder_playout.proofs.CallerLemmas.{nothing_read}
 use Rattle.carousel_shell.proofs.Declining.{memory_keeps, promises_over, in_time_over}
 use Rattle.carousel_shell.proofs.plain.run_plain.Goals as goal
 
 pub returns-in-Err-NoMemory-clause-keeps : goal.returns-in-Err-NoMemory-clause-keeps
-returns-in-Err-NoMemory-clause-keeps g c = memory_keeps c.args.weigh.weights (prefixes_of c.args.filters.items) _ _ _ _ _ c.receptions.ensures c.args.weigh.range refl refl refl
+returns-in-Err-NoMemory-clause-keeps g c = memory_keeps c.args.weigh.weights (prefixes_of c.args.filters.items) _ _ _ _ _ _ _ c.receptions.ensures c.args.weigh.range refl refl refl (record { unread = λ folder. nothing_read folder (g.F.Folders.tree c.args.folders.now) (g.F.Folders.faults c.args.folders.now); untold = c.requires.untold; law = c.playouts_meet.ensures })
 
 pub returns-in_default-clause-keeps : goal.returns-in_default-clause-keeps
-returns-in_default-clause-keeps g c = memory_keeps c.args.weigh.weights (prefixes_of c.args.filters.items) _ _ _ _ _ c.receptions.ensures c.args.weigh.range refl refl refl
+returns-in_default-clause-keeps g c = memory_keeps c.args.weigh.weights (prefixes_of c.args.filters.items) _ _ _ _ _ _ _ c.receptions.ensures c.args.weigh.range refl refl refl (record { unread = λ folder. nothing_read folder (g.F.Folders.tree c.args.folders.now) (g.F.Folders.faults c.args.folders.now); untold = c.requires.untold; law = c.playouts_meet.ensures })
 
 pub returns-clause-keeps : goal.returns-clause-keeps
 returns-clause-keeps g c =
     let name = c.run_command.ensures.same ∙ c.new-out.ensures.same in
-    rw c.in-Ok.ensures.gives (promises_over c.args.weigh.weights (prefixes_of c.args.filters.items) (commands.view c.in-Ok.command) c.run_command.result _ _ _ g.K.Sink.written g.K.Sink.faults _ c.run_command.new.out.sink.now _ _
+    rw c.in-Ok.ensures.gives (promises_over c.args.weigh.weights (prefixes_of c.args.filters.items) (commands.view c.in-Ok.command) c.run_command.result _ _ _ _ _ g.K.Sink.written g.K.Sink.faults _ c.run_command.new.out.sink.now _ _
     c.new-out.ensures.now (search (rules, name)) c.run_command.ensures.promises)
 
 pub returns-clause-in_time : goal.returns-clause-in_time
@@ -23,3 +24,6 @@ returns-clause-in_time g c =
 
 pub returns-clause-stored : goal.returns-clause-stored
 returns-clause-stored g c = rw c.in-Ok.ensures.gives c.run_command.ensures.stored
+
+pub returns-clause-quiet : goal.returns-clause-quiet
+returns-clause-quiet g c = rw c.in-Ok.ensures.gives c.run_command.ensures.quiet

@@ -1,9 +1,7 @@
-use Rattle.std.proofs.Common.{◌≡◌, ◌<◌, ◌≤◌, List, length, ◌∙◌, arith}
+use Rattle.std.proofs.Common.{◌<◌, ◌≤◌, length, ◌∙◌, arith}
 use Rattle.std.proofs.lemmas.Result.{err_from_is_err_and}
-use Rattle.path_tree.specs.Paths.{PathNames}
 use Rattle.path_resolver.specs.Resolving.{answer_of}
 use Rattle.path_resolver.specs.Shots.{held_of}
-use Rattle.oc_bytes.specs.Outcome.{Rose}
 use Rattle.shell_streams.proofs.CallerLemmas.{puts_none, puts_ok, rose_last}
 use Rattle.folder_extract.proofs.Taking.{ends_by, ends_whole, flush_breaks, last_breaks, part_breaks, part_none, part_stops, part_whole, stops_at, taken_none, taken_not_whole, taken_whole, told_breaks, told_stops}
 use Rattle.folder_extract.proofs.extracting.extract.Goals as goal

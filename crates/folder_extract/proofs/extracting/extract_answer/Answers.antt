@@ -1,4 +1,4 @@
-use Rattle.std.proofs.Common.{ap, ◌∙◌}
+use Rattle.std.proofs.Common.{ap}
 use Rattle.std.proofs.lemmas.Result.{IfOk-weaker}
 use Rattle.shell_words.specs.Texts.{is_found}
 use Rattle.folder_extract.proofs.Choosing.{all_ok, other_takes}

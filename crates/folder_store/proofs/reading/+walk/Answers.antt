@@ -1,13 +1,14 @@
-use Rattle.std.proofs.Common.{◌≡◌, ◌-◌, ◌++◌, ◌∷◌, Some, Err, false, length, sym, ap, ◌∙◌, arith}
+use Rattle.std.proofs.Common.{◌≡◌, ◌-◌, ◌++◌, [], ◌∷◌, Some, Err, false, length, sym, ap, ◌∙◌, subst, arith}
 use Rattle.std.specs.String.{string_bytes}
 use Rattle.std.proofs.lemmas.Result.{err_from_is_err_and}
 use Rattle.folder_store.specs.declared.reading.ReadTree.TheVariants as refusals
-use Rattle.folder_store.specs.Folders.{FolderTree, is_folder_at, kind_of}
+use Rattle.folder_store.specs.Folders.{FolderTree, IsRefused, is_folder_at, kind_of}
 use Rattle.folder_store.specs.Gathering.{kind_at, met_one}
 use Rattle.folder_store.proofs.Walking.{full_goes, file_walks, folder_walks, place_ends, found, entry_goes, entry_ends, folder_goes, entry_fault, kind_there, file_not_other, folder_not_other, refused_is}
-use Rattle.folder_store.specs.Surveys.{at_in}
+use Rattle.folder_store.specs.Surveys.{Look, at_in, names_to}
 use Rattle.folder_store.specs.Sighting.{look_in}
 use Rattle.folder_store.proofs.Marking.{entry_stops, entry_told, file_tells, folder_tells, folder_told}
+use Rattle.folder_store.proofs.Refusing.{place_below}
 use Rattle.folder_store.proofs.reading.+walk.Goals as goal
 
 pub walk_entry-returns-then-is_full-clause-walk : goal.walk_entry-returns-then-is_full-clause-walk
@@ -96,6 +97,55 @@ walk_folder-returns-in_err-walk_entry-clause-tells g t c = λ tree told.
     c.args.gathered.now.read c.loop-entry.gathered.read c.walk_entry.new.gathered.read (at_in c.walk_entry.new.sights.at) c.in_err-walk_entry.field-0.0 h (inv.tells tree told)
     (c.in_err-walk_entry.ensures.tells tree h.entry (inv.same ∙ told) h.there h.kind))
 
+pub walk_entry-returns-in_ok-file-in-File-clause-large :
+    goal.walk_entry-returns-in_ok-file-in-File-clause-large
+walk_entry-returns-in_ok-file-in-File-clause-large g t c = λ root text_is before.
+    c.read_file.ensures.large root
+    (place_below root (string_bytes c.args.place.now.text) (string_bytes c.in_ok-file-in-File.file.text) c.args.place.now.path c.in_ok-file-in-File.file.path (string_bytes c.args.entry.now.name) text_is
+    (rw c.deref-in-File.ensures at c.in_ok-file-in-File.ensures.text) (rw c.deref-in-File.ensures at c.in_ok-file-in-File.ensures.path))
+    (ap (λ (k : Look). k.large) c.in_ok-reach-in-File.ensures.look ∙ before)
+
+pub walk_entry-returns-in_ok-file-in-File-clause-named :
+    goal.walk_entry-returns-in_ok-file-in-File-clause-named
+walk_entry-returns-in_ok-file-in-File-clause-named g t c = λ root text_is failed.
+    let names : names_to c.read_file.new.sights.at ≡ c.args.place.now.path ++ string_bytes c.args.entry.now.name ∷ [] = ap names_to c.read_file.ensures.at ∙ rw c.deref.ensures at c.in_ok-reach-in-File.ensures.names in
+    subst (IsRefused (g.F.Folders.refused c.read_file.new.folders))
+    (place_below root (string_bytes c.args.place.now.text) (string_bytes c.in_ok-file-in-File.file.text) c.args.place.now.path (names_to c.read_file.new.sights.at) (string_bytes c.args.entry.now.name) text_is
+    (rw c.deref-in-File.ensures at c.in_ok-file-in-File.ensures.text) names)
+    (c.read_file.ensures.failed failed)
+
+pub walk_entry-returns-in_ok-folder-in-Folder-clause-large :
+    goal.walk_entry-returns-in_ok-folder-in-Folder-clause-large
+walk_entry-returns-in_ok-folder-in-Folder-clause-large g t c = λ root text_is before.
+    c.walk_folder.ensures.large root
+    (place_below root (string_bytes c.args.place.now.text) (string_bytes c.in_ok-folder-in-Folder.folder.text) c.args.place.now.path c.in_ok-folder-in-Folder.folder.path (string_bytes c.args.entry.now.name) text_is
+    (rw c.deref-in-Folder-2.ensures at c.in_ok-folder-in-Folder.ensures.text) (rw c.deref-in-Folder-2.ensures at c.in_ok-folder-in-Folder.ensures.path))
+    (ap (λ (k : Look). k.large) c.in_ok-reach-in-Folder.ensures.look ∙ before)
+
+pub walk_entry-returns-in_ok-folder-in-Folder-clause-named :
+    goal.walk_entry-returns-in_ok-folder-in-Folder-clause-named
+walk_entry-returns-in_ok-folder-in-Folder-clause-named g t c = λ root text_is failed.
+    let text = rw c.deref-in-Folder-2.ensures at c.in_ok-folder-in-Folder.ensures.text in
+    let path = rw c.deref-in-Folder-2.ensures at c.in_ok-folder-in-Folder.ensures.path in
+    c.walk_folder.ensures.named root
+    (place_below root (string_bytes c.args.place.now.text) (string_bytes c.in_ok-folder-in-Folder.folder.text) c.args.place.now.path c.in_ok-folder-in-Folder.folder.path (string_bytes c.args.entry.now.name) text_is text path)
+    (sym (place_below root (string_bytes c.args.place.now.text) (string_bytes c.in_ok-folder-in-Folder.folder.text) c.args.place.now.path _ (string_bytes c.args.entry.now.name) text_is text
+    (rw c.deref-in-Folder.ensures at c.in_ok-reach-in-Folder.ensures.names)))
+    failed
+
+pub walk_folder-returns-in_err-entries-clause-named : goal.walk_folder-returns-in_err-entries-clause-named
+walk_folder-returns-in_err-entries-clause-named g t c = λ root text_is at failed.
+    let p = err_from_is_err_and c.from_residual.result c.from_residual.ensures.1 in
+    let is : c.in_err-entries.field-0.0 ≡ refusals.FolderFault = refused_is p.0 c.in_err-entries.field-0.0 refusals.FolderFault c.from_residual.result p.1 p.2 failed in
+    subst (IsRefused (g.F.Folders.refused c.sorted_entries.new.folders)) (sym at) (rw c.deref.ensures at (c.in_err-entries.ensures.failed (ap Err is)))
+
+pub walk_folder-returns-in_err-walk_entry-clause-named :
+    goal.walk_folder-returns-in_err-walk_entry-clause-named
+walk_folder-returns-in_err-walk_entry-clause-named g t c = λ root text_is at failed.
+    let p = err_from_is_err_and c.from_residual-in_err-walk_entry.result c.from_residual-in_err-walk_entry.ensures.1 in
+    let is : c.in_err-walk_entry.field-0.0 ≡ refusals.FolderFault = refused_is p.0 c.in_err-walk_entry.field-0.0 refusals.FolderFault c.from_residual-in_err-walk_entry.result p.1 p.2 failed in
+    c.in_err-walk_entry.ensures.named root text_is (ap Err is)
+
 pub walk_folder-returns-in_err-walk_entry-clause-fault :
     goal.walk_folder-returns-in_err-walk_entry-clause-fault
 walk_folder-returns-in_err-walk_entry-clause-fault g t c = λ failed.
@@ -140,6 +190,7 @@ walk_folder-loop-entry-preserved g t c =
           let h = found tree text c.in_ok-entries.entries.items c.loop-entry.entry-index c.entry-item.result listing (omega (arith, ap length c.deref-entry-items.ensures.value)) (rw c.deref-entry-items.ensures.value at c.entry-item.is) in
           entry_told tree (16 - length c.args.place.now.path) c.args.place.now.path text c.loop-entry.entry-index c.entry-item.result (look_in c.args.sights.now) (look_in c.loop-entry.sights) (look_in c.walk_entry.new.sights)
           c.args.gathered.now.read c.loop-entry.gathered.read c.walk_entry.new.gathered.read (at_in c.walk_entry.new.sights.at) h (inv.tells tree told) (c.in_ok-walk_entry.ensures.tells tree h.entry (inv.same ∙ told) h.there h.kind);
+      large = λ root text_is before. c.in_ok-walk_entry.ensures.large root text_is (inv.large root text_is before);
       owed = λ tree told folder.
           let listing = rw c.deref.ensures at (c.in_ok-entries.ensures.entries tree told) in
           let h = found tree text c.in_ok-entries.entries.items c.loop-entry.entry-index c.entry-item.result listing (omega (arith, ap length c.deref-entry-items.ensures.value)) (rw c.deref-entry-items.ensures.value at c.entry-item.is) in

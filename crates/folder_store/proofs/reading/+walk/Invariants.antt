@@ -1,8 +1,10 @@
 use Rattle.std.proofs.Common.{◌≡◌, true, ◌≤◌, ◌+◌, ◌-◌, ◌*◌, Some, length, take}
 use Rattle.std.specs.List.{flat_map}
 use Rattle.std.specs.String.{string_bytes}
+use Rattle.path_tree.specs.Paths.{Bytes}
 use Rattle.folder_store.specs.Folders.{FolderTree, entries_below, is_folder_at}
-use Rattle.folder_store.specs.Walk.{sort_entries}
+use Rattle.folder_store.specs.Walk.{sort_entries, text_below}
+use Rattle.folder_store.specs.Surveys.{first_large}
 use Rattle.folder_store.specs.Gathering.{met_one}
 use Rattle.folder_store.specs.Sighting.{look_in}
 use Rattle.folder_store.proofs.Marking.{Told}
@@ -22,6 +24,8 @@ invariant-walk_folder-loop-entry g l = record {
       l.fn.gathered.edits.items l.fn.gathered.read l.gathered.edits.items l.gathered.read;
   tells : (t : FolderTree) → g.F.Folders.tree l.fn.folders ≡ Some t
       → Told t (16 - length l.place.path) l.place.path (string_bytes l.place.text) l.entry-index (look_in l.fn.sights) l.fn.gathered.read (look_in l.sights) l.gathered.read;
+  large : (root : Bytes) → string_bytes l.place.text ≡ text_below root l.place.path → (look_in l.fn.sights).large ≡ first_large root l.fn.gathered.edits.items
+      → (look_in l.sights).large ≡ first_large root l.gathered.edits.items;
   owed : (t : FolderTree) → g.F.Folders.tree l.fn.folders ≡ Some t → is_folder_at t (string_bytes l.place.text) ≡ true → g.F.Folders.strayed l.folders ≡ g.F.Folders.strayed l.fn.folders;
   same : g.F.Folders.tree l.folders ≡ g.F.Folders.tree l.fn.folders;
   later : g.F.Folders.faults l.fn.folders ≤ g.F.Folders.faults l.folders;

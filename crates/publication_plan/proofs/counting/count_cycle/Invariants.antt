@@ -1,4 +1,4 @@
-use Rattle.std.proofs.Common.{length, map}
+use Rattle.std.proofs.Common.{length}
 use Rattle.std.specs.List.{All, Contains}
 use Rattle.cycle_planner.specs.Cycle.{cycle_of}
 use Rattle.cycle_planner.specs.Walks.{IsWalk, left_of}

@@ -1,5 +1,4 @@
-use Rattle.std.proofs.Common.{◌≡◌, ◌∙◌, ap, sym, Some, length, rules}
-use Rattle.std.specs.String.{string_bytes}
+use Rattle.std.proofs.Common.{◌≡◌, ◌∙◌, ap, Some, length, rules}
 use Rattle.publication_plan.proofs.Telltale.{size_read}
 use Rattle.publication_plan.proofs.refusing.file_size.Goals as goal
 

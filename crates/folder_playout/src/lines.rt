@@ -1,0 +1,115 @@
+//! The lines of notices.
+
+ghost use Rattle.std.specs.Prelude.{◌≡◌, ◌++◌, ◌∷◌, [], IfOk, codes};
+ghost use Rattle.std.specs.List.{flat_map};
+ghost use Rattle.std.specs.Option.{is_none, option_map, unwrap_or};
+ghost use Rattle.std.specs.String.{string_bytes};
+ghost use Rattle.folder_playout.specs.Lines.{commit_words, cycle_line, difference_words, notice_line, refused_words, with_path};
+ghost use Rattle.folder_playout.specs.Notices.{Began, kept_notices};
+ghost use Rattle.folder_playout.specs.Readings.{is_no_memory};
+
+use crate::notices::Difference;
+use crate::reading::Unread;
+use folder_store::TreeFault;
+use generation_catalogue::Refusal;
+use oc_bytes::NoMemory;
+use path_tree::EditFault;
+use shell_words::refusal_text;
+use std::alloc::Global;
+
+/// The line of a generation that goes on the air: `generation N cycle C files F modules M bytes B` and a line feed. This project's own text.
+///
+/// `number` is the generation's, `cycle` the first cycle with it, counted from 1, and `difference` what a receiver fetches again for it. Out of
+/// memory is the only refusal.
+pub fn began_text(
+    alloc: Global,
+    number: u64,
+    cycle: u32,
+    difference: Difference,
+) -> Result<String, NoMemory>
+    ensures { IfOk result (λ text. string_bytes text ≡ notice_line (Began number cycle difference)) }
+{
+    let words = difference_words(alloc, difference)?;
+    began_line(alloc, number, cycle, &words)
+}
+
+fn began_line(alloc: Global, number: u64, cycle: u32, words: &str) -> Result<String, NoMemory>
+    ensures { IfOk result (λ text. string_bytes text ≡ cycle_line (codes "generation") number cycle words.now) }
+{
+    format!(in alloc; "generation {number} cycle {cycle} {words}\n")
+}
+
+/// How much is fetched again.
+fn difference_words(alloc: Global, difference: Difference) -> Result<String, NoMemory>
+    ensures { IfOk result (λ text. string_bytes text ≡ difference_words difference) }
+{
+    let files = difference.files;
+    let modules = difference.modules;
+    let bytes = difference.bytes;
+    format!(in alloc; "files {files} modules {modules} bytes {bytes}")
+}
+
+/// The line of a generation that stays on the air since no tree was read: `kept N cycle C`, why, and a line feed; none where there was no memory,
+/// of which no notice is given. This project's own text.
+///
+/// `number` is the generation's, and `cycle` the cycle before which no tree was read, counted from 1. Why is `unreadable`, `too-deep`, `bad-name` or
+/// `file-too-large` and the text of the path, or the text of the refusal. Out of memory is the only refusal.
+pub fn kept_text(
+    alloc: Global,
+    number: u64,
+    cycle: u32,
+    cause: &Unread,
+) -> Result<Option<String>, NoMemory>
+    ensures text { IfOk result (λ text. unwrap_or (option_map string_bytes text) [] ≡ flat_map notice_line (kept_notices number cycle cause.now)) }
+    ensures none { IfOk result (λ text. is_none text ≡ is_no_memory cause.now) }
+{
+    let words = match cause {
+        Unread::Failed(path) => format!(in alloc; "unreadable {path}")?,
+        Unread::Refused(fault, path) => refused_words(alloc, fault, path)?,
+        Unread::NoMemory => return Ok(None),
+    };
+    Ok(Some(kept_line(alloc, number, cycle, &words)?))
+}
+
+fn kept_line(alloc: Global, number: u64, cycle: u32, words: &str) -> Result<String, NoMemory>
+    ensures { IfOk result (λ text. string_bytes text ≡ cycle_line (codes "kept") number cycle words.now) }
+{
+    format!(in alloc; "kept {number} cycle {cycle} {words}\n")
+}
+
+/// Why a tree is refused.
+fn refused_words(
+    alloc: Global,
+    fault: &TreeFault,
+    path: &Option<String>,
+) -> Result<String, NoMemory>
+    ensures { IfOk result (λ text. string_bytes text ≡ refused_words fault.now (option_map string_bytes path.now)) }
+{
+    match fault {
+        TreeFault::TooDeep => with_path(alloc, "too-deep", path),
+        TreeFault::BadName => with_path(alloc, "bad-name", path),
+        TreeFault::Commit(refusal) => commit_words(alloc, refusal, path),
+    }
+}
+
+/// A word, and the path where there is one.
+fn with_path(alloc: Global, word: &str, path: &Option<String>) -> Result<String, NoMemory>
+    ensures { IfOk result (λ text. string_bytes text ≡ with_path word.now (option_map string_bytes path.now)) }
+{
+    match path {
+        Some(path) => format!(in alloc; "{word} {path}"),
+        None => String::from_str(alloc, word),
+    }
+}
+
+/// The text of a commit's refusal. A file that is too large is named by its path, where that is known.
+fn commit_words(alloc: Global, refusal: &Refusal, path: &Option<String>) -> Result<String, NoMemory>
+    ensures { IfOk result (λ text. string_bytes text ≡ commit_words refusal.now (option_map string_bytes path.now)) }
+{
+    match (refusal, path) {
+        (Refusal::Edit(_, EditFault::FileTooLarge), Some(path)) => {
+            format!(in alloc; "file-too-large {path}")
+        }
+        _ => refusal_text(alloc, refusal),
+    }
+}
