@@ -16,11 +16,13 @@
 
 mod labelled;
 mod laws;
+mod limits;
 mod module;
 mod reading;
 mod written;
 
 pub use laws::spellings_read_back;
+pub use limits::limits_are_numbers;
 pub use module::{Binding, Found, Module, Span};
 pub use written::{
     Bound, FILE_BINDING, FILE_FRONT, FOLDER_BINDING, FOLDER_FRONT, FolderKind, MOST_FOLDER_SIZE,

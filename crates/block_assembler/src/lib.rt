@@ -17,9 +17,11 @@
 //! ```
 #![tactic(auto)]
 
+pub use limits::limits_are_numbers;
 use thiserror::Error;
 
 mod kept;
+mod limits;
 mod put;
 
 pub use kept::{Assembler, Emptied};

@@ -24,9 +24,11 @@ ghost use Rattle.std.specs.List.{flat_map};
 ghost use Rattle.cycle_planner.specs.Cycle.{cycle_of, round, AreLines, SendsEach};
 ghost use Rattle.cycle_planner.specs.Rounds.{blocks_in_round};
 
+mod limits;
 mod walk;
 mod weigh;
 
+pub use limits::limits_are_numbers;
 pub use walk::Walk;
 pub use weigh::{Call, GREATEST_ID, GREATEST_WEIGHT, Weigh};
 

@@ -20,8 +20,10 @@ ghost use Rattle.oc_bytes.specs.Cause.{place_of};
 ghost use Rattle.ddb_block.specs.Blocks.{Block, Fits, view, parts_view, Reads, read, spelling, cause, block_count_of, block_span_of, SpansFill};
 
 mod header;
+mod limits;
 
 pub use header::{header_bytes, message, messages_read};
+pub use limits::limits_are_numbers;
 use oc_bytes::{Cut, NoMemory};
 use std::alloc::{AllocError, Global};
 use thiserror::Error;

@@ -23,11 +23,13 @@ ghost use Rattle.dsi_dii.specs.Controls.{distance_of, dii_transaction, version_o
 ghost use Rattle.dsi_dii.specs.declared.ControlFault.TheVariants.{NotControl, NoMemory as ControlNoMemory};
 ghost use Rattle.dsi_dii.specs.declared.DiiFault.TheVariants.{NoMemory as DiiNoMemory};
 
+mod limits;
 mod reading;
 mod writing;
 
 use ddb_block::MOST_BLOCK_SIZE;
 use ior_tap::Ior;
+pub use limits::limits_are_numbers;
 use oc_bytes::Cut;
 pub use reading::decode;
 use std::alloc::{AllocError, AllocFailed};

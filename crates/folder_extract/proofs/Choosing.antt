@@ -15,7 +15,7 @@ use Rattle.shell_words.specs.Texts.{answered_line}
 use Rattle.folder_extract.specs.Naming.{can_stand}
 use Rattle.folder_extract.specs.Telling.{is_whole, is_whole_answer, line_for, passed_of, told_of}
 use Rattle.folder_extract.specs.Extracting.{WrotePart, entries_at, entries_of}
-use Rattle.folder_extract.specs.Writing.{Takes, Wrote, Breaks}
+use Rattle.folder_extract.specs.Inner.Writing.{Takes, Wrote, Breaks}
 use Rattle.folder_extract.specs.declared.extracting.Extracted.{Extracted}
 use Rattle.folder_extract.specs.declared.extracting.Extracted.TheVariants as ends
 use Rattle.folder_extract.proofs.Taking.{part_none, with_nothing}

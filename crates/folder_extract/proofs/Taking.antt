@@ -16,7 +16,7 @@ use Rattle.folder_extract.specs.Naming.{can_stand}
 use Rattle.folder_extract.specs.Telling.{listed, line_for, lines_for, extract_text, are_all_listed, is_whole, more_unless}
 use Rattle.folder_extract.specs.Extracting.{Ends, WrotePart, EndsWhole, StopsAt, entries_at, entries_for}
 use Rattle.folder_extract.specs.declared.extracting.Extracted.TheVariants as ends
-use Rattle.folder_extract.specs.Writing.{Wrote, FailsAt, Breaks}
+use Rattle.folder_extract.specs.Inner.Writing.{Wrote, FailsAt, Breaks}
 use Rattle.folder_store.specs.Walk.{text_below}
 
 -- ---- entries that are added to a tree

@@ -1,4 +1,4 @@
 pub mod Naming
 pub mod Telling
 pub mod Extracting
-pub mod Writing
+pub mod Inner

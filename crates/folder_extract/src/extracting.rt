@@ -13,7 +13,7 @@ ghost use Rattle.shell_words.specs.Texts.{answered_line, is_found};
 ghost use Rattle.folder_extract.specs.Naming.{can_stand};
 ghost use Rattle.folder_extract.specs.Telling.{entry_line, is_whole, is_whole_answer, line_for, listed, passed_of, told_of, unnamed_lines};
 ghost use Rattle.folder_extract.specs.Extracting.{Ends, WrotePart, entries_at, entries_for, entries_of};
-ghost use Rattle.folder_extract.specs.Writing.{Takes};
+ghost use Rattle.folder_extract.specs.Inner.Writing.{Takes};
 
 use crate::naming::place_text;
 use crate::telling::{last_line, put_answer, put_entry, put_passed_path, put_unnamed};

@@ -16,7 +16,7 @@ use Rattle.folder_store.specs.declared.reading.ReadTree.TheVariants as walks
 use Rattle.folder_store.specs.declared.reading.TreeFault.{TreeFault}
 use Rattle.folder_store.specs.declared.reading.TreeFault.TheVariants as trees
 use Rattle.shell_streams.proofs.CallerLemmas.{rose_first, rose_last}
-use Rattle.folder_playout.specs.Faults.{Tells, of_walk}
+use Rattle.folder_playout.specs.Inner.Faults.{Tells, of_walk}
 use Rattle.folder_playout.specs.Readings.{AreRead, IsFailed, Reading, Refused, Failed, broken_in, broken_path, by_judgement, by_walk, judged, reading_in, reading_of}
 use Rattle.folder_playout.specs.declared.reading.Unread.{Unread}
 

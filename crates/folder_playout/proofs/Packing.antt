@@ -11,7 +11,7 @@ use Rattle.section_stream.proofs.CallerLemmas.{between_idle}
 use Rattle.cycle_sender.proofs.CallerLemmas.{packs_then, counts_then, packs_group, counts_group}
 use Rattle.path_tree.specs.Trees.{Tree}
 use Rattle.folder_playout.specs.OnAir.{OnAir, air_bytes, cycle_in, groups_of, with_cycle, with_tree}
-use Rattle.folder_playout.specs.Standing.{before_group, given_bytes}
+use Rattle.folder_playout.specs.Inner.Standing.{before_group, given_bytes}
 
 -- one group more
 groups_push : (m : MuxState) (gs : List (List Bytes)) (g : List Bytes) → packets_of_groups m (gs ++ g ∷ []) ≡ packets_of_groups m gs ++ packets_of_group (fold past_group m gs) g

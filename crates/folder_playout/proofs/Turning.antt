@@ -19,7 +19,7 @@ use Rattle.folder_playout.specs.Readings.{Reading, Found, Refused, Failed, is_no
 use Rattle.folder_playout.specs.Notices.{Notice, Began, Kept, began_notice, difference_of, kept_notices, told_from, told_of}
 use Rattle.folder_playout.specs.Laws.{CanBeSent, PlayoutsAreBroadcasts, PlayoutsCanBePacked}
 use Rattle.folder_playout.specs.Playing.{AirsAll, AirsPart, AirsSeason, IsFull, IsLawful, Sent, ToldFront, air_of, notices_of, sent_bytes}
-use Rattle.folder_playout.specs.Standing.{IsNext, IsPlaying, IsTurning, StandsFor, before_group, given_bytes, told_next}
+use Rattle.folder_playout.specs.Inner.Standing.{IsNext, IsPlaying, IsTurning, StandsFor, before_group, given_bytes, told_next}
 use Rattle.folder_playout.specs.declared.notices.Difference.{Difference}
 use Rattle.folder_playout.specs.declared.reading.Unread.{Unread}
 use Rattle.folder_playout.specs.declared.reading.Unread.TheVariants as unread

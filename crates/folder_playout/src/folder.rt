@@ -7,7 +7,7 @@ ghost use Rattle.generation.specs.Lawful.{IsPublishable};
 ghost use Rattle.generation_catalogue.specs.History.{put_bytes, put_size};
 ghost use Rattle.generation_catalogue.specs.Requests.{commit_cause};
 ghost use Rattle.folder_store.specs.Surveys.{at_in, names_at};
-ghost use Rattle.folder_playout.specs.Faults.{Tells, of_walk};
+ghost use Rattle.folder_playout.specs.Inner.Faults.{Tells, of_walk};
 ghost use Rattle.folder_playout.specs.Readings.{by_judgement, judged, path_told, reading_in};
 
 use crate::reading::{Trees, Unread};

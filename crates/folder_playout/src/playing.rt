@@ -2,7 +2,7 @@ ghost use Rattle.std.specs.Prelude.{◌≡◌, ◌+◌, ◌^◌, ◌<◌, ◌≤
 ghost use Rattle.shell_streams.specs.Sending.{OutputState};
 ghost use Rattle.folder_playout.specs.Notices.{Notice};
 ghost use Rattle.folder_playout.specs.Playing.{Airs, Sent};
-ghost use Rattle.folder_playout.specs.Standing.{Begins, IsNext, IsPlaying, Takes, Turns, told_next};
+ghost use Rattle.folder_playout.specs.Inner.Standing.{Begins, IsNext, IsPlaying, Takes, Turns, told_next};
 
 use crate::laws::{playouts_are_broadcasts, playouts_can_be_packed};
 use crate::notices::Notices;

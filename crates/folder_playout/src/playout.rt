@@ -7,7 +7,7 @@ ghost use Rattle.shell_streams.specs.Sending.{OutputState, HasPut, Puts};
 ghost use Rattle.dsi_dii.specs.declared.TheConstants.{LAST_GENERATION};
 ghost use Rattle.folder_playout.specs.OnAir.{OnAir, begun, groups_of, air_bytes, same_tree, with_cycle, with_tree};
 ghost use Rattle.folder_playout.specs.Notices.{difference_of};
-ghost use Rattle.folder_playout.specs.Standing.{StandsFor, given_bytes};
+ghost use Rattle.folder_playout.specs.Inner.Standing.{StandsFor, given_bytes};
 
 use crate::notices::{Difference, compared};
 use crate::same::is_same_tree;

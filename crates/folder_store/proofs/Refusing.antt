@@ -5,7 +5,7 @@ use Rattle.path_tree.specs.declared.tree.Edit.{Edit}
 use Rattle.path_tree.specs.declared.tree.Edit.TheVariants.{Put, Remove}
 use Rattle.folder_store.specs.Walk.{text_below}
 use Rattle.folder_store.specs.Surveys.{Look, first_large, first_of}
-use Rattle.folder_store.specs.Sighting.{with_file}
+use Rattle.folder_store.specs.Inner.Sighting.{with_file}
 use Rattle.folder_store.proofs.Files.{text_more}
 
 -- the text of the root

@@ -6,4 +6,4 @@ pub mod Gathering
 pub mod Stores
 pub mod Stocks
 pub mod Surveys
-pub mod Sighting
+pub mod Inner

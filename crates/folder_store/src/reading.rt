@@ -7,7 +7,7 @@ ghost use Rattle.folder_store.specs.Folders.{Entry, AFile, FolderTree, IsFolderT
 ghost use Rattle.folder_store.specs.Walk.{PutsFiles, edits_of, met_below, text_below, IsTooDeep, IsBadName};
 ghost use Rattle.folder_store.specs.Gathering.{IsSortedListing, Walks, met_one, kind_at};
 ghost use Rattle.folder_store.specs.Surveys.{at_in, first_large, marks_below, text_at};
-ghost use Rattle.folder_store.specs.Sighting.{Tells, look_in, marks_one, with_file};
+ghost use Rattle.folder_store.specs.Inner.Sighting.{Tells, look_in, marks_one, with_file};
 
 use crate::folders::{EntryKind, FolderEntry, FolderFault, Folders};
 use crate::sights::Sights;

@@ -1,7 +1,7 @@
 ghost use Rattle.std.specs.Prelude.{◌≡◌, ◌++◌, ◌∷◌, [], map, IfOk, OnOk};
 ghost use Rattle.std.specs.String.{string_bytes};
 ghost use Rattle.folder_store.specs.Surveys.{at_in, names_to, view_standing};
-ghost use Rattle.folder_store.specs.Sighting.{look_in, with_file};
+ghost use Rattle.folder_store.specs.Inner.Sighting.{look_in, with_file};
 
 use oc_bytes::NoMemory;
 use path_tree::{MOST_CONTENT, Path};

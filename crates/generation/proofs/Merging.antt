@@ -13,7 +13,7 @@ use Rattle.path_tree.specs.Trees.{Tree}
 use Rattle.path_tree.proofs.CallerLemmas.{path_cmp-is, path_total, same_path-refl}
 use Rattle.generation.specs.Publication.{Spot, AreRising}
 use Rattle.generation.specs.Layouts.{Placed, placed_at, key_in, module_of, same_kind, is_same_spot}
-use Rattle.generation.specs.Merging.{from_path, first_same}
+use Rattle.generation.specs.Inner.Merging.{from_path, first_same}
 use Rattle.generation.specs.View.{view_placed, view_spot, path_at, bytes_at}
 use Rattle.generation.specs.declared.objects.Placed.{Placed as CodePlaced}
 use Rattle.generation.specs.declared.spots.Spot.{Spot as CodeSpot}

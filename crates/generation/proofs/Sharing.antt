@@ -17,7 +17,7 @@ use Rattle.path_tree.specs.declared.tree.Edit.{Edit}
 use Rattle.path_tree.proofs.CallerLemmas.{path_cmp-is, same_name-refl, same_path-refl}
 use Rattle.biop_object.specs.Names.{Layout, module_in}
 use Rattle.generation.specs.Layouts.{Placed, key_bytes, object_bytes, is_in, module_bytes, layout_of, same_module, count_in, count_after, counts_after}
-use Rattle.generation.specs.Stays.{AreAsBefore, part_bytes, SameModules, AreTheirs}
+use Rattle.generation.specs.Inner.Stays.{AreAsBefore, part_bytes, SameModules, AreTheirs}
 use Rattle.generation.specs.View.{view_placed, view_spot, view_listed, path_at, bytes_at, IsSpotIn, IsMarked, AreMarked, counted_by}
 use Rattle.generation.specs.declared.made.Listed.{Listed}
 use Rattle.generation.specs.declared.objects.Placed.{Placed as CodePlaced}

@@ -5,7 +5,7 @@ ghost use Rattle.std.specs.List.{All, zip};
 ghost use Rattle.std.specs.Option.{option_map};
 ghost use Rattle.generation.specs.Publication.{AreRising};
 ghost use Rattle.generation.specs.Layouts.{old_keys, old_modules};
-ghost use Rattle.generation.specs.Merging.{from_path, first_same};
+ghost use Rattle.generation.specs.Inner.Merging.{from_path, first_same};
 ghost use Rattle.generation.specs.View.{view_spot, view_placed, IsSpotIn};
 ghost use Rattle.module_packer.specs.Placement.{IsPlacement};
 ghost use Rattle.module_packer.specs.Kept.{AreObjects, kept_modules, sizes_in};

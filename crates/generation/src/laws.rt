@@ -2,7 +2,7 @@
 ghost use Rattle.std.specs.Prelude.{List};
 ghost use Rattle.biop_object.specs.Names.{Layout};
 ghost use Rattle.generation.specs.Kept.{GenerationsAreOfTheLists, LayoutsAreInOneGroup, LayoutsAreLawful};
-ghost use Rattle.generation.specs.Lawful.{EqualVersionsMeanEqualBytes};
+ghost use Rattle.generation.specs.Lawful.{EqualCountsMeanEqualBytes, EqualVersionsMeanEqualBytes};
 
 /// The layouts of a list of trees that can be published are lawful for these trees, generation 0 having the empty tree:
 /// in each of them every path names, from the gateway on, just what stands there in the tree, each module reads to its
@@ -25,6 +25,12 @@ pub fn layouts_are_lawful()
 /// items are just the DSI, that DII and each block of each module.
 pub fn generations_are_of_the_lists()
     ensures { GenerationsAreOfTheLists }
+{}
+
+/// Over every list of layouts: two generations that count a module alike list it with the same bytes, however far apart they are. A
+/// module's version is its count modulo 256.
+pub fn equal_counts_mean_equal_bytes()
+    ensures { (layouts : List Layout) → EqualCountsMeanEqualBytes layouts }
 {}
 
 /// Over every list of layouts: two generations fewer than 256 apart that list a module with the same version list it with

@@ -17,13 +17,18 @@ mod former;
 mod keys;
 mod laws;
 mod limit;
+mod limits;
 mod listing;
 mod made;
 mod objects;
 mod spots;
 mod unchanged;
 
-pub use laws::{equal_versions_mean_equal_bytes, generations_are_of_the_lists, layouts_are_lawful};
+pub use laws::{
+    equal_counts_mean_equal_bytes, equal_versions_mean_equal_bytes, generations_are_of_the_lists,
+    layouts_are_lawful,
+};
 pub use limit::{Limit, MOST_OBJECTS, check, large_folder_size};
+pub use limits::limits_are_numbers;
 pub use listing::{Object, ObjectKind};
 pub use made::Generation;

@@ -11,7 +11,7 @@ ghost use Rattle.generation.specs.Layouts.{GenerationState, first_of, next_of, l
 ghost use Rattle.generation.specs.Kept.{StandsFor};
 ghost use Rattle.generation.specs.Publication.{limit_of, spots_of};
 ghost use Rattle.generation.specs.Objects.{object_of};
-ghost use Rattle.generation.specs.Stays.{AreAsBefore, AreTheirs};
+ghost use Rattle.generation.specs.Inner.Stays.{AreAsBefore, AreTheirs};
 ghost use Rattle.generation.specs.View.{view_listed, view_placed, AreReady, AreOld, IsMarked, AreMarked, IsSpotIn, counted_by};
 ghost use Rattle.dsi_dii.specs.declared.TheConstants.{LAST_GENERATION, MOST_TOTAL_SIZE};
 

@@ -5,7 +5,7 @@ ghost use Rattle.std.specs.List.{All};
 ghost use Rattle.path_tree.specs.Edits.{apply_all};
 ghost use Rattle.path_tree.specs.Trees.{Tree as TreeFiles, IsTree};
 ghost use Rattle.generation.specs.Layouts.{Placed as PlacedState, greatest, module_bytes, object_bytes};
-ghost use Rattle.generation.specs.Stays.{AreAsBefore, SameModules, part_bytes};
+ghost use Rattle.generation.specs.Inner.Stays.{AreAsBefore, SameModules, part_bytes};
 ghost use Rattle.generation.specs.View.{view_placed, IsSpotIn};
 ghost use Rattle.dsi_dii.specs.declared.TheConstants.{MOST_MODULES};
 

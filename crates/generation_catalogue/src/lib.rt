@@ -24,10 +24,12 @@ mod catalogue;
 mod entry;
 mod journal;
 mod laws;
+mod limits;
 mod threads;
 
 pub use catalogue::Catalogue;
 pub use entry::{Batch, CommitFault, DrawFault, Entry, Refusal};
 pub use journal::{Journal, MOST_DRAWS, MOST_PUT_BYTES};
 pub use laws::histories_grow;
+pub use limits::limits_are_numbers;
 pub use threads::cross_threads;

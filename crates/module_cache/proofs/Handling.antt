@@ -9,7 +9,7 @@ use Rattle.dsi_dii.specs.Controls.{DiiFields}
 use Rattle.dsi_dii.specs.declared.ModuleLine.{ModuleLine}
 use Rattle.module_cache.specs.Held.{TunedState, tuned_after, lines_after, line_after, kept_line, line_fresh, line_from, tuned_from, fresh_tuned, with_first, slot_in_line}
 use Rattle.module_cache.specs.Joining.{slot_from, CacheState, Outline, outline, outline_held, lists, is_there, may_join, AreApart, AreOnce, AreDistinct, numbers, without, IsHeld, joining, joined, turned, has_line, offered, is_any}
-use Rattle.module_cache.specs.Keeping.{tuned_keeping}
+use Rattle.module_cache.specs.Inner.Keeping.{tuned_keeping}
 use Rattle.module_cache.specs.Limits.{no_id_twice, is_within}
 use Rattle.module_cache.specs.Slots.{Unlisted}
 use Rattle.module_cache.specs.Spans.{identification, same_line}

@@ -5,10 +5,10 @@ pub mod Slots
 pub mod LookBack
 pub mod Spans
 pub mod Held
-pub mod Keeping
 pub mod Chains
 pub mod Turns
 pub mod Joining
 pub mod Calls
 pub mod TunedView
 pub mod CacheView
+pub mod Inner

@@ -9,7 +9,7 @@ ghost use Rattle.ddb_block.specs.Blocks.{parts_view};
 ghost use Rattle.dsi_dii.specs.Controls.{view_dii};
 ghost use Rattle.module_cache.specs.Limits as limits;
 ghost use Rattle.module_cache.specs.Limits.{no_id_twice};
-ghost use Rattle.module_cache.specs.Keeping.{line_keeping, lines_keeping, tuned_keeping};
+ghost use Rattle.module_cache.specs.Inner.Keeping.{line_keeping, lines_keeping, tuned_keeping};
 ghost use Rattle.module_cache.specs.Spans.{same_line};
 ghost use Rattle.module_cache.specs.Held.{line_fresh, fresh_tuned, taken_line, taken_tuned, line_after, lines_after, tuned_after};
 ghost use Rattle.ddb_block.specs.declared.TheConstants.{MOST_BLOCK_SIZE};

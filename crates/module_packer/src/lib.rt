@@ -19,10 +19,12 @@ ghost use Rattle.module_packer.specs.Kept.{KeptIsAPlacement, ObjectsStay};
 
 mod filling;
 mod keeping;
+mod limits;
 mod packing;
 
 use dsi_dii::MOST_MODULES;
 pub use keeping::place;
+pub use limits::limits_are_numbers;
 use oc_bytes::NoMemory;
 use packing::Packing;
 pub use packing::ROOM;

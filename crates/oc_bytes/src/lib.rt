@@ -17,6 +17,7 @@
 mod blob;
 mod fields;
 mod lengths;
+mod limits;
 mod memory;
 mod real;
 mod sink;
@@ -26,6 +27,7 @@ mod writer;
 pub use blob::{Blob, are_bytes};
 pub use fields::{Cut, Fields};
 pub use lengths::{MOST_LENGTH, MOST_SECTION, length_field};
+pub use limits::limits_are_numbers;
 pub use memory::{MemSink, MemSource};
 pub use real::{StdSink, StdSource};
 pub use sink::{Sink, WriteFault, write_all};

@@ -7,7 +7,7 @@ use Rattle.path_resolver.specs.declared.answer.Answer.{Answer}
 use Rattle.path_resolver.specs.declared.shot.Shot.{Shot}
 use Rattle.open_history.specs.declared.entry.OpenEntry.{OpenEntry}
 use Rattle.open_history.specs.Opens.{Answered, AllAnswered}
-use Rattle.open_history.specs.Cached.{AreAnswersIn}
+use Rattle.open_history.specs.Inner.Cached.{AreAnswersIn}
 
 pub answered_on : (xs ys : List Shot) (es : List OpenEntry) → IsPrefix xs ys → AllAnswered xs es → AllAnswered ys es
 answered_on xs ys [] p h = tt

@@ -16,7 +16,7 @@ use Rattle.path_resolver.specs.declared.answer.Answer.{Answer}
 use Rattle.path_resolver.specs.declared.shot.Shot.{Shot}
 use Rattle.path_resolver.specs.Resolving.{Held, answer_of}
 use Rattle.path_resolver.specs.Shots.{held_of}
-use Rattle.open_history.specs.Cached.{IsAnswerOn, AreAnswersOn, AreAnswersIn}
+use Rattle.open_history.specs.Inner.Cached.{IsAnswerOn, AreAnswersOn, AreAnswersIn}
 
 nothing_in : {A : Type 0} (es : List A) (e : A) → es ≡ [] → Contains es e → ⊥
 nothing_in es e none c = let h = (subst (λ l. Contains l e) none c).1 in omega arith

@@ -1,2 +1,2 @@
-pub mod Cached
 pub mod Opens
+pub mod Inner

@@ -4,7 +4,7 @@ ghost use Rattle.path_tree.specs.Texts.{path_of};
 ghost use Rattle.path_resolver.specs.Shots.{held_of};
 ghost use Rattle.path_resolver.specs.Resolving.{Held, answer_of, is_shared};
 ghost use Rattle.std.specs.String.{string_bytes};
-ghost use Rattle.open_history.specs.Cached.{AreAnswersOn};
+ghost use Rattle.open_history.specs.Inner.Cached.{AreAnswersOn};
 
 use crate::sharing::share;
 use lru::LruCache;

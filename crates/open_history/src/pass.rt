@@ -26,7 +26,7 @@ impl Model for ReaderPass {
     ghost use Rattle.std.specs.Vec.{vec_capacity};
     ghost use Rattle.shot_board.specs.Viewers.{known_of};
     ghost use Rattle.open_history.specs.Opens.{ReaderView, AllAnswered, reader_view};
-    ghost use Rattle.open_history.specs.Cached.{AreAnswersIn};
+    ghost use Rattle.open_history.specs.Inner.Cached.{AreAnswersIn};
 
     ghost Value = { ReaderView };
 

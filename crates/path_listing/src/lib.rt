@@ -15,6 +15,8 @@
 //! ```
 #![tactic(auto)]
 
+mod limits;
 mod walking;
 
+pub use limits::limits_are_numbers;
 pub use walking::{Listing, MOST_LISTED, listed_paths};

@@ -5,7 +5,7 @@ use Rattle.std.specs.Prelude.{slice_get}
 use Rattle.path_tree.specs.Paths.{Bytes, PathNames}
 use Rattle.path_resolver.specs.declared.answer.Answer.{Answer}
 use Rattle.path_resolver.specs.Resolving.{Held, Target, goes_on, in_folder, by_binding, walk, turn}
-use Rattle.path_resolver.specs.Targets.{BindingGoes, ObjectGoes}
+use Rattle.path_resolver.specs.Inner.Targets.{BindingGoes, ObjectGoes}
 use Rattle.path_resolver.specs.declared.walking.Step.{Step}
 use Rattle.path_resolver.specs.declared.walking.Step.TheVariants as steps
 use Rattle.biop_object.specs.Objects.{BindingFields}

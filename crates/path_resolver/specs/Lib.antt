@@ -2,6 +2,6 @@ pub mod Resolving
 pub mod Shots
 pub mod Shared
 pub mod Names
-pub mod Targets
 pub mod Comparing
 pub mod Places
+pub mod Inner

@@ -9,7 +9,7 @@ ghost use Rattle.path_resolver.specs.Resolving.{answer_of, last, walk, module_of
 ghost use Rattle.path_resolver.specs.Places as places;
 ghost use Rattle.path_resolver.specs.Places.{last_target, module_at_end};
 ghost use Rattle.path_resolver.specs.Shots.{held_of, view_held};
-ghost use Rattle.path_resolver.specs.Targets.{view_target, BindingGoes, ObjectGoes, StepGoes, IsModuleAt, IsNoModule};
+ghost use Rattle.path_resolver.specs.Inner.Targets.{view_target, BindingGoes, ObjectGoes, StepGoes, IsModuleAt, IsNoModule};
 
 use crate::answer::{Answer, FileRef, FolderRef};
 use crate::shot::{Gateway, Held, Shot};

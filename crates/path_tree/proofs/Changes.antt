@@ -9,7 +9,7 @@ use Rattle.oc_bytes.specs.Numbers.{IsBytes}
 use Rattle.path_tree.specs.Paths.{Bytes, PathNames, path_cmp, same_path, is_below, IsPath}
 use Rattle.path_tree.specs.Trees.{Tree, IsTree, File, Folder, NoSuch, content_at, is_folder, is_through_file, names_below, node_at}
 use Rattle.path_tree.specs.Edits.{fault_of, after_edit, apply_from}
-use Rattle.path_tree.specs.Places.{place_in, first_is, last_is_above}
+use Rattle.path_tree.specs.Inner.Places.{place_in, first_is, last_is_above}
 use Rattle.path_tree.specs.declared.tree.Edit.{Edit}
 use Rattle.path_tree.specs.declared.tree.Edit.TheVariants.{Put}
 use Rattle.path_tree.specs.declared.tree.EditFault.{EditFault}

@@ -4,7 +4,7 @@ use Rattle.std.specs.List.{list_any, slice_split}
 use Rattle.std.proofs.lemmas.List.Folds.{list_any-append}
 use Rattle.path_tree.specs.Paths.{Bytes, PathNames}
 use Rattle.path_tree.specs.Texts.{TextFault, BadName, TooDeep, Plain, undo_all, if_plain, undo_escapes, is_name, is_zero_or_slash, checked_name, name_of, with_name, names_of, is_slash}
-use Rattle.path_tree.specs.Steps.{Undoes, verdict_of}
+use Rattle.path_tree.specs.Inner.Steps.{Undoes, verdict_of}
 use Rattle.path_tree.proofs.Read.{after-nothing, names_of-cons, read_none, read_deep}
 
 -- so many bytes are undone, and what is left of the text is still to be

@@ -2,7 +2,7 @@
 use Rattle.std.proofs.Common.{◌≡◌, ℕ, ◌<◌, ◌≤◌, [], ◌∷◌, length, slice_index_or, Option, Some, None, refl, ap, sym, ◌∙◌, subst, arith}
 use Rattle.path_tree.specs.Paths.{Bytes}
 use Rattle.path_tree.specs.Texts.{Plain, Percent, Broken, digit, high_digit, low_digit, undo, undo_all, if_plain}
-use Rattle.path_tree.specs.Steps.{byte_of_digits}
+use Rattle.path_tree.specs.Inner.Steps.{byte_of_digits}
 
 undo_all-Broken : (out rest : Bytes) → undo_all (Broken, out) rest ≡ (Broken, out)
 undo_all-Broken out [] = refl

@@ -5,7 +5,7 @@ use Rattle.std.specs.List.{AllByRecursion, dedup, dedup_from, filter_map, cons_o
 use Rattle.std.proofs.lemmas.List.{drop_all}
 use Rattle.path_tree.specs.Paths.{Bytes, PathNames, path_cmp, same_name, is_below, next_name}
 use Rattle.path_tree.specs.Trees.{Tree, IsTree, names_below}
-use Rattle.path_tree.specs.Places.{is_before, place_in, count_below, last_name_is, with_name}
+use Rattle.path_tree.specs.Inner.Places.{is_before, place_in, count_below, last_name_is, with_name}
 use Rattle.path_tree.proofs.Order.{true_or_false, next_name-none}
 use Rattle.path_tree.proofs.Places.{File, Rises, rises_tree, each_weaker, place-before, place-behind, behind, later, before_not_below, none_below, rest_is}
 

@@ -12,7 +12,7 @@ use Rattle.std.proofs.lemmas.List.Elements.{All-head, All-tail}
 use Rattle.path_tree.specs.Paths.{Bytes, PathNames, path_cmp, same_path}
 use Rattle.path_tree.specs.Trees.{Tree, content_at}
 use Rattle.path_tree.specs.Edits.{fault_of, after_edit, unless, apply_from, path_in}
-use Rattle.path_tree.specs.Places.{first_is}
+use Rattle.path_tree.specs.Inner.Places.{first_is}
 use Rattle.path_tree.specs.declared.tree.Edit.{Edit}
 use Rattle.path_tree.specs.declared.tree.Edit.TheVariants.{Put, Remove}
 use Rattle.path_tree.specs.declared.tree.EditFault.{EditFault}

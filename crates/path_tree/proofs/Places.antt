@@ -14,7 +14,7 @@ use Rattle.std.proofs.lemmas.List.{take_all, drop_all}
 use Rattle.oc_bytes.specs.Numbers.{IsBytes}
 use Rattle.path_tree.specs.Paths.{Bytes, PathNames, path_cmp, same_path, is_below, same_name, IsPath}
 use Rattle.path_tree.specs.Trees.{Tree, IsTree, content_at, is_folder, is_through_file}
-use Rattle.path_tree.specs.Places.{is_before, place_in, first_is, first_is_below, last_is_above, count_below, last_name_is}
+use Rattle.path_tree.specs.Inner.Places.{is_before, place_in, first_is, first_is_below, last_is_above, count_below, last_name_is}
 use Rattle.path_tree.proofs.Order.{path_total, true_or_false, same_path-is, same_path-refl, same_path-cmp, path_cmp-is, path_cmp-refl, below-less, below_between, not_both_less}
 
 abbrev pub File : Type 0

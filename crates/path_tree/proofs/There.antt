@@ -2,7 +2,7 @@
 use Rattle.std.proofs.Common.{◌≡◌, ◌≢◌, ℕ, ◌<◌, true, length, get_or, Result, Ok, Err, OnErr, arith}
 use Rattle.path_tree.specs.Paths.{Bytes, PathNames}
 use Rattle.path_tree.specs.Trees.{Tree, IsTree, Node, File, NoSuch, node_at}
-use Rattle.path_tree.specs.Places.{place_in, first_is}
+use Rattle.path_tree.specs.Inner.Places.{place_in, first_is}
 use Rattle.path_tree.proofs.Changes.{rest_at, node-file, within-cut}
 
 no_file : (b : Bytes) (n : Node) → File b ≡ n → n ≡ NoSuch → ⊥

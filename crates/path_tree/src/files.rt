@@ -4,7 +4,7 @@ ghost use Rattle.std.specs.Prelude.{◌≡◌, ◌≤◌, ◌<◌, ◌||◌, ◌
 ghost use Rattle.std.specs.List.{dedup, filter_map};
 ghost use Rattle.path_tree.specs.Paths.{same_name, next_name, IsPath};
 ghost use Rattle.path_tree.specs.Trees.{IsTree, is_folder, names_below};
-ghost use Rattle.path_tree.specs.Places.{place_in, first_is, first_is_below, last_is_above, count_below, last_name_is, with_name};
+ghost use Rattle.path_tree.specs.Inner.Places.{place_in, first_is, first_is_below, last_is_above, count_below, last_name_is, with_name};
 
 use crate::path::{Name, Path, same_bytes};
 use oc_bytes::{Blob, NoMemory};

@@ -14,10 +14,12 @@
 #![tactic(auto)]
 
 mod files;
+mod limits;
 mod path;
 mod text;
 mod tree;
 
+pub use limits::limits_are_numbers;
 pub use path::{Name, Path, PathFault};
 pub use text::{MOST_NAMES, print_name};
 pub use tree::{

@@ -7,7 +7,7 @@ ghost use Rattle.oc_bytes.specs.Numbers.{IsBytes};
 ghost use Rattle.oc_bytes.specs.Outcome.{Gives};
 ghost use Rattle.path_tree.specs.Paths.{IsName, IsPath};
 ghost use Rattle.path_tree.specs.Texts.{digit, upper_digit, printed_byte, printed_name, text_cause, is_name, is_slash, is_zero_or_slash, undo_escapes, name_of, names_after};
-ghost use Rattle.path_tree.specs.Steps.{byte_of_digits, Undoes, IsNameAt, Cuts, verdict_of};
+ghost use Rattle.path_tree.specs.Inner.Steps.{byte_of_digits, Undoes, IsNameAt, Cuts, verdict_of};
 
 use crate::path::{Name, PathFault};
 use oc_bytes::NoMemory;

@@ -4,7 +4,7 @@ ghost use Rattle.oc_bytes.specs.Numbers.{IsBytes};
 ghost use Rattle.oc_bytes.specs.Outcome.{Gives};
 ghost use Rattle.path_tree.specs.Edits.{apply_all, apply_cause, fault_of, first_fault, after_edit, OthersStay};
 ghost use Rattle.path_tree.specs.Paths.{IsPath};
-ghost use Rattle.path_tree.specs.Places.{place_in};
+ghost use Rattle.path_tree.specs.Inner.Places.{place_in};
 ghost use Rattle.path_tree.specs.Trees.{IfFolder, IsListing, IsTree, NoSuch, node_at};
 
 use crate::files::{first_is, is_folder, last_is_above, names_below, place_of};

@@ -20,6 +20,7 @@ mod finder;
 mod followed;
 mod frame;
 mod laws;
+mod limits;
 mod pat;
 mod pmt;
 mod receiving;
@@ -32,6 +33,7 @@ pub use laws::{
     each_listed_pid_is_followed, it_is_found_once_its_tables_came, it_is_nowhere_else,
     one_section_lists_its_lines, premises_can_be_met,
 };
+pub use limits::limits_are_numbers;
 pub use pat::decode_pat;
 pub use pmt::decode_pmt;
 pub use tables::{Pat, PatLine, Pmt, PmtLine, PsiFault};

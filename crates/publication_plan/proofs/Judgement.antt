@@ -17,7 +17,7 @@ use Rattle.generation_catalogue.specs.Requests.{commit_cause, of_edits, of_limit
 use Rattle.generation_catalogue.specs.declared.entry.CommitFault.{CommitFault}
 use Rattle.generation_catalogue.specs.declared.entry.Refusal.TheVariants as refusals
 use Rattle.publication_plan.specs.Plans.{first_outcome}
-use Rattle.publication_plan.specs.Judging.{IsAccepted}
+use Rattle.publication_plan.specs.Inner.Judging.{IsAccepted}
 
 -- the outcome in plain words: the journal is full, an edit is refused, or a limit is passed
 pub outcome_is : (carousel : ℕ) (es : List Edit)

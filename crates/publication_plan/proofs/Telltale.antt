@@ -35,7 +35,7 @@ use Rattle.folder_store.specs.declared.reading.ReadTree.{ReadTree}
 use Rattle.folder_store.specs.declared.reading.ReadTree.TheVariants as causes
 use Rattle.folder_store.specs.declared.sights.Standing.{Standing}
 use Rattle.folder_store.specs.declared.surveying.Surveyed.{Surveyed}
-use Rattle.publication_plan.specs.Judging.{FaultTells, IsAccepted, RefusalTells, SizeFails}
+use Rattle.publication_plan.specs.Inner.Judging.{FaultTells, IsAccepted, RefusalTells, SizeFails}
 use Rattle.publication_plan.specs.Plans.{CantBeRead, IsPlan, IsTextOf, NeedsFolder, broken_in, commit_text, first_outcome, look_in, plan_of, walk_text}
 use Rattle.publication_plan.specs.Refusals.{IsNoFile, commit_line, refused_path, rule_line, size_at}
 use Rattle.publication_plan.specs.Telling.{cycle_sections, plan_text, unreadable_line}

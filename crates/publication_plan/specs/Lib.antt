@@ -1,4 +1,4 @@
 pub mod Telling
 pub mod Refusals
 pub mod Plans
-pub mod Judging
+pub mod Inner

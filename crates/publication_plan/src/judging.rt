@@ -5,7 +5,7 @@ ghost use Rattle.oc_bytes.specs.Outcome.{cap_at_u64};
 ghost use Rattle.generation_catalogue.specs.History.{put_bytes, put_size};
 ghost use Rattle.generation_catalogue.specs.Requests.{commit_cause};
 ghost use Rattle.publication_plan.specs.Plans.{first_outcome};
-ghost use Rattle.publication_plan.specs.Judging.{IsAccepted};
+ghost use Rattle.publication_plan.specs.Inner.Judging.{IsAccepted};
 
 use generation::check;
 use generation_catalogue::{CommitFault, MOST_PUT_BYTES, Refusal};

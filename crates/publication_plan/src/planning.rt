@@ -4,7 +4,7 @@ ghost use Rattle.oc_bytes.specs.Outcome.{Rose};
 ghost use Rattle.generation.specs.Layouts.{generation_of};
 ghost use Rattle.folder_store.specs.Surveys.{view_standing};
 ghost use Rattle.shell_streams.specs.Sending.{IsInTime, Puts};
-ghost use Rattle.publication_plan.specs.Judging.{IsAccepted, RefusalTells, FaultTells};
+ghost use Rattle.publication_plan.specs.Inner.Judging.{IsAccepted, RefusalTells, FaultTells};
 ghost use Rattle.publication_plan.specs.Plans.{IsTextOf, NeedsFolder, Plans};
 ghost use Rattle.publication_plan.specs.Telling.{plan_text};
 

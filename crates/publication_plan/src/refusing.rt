@@ -7,7 +7,7 @@ ghost use Rattle.oc_bytes.specs.Outcome.{Rose};
 ghost use Rattle.path_tree.specs.Edits.{apply_all};
 ghost use Rattle.folder_store.specs.Folders.{FolderTree, IsRefused, MayFail};
 ghost use Rattle.folder_store.specs.Surveys.{view_survey};
-ghost use Rattle.publication_plan.specs.Judging.{SizeFails};
+ghost use Rattle.publication_plan.specs.Inner.Judging.{SizeFails};
 ghost use Rattle.publication_plan.specs.Refusals.{IsNoFile, cause_text, limit_of, refused_path, size_at, size_in, size_told};
 ghost use Rattle.publication_plan.specs.Telling.{number_text, refused_line, unreadable_line};
 ghost use Rattle.shell_words.specs.Texts.{line};

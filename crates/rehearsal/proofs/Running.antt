@@ -15,7 +15,7 @@ use Rattle.carousel_world.specs.Promises.{MeetsHeadline, world_after}
 use Rattle.rehearsal.specs.Lines.{Pending, events_of_line, pending_after, events_from, none_pending}
 use Rattle.rehearsal.specs.Reports.{subject_words, path_words, line_of, report_line, report_in, report_of}
 use Rattle.rehearsal.specs.Rehearsals.{Rehearses}
-use Rattle.rehearsal.specs.Steps.{Stands, Runs, HasRun}
+use Rattle.rehearsal.specs.Inner.Steps.{Stands, Runs, HasRun}
 use Rattle.rehearsal.specs.declared.rehearsal.Rehearsal.{Rehearsal}
 
 pub after_more : (w : WorldState) (a b : List Step) → after_all w (a ++ b) ≡ after_all (after_all w a) b

@@ -2,4 +2,4 @@ pub mod Lines
 pub mod Happening
 pub mod Reports
 pub mod Rehearsals
-pub mod Steps
+pub mod Inner

@@ -68,7 +68,7 @@ struct Rehearsal {
 }
 
 impl Rehearsal {
-    ghost use Rattle.rehearsal.specs.Steps.{Stands, Runs, HasRun, GoesOn};
+    ghost use Rattle.rehearsal.specs.Inner.Steps.{Stands, Runs, HasRun, GoesOn};
 
     /// One in which no line was run.
     fn new(alloc: Global, weigh: Weigh) -> Result<Rehearsal, NoMemory>

@@ -17,7 +17,7 @@ pub(crate) struct Subject {
 }
 
 impl Subject {
-    ghost use Rattle.rehearsal.specs.Steps.{Tells};
+    ghost use Rattle.rehearsal.specs.Inner.Steps.{Tells};
 
     /// Out of memory is the only refusal.
     pub(crate) fn of(alloc: Global, event: &Event) -> Result<Subject, NoMemory>

@@ -4,7 +4,7 @@ use Rattle.std.specs.Int.Bits.{xor_zero_r, xor_assoc}
 use Rattle.std.proofs.lemmas.Nat.{xor_comm, xor_lt, xor_shr, xor_mod, xor_block, mod-pow-add, xor_of_8, shl-shr, pow_pos, pow-add}
 use Rattle.std.proofs.lemmas.List.Elements.{All-head, All-tail}
 use Rattle.std.proofs.Math.Nat.{pow-suc, pow-succ', mul-le-mul_left, mul-one, mod-lt, mul-le-mul_right}
-use Rattle.section_crc.specs.Tables.{zeros, entry}
+use Rattle.section_crc.specs.Inner.Tables.{zeros, entry}
 use Rattle.section_crc.specs.Crc.{crc_bit, crc_bits, crc_byte}
 
 -- what the top bit adds to a shifted state

@@ -4,7 +4,7 @@ pub mod Pieces
 pub mod Packing
 pub mod Steps
 pub mod Kept
-pub mod Classes
 pub mod Groups
 pub mod Laws
 pub mod Counting
+pub mod Inner

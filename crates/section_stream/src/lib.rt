@@ -19,6 +19,7 @@ mod counts;
 mod demux;
 mod held;
 mod laws;
+mod limits;
 mod mux;
 mod open_section;
 mod packet_demux;
@@ -32,5 +33,6 @@ pub use laws::{
     calls_give_the_group, candidates_grow, counts_are_numbers, cuts_come_in_order,
     groups_open_at_their_starts, later_groups_are_given, packets_give_the_groups, starts_rise,
 };
+pub use limits::limits_are_numbers;
 pub use mux::Mux;
 pub use packet_demux::PacketDemux;

@@ -71,7 +71,7 @@ fn from_place(packet: &[u8; 188], place: usize) -> &[u8]
 }
 
 impl Receiver {
-    ghost use Rattle.section_stream.specs.Classes.{IsClass};
+    ghost use Rattle.section_stream.specs.Inner.Classes.{IsClass};
 
     /// A receiver of the PID `pid` that has had no packet. It reserves all the memory that it keeps.
     pub fn new(alloc: Global, pid: u16) -> Result<Receiver, NoMemory>

@@ -23,7 +23,7 @@ use Rattle.carousel_world.specs.DownView.{DownlinkStands, DownlinkState}
 use Rattle.carousel_world.specs.Events.{Step, Commit, Draw, Open}
 use Rattle.session_history.specs.Merges.{candidates_after}
 use Rattle.session.specs.Chains.{DrawFields}
-use Rattle.session.specs.ByActor.{lists_of}
+use Rattle.session.specs.Inner.ByActor.{lists_of}
 use Rattle.session.specs.Shown.{AreShots, HasShown}
 use Rattle.session.specs.Seats.{IsDrawLine, IsEditorSeat, draw_of, edits_of}
 use Rattle.session.specs.declared.feeder.DrawLine.{DrawLine}
@@ -31,12 +31,12 @@ use Rattle.session.specs.declared.cast.Cast.{Cast}
 use Rattle.session.specs.declared.plan.Plan.{Plan}
 use Rattle.session.specs.declared.whole.Start.{Start}
 use Rattle.session.specs.Lines.{commits_by, draws_in, opens_by}
-use Rattle.session.specs.Plans.{IsPlanOf, before_steps, during_steps, end_steps, settling_lines, steps}
-use Rattle.session.specs.Acting.{AreApart, EditorsStand, IsViewerOf, ReadersStand, Setting, asked_for, done_in, draws_of, editor_plan, numbers_of, planned_for, reader_plan, readers_of, view_happening}
-use Rattle.session.specs.Casting.{AllMentionedIn, AreSameActors, CastStands, HasWork, IsCast, IsMentionedIn}
-use Rattle.session.specs.Threads.{CastDone}
-use Rattle.session.specs.Ending.{AreDone, EditorsDone}
-use Rattle.session.specs.Playing.{IsBegun}
+use Rattle.session.specs.Inner.Plans.{IsPlanOf, before_steps, during_steps, end_steps, settling_lines, steps}
+use Rattle.session.specs.Inner.Acting.{AreApart, EditorsStand, IsViewerOf, ReadersStand, Setting, asked_for, done_in, draws_of, editor_plan, numbers_of, planned_for, reader_plan, readers_of, view_happening}
+use Rattle.session.specs.Inner.Casting.{AllMentionedIn, AreSameActors, CastStands, HasWork, IsCast, IsMentionedIn}
+use Rattle.session.specs.Inner.Threads.{CastDone}
+use Rattle.session.specs.Inner.Ending.{AreDone, EditorsDone}
+use Rattle.session.specs.Inner.Playing.{IsBegun}
 use Rattle.session.proofs.Casting.{numbers_in, numbers_planned, readers_in, readers_planned}
 use Rattle.session.proofs.Opened.{apart_numbers}
 use Rattle.session.proofs.Parted.{IsNamed, before_named, draws_at_end, opens_at_end}

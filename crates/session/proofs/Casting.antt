@@ -24,9 +24,9 @@ use Rattle.session.specs.declared.feeder.FeederSeat.{FeederSeat}
 use Rattle.session.specs.declared.reader.ReaderSeat.{ReaderSeat}
 use Rattle.session.specs.declared.cast.Cast.{Cast}
 use Rattle.session.specs.Lines.{asked_from, draws_in, opens_by}
-use Rattle.session.specs.Plans.{above, before_steps, steps}
-use Rattle.session.specs.Acting.{AreApart, EditorPlan, EditorsStand, IsNext, IsKnown, ReaderPlan, ReaderStands, ReadersStand, Setting, draws_before, draws_of, editor_plan, events_in, numbers_of, reader_plan, readers_of, view_happening}
-use Rattle.session.specs.Casting.{AreSameActors, CastStands, IsCast, IsMentionedIn}
+use Rattle.session.specs.Inner.Plans.{above, before_steps, steps}
+use Rattle.session.specs.Inner.Acting.{AreApart, EditorPlan, EditorsStand, IsNext, IsKnown, ReaderPlan, ReaderStands, ReadersStand, Setting, draws_before, draws_of, editor_plan, events_in, numbers_of, reader_plan, readers_of, view_happening}
+use Rattle.session.specs.Inner.Casting.{AreSameActors, CastStands, IsCast, IsMentionedIn}
 use Rattle.session.proofs.Editing.{editors_idle}
 use Rattle.session.proofs.Reading.{readers_idle}
 use Rattle.session.proofs.Staged.{count_all, count_done, draws_more, idle_of}

@@ -31,9 +31,9 @@ use Rattle.session.specs.Seats.{HasCommitted, HasFed, drawing_in}
 use Rattle.session.specs.declared.editor.EditorSeat.{EditorSeat}
 use Rattle.session.specs.declared.feeder.FeederSeat.{FeederSeat}
 use Rattle.session.specs.Lines.{commits_by}
-use Rattle.session.specs.Plans.{settling_lines}
+use Rattle.session.specs.Inner.Plans.{settling_lines}
 use Rattle.session.specs.Gathering.{AllCommitted, ActorsGather, GatherGrows, IsGathered}
-use Rattle.session.specs.Ending.{ClosedFields, EditorsDone, HasGathered, drawn_all}
+use Rattle.session.specs.Inner.Ending.{ClosedFields, EditorsDone, HasGathered, drawn_all}
 
 -- ---- the passes
 

@@ -8,7 +8,7 @@ use Rattle.session.specs.Chains.{DrawFields}
 use Rattle.rehearsal.specs.declared.interpreter.Happening.{Happening}
 use Rattle.rehearsal.specs.declared.interpreter.Happening.TheVariants as deeds
 use Rattle.session.specs.Lines.{draws_in, opens_by}
-use Rattle.session.specs.Acting.{view_happening}
+use Rattle.session.specs.Inner.Acting.{view_happening}
 use Rattle.session.proofs.Staged.{draws_more, opens_more}
 
 -- ---- there are no more than events

@@ -19,11 +19,11 @@ use Rattle.session.specs.declared.editor.EditorSeat.{EditorSeat}
 use Rattle.session.specs.declared.reader.ReaderSeat.{ReaderSeat}
 use Rattle.session.specs.declared.cast.Cast.{Cast}
 use Rattle.session.specs.Lines.{asked_from, draws_in, is_draw_before, opens_by}
-use Rattle.session.specs.Plans.{above, at_end, before_steps, below, during_steps, end_steps}
-use Rattle.session.specs.Acting.{ReaderStands, Setting, asked_for, draws_before, draws_of, events_in, readers_of}
-use Rattle.session.specs.Casting.{CastStands, HasWork}
+use Rattle.session.specs.Inner.Plans.{above, at_end, before_steps, below, during_steps, end_steps}
+use Rattle.session.specs.Inner.Acting.{ReaderStands, Setting, asked_for, draws_before, draws_of, events_in, readers_of}
+use Rattle.session.specs.Inner.Casting.{CastStands, HasWork}
 use Rattle.std.specs.Vec.{with_items}
-use Rattle.session.specs.Threads.{CastDone, IsWhole, MayEnd}
+use Rattle.session.specs.Inner.Threads.{CastDone, IsWhole, MayEnd}
 use Rattle.session.proofs.Handed.{editors_done, feeder_done, reader_at, readers_done}
 use Rattle.session.proofs.Staged.{count_all, count_done, draws_more, opens_more, unstaged}
 use Rattle.session.proofs.Casting.{readers_in, readers_planned, shots_count}

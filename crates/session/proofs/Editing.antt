@@ -19,7 +19,7 @@ use Rattle.history_lock.specs.declared.pass.Pass.{Pass}
 use Rattle.session.specs.Seats.{HasCommitted, IsEditorSeat, edits_of}
 use Rattle.session.specs.declared.editor.EditorSeat.{EditorSeat}
 use Rattle.session.specs.Lines.{commits_by}
-use Rattle.session.specs.Acting.{AreApart, EditorStands, EditorsStand, editor_plan, numbers_of, planned_for}
+use Rattle.session.specs.Inner.Acting.{AreApart, EditorStands, EditorsStand, editor_plan, numbers_of, planned_for}
 use Rattle.session.proofs.Staged.{commits_more}
 
 -- an event that is no commit of the editor

@@ -9,9 +9,9 @@ use Rattle.carousel_world.specs.Events.{Step}
 use Rattle.carousel_world.specs.World.{InRange}
 use Rattle.rehearsal.specs.declared.interpreter.Happening.{Happening}
 use Rattle.session.specs.declared.cast.Cast.{Cast}
-use Rattle.session.specs.Plans.{AreInRange, before_steps}
-use Rattle.session.specs.Acting.{IsNext, Setting, view_happening}
-use Rattle.session.specs.Casting.{AllMentionedIn, AreSameActors, CastStands, IsMentionedIn}
+use Rattle.session.specs.Inner.Plans.{AreInRange, before_steps}
+use Rattle.session.specs.Inner.Acting.{IsNext, Setting, view_happening}
+use Rattle.session.specs.Inner.Casting.{AllMentionedIn, AreSameActors, CastStands, IsMentionedIn}
 use Rattle.session.proofs.Casting.{mentioned_in}
 
 -- so far these happened

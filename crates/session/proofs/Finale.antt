@@ -30,12 +30,12 @@ use Rattle.session.specs.declared.editor.EditorSeat.{EditorSeat}
 use Rattle.session.specs.declared.feeder.FeederSeat.{FeederSeat}
 use Rattle.session.specs.declared.reader.ReaderSeat.{ReaderSeat}
 use Rattle.session.specs.Lines.{commits_by, draws_in, opens_by, asked_from, asked_of, is_draw_before}
-use Rattle.session.specs.Plans.{at_end, end_steps, settling_lines, steps}
+use Rattle.session.specs.Inner.Plans.{at_end, end_steps, settling_lines, steps}
 use Rattle.session.specs.Gathering.{IsGathered}
 use Rattle.session.specs.Played.{IsPlayed, AllRead, PlayedIsASession, fates_of, opens_of}
 use Rattle.session.specs.Sessions.{IsSession}
-use Rattle.session.specs.Acting.{Setting, done_in, draws_before, draws_of, readers_of}
-use Rattle.session.specs.Ending.{AllOpenedLast, AreDone, ClosedFields, EditorsDone, HasGathered, HasOpenedLast, MayOpenLast, ReaderDone, drawn_all}
+use Rattle.session.specs.Inner.Acting.{Setting, done_in, draws_before, draws_of, readers_of}
+use Rattle.session.specs.Inner.Ending.{AllOpenedLast, AreDone, ClosedFields, EditorsDone, HasGathered, HasOpenedLast, MayOpenLast, ReaderDone, drawn_all}
 use Rattle.session.proofs.Casting.{draws_count as drawings_count}
 use Rattle.session.proofs.Parted.{commits_at_end, draws_at_end, events_parts, settle_there, staged_parts}
 use Rattle.session.proofs.Reading.{asked_count, opened_count}

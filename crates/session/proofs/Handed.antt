@@ -15,10 +15,10 @@ use Rattle.session.specs.declared.editor.EditorSeat.{EditorSeat}
 use Rattle.session.specs.declared.reader.ReaderSeat.{ReaderSeat}
 use Rattle.session.specs.declared.cast.Cast.{Cast}
 use Rattle.session.specs.Lines.{commits_by, draws_in, opens_by, asked_from}
-use Rattle.session.specs.Plans.{above, before_steps, below, during_steps, end_steps, steps}
-use Rattle.session.specs.Acting.{EditorPlan, EditorsStand, ReaderPlan, ReaderStands, ReadersStand, Setting, asked_for, done_in, draws_before, draws_of, editor_plan, events_in, planned_for, reader_plan}
-use Rattle.session.specs.Casting.{HasWork}
-use Rattle.session.specs.Ending.{EditorsDone, ReaderDone}
+use Rattle.session.specs.Inner.Plans.{above, before_steps, below, during_steps, end_steps, steps}
+use Rattle.session.specs.Inner.Acting.{EditorPlan, EditorsStand, ReaderPlan, ReaderStands, ReadersStand, Setting, asked_for, done_in, draws_before, draws_of, editor_plan, events_in, planned_for, reader_plan}
+use Rattle.session.specs.Inner.Casting.{HasWork}
+use Rattle.session.specs.Inner.Ending.{EditorsDone, ReaderDone}
 use Rattle.session.proofs.Staged.{asked_more, commits_more, draws_more, steps_done}
 use Rattle.session.proofs.Reading.{prefix_length}
 

@@ -8,7 +8,7 @@ use Rattle.open_history.specs.Opens.{ReaderView, IsSameReader}
 use Rattle.open_history.specs.declared.entry.OpenEntry.{OpenEntry}
 use Rattle.session.specs.Opened.{Asked, AreOpened, HasOpened, Rises}
 use Rattle.session.specs.Seats.{asked_at}
-use Rattle.session.specs.Ending.{HasOpenedLast}
+use Rattle.session.specs.Inner.Ending.{HasOpenedLast}
 
 -- ---- one reader
 

@@ -19,7 +19,7 @@ use Rattle.carousel_world.specs.Events.{Step, Commit, Draw, Open}
 use Rattle.rehearsal.specs.Lines.{Pending, none_pending, pending_after, events_of, events_of_line, events_from, settling_step}
 use Rattle.session.specs.Chains.{DrawFields}
 use Rattle.session.specs.Lines.{commits_by, draws_in, is_settle, opens_by, staged_events, staged_from, settles}
-use Rattle.session.specs.Plans.{above, at_end, before_steps, below, during_steps, end_steps, events_at, finale_step, settling, settling_lines, steps, waiting_below}
+use Rattle.session.specs.Inner.Plans.{above, at_end, before_steps, below, during_steps, end_steps, events_at, finale_step, settling, settling_lines, steps, waiting_below}
 use Rattle.session.proofs.Scripted.{EndsDrawn}
 use Rattle.session.proofs.Staged.{draws_more, steps_more, unstaged}
 

@@ -20,11 +20,11 @@ use Rattle.session.specs.declared.by_actor.ByActor.{ByActor}
 use Rattle.session.specs.declared.editor.CommitLine.{CommitLine}
 use Rattle.session.specs.declared.feeder.DrawLine.{DrawLine}
 use Rattle.session.specs.declared.plan.Work.{Work}
-use Rattle.session.specs.ByActor.{lists_of}
+use Rattle.session.specs.Inner.ByActor.{lists_of}
 use Rattle.session.specs.Chains.{DrawFields}
 use Rattle.session.specs.Lines.{commits_by, draws_in, opens_by}
 use Rattle.session.specs.Seats.{edits_of, draw_of, IsDrawLine}
-use Rattle.session.specs.Plans.{HasSplit, events_at, waiting_below}
+use Rattle.session.specs.Inner.Plans.{HasSplit, events_at, waiting_below}
 use Rattle.session.proofs.Staged.{commits_more, draws_more, opens_more}
 use Rattle.session.proofs.Taking.{either_side}
 

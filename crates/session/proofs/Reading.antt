@@ -18,8 +18,8 @@ use Rattle.session.specs.Opened.{Asked, AreOpened, HasOpened}
 use Rattle.session.specs.Seats.{asked_at}
 use Rattle.session.specs.declared.reader.ReaderSeat.{ReaderSeat}
 use Rattle.session.specs.Lines.{draws_in, opens_by, asked_from, least_for}
-use Rattle.session.specs.Plans.{above, before_steps, steps}
-use Rattle.session.specs.Acting.{AreApart, IsNext, ReaderStands, ReadersStand, Setting, draws_before, draws_of, events_in, reader_plan, readers_of}
+use Rattle.session.specs.Inner.Plans.{above, before_steps, steps}
+use Rattle.session.specs.Inner.Acting.{AreApart, IsNext, ReaderStands, ReadersStand, Setting, draws_before, draws_of, events_in, reader_plan, readers_of}
 use Rattle.session.proofs.Staged.{above_more, asked_more, count_all, count_done, opens_more, unstaged}
 
 -- ---- what is asked of a reader

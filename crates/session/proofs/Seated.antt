@@ -13,8 +13,8 @@ use Rattle.carousel_world.specs.Events.{Step}
 use Rattle.session.specs.Opened.{AreOpened, Rises}
 use Rattle.session.specs.declared.reader.ReaderSeat.{ReaderSeat}
 use Rattle.session.specs.Lines.{opens_by}
-use Rattle.session.specs.Plans.{before_steps, during_steps, end_steps, steps}
-use Rattle.session.specs.Acting.{IsNewSeat, IsViewerOf, ReaderStands, ReadersStand, Setting, asked_for, events_in, reader_plan}
+use Rattle.session.specs.Inner.Plans.{before_steps, during_steps, end_steps, steps}
+use Rattle.session.specs.Inner.Acting.{IsNewSeat, IsViewerOf, ReaderStands, ReadersStand, Setting, asked_for, events_in, reader_plan}
 use Rattle.session.proofs.Staged.{count_all, count_done, opens_more}
 
 -- seats with these numbers and viewers, each with room for so many opens, and before which these paths of their numbers lie

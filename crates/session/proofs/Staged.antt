@@ -9,9 +9,9 @@ use Rattle.carousel_world.specs.Events.{Step, Commit, Draw, Open}
 use Rattle.session.specs.Chains.{DrawFields}
 use Rattle.session.specs.Opened.{Asked}
 use Rattle.session.specs.Lines.{commits_by, draws_in, opens_by, asked_from, least_for}
-use Rattle.session.specs.Acting.{Setting, done_in, events_in}
-use Rattle.session.specs.Plans.{above, at_end, before_steps, below, during_steps, end_steps}
-pub use Rattle.session.specs.Plans.{steps}
+use Rattle.session.specs.Inner.Acting.{Setting, done_in, events_in}
+use Rattle.session.specs.Inner.Plans.{above, at_end, before_steps, below, during_steps, end_steps}
+pub use Rattle.session.specs.Inner.Plans.{steps}
 
 pub commits_more : (n : ℕ) (xs ys : List Step) → commits_by n (xs ++ ys) ≡ commits_by n xs ++ commits_by n ys
 commits_more n [] ys = refl

@@ -8,8 +8,8 @@ use Rattle.std.specs.declared.vec.Vec.{Vec}
 use Rattle.std.specs.declared.alloc.Global.{Global}
 use mathlib.Core.Logic.{dite}
 use native.Mathlib.Decide.{ℕ_discrete}
-use Rattle.session.specs.ByActor.{items_in}
-use Rattle.session.specs.Acting.{AreApart}
+use Rattle.session.specs.Inner.ByActor.{items_in}
+use Rattle.session.specs.Inner.Acting.{AreApart}
 
 pub pushed : {T : Type 0} (old : ℕ → List T) (actor : ℕ) (one : T) (mid new : BTreeMap ℕ (Vec T Global)) (took more : Vec T Global) → took.items ≡ old actor
     → ((n : ℕ) → items_in (get nat_cmp mid n) ≡ (if n == actor then [] else old n)) → more.items ≡ took.items ++ one ∷ [] → Updates nat_cmp mid new actor (Some more)

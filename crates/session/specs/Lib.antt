@@ -2,14 +2,8 @@ pub mod Chains
 pub mod Shown
 pub mod Opened
 pub mod Seats
-pub mod ByActor
 pub mod Lines
-pub mod Plans
 pub mod Sessions
 pub mod Gathering
 pub mod Played
-pub mod Acting
-pub mod Casting
-pub mod Threads
-pub mod Ending
-pub mod Playing
+pub mod Inner

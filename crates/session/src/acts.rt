@@ -1,9 +1,9 @@
 //! The lines above `start`.
 ghost use Rattle.std.specs.Prelude.{◌≡◌, [], map, OnOk};
 ghost use Rattle.shot_board.specs.Showers.{shown_by, IsSameBoard};
-ghost use Rattle.session.specs.Acting.{Setting, view_happening};
-ghost use Rattle.session.specs.Plans.{AreInRange, before_steps};
-ghost use Rattle.session.specs.Casting.{AllMentionedIn, AreSameActors, CastStands, IsBoardOf, IsCast};
+ghost use Rattle.session.specs.Inner.Acting.{Setting, view_happening};
+ghost use Rattle.session.specs.Inner.Plans.{AreInRange, before_steps};
+ghost use Rattle.session.specs.Inner.Casting.{AllMentionedIn, AreSameActors, CastStands, IsBoardOf, IsCast};
 
 use crate::cast::Cast;
 use oc_bytes::NoMemory;

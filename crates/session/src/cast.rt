@@ -28,8 +28,8 @@ pub(crate) struct Cast {
 }
 
 impl Cast {
-    ghost use Rattle.session.specs.Acting.{Setting, view_happening, IsNext};
-    ghost use Rattle.session.specs.Casting.{AreSameActors, CastStands, IsBoardOf, IsCast, IsMentionedIn};
+    ghost use Rattle.session.specs.Inner.Acting.{Setting, view_happening, IsNext};
+    ghost use Rattle.session.specs.Inner.Casting.{AreSameActors, CastStands, IsBoardOf, IsCast, IsMentionedIn};
 
     /// Does what happens before the start. After a draw each reader is told of all that was shown. Out of memory is the only refusal.
     pub(crate) fn act<R: Threads + Wait + Sync, G: Gate>(

@@ -4,8 +4,8 @@ ghost use Rattle.std.specs.List.{All, Contains};
 ghost use Rattle.carousel_world.specs.Events.{Step, Commit};
 ghost use Rattle.station.specs.Passes.{IsStationPass, AreNewPasses};
 ghost use Rattle.session.specs.Seats.{IsEditorSeat, edits_of};
-ghost use Rattle.session.specs.ByActor.{lists_of};
-ghost use Rattle.session.specs.Acting.{AreApart, EditorsStand, editor_plan, numbers_of, planned_for};
+ghost use Rattle.session.specs.Inner.ByActor.{lists_of};
+ghost use Rattle.session.specs.Inner.Acting.{AreApart, EditorsStand, editor_plan, numbers_of, planned_for};
 
 use crate::by_actor::ByActor;
 use crate::editor::{CommitLine, EditorSeat, commit};

@@ -14,11 +14,11 @@ ghost use Rattle.session_history.specs.Merges.{known_view, reader_view};
 ghost use Rattle.session.specs.Chains.{DrawFields};
 ghost use Rattle.session.specs.Seats.{HasFed, IsEditorSeat};
 ghost use Rattle.session.specs.Lines.{commits_by};
-ghost use Rattle.session.specs.Plans.{settling_lines};
-ghost use Rattle.session.specs.Acting.{Setting, draws_of};
+ghost use Rattle.session.specs.Inner.Plans.{settling_lines};
+ghost use Rattle.session.specs.Inner.Acting.{Setting, draws_of};
 ghost use Rattle.session.specs.Played.{open_of, opens_of as opens_in_history};
 ghost use Rattle.session.specs.Sessions.{IsSession};
-ghost use Rattle.session.specs.Ending.{EditorsDone, HasGathered, HasOpenedLast, AllOpenedLast, MayOpenLast, AreDone, drawn_all, view_closed};
+ghost use Rattle.session.specs.Inner.Ending.{EditorsDone, HasGathered, HasOpenedLast, AllOpenedLast, MayOpenLast, AreDone, drawn_all, view_closed};
 ghost use Rattle.cycle_planner.specs.declared.TheConstants.{MOST_DRAWN};
 
 use crate::editor::EditorSeat;

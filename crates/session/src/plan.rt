@@ -8,9 +8,9 @@ ghost use Rattle.carousel_world.specs.Events.{Step};
 ghost use Rattle.carousel_world.specs.World.{InRange};
 ghost use Rattle.rehearsal.specs.Lines.{Pending, events_of_line, pending_after};
 ghost use Rattle.rehearsal.specs.Happening.{Holds, view_happening};
-ghost use Rattle.session.specs.ByActor.{lists_of};
+ghost use Rattle.session.specs.Inner.ByActor.{lists_of};
 ghost use Rattle.session.specs.Lines.{draws_in, opens_by};
-ghost use Rattle.session.specs.Plans.{AreInRange, HasSplit, IsPlanOf, events_at, finale_step, settling_lines, waiting_below};
+ghost use Rattle.session.specs.Inner.Plans.{AreInRange, HasSplit, IsPlanOf, events_at, finale_step, settling_lines, waiting_below};
 
 use crate::by_actor::ByActor;
 use crate::editor::CommitLine;

@@ -5,7 +5,7 @@ ghost use Rattle.logbook.specs.Pages.{Book};
 ghost use Rattle.path_resolver.specs.declared.shot.Shot.{Shot as ShotFields};
 ghost use Rattle.carousel_world.specs.Events.{Step, Open};
 ghost use Rattle.shot_board.specs.Showers.{shown_by, shower_board, IsSameBoard};
-ghost use Rattle.session.specs.Acting.{AreApart, IsKnown, Setting, ReadersStand, IsNext, reader_plan, readers_of};
+ghost use Rattle.session.specs.Inner.Acting.{AreApart, IsKnown, Setting, ReadersStand, IsNext, reader_plan, readers_of};
 ghost use Rattle.session.specs.Lines.{draws_in};
 
 use crate::reader::{ReaderSeat, open};

@@ -2,10 +2,10 @@
 ghost use Rattle.std.specs.Prelude.{◌≡◌, ◌+◌, ◌≤◌, [], ◌∷◌, List, ℕ, map, length, if◌then◌else◌, IfOk};
 ghost use Rattle.path_resolver.specs.declared.shot.Shot.{Shot as ShotFields};
 ghost use Rattle.shot_board.specs.Shots.{Each};
-ghost use Rattle.session.specs.ByActor.{lists_of};
+ghost use Rattle.session.specs.Inner.ByActor.{lists_of};
 ghost use Rattle.session.specs.Lines.{opens_by};
-ghost use Rattle.session.specs.Plans.{before_steps, during_steps, end_steps};
-ghost use Rattle.session.specs.Acting.{AreApart, IsNewSeat, IsViewerOf, ReadersStand, Setting, asked_for, reader_plan, view_happening};
+ghost use Rattle.session.specs.Inner.Plans.{before_steps, during_steps, end_steps};
+ghost use Rattle.session.specs.Inner.Acting.{AreApart, IsNewSeat, IsViewerOf, ReadersStand, Setting, asked_for, reader_plan, view_happening};
 
 use crate::by_actor::ByActor;
 use crate::plan::sum_of;

@@ -2,10 +2,10 @@
 ghost use Rattle.std.specs.Prelude.{◌≡◌, ◌↔◌, true};
 ghost use Rattle.std.specs.List.{list_all};
 ghost use Rattle.shot_board.specs.Showers.{shown_by, IsSameBoard};
-ghost use Rattle.session.specs.Acting.{Setting};
-ghost use Rattle.session.specs.Plans.{before_steps};
-ghost use Rattle.session.specs.Casting.{CastStands, HasWork, IsBoardOf, IsCast};
-ghost use Rattle.session.specs.Threads.{CastDone, IsWhole, MayEnd};
+ghost use Rattle.session.specs.Inner.Acting.{Setting};
+ghost use Rattle.session.specs.Inner.Plans.{before_steps};
+ghost use Rattle.session.specs.Inner.Casting.{CastStands, HasWork, IsBoardOf, IsCast};
+ghost use Rattle.session.specs.Inner.Threads.{CastDone, IsWhole, MayEnd};
 
 use crate::actors::run_actors;
 use crate::cast::Cast;

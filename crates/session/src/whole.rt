@@ -5,9 +5,9 @@ ghost use Rattle.session_script.specs.Ranges.{AreListed, IsInRanges};
 ghost use Rattle.session_history.specs.Merges.{known_view};
 ghost use Rattle.shot_board.specs.Showers.{shown_by};
 ghost use Rattle.session.specs.Sessions.{IsSession};
-ghost use Rattle.session.specs.Acting.{Setting};
-ghost use Rattle.session.specs.Casting.{IsBoardOf};
-ghost use Rattle.session.specs.Playing.{IsBegun};
+ghost use Rattle.session.specs.Inner.Acting.{Setting};
+ghost use Rattle.session.specs.Inner.Casting.{IsBoardOf};
+ghost use Rattle.session.specs.Inner.Playing.{IsBegun};
 
 use crate::acts::act_all;
 use crate::cast::Cast;

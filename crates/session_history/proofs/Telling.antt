@@ -15,7 +15,7 @@ use Rattle.session_history.specs.Merging.{Each, opens_at, merge_entries, merge_o
 use Rattle.session_history.specs.Laws.{NeverFall}
 use Rattle.session_history.specs.Merges.{ReaderFields, event_of, session_merge}
 use Rattle.session_history.specs.Merged.{IsPlaced, IsInOrder, AreParts}
-use Rattle.session_history.specs.Waiting.{waited_by, opened_at, AllClimb, AreLeft}
+use Rattle.session_history.specs.Inner.Waiting.{waited_by, opened_at, AllClimb, AreLeft}
 use Rattle.session_history.proofs.Placing.{count_more, count_same}
 use Rattle.session_history.proofs.Turns.{left_at, all_by, all_never, all_climb}
 

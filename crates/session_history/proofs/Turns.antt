@@ -15,7 +15,7 @@ use Rattle.session_history.specs.declared.waiting.Waiting.{Waiting}
 use Rattle.session_history.specs.Merging.{Each, opens_by, opens_of}
 use Rattle.session_history.specs.Laws.{NeverFall}
 use Rattle.session_history.specs.Merges.{ReaderFields, reader_view, opened_of, session_merge}
-use Rattle.session_history.specs.Waiting.{as_reader, waited_by, opened_at, count_first_opens, Climb, IsLeft, AllClimb, AreLeft}
+use Rattle.session_history.specs.Inner.Waiting.{as_reader, waited_by, opened_at, count_first_opens, Climb, IsLeft, AllClimb, AreLeft}
 use Rattle.session_history.proofs.Cutting.{filter_takes, filter_skips}
 use Rattle.session_history.proofs.Running.{each_append}
 

@@ -2,4 +2,4 @@ pub mod Merging
 pub mod Laws
 pub mod Merges
 pub mod Merged
-pub mod Waiting
+pub mod Inner

@@ -2,7 +2,7 @@
 ghost use Rattle.std.specs.Prelude.{◌≡◌, ◌≤◌, ◌++◌, IfOk, OnOk, length, map};
 ghost use Rattle.std.specs.List.{flat_map, range_with_len};
 ghost use Rattle.session_history.specs.Merges.{known_view, reader_view, opened_of};
-ghost use Rattle.session_history.specs.Waiting.{as_reader, waited_by, opened_at, count_first_opens, Climb, IsLeft, AllClimb, AreLeft};
+ghost use Rattle.session_history.specs.Inner.Waiting.{as_reader, waited_by, opened_at, count_first_opens, Climb, IsLeft, AllClimb, AreLeft};
 
 use crate::again::answer_again;
 use crate::opens::{Open, ReaderOpens};

@@ -10,8 +10,8 @@ use Rattle.session_script.specs.declared.line.Part.TheVariants.{Opening, Running
 use Rattle.session_script.specs.declared.script.Stage.TheVariants.{Before, During}
 use Rattle.session_script.specs.Scripts.{Act}
 use Rattle.session_script.specs.Grammar.{Saying, Passed, Starts, Does, Ends, is_start, is_end, part_of, who, first_mentions, actors, stage_above, lines_from}
-use Rattle.session_script.specs.Mentions.{with_mention}
-use Rattle.session_script.specs.Readings.{as_before}
+use Rattle.session_script.specs.Inner.Mentions.{with_mention}
+use Rattle.session_script.specs.Inner.Readings.{as_before}
 
 or_false : (b : Bool) → (b || false) ≡ b
 or_false true = refl

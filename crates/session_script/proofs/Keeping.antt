@@ -11,8 +11,8 @@ use Rattle.session_script.specs.Scripts.{Settle, Open}
 use Rattle.session_script.specs.Parts.{task_line, finale_line, settle_lines, lines_of}
 use Rattle.session_script.specs.Parts.{act_of}
 use Rattle.session_script.specs.Grammar.{Starts, Does, Ends, editor_of, reader_of}
-use Rattle.session_script.specs.Mentions.{with_mention}
-use Rattle.session_script.specs.Readings.{as_before, IsShaped, Adds}
+use Rattle.session_script.specs.Inner.Mentions.{with_mention}
+use Rattle.session_script.specs.Inner.Readings.{as_before, IsShaped, Adds}
 use Rattle.session_script.specs.declared.parts.Task.{Task}
 
 -- the tasks below `start` become those above it

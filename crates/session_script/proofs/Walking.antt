@@ -19,7 +19,7 @@ use Rattle.session_script.specs.Scripts.{LineFields, Fields, cause}
 use Rattle.session_script.specs.Parts.{script_of_parts}
 use Rattle.session_script.specs.Grammar.{Saying, Passed, Starts, Does, Ends, part_of, line_by, is_feed, lines_in, or_bad_line, sayings, actors, editor_of, reader_of, lines_from, script_of, meaning_of, ◌>>=◌}
 use Rattle.session_script.specs.Memory.{is_kept, line_asks, AsksForMemory}
-use Rattle.session_script.specs.Readings.{StandsFor, Reads, lines_read}
+use Rattle.session_script.specs.Inner.Readings.{StandsFor, Reads, lines_read}
 use Rattle.session_script.proofs.Growing.{actors_more}
 use Rattle.session_script.proofs.Asking.{kept_asks}
 

@@ -6,7 +6,6 @@ pub mod Values
 pub mod Grammar
 pub mod Memory
 pub mod Steps
-pub mod Mentions
-pub mod Readings
 pub mod Ranges
 pub mod Generated
+pub mod Inner

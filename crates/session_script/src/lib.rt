@@ -22,6 +22,7 @@
 
 mod generator;
 mod keyword;
+mod limits;
 mod line;
 mod number;
 mod parts;
@@ -32,6 +33,7 @@ mod values;
 mod words;
 
 pub use generator::generated;
+pub use limits::limits_are_numbers;
 pub use parts::{Finale, Parts, Task, TaskLine};
 pub use reading::{parse, read_parts};
 pub use script::{Action, Line, LineCause, Script, ScriptFault, Stage};

@@ -1,7 +1,7 @@
 //! A script, read line by line.
 ghost use Rattle.std.specs.Prelude.{◌≡◌, ◌+◌, ◌<◌, true, Ok, Err, [], List, length, map, IfOk, OnOk, OnErr, IsErrOf};
 ghost use Rattle.oc_bytes.specs.Outcome.{Gives};
-ghost use Rattle.session_script.specs.Mentions.{with_mention};
+ghost use Rattle.session_script.specs.Inner.Mentions.{with_mention};
 ghost use Rattle.session_script.specs.Scripts.{cause};
 ghost use Rattle.session_script.specs.Scripts as scripts;
 ghost use Rattle.session_script.specs.Parts.{script_of_parts};
@@ -41,7 +41,7 @@ impl Reading {
     ghost use Rattle.session_script.specs.Grammar.{Saying, Starts, Does, Ends};
     ghost use Rattle.session_script.specs.Memory.{line_asks, is_kept};
     ghost use Rattle.session_script.specs.Steps.{view_said, Suits};
-    ghost use Rattle.session_script.specs.Readings.{StandsFor, Adds, IsShaped, Reads, lines_read};
+    ghost use Rattle.session_script.specs.Inner.Readings.{StandsFor, Adds, IsShaped, Reads, lines_read};
     ghost use Rattle.session_script.specs.declared.line.Part.TheVariants.{Opening, Closing};
 
     fn new(alloc: Global) -> Reading

@@ -19,6 +19,7 @@
 mod carrier;
 mod every_packet;
 mod input;
+mod limits;
 mod output;
 mod packets;
 mod sections;
@@ -28,6 +29,7 @@ mod whole;
 pub use carrier::{Carrier, Listener, hear_all, hear_each};
 pub use every_packet::{PacketListener, hear_all_packets, hear_packets_and_rest};
 pub use input::InputFault;
+pub use limits::limits_are_numbers;
 pub use output::{Buffered, MOST_PENDING, Output, OutputFault, room};
 pub use packets::{MOST_PACKETS, PacketReader};
 pub use whole::read_all;

@@ -17,6 +17,7 @@
 mod complaints;
 mod counting;
 mod keyword;
+mod limits;
 mod parsing;
 mod places;
 mod table;
@@ -25,6 +26,7 @@ mod values;
 mod words;
 
 pub use complaints::complaint_text;
+pub use limits::limits_are_numbers;
 pub use parsing::command;
 pub use places::{Complaint, Slot, first_complaint};
 pub use table::MOST_MOUNT_NAME;

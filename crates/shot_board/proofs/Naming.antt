@@ -6,7 +6,7 @@ use Rattle.crossbeam_utils.specs.Register.{Admits, TurnsAt, Turns, Forks, Merges
 use Rattle.atomic_table.proofs.Lists.{at_set, at_snoc}
 use Rattle.shot_board.specs.declared.shown.Shown.{Shown}
 use Rattle.shot_board.specs.declared.seats.Name.{Name}
-use Rattle.shot_board.specs.Names.{nobody, name_of, Fits, AllNamed, HasRead, HasNamed}
+use Rattle.shot_board.specs.Inner.Names.{nobody, name_of, Fits, AllNamed, HasRead, HasNamed}
 
 off : false ≡ true → ⊥
 off e = true≢false (sym e)

@@ -20,7 +20,7 @@ pub struct Name<S: Numbered> {
 pub struct OneBook;
 
 impl<S: Numbered> Protocol<Shown<S>, Name<S>> for OneBook {
-    ghost use Rattle.shot_board.specs.Names.{AllNamed, nobody};
+    ghost use Rattle.shot_board.specs.Inner.Names.{AllNamed, nobody};
 
     ghost holds = { AllNamed };
 
@@ -31,7 +31,7 @@ impl<S: Numbered> Protocol<Shown<S>, Name<S>> for OneBook {
 pub struct Reads;
 
 impl<S: Numbered> Outcome<Shown<S>, Name<S>> for Reads {
-    ghost use Rattle.shot_board.specs.Names.{HasRead};
+    ghost use Rattle.shot_board.specs.Inner.Names.{HasRead};
 
     ghost then = { HasRead };
 }
@@ -40,7 +40,7 @@ impl<S: Numbered> Outcome<Shown<S>, Name<S>> for Reads {
 pub struct TakesName;
 
 impl<S: Numbered> Outcome<Shown<S>, Name<S>> for TakesName {
-    ghost use Rattle.shot_board.specs.Names.{HasNamed};
+    ghost use Rattle.shot_board.specs.Inner.Names.{HasNamed};
 
     ghost then = { HasNamed };
 }
@@ -55,7 +55,7 @@ impl<S: Numbered> Split<Name<S>> for SameName {
 }
 
 impl<S: Numbered> Join<Name<S>> for SameName {
-    ghost use Rattle.shot_board.specs.Names.{nobody};
+    ghost use Rattle.shot_board.specs.Inner.Names.{nobody};
 
     ghost both = { λ name other. other };
 

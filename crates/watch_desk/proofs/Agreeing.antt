@@ -8,7 +8,7 @@ use Rattle.path_resolver.specs.declared.answer.Answer.{Answer}
 use Rattle.path_resolver.specs.declared.answer.Answer.TheVariants as answers
 use Rattle.watch_desk.specs.declared.notice.Notice.{Notice}
 use Rattle.watch_desk.specs.Notices.{differs, is_told, notice, notices_to}
-use Rattle.watch_desk.specs.Showing.{changes, keeping, told_from, told_of, told_to_all}
+use Rattle.watch_desk.specs.Inner.Showing.{changes, keeping, told_from, told_of, told_to_all}
 use Rattle.watch_desk.specs.Watching.{DeskState, StandsFor, answer_on, answers_kept, last_shot, notices_of}
 use Rattle.watch_desk.proofs.Lists.{last_more}
 

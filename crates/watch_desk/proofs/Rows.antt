@@ -4,7 +4,7 @@ use Rattle.path_resolver.specs.Comparing.{same_answer}
 use Rattle.path_resolver.specs.declared.answer.Answer.TheVariants as answers
 use Rattle.watch_desk.specs.Laws.{PremisesMet, a_and_b, root_and_b}
 use Rattle.watch_desk.specs.Notices.{notice}
-use Rattle.watch_desk.specs.Showing.{changes, told_to_all}
+use Rattle.watch_desk.specs.Inner.Showing.{changes, told_to_all}
 use Rattle.watch_desk.specs.Wanting.{is_wanted}
 
 -- the prefix itself is wanted, and so is what lies below it; a name that only begins alike isn't

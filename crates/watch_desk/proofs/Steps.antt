@@ -6,7 +6,7 @@ use Rattle.path_resolver.specs.declared.answer.Answer.{Answer}
 use Rattle.watch_desk.specs.declared.notice.Notice.{Notice}
 use Rattle.watch_desk.specs.Wanting.{is_wanted}
 use Rattle.watch_desk.specs.Notices.{notice}
-use Rattle.watch_desk.specs.Showing.{changes, differs_at, told_from, told_to_all}
+use Rattle.watch_desk.specs.Inner.Showing.{changes, differs_at, told_from, told_to_all}
 
 -- what is left, one step on
 goes_on : {A : Type 0} (done more left rest whole : List A) (x : A) → more ≡ done ++ x ∷ [] → left ≡ x ∷ rest → done ++ left ≡ whole → more ++ rest ≡ whole

@@ -6,7 +6,7 @@ use Rattle.path_tree.specs.Paths.{PathNames}
 use Rattle.path_resolver.specs.Resolving.{Held}
 use Rattle.watch_desk.specs.declared.notice.Notice.{Notice}
 use Rattle.watch_desk.specs.Notices.{notice}
-use Rattle.watch_desk.specs.Showing.{answers_for, changes, told_from, told_of, told_to_all}
+use Rattle.watch_desk.specs.Inner.Showing.{answers_for, changes, told_from, told_of, told_to_all}
 use Rattle.watch_desk.specs.Wanting.{is_wanted}
 use Rattle.watch_desk.specs.Watching.{DeskState}
 

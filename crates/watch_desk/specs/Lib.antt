@@ -1,10 +1,10 @@
 pub mod Wanting
 pub mod Notices
 pub mod Watching
-pub mod Showing
 pub mod Kept
 pub mod Prefixes
 pub mod View
 pub mod Parts
 pub mod Telling
 pub mod Laws
+pub mod Inner

@@ -3,7 +3,7 @@ ghost use Rattle.std.specs.Arc.{arc_value};
 ghost use Rattle.std.specs.List.{All, AllPairs};
 ghost use Rattle.path_resolver.specs.Shots.{held_of};
 ghost use Rattle.path_resolver.specs.Resolving.{Held};
-ghost use Rattle.watch_desk.specs.Showing.{keeping, told_of};
+ghost use Rattle.watch_desk.specs.Inner.Showing.{keeping, told_of};
 ghost use Rattle.watch_desk.specs.Watching.{StandsFor, notices_of};
 ghost use Rattle.watch_desk.specs.declared.TheConstants.{MOST_FILTERS, MOST_WATCHED};
 

@@ -29,6 +29,7 @@ mod crossing;
 mod desk;
 mod filter;
 mod laws;
+mod limits;
 mod notice;
 mod notifying;
 mod parts;
@@ -41,6 +42,7 @@ pub use laws::{
     each_change_is_told, each_change_is_told_after_its_candidate, limits_are_these,
     premises_can_be_met, shots_are_needed_at_changes, shots_tell_it,
 };
+pub use limits::limits_are_numbers;
 pub use notice::Notice;
 pub use parts::{is_of_blocks, whole_modules};
 

@@ -2,7 +2,7 @@
 
 ghost use Rattle.std.specs.Prelude.{◌≡◌, ◌≤◌, ◌<◌, ◌++◌, ◌&&◌, length, IfOk, OnOk, OnErr};
 ghost use Rattle.watch_desk.specs.Prefixes.{prefixes_of};
-ghost use Rattle.watch_desk.specs.Showing.{told_from, told_to_all};
+ghost use Rattle.watch_desk.specs.Inner.Showing.{told_from, told_to_all};
 ghost use Rattle.watch_desk.specs.Wanting.{is_wanted};
 ghost use Rattle.watch_desk.specs.declared.TheConstants.{MOST_FILTERS, MOST_WATCHED};
 

@@ -1,8 +1,8 @@
 ghost use Rattle.std.specs.Prelude.{◌≡◌, ◌≤◌, ◌<◌, [], length, map, IfOk, OnErr};
 ghost use Rattle.path_resolver.specs.Shots.{held_of};
 ghost use Rattle.path_resolver.specs.Resolving.{answer_of};
-ghost use Rattle.watch_desk.specs.Showing as showing;
-ghost use Rattle.watch_desk.specs.Showing.{differs_at};
+ghost use Rattle.watch_desk.specs.Inner.Showing as showing;
+ghost use Rattle.watch_desk.specs.Inner.Showing.{differs_at};
 ghost use Rattle.watch_desk.specs.declared.TheConstants.{MOST_WATCHED};
 
 use oc_bytes::NoMemory;

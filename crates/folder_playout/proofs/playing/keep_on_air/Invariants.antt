@@ -1,4 +1,4 @@
-use Rattle.folder_playout.specs.Standing.{IsPlaying}
+use Rattle.folder_playout.specs.Inner.Standing.{IsPlaying}
 use Rattle.folder_playout.proofs.playing.keep_on_air.Given as goal
 
 abbrev pub invariant-loop-sent : goal.invariant-loop-sent

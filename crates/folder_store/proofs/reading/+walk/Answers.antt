@@ -6,7 +6,7 @@ use Rattle.folder_store.specs.Folders.{FolderTree, IsRefused, is_folder_at, kind
 use Rattle.folder_store.specs.Gathering.{kind_at, met_one}
 use Rattle.folder_store.proofs.Walking.{full_goes, file_walks, folder_walks, place_ends, found, entry_goes, entry_ends, folder_goes, entry_fault, kind_there, file_not_other, folder_not_other, refused_is}
 use Rattle.folder_store.specs.Surveys.{Look, at_in, names_to}
-use Rattle.folder_store.specs.Sighting.{look_in}
+use Rattle.folder_store.specs.Inner.Sighting.{look_in}
 use Rattle.folder_store.proofs.Marking.{entry_stops, entry_told, file_tells, folder_tells, folder_told}
 use Rattle.folder_store.proofs.Refusing.{place_below}
 use Rattle.folder_store.proofs.reading.+walk.Goals as goal

@@ -1,7 +1,7 @@
 use Rattle.std.specs.String.{string_bytes}
 use Rattle.folder_store.proofs.Walking.{read_goes}
 use Rattle.std.proofs.Common.{◌≡◌, ◌∙◌, ap, length, rules}
-use Rattle.folder_store.specs.Sighting.{look_in, with_file}
+use Rattle.folder_store.specs.Inner.Sighting.{look_in, with_file}
 use Rattle.folder_store.proofs.Marking.{read_size}
 use Rattle.folder_store.proofs.Refusing.{large_noted}
 use Rattle.folder_store.proofs.reading.read_file.Goals as goal

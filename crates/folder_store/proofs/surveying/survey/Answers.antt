@@ -1,7 +1,7 @@
 use Rattle.std.proofs.Common.{◌∙◌, ◌-◌, None, Err, length, map, ap, sym, append-nil}
 use Rattle.std.specs.String.{string_bytes}
 use Rattle.folder_store.specs.Surveys.{at_in, first_large, marks_below, view_standing}
-use Rattle.folder_store.specs.Sighting.{look_in}
+use Rattle.folder_store.specs.Inner.Sighting.{look_in}
 use Rattle.folder_store.specs.Walk.{IsTooDeep, IsBadName}
 use Rattle.folder_store.proofs.Marking.{bad_stops, deep_stops, look, survey_goes, survey_stops}
 use Rattle.folder_store.proofs.Walking.{root_is, whole_ends, whole_goes}

@@ -1,7 +1,7 @@
 use Rattle.std.proofs.Common.{◌≡◌, sym, ap, ◌∙◌, map, drop, false, arith}
 use Rattle.std.specs.Ordering.{is_lt}
 use Rattle.generation.specs.declared.objects.Placed.{Placed}
-use Rattle.generation.specs.Merging.{from_path, first_same}
+use Rattle.generation.specs.Inner.Merging.{from_path, first_same}
 use Rattle.generation.specs.View.{view_spot, view_placed}
 use Rattle.generation.proofs.Merging.{stops, none_here, one_here}
 use Rattle.generation.proofs.former.seek.Goals as goal

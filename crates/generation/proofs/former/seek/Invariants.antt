@@ -1,5 +1,5 @@
 use Rattle.std.proofs.Common.{◌≡◌, drop, map}
-use Rattle.generation.specs.Merging.{from_path}
+use Rattle.generation.specs.Inner.Merging.{from_path}
 use Rattle.generation.specs.View.{view_spot, view_placed}
 use Rattle.generation.proofs.former.seek.Given as goal
 

@@ -1,6 +1,6 @@
 use Rattle.std.proofs.Common.{◌≡◌, ℕ, List, drop, map}
 use Rattle.generation.specs.Layouts.{Placed}
-use Rattle.generation.specs.Stays.{part_bytes}
+use Rattle.generation.specs.Inner.Stays.{part_bytes}
 use Rattle.generation.specs.View.{view_placed}
 use Rattle.generation.proofs.unchanged.after_same_file.Given as goal
 

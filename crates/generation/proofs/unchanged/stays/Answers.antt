@@ -1,6 +1,6 @@
 use Rattle.std.proofs.Common.{◌≡◌, ◌+◌, sym, ◌∙◌, subst, map, drop, false, arith}
 use Rattle.generation.specs.declared.objects.Placed.{Placed}
-use Rattle.generation.specs.Stays.{part_bytes}
+use Rattle.generation.specs.Inner.Stays.{part_bytes}
 use Rattle.generation.specs.View.{view_placed}
 use Rattle.generation.proofs.Sharing.{step_same, part_other, part_none, part_over, not_on}
 use Rattle.generation.proofs.unchanged.stays.Goals as goal

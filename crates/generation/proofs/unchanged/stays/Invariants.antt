@@ -1,7 +1,7 @@
 use Rattle.std.proofs.Common.{◌≡◌, ℕ, drop, map}
 use Rattle.std.specs.List.{All}
 use Rattle.generation.specs.Layouts.{module_bytes}
-use Rattle.generation.specs.Stays.{part_bytes}
+use Rattle.generation.specs.Inner.Stays.{part_bytes}
 use Rattle.generation.specs.View.{view_placed, IsSpotIn}
 use Rattle.generation.proofs.unchanged.stays.Given as goal
 

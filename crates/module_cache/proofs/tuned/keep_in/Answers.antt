@@ -1,6 +1,6 @@
 use Rattle.std.proofs.Common.{sym, ap, ◌∙◌}
 use Rattle.std.proofs.Math.ListN.{set}
-use Rattle.module_cache.specs.Keeping.{line_keeping}
+use Rattle.module_cache.specs.Inner.Keeping.{line_keeping}
 use Rattle.module_cache.proofs.Places.{first_place, first_changed, none_changed, none_placed}
 use Rattle.module_cache.proofs.tuned.keep_in.Goals as goal
 

@@ -2,7 +2,7 @@ use Rattle.std.proofs.Common.{◌≡◌, ◌∷◌, [], List, length, refl, sym,
 use Rattle.std.specs.List.{fold}
 use Rattle.std.specs.Vec.Iter.{into_iter_items}
 use Rattle.std.proofs.lemmas.List.Sums.{fold-append}
-use Rattle.module_cache.specs.Keeping.{lines_keeping}
+use Rattle.module_cache.specs.Inner.Keeping.{lines_keeping}
 use Rattle.module_cache.proofs.tuned.keep_lines.Goals as goal
 
 nothing_left : {X : Type 0} (l : List X) → length l ≡ 0 → l ≡ []

@@ -1,7 +1,7 @@
 use Rattle.std.proofs.Common.{◌≡◌, ◌++◌, length}
 use Rattle.std.specs.List.{fold}
 use Rattle.std.specs.Vec.Iter.{into_iter_items, into_iter_len}
-use Rattle.module_cache.specs.Keeping.{lines_keeping}
+use Rattle.module_cache.specs.Inner.Keeping.{lines_keeping}
 use Rattle.module_cache.proofs.tuned.keep_lines.Given as goal
 
 abbrev pub invariant-loop-line : goal.invariant-loop-line

@@ -1,5 +1,5 @@
 use Rattle.path_resolver.specs.Shots.{held_of}
-use Rattle.path_resolver.specs.Targets.{view_target}
+use Rattle.path_resolver.specs.Inner.Targets.{view_target}
 use Rattle.path_resolver.proofs.Placing.{home_ends, home_goes}
 use Rattle.path_resolver.proofs.walking.home_from.Goals as goal
 

@@ -1,7 +1,7 @@
 use Rattle.std.proofs.Common.{◌≡◌, drop, Some}
 use Rattle.path_resolver.specs.Places.{last_target, module_at_end}
 use Rattle.path_resolver.specs.Shots.{held_of}
-use Rattle.path_resolver.specs.Targets.{view_target}
+use Rattle.path_resolver.specs.Inner.Targets.{view_target}
 use Rattle.path_resolver.proofs.walking.home_from.Given as goal
 
 abbrev pub invariant-loop-i : goal.invariant-loop-i

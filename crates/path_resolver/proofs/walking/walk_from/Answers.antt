@@ -1,5 +1,5 @@
 use Rattle.path_resolver.specs.Shots.{held_of}
-use Rattle.path_resolver.specs.Targets.{view_target}
+use Rattle.path_resolver.specs.Inner.Targets.{view_target}
 use Rattle.path_resolver.proofs.Finding.{ends, goes}
 use Rattle.path_resolver.proofs.walking.walk_from.Goals as goal
 

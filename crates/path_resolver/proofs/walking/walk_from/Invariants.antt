@@ -1,7 +1,7 @@
 use Rattle.std.proofs.Common.{◌≡◌, drop}
 use Rattle.path_resolver.specs.Resolving.{walk}
 use Rattle.path_resolver.specs.Shots.{held_of}
-use Rattle.path_resolver.specs.Targets.{view_target}
+use Rattle.path_resolver.specs.Inner.Targets.{view_target}
 use Rattle.path_resolver.proofs.walking.walk_from.Given as goal
 
 abbrev pub invariant-loop-i : goal.invariant-loop-i

@@ -1,5 +1,5 @@
 use Rattle.std.proofs.Common.{◌≡◌, ◌+◌, drop}
-use Rattle.path_tree.specs.Places.{count_below}
+use Rattle.path_tree.specs.Inner.Places.{count_below}
 use Rattle.path_tree.proofs.files.count_below.Given as goal
 
 abbrev pub invariant-loop-i : goal.invariant-loop-i

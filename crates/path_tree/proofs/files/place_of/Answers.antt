@@ -1,6 +1,6 @@
 use Rattle.std.proofs.Common.{rules, sym, of_calls}
 use Rattle.std.proofs.lemmas.List.Sorted.{IsPartitionPoint-from_clause}
-use Rattle.path_tree.specs.Places.{is_before}
+use Rattle.path_tree.specs.Inner.Places.{is_before}
 use Rattle.path_tree.proofs.Places.{parted, prefix_len-point}
 use Rattle.path_tree.proofs.files.place_of.Goals as goal
 

@@ -1,7 +1,7 @@
 use Rattle.std.proofs.Common.{◌≡◌, ◌<◌, ◌-◌, length, drop}
 use Rattle.std.specs.List.{slice_split}
 use Rattle.path_tree.specs.Texts.{is_slash, names_of, names_after}
-use Rattle.path_tree.specs.Steps.{verdict_of}
+use Rattle.path_tree.specs.Inner.Steps.{verdict_of}
 use Rattle.path_tree.proofs.text.check_names.Given as goal
 
 abbrev pub invariant-loop : goal.invariant-loop

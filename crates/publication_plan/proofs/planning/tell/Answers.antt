@@ -2,7 +2,7 @@ use Rattle.std.proofs.Common.{◌≡◌, rules, subst}
 use Rattle.std.specs.String.{string_bytes}
 use Rattle.oc_bytes.specs.Outcome.{Rose}
 use Rattle.generation_catalogue.specs.declared.entry.CommitFault.TheVariants as commits
-use Rattle.publication_plan.specs.Judging.{FaultTells, IsAccepted, RefusalTells}
+use Rattle.publication_plan.specs.Inner.Judging.{FaultTells, IsAccepted, RefusalTells}
 use Rattle.publication_plan.specs.Plans.{IsTextOf}
 use Rattle.publication_plan.specs.declared.planning.Told.{Told}
 use Rattle.publication_plan.proofs.Telltale.{Surveys, fault_text, ok_weaker, outcome_told, plan_is, refusal_text, refusal_wider}

@@ -3,8 +3,8 @@ use Rattle.std.proofs.lemmas.Iterator.Consumers.{YieldsList-turn, YieldsList-end
 use Rattle.std.proofs.lemmas.Iterator.Adapters.{YieldsList-from_vec}
 use Rattle.carousel_world.specs.Events.{Step}
 use Rattle.shot_board.specs.Showers.{shown_by}
-use Rattle.session.specs.Acting.{view_happening}
-use Rattle.session.specs.Casting.{CastStands}
+use Rattle.session.specs.Inner.Acting.{view_happening}
+use Rattle.session.specs.Inner.Casting.{CastStands}
 use Rattle.session.proofs.Editing.{map_same}
 use Rattle.session.proofs.Events.{acted_more, mention_of, next_in, range_of, same_twice}
 use Rattle.session.proofs.Turning.{all_done}

@@ -2,8 +2,8 @@ use Rattle.std.proofs.Common.{ℕ, List, [], ◌∷◌, ◌++◌, ◌<◌, ◌+�
 use Rattle.std.proofs.lemmas.Iterator.Consumers.{YieldsList-turn, YieldsList-end}
 use Rattle.std.proofs.lemmas.Iterator.Adapters.{YieldsList-from_vec}
 use Rattle.path_tree.specs.declared.tree.Edit.{Edit}
-use Rattle.session.specs.Acting.{EditorStands}
-use Rattle.session.specs.ByActor.{lists_of}
+use Rattle.session.specs.Inner.Acting.{EditorStands}
+use Rattle.session.specs.Inner.ByActor.{lists_of}
 use Rattle.session.specs.Seats.{edits_of}
 use Rattle.session.proofs.Editing.{new_seats_count, seats_more, new_plans, new_at, all_new, any_default, map_same, AreNewSeats}
 use Rattle.session.proofs.Taking.{AreLeft, left_on}

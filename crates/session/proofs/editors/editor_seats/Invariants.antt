@@ -1,5 +1,5 @@
 use Rattle.std.proofs.Common.{take, length, map}
-use Rattle.session.specs.ByActor.{lists_of}
+use Rattle.session.specs.Inner.ByActor.{lists_of}
 use Rattle.session.specs.Seats.{edits_of}
 use Rattle.session.proofs.Editing.{AreNewSeats}
 use Rattle.session.proofs.Taking.{AreLeft}

@@ -3,7 +3,7 @@ use Rattle.shot_board.specs.Showers.{shown_by, shower_board, most_by}
 use Rattle.station.specs.Passes.{weights_of}
 use Rattle.session_script.specs.Parts.{script_of_parts}
 use Rattle.session_history.specs.Merges.{fates_view}
-use Rattle.session.specs.Ending.{view_closed}
+use Rattle.session.specs.Inner.Ending.{view_closed}
 use Rattle.session.specs.Sessions.{IsSession}
 use Rattle.session.proofs.Finale.{may_draw, may_read, ends_well, written_back}
 use Rattle.session.proofs.Planning.{if_ok_map}

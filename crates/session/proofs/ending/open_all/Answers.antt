@@ -2,7 +2,7 @@ use Rattle.std.proofs.Common.{rules, subst, List}
 use Rattle.std.proofs.lemmas.Iterator.Consumers.{YieldsList-turn, YieldsList-end}
 use Rattle.std.proofs.lemmas.Iterator.Adapters.{YieldsList-from_vec}
 use Rattle.path_tree.specs.Paths.{PathNames}
-use Rattle.session.specs.Ending.{HasOpenedLast}
+use Rattle.session.specs.Inner.Ending.{HasOpenedLast}
 use Rattle.session.proofs.Lasting.{opened_next, opened_none, room_now}
 use Rattle.session.proofs.Turning.{all_done}
 use Rattle.session.proofs.ending.open_all.Goals as goal

@@ -2,7 +2,7 @@ use Rattle.std.proofs.Common.{◌≡◌, ℕ, ◌<◌, ◌≤◌, length}
 use Rattle.std.specs.Prelude.{slice_index_or}
 use Rattle.session.specs.declared.reader.ReaderSeat.{ReaderSeat}
 use Rattle.shot_board.specs.Showers.{shown_by, IsSameBoard}
-use Rattle.session.specs.Ending.{HasOpenedLast}
+use Rattle.session.specs.Inner.Ending.{HasOpenedLast}
 use Rattle.session.proofs.ending.read_all.Given as goal
 
 abbrev pub invariant-loop-place : goal.invariant-loop-place

@@ -1,7 +1,7 @@
 use Rattle.std.proofs.Common.{◌∙◌, ap, List, subst}
 use Rattle.path_tree.specs.Paths.{PathNames}
 use Rattle.shot_board.specs.Showers.{shown_by}
-use Rattle.session.specs.Ending.{HasOpenedLast}
+use Rattle.session.specs.Inner.Ending.{HasOpenedLast}
 use Rattle.session.proofs.Planning.{on_ok_map}
 use Rattle.session.proofs.Lasting.{caught_up, opened_on}
 use Rattle.session.proofs.ending.read_last.Goals as goal

@@ -4,8 +4,8 @@ use Rattle.std.proofs.lemmas.Iterator.Adapters.{YieldsList-from_vec}
 use Rattle.std.proofs.lemmas.List.{map-append}
 use Rattle.session_script.specs.declared.parts.Finale.{Finale}
 use Rattle.session.specs.Lines.{opens_by}
-use Rattle.session.specs.ByActor.{lists_of}
-use Rattle.session.specs.Plans.{finale_step}
+use Rattle.session.specs.Inner.ByActor.{lists_of}
+use Rattle.session.specs.Inner.Plans.{finale_step}
 use Rattle.session.proofs.Planning.{one_path}
 use Rattle.session.proofs.Staged.{opens_more}
 use Rattle.session.proofs.Taking.{either_side}

@@ -6,7 +6,7 @@ use Rattle.carousel_world.specs.Events.{Step}
 use Rattle.carousel_world.specs.World.{InRange}
 use Rattle.rehearsal.specs.declared.interpreter.Happening.{Happening}
 use Rattle.rehearsal.specs.Happening.{happened, view_happening}
-use Rattle.session.specs.Plans.{AreInRange}
+use Rattle.session.specs.Inner.Plans.{AreInRange}
 use Rattle.session.proofs.plan.happen.Goals as goal
 
 pub returns-in_ok-push-in-Some-clause-happens : goal.returns-in_ok-push-in-Some-clause-happens

@@ -10,7 +10,7 @@ use Rattle.carousel_world.specs.Events.{Step}
 use Rattle.carousel_world.specs.World.{InRange}
 use Rattle.rehearsal.specs.Lines.{Pending, events_of_line}
 use Rattle.rehearsal.specs.Happening.{Holds, view_happening}
-use Rattle.session.specs.Plans.{AreInRange, events_at, waiting_below}
+use Rattle.session.specs.Inner.Plans.{AreInRange, events_at, waiting_below}
 use Rattle.session.proofs.Planning.{events_more, waiting_more}
 use Rattle.session.proofs.Turning.{all_done}
 use Rattle.session.proofs.plan.happenings.Goals as goal

@@ -1,7 +1,7 @@
 use Rattle.std.proofs.Common.{[], refl}
 use Rattle.session_script.proofs.CallerLemmas.{before_in_range, during_in_range}
 use Rattle.rehearsal.specs.Lines.{none_pending}
-use Rattle.session.specs.Plans.{waiting_below}
+use Rattle.session.specs.Inner.Plans.{waiting_below}
 use Rattle.session.proofs.plan.plan_of.Goals as goal
 
 pub happenings-requires : goal.happenings-requires

@@ -2,7 +2,7 @@ use Rattle.std.proofs.Common.{ℕ, List, refl, sym, ap, ◌∙◌, subst, ◌<�
 use Rattle.std.specs.Prelude.{slice_index_or}
 use Rattle.carousel_world.specs.Events.{Open}
 use Rattle.session.specs.declared.reader.ReaderSeat.{ReaderSeat}
-use Rattle.session.specs.Acting.{IsNext, ReaderStands}
+use Rattle.session.specs.Inner.Acting.{IsNext, ReaderStands}
 use Rattle.session.proofs.Planning.{on_ok_map}
 use Rattle.session.proofs.Reading.{has_room, plans_set, opened_now}
 use Rattle.session.proofs.readers.open_now.Goals as goal

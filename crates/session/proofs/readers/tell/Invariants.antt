@@ -2,7 +2,7 @@ use Rattle.std.proofs.Common.{◌≡◌, ℕ, ◌<◌, ◌≤◌, length}
 use Rattle.std.specs.Prelude.{slice_index_or}
 use Rattle.session.specs.declared.reader.ReaderSeat.{ReaderSeat}
 use Rattle.shot_board.specs.Showers.{shown_by, IsSameBoard}
-use Rattle.session.specs.Acting.{IsKnown}
+use Rattle.session.specs.Inner.Acting.{IsKnown}
 use Rattle.session.proofs.readers.tell.Given as goal
 
 abbrev pub invariant-loop-place : goal.invariant-loop-place

@@ -3,9 +3,9 @@ use Rattle.std.specs.Prelude.{slice_index_or}
 use Rattle.std.proofs.lemmas.Iterator.Consumers.{YieldsList-turn, YieldsList-end}
 use Rattle.std.proofs.lemmas.Iterator.Adapters.{YieldsList-from_vec}
 use Rattle.carousel_world.specs.Events.{Step}
-use Rattle.session.specs.ByActor.{lists_of}
+use Rattle.session.specs.Inner.ByActor.{lists_of}
 use Rattle.session.specs.declared.reader.ReaderSeat.{ReaderSeat}
-use Rattle.session.specs.Acting.{view_happening}
+use Rattle.session.specs.Inner.Acting.{view_happening}
 use Rattle.session.proofs.Editing.{any_default, map_same}
 use Rattle.session.proofs.Seated.{AreNewReaders, all_readers, new_readers, new_readers_count, readers_more, readers_stand, room_for, seat_of}
 use Rattle.session.proofs.Taking.{AreLeft, left_on}

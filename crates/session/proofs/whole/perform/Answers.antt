@@ -4,7 +4,7 @@ use Rattle.shot_board.specs.Showers.{shown_by}
 use Rattle.session_script.specs.Parts.{script_of_parts}
 use Rattle.session_history.specs.Merges.{known_view}
 use Rattle.session.specs.declared.cast.Cast.{Cast}
-use Rattle.session.specs.Acting.{view_happening}
+use Rattle.session.specs.Inner.Acting.{view_happening}
 use Rattle.session.specs.Sessions.{IsSession}
 use Rattle.session.proofs.Begun.{apart_editors, apart_readers, are_done, few_editors, few_readers, finales_are, has_work, mentioned, new_cast, popped_pass, stands_first, work_stays}
 use Rattle.session.proofs.Planning.{if_ok_map}

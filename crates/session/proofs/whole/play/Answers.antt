@@ -4,8 +4,8 @@ use Rattle.std.specs.declared.vec.Vec.{Vec}
 use Rattle.std.specs.declared.alloc.Global.{Global}
 use Rattle.shot_board.specs.Showers.{most_by, shower_board, shown_by}
 use Rattle.session.specs.declared.whole.Start.{Start}
-use Rattle.session.specs.Acting.{Setting, draws_of}
-use Rattle.session.specs.Playing.{IsBegun}
+use Rattle.session.specs.Inner.Acting.{Setting, draws_of}
+use Rattle.session.specs.Inner.Playing.{IsBegun}
 use Rattle.session.proofs.Begun.{draws_counted, first_shown, new_viewers}
 use Rattle.session.proofs.Planning.{if_ok_map}
 use Rattle.session.proofs.whole.play.Goals as goal

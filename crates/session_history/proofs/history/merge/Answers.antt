@@ -7,7 +7,7 @@ use Rattle.carousel_world.specs.declared.event.Event.{Event}
 use Rattle.carousel_world.specs.declared.event.Reply.{Reply}
 use Rattle.session_history.specs.declared.waiting.Waiting.{Waiting}
 use Rattle.session_history.specs.Merges.{known_view, fates_view, reader_view}
-use Rattle.session_history.specs.Waiting.{as_reader, opened_at, AreLeft}
+use Rattle.session_history.specs.Inner.Waiting.{as_reader, opened_at, AreLeft}
 use Rattle.session_history.proofs.Telling.{IsMerging, parts_climb, merge_begins, placed_at, drawn_at, with_commit, with_draw, moved, all_merged}
 use Rattle.session_history.proofs.history.merge.Goals as goal
 use Rattle.session_history.proofs.history.merge.Goals.{in-Commit+in_ok-told_commit-in-Commit+in_ok-push-in-Commit, in-Draw+in_ok-told_draw-in-Draw+in_ok-push-in-Draw+in_ok-told-in-Draw}

@@ -1,6 +1,6 @@
 use Rattle.std.proofs.Common.{map}
 use Rattle.session_history.specs.Merges.{known_view, fates_view, reader_view}
-use Rattle.session_history.specs.Waiting.{as_reader}
+use Rattle.session_history.specs.Inner.Waiting.{as_reader}
 use Rattle.session_history.proofs.Telling.{IsMerging}
 use Rattle.session_history.proofs.history.merge.Given as goal
 

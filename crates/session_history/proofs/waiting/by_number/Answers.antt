@@ -1,6 +1,6 @@
 use Rattle.std.proofs.Common.{arith, map}
 use Rattle.session_history.specs.Merges.{reader_view}
-use Rattle.session_history.specs.Waiting.{as_reader, waited_by}
+use Rattle.session_history.specs.Inner.Waiting.{as_reader, waited_by}
 use Rattle.session_history.proofs.Turns.{numbers_more}
 use Rattle.session_history.proofs.waiting.by_number.Goals as goal
 

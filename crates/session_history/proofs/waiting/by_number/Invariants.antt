@@ -1,7 +1,7 @@
 use Rattle.std.proofs.Common.{◌≡◌, ◌-◌, ◌++◌, map}
 use Rattle.std.specs.List.{flat_map, range_with_len}
 use Rattle.session_history.specs.Merges.{reader_view}
-use Rattle.session_history.specs.Waiting.{as_reader, waited_by}
+use Rattle.session_history.specs.Inner.Waiting.{as_reader, waited_by}
 use Rattle.session_history.proofs.waiting.by_number.Given as goal
 
 abbrev pub invariant-loop-number : goal.invariant-loop-number

@@ -1,5 +1,5 @@
 use Rattle.std.proofs.Common.{arith}
-use Rattle.session_history.specs.Waiting.{count_first_opens}
+use Rattle.session_history.specs.Inner.Waiting.{count_first_opens}
 use Rattle.session_history.proofs.Turns.{front_here, front_on, front_all}
 use Rattle.session_history.proofs.waiting.front_of.Goals as goal
 

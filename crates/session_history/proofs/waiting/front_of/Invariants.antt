@@ -1,5 +1,5 @@
 use Rattle.std.proofs.Common.{◌≡◌, ◌+◌, ◌≤◌, length, drop}
-use Rattle.session_history.specs.Waiting.{count_first_opens}
+use Rattle.session_history.specs.Inner.Waiting.{count_first_opens}
 use Rattle.session_history.proofs.waiting.front_of.Given as goal
 
 abbrev pub invariant-loop-place : goal.invariant-loop-place

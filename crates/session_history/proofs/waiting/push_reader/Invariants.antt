@@ -1,6 +1,6 @@
 use Rattle.std.proofs.Common.{◌≡◌, ◌++◌, map, drop}
 use Rattle.session_history.specs.Merges.{reader_view}
-use Rattle.session_history.specs.Waiting.{as_reader, waited_by}
+use Rattle.session_history.specs.Inner.Waiting.{as_reader, waited_by}
 use Rattle.session_history.proofs.waiting.push_reader.Given as goal
 
 abbrev pub invariant-loop-pass : goal.invariant-loop-pass

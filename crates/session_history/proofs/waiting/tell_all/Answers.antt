@@ -1,6 +1,6 @@
 use Rattle.std.proofs.Common.{◌<◌, length, map, arith}
 use Rattle.session_history.specs.Merges.{known_view}
-use Rattle.session_history.specs.Waiting.{as_reader}
+use Rattle.session_history.specs.Inner.Waiting.{as_reader}
 use Rattle.session_history.proofs.Turns.{reader_climbs, reader_told}
 use Rattle.session_history.proofs.waiting.tell_all.Goals as goal
 

@@ -1,7 +1,7 @@
 use Rattle.std.proofs.Common.{◌++◌, map}
 use Rattle.std.specs.List.{flat_map}
 use Rattle.session_history.specs.Merges.{known_view}
-use Rattle.session_history.specs.Waiting.{as_reader, opened_at}
+use Rattle.session_history.specs.Inner.Waiting.{as_reader, opened_at}
 use Rattle.session_history.proofs.Turns.{IsTelling}
 use Rattle.session_history.proofs.waiting.tell_all.Given as goal
 

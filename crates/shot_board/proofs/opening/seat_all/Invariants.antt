@@ -2,7 +2,7 @@ use Rattle.std.proofs.Common.{◌≡◌, ◌≤◌, length}
 use Rattle.left_right.specs.Sides.{view}
 use Rattle.std.specs.Vec.{vec_capacity}
 use Rattle.shot_board.specs.Shots.{Each}
-use Rattle.shot_board.specs.Seating.{IsSeated}
+use Rattle.shot_board.specs.Inner.Seating.{IsSeated}
 use Rattle.shot_board.proofs.opening.seat_all.Given as goal
 
 abbrev pub invariant-loop-seated : goal.invariant-loop-seated

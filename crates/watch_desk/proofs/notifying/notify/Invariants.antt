@@ -1,5 +1,5 @@
 use Rattle.std.proofs.Common.{◌≡◌, ◌++◌, drop}
-use Rattle.watch_desk.specs.Showing.{told_from}
+use Rattle.watch_desk.specs.Inner.Showing.{told_from}
 use Rattle.watch_desk.proofs.notifying.notify.Given as goal
 
 -- what was told so far, and what is left

@@ -1,6 +1,6 @@
 use Rattle.std.proofs.Common.{◌≡◌, ◌++◌, drop}
 use Rattle.watch_desk.specs.Prefixes.{prefixes_of}
-use Rattle.watch_desk.specs.Showing.{told_to_all}
+use Rattle.watch_desk.specs.Inner.Showing.{told_to_all}
 use Rattle.watch_desk.proofs.notifying.notify_all.Given as goal
 
 -- what was told so far, and what is left

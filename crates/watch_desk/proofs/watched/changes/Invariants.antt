@@ -1,5 +1,5 @@
 use Rattle.std.proofs.Common.{◌≡◌, ◌++◌, drop}
-use Rattle.watch_desk.specs.Showing.{changes}
+use Rattle.watch_desk.specs.Inner.Showing.{changes}
 use Rattle.watch_desk.proofs.watched.changes.Given as goal
 
 -- what was found so far, and what is left

@@ -5,7 +5,7 @@ use Rattle.generation.specs.Layouts.{GenerationState}
 use Rattle.section_stream.specs.Packing.{packets_of_all, past}
 use Rattle.shell_streams.proofs.CallerLemmas.{puts_as, puts_then}
 use Rattle.folder_playout.specs.OnAir.{cycle_in}
-use Rattle.folder_playout.specs.Standing.{given_bytes}
+use Rattle.folder_playout.specs.Inner.Standing.{given_bytes}
 use Rattle.folder_playout.proofs.Packing.{cycle_counted, cycle_given}
 use Rattle.folder_playout.proofs.Turning.{on_ok}
 use Rattle.folder_playout.proofs.playout.Playout.send_cycle.Goals as goal

@@ -1,7 +1,7 @@
 use Rattle.std.proofs.Common.{◌≡◌, ◌∙◌, ap, map, length}
 use Rattle.std.proofs.lemmas.List.{with_items_is}
 use Rattle.std.specs.List.{fold}
-use Rattle.module_cache.specs.Keeping.{lines_keeping}
+use Rattle.module_cache.specs.Inner.Keeping.{lines_keeping}
 use Rattle.module_cache.specs.Limits.{no_id_twice}
 use Rattle.module_cache.proofs.Keeping.{once_keeping}
 use Rattle.module_cache.proofs.tuned.Tuned.keep.Goals as goal

@@ -1,5 +1,5 @@
 use Rattle.std.proofs.Common.{ap, sym, subst}
-use Rattle.open_history.specs.Cached.{AreAnswersOn}
+use Rattle.open_history.specs.Inner.Cached.{AreAnswersOn}
 use Rattle.open_history.proofs.Keeping.{still_kept, found_is, if_shared}
 use Rattle.open_history.proofs.answers.Answers.find.Goals as goal
 

@@ -4,7 +4,7 @@ use Rattle.shot_board.specs.Viewers.{known_of}
 use Rattle.path_resolver.specs.Resolving.{answer_of}
 use Rattle.path_resolver.specs.Shots.{held_of}
 use Rattle.open_history.specs.Opens.{Answered, AllAnswered}
-use Rattle.open_history.specs.Cached.{AreAnswersOn}
+use Rattle.open_history.specs.Inner.Cached.{AreAnswersOn}
 use Rattle.open_history.proofs.Growing.{answered_on, answered_push, kept_on, same_begins}
 use Rattle.open_history.proofs.Keeping.{turned, kept_in}
 use Rattle.open_history.proofs.pass.ReaderPass.open_path.Goals as goal

@@ -3,7 +3,7 @@ use Rattle.session_script.specs.declared.script.Stage.{Stage}
 use Rattle.session_script.specs.Scripts.{Fields, LineFields}
 use Rattle.session_script.specs.Parts.{task_line}
 use Rattle.shell_streams.specs.Sending.{OutputState}
-use Rattle.rehearsal.specs.Steps.{HasRun}
+use Rattle.rehearsal.specs.Inner.Steps.{HasRun}
 use Rattle.rehearsal.proofs.rehearsal.Rehearsal.run_all.Given as goal
 
 abbrev pub invariant-loop-line : goal.invariant-loop-line

@@ -4,7 +4,7 @@ use Rattle.generation_catalogue.specs.View.{state}
 use Rattle.generation_catalogue.specs.declared.entry.Batch.{Batch}
 use Rattle.generation_catalogue.specs.declared.entry.DrawFault.{DrawFault}
 use Rattle.shot_board.specs.Showers.{shown_by}
-use Rattle.session.specs.Ending.{view_closed}
+use Rattle.session.specs.Inner.Ending.{view_closed}
 use Rattle.session.proofs.Closing.{one_more}
 use Rattle.session.proofs.ending.Closed.draw.Goals as goal
 

@@ -1,7 +1,7 @@
 use Rattle.std.proofs.Common.{arith}
 use Rattle.shot_board.specs.Showers.{shown_by}
 use Rattle.generation_catalogue.specs.View.{state}
-use Rattle.session.specs.Ending.{view_closed}
+use Rattle.session.specs.Inner.Ending.{view_closed}
 use Rattle.session.proofs.Closing.{none_counted, none_drawn, none_gathered, one_has_room, two_counted, two_drawn, two_gathered}
 use Rattle.session.proofs.ending.Closed.settle.Goals as goal
 

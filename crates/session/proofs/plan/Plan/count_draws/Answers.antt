@@ -1,7 +1,7 @@
 use Rattle.std.proofs.Common.{◌∙◌, List, ap, arith, length, map}
 use Rattle.rehearsal.specs.declared.interpreter.Happening.{Happening}
 use Rattle.session.specs.Lines.{draws_in}
-use Rattle.session.specs.Acting.{view_happening}
+use Rattle.session.specs.Inner.Acting.{view_happening}
 use Rattle.session.proofs.Planning.{if_ok_map, on_err_map}
 use Rattle.session.proofs.plan.Plan.count_draws.Goals as goal
 

@@ -8,7 +8,7 @@ use Rattle.session_script.proofs.CallerLemmas.{at_place}
 use Rattle.carousel_world.specs.Events.{Step}
 use Rattle.rehearsal.specs.Lines.{Pending, events_of_line}
 use Rattle.rehearsal.specs.Happening.{Holds}
-use Rattle.session.specs.Plans.{events_at, waiting_below}
+use Rattle.session.specs.Inner.Plans.{events_at, waiting_below}
 use Rattle.session.proofs.Planning.{events_more, split_as, waiting_more}
 use Rattle.session.proofs.Turning.{all_done}
 use Rattle.session.proofs.plan.Work.add_all.Goals as goal

@@ -2,7 +2,7 @@ use Rattle.std.proofs.Common.{◌≡◌, ℕ, ◌==◌, [], ◌∷◌, ◌++◌,
 use Rattle.std.specs.Prelude.{if◌then◌else◌}
 use Rattle.session.specs.declared.by_actor.ByActor.{ByActor}
 use Rattle.session.specs.declared.editor.CommitLine.{CommitLine}
-use Rattle.session.specs.ByActor.{lists_of}
+use Rattle.session.specs.Inner.ByActor.{lists_of}
 use Rattle.session.proofs.Planning.{on_ok_map, split_commit, split_draw, split_open}
 use Rattle.session.proofs.plan.Work.give.Goals as goal
 

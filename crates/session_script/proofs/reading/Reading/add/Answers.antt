@@ -3,7 +3,7 @@ use Rattle.std.specs.Prelude.{OnOk}
 use Rattle.session_script.specs.declared.line.Part.TheVariants.{Closing}
 use Rattle.session_script.specs.declared.line.Said.{Said}
 use Rattle.session_script.specs.declared.reading.Reading.{Reading}
-use Rattle.session_script.specs.Readings.{Adds, IsShaped}
+use Rattle.session_script.specs.Inner.Readings.{Adds, IsShaped}
 use Rattle.session_script.specs.Steps.{Suits, view_said}
 use Rattle.session_script.proofs.Keeping.{adds_settle}
 use Rattle.session_script.proofs.reading.Reading.add.Goals as goal

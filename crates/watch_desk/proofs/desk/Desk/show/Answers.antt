@@ -2,7 +2,7 @@ use Rattle.std.proofs.Common.{◌∷◌, ◌++◌, [], sym, ap, subst, ◌∙◌
 use Rattle.std.specs.Arc.{arc_value}
 use Rattle.path_resolver.specs.Shots.{held_of}
 use Rattle.path_resolver.specs.declared.shot.Shot.{Shot}
-use Rattle.watch_desk.specs.Showing.{keeping, told_of}
+use Rattle.watch_desk.specs.Inner.Showing.{keeping, told_of}
 use Rattle.watch_desk.specs.View.{state}
 use Rattle.watch_desk.specs.Watching.{DeskState, StandsFor}
 use Rattle.watch_desk.proofs.Agreeing.{stands_still, tells}

@@ -11,8 +11,8 @@ use Rattle.carousel_world.specs.Events.{Step, Commit, Draw, Open}
 use Rattle.session.specs.Seats.{HasFed, IsDrawLine, IsEditorSeat, draw_of}
 use Rattle.session.specs.declared.cast.Cast.{Cast}
 use Rattle.session.specs.Lines.{commits_by, draws_in, opens_by}
-use Rattle.session.specs.Plans.{during_steps, end_steps}
-use Rattle.session.specs.Acting.{AreApart, EditorsStand, ReadersStand, Setting, asked_for, draws_of, editor_plan, numbers_of, planned_for, reader_plan, readers_of}
+use Rattle.session.specs.Inner.Plans.{during_steps, end_steps}
+use Rattle.session.specs.Inner.Acting.{AreApart, EditorsStand, ReadersStand, Setting, asked_for, draws_of, editor_plan, numbers_of, planned_for, reader_plan, readers_of}
 
 -- no two editors and no two readers share a number, and each editor's pass is one of the station
 pub record IsCast {X : _} {F : _} {g : _} (s : Station X F g) (cast : Cast) : Type 0 where

@@ -6,8 +6,8 @@ use Rattle.session_script.specs.Parts.{script_of_parts}
 use Rattle.session_script.specs.Ranges.{AreListed, IsInRanges}
 use Rattle.session.specs.declared.whole.Start.{Start}
 use Rattle.session.specs.Shown.{HasShown}
-use Rattle.session.specs.Plans.{IsPlanOf}
-use Rattle.session.specs.Acting.{IsViewerOf, Setting}
+use Rattle.session.specs.Inner.Plans.{IsPlanOf}
+use Rattle.session.specs.Inner.Acting.{IsViewerOf, Setting}
 
 -- A start of the setting's session: the plan of its script, one shot that is shown, and nothing carried
 pub record IsBegun (setting : Setting) (shots : List Shot) (start : Start) : Type 0 where

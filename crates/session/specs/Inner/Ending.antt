@@ -26,9 +26,9 @@ use Rattle.session.specs.declared.feeder.FeederSeat.{FeederSeat}
 use Rattle.session.specs.declared.reader.ReaderSeat.{ReaderSeat}
 use Rattle.session.specs.declared.ending.Closed.{Closed}
 use Rattle.session.specs.Lines.{commits_by, draws_in, opens_by, asked_from}
-use Rattle.session.specs.Plans.{end_steps, steps}
+use Rattle.session.specs.Inner.Plans.{end_steps, steps}
 use Rattle.session.specs.Gathering.{IsGathered}
-use Rattle.session.specs.Acting.{Setting, done_in, draws_before, draws_of, events_in, readers_of}
+use Rattle.session.specs.Inner.Acting.{Setting, done_in, draws_before, draws_of, events_in, readers_of}
 
 -- ---- when the threads are done
 

@@ -13,7 +13,7 @@ use Rattle.rehearsal.specs.Lines.{Pending, none_pending, pending_after, events_o
 use Rattle.rehearsal.specs.Happening.{view_happening}
 use Rattle.session.specs.declared.plan.Plan.{Plan}
 use Rattle.session.specs.declared.plan.Work.{Work}
-use Rattle.session.specs.ByActor.{lists_of}
+use Rattle.session.specs.Inner.ByActor.{lists_of}
 use Rattle.session.specs.Chains.{DrawFields}
 use Rattle.session.specs.Lines.{commits_by, draws_in, opens_by}
 use Rattle.session.specs.Seats.{edits_of, draw_of, IsDrawLine}

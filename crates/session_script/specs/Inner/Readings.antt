@@ -10,7 +10,7 @@ use Rattle.session_script.specs.declared.script.ScriptFault.TheVariants.{BadLine
 use Rattle.session_script.specs.declared.line.Part.{Part}
 use Rattle.session_script.specs.declared.line.Part.TheVariants.{Opening, Running, Closing}
 use Rattle.session_script.specs.declared.script.Stage.TheVariants.{Before, During, After}
-use Rattle.session_script.specs.Mentions.{with_mention}
+use Rattle.session_script.specs.Inner.Mentions.{with_mention}
 use Rattle.session_script.specs.Scripts.{LineFields}
 use Rattle.session_script.specs.Parts.{lines_of}
 use Rattle.session_script.specs.Grammar.{Saying, Passed, Starts, Does, Ends, part_of, line_by, editor_of, reader_of, who, actors, lines_from}

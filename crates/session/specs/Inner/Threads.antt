@@ -9,9 +9,9 @@ use Rattle.session.specs.declared.editor.EditorSeat.{EditorSeat}
 use Rattle.session.specs.declared.reader.ReaderSeat.{ReaderSeat}
 use Rattle.session.specs.declared.cast.Cast.{Cast}
 use Rattle.session.specs.Lines.{draws_in}
-use Rattle.session.specs.Plans.{steps}
-use Rattle.session.specs.Acting.{Setting, done_in, readers_of}
-use Rattle.session.specs.Ending.{EditorsDone, ReaderDone}
+use Rattle.session.specs.Inner.Plans.{steps}
+use Rattle.session.specs.Inner.Acting.{Setting, done_in, readers_of}
+use Rattle.session.specs.Inner.Ending.{EditorsDone, ReaderDone}
 
 -- memory cut no actor short
 pub record IsWhole (cast : Cast) : Type 0 where

@@ -19,7 +19,7 @@ use Rattle.session.specs.Seats.{HasCommitted, edits_of}
 use Rattle.session.specs.declared.editor.EditorSeat.{EditorSeat}
 use Rattle.session.specs.declared.reader.ReaderSeat.{ReaderSeat}
 use Rattle.session.specs.Lines.{commits_by, draws_in, opens_by, asked_from, is_draw_before}
-use Rattle.session.specs.Plans.{above, at_end, before_steps, below, during_steps, end_steps, steps}
+use Rattle.session.specs.Inner.Plans.{above, at_end, before_steps, below, during_steps, end_steps, steps}
 
 -- ---- a session
 

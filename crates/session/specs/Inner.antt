@@ -1,0 +1,8 @@
+-- What private functions and invariants are stated in; no public contract names it.
+pub mod Acting
+pub mod ByActor
+pub mod Casting
+pub mod Ending
+pub mod Plans
+pub mod Playing
+pub mod Threads
