@@ -4,7 +4,7 @@ ghost use Rattle.watch_desk.specs.Notices.{EachChangeIsTold};
 ghost use Rattle.watch_desk.specs.Telling.{EachChangeIsToldAfter, ShotsTellIt, ShotsAreNeededAtChanges};
 
 /// At most 1,024 paths are watched, by at most 64 watchers.
-pub fn limits_are_these()
+pub fn limits_are_numbers()
     ensures { LimitsAreThese }
 {}
 

@@ -29,7 +29,6 @@ mod crossing;
 mod desk;
 mod filter;
 mod laws;
-mod limits;
 mod notice;
 mod notifying;
 mod parts;
@@ -39,10 +38,9 @@ pub use crossing::cross_threads;
 pub use desk::Desk;
 pub use filter::{Call, Filter};
 pub use laws::{
-    each_change_is_told, each_change_is_told_after_its_candidate, limits_are_these,
+    each_change_is_told, each_change_is_told_after_its_candidate, limits_are_numbers,
     premises_can_be_met, shots_are_needed_at_changes, shots_tell_it,
 };
-pub use limits::limits_are_numbers;
 pub use notice::Notice;
 pub use parts::{is_of_blocks, whole_modules};
 
