@@ -6,7 +6,6 @@ ghost use Rattle.path_resolver.specs.Resolving.{Held, answer_of, is_shared};
 ghost use Rattle.std.specs.String.{string_bytes};
 ghost use Rattle.open_history.specs.Inner.Cached.{AreAnswersOn};
 
-use crate::sharing::share;
 use lru::LruCache;
 use oc_bytes::NoMemory;
 use path_resolver::{Answer, Shot, resolve};
@@ -83,7 +82,7 @@ impl Answers {
         ensures on { self.new.on ≡ self.old.on }
     {
         let answer = self.kept.get(text)?;
-        share(answer).ok()
+        answer.share().ok()
     }
 
     /// Keeps the answer to the path of this text, if it can be shared and there is memory.
@@ -91,7 +90,7 @@ impl Answers {
         ensures kept { (held : Held) (path : PathNames) → AreAnswersOn held self.old.kept.entries → path_of (string_bytes text) ≡ Ok path → answer.now ≡ answer_of held path → AreAnswersOn held self.new.kept.entries }
         ensures on { self.new.on ≡ self.old.on }
     {
-        let Ok(answer) = share(answer) else { return };
+        let Ok(answer) = answer.share() else { return };
         let _ = self.kept.put(text, answer);
     }
 }

@@ -27,9 +27,7 @@ mod answers;
 mod crossing;
 mod entry;
 mod pass;
-mod sharing;
 
 pub use crossing::cross_threads;
 pub use entry::OpenEntry;
 pub use pass::ReaderPass;
-pub use sharing::share;

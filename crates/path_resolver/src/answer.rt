@@ -152,3 +152,28 @@ pub enum Answer {
     /// A binding leads to an object of this module that is neither a file nor a folder.
     OtherKind(u16),
 }
+
+impl Answer {
+    ghost use Rattle.std.specs.Prelude.{OnErr, IsTrue};
+    ghost use Rattle.path_resolver.specs.Resolving.{is_shared};
+
+    /// The same answer. A file or a folder shares the module that holds it, and no byte is copied; the one refusal is out of memory, in
+    /// sharing it.
+    pub fn share(&self) -> Result<Answer, NoMemory>
+        ensures same { IfOk result (λ shared. shared ≡ self.now) }
+        ensures memory { OnErr result (IsTrue (is_shared self.now)) }
+    {
+        match self {
+            Answer::File(file) => Ok(Answer::File(file.share()?)),
+            Answer::Folder(folder) => Ok(Answer::Folder(folder.share()?)),
+            Answer::NoSuch => Ok(Answer::NoSuch),
+            Answer::NotYet(module) => Ok(Answer::NotYet(*module)),
+            Answer::NoCarousel => Ok(Answer::NoCarousel),
+            Answer::Elsewhere => Ok(Answer::Elsewhere),
+            Answer::Compressed(module) => Ok(Answer::Compressed(*module)),
+            Answer::Bad(module, place) => Ok(Answer::Bad(*module, *place)),
+            Answer::Dangling(module) => Ok(Answer::Dangling(*module)),
+            Answer::OtherKind(module) => Ok(Answer::OtherKind(*module)),
+        }
+    }
+}

@@ -29,7 +29,7 @@ use carousel_world::{Downlink, Event, Fate, Reply};
 use cycle_planner::MOST_DRAWN;
 use generation_catalogue::Catalogue;
 use oc_bytes::NoMemory;
-use open_history::{OpenEntry, ReaderPass, share};
+use open_history::{OpenEntry, ReaderPass};
 use path_resolver::Shot;
 use path_tree::Path;
 use section_workers::Gate;
@@ -205,7 +205,7 @@ fn open_for_history(made: &OpenEntry) -> Result<Open, NoMemory>
         draws: made.draws,
         label: made.label,
         path: made.path.share()?,
-        answer: share(&made.answer)?,
+        answer: made.answer.share()?,
     })
 }
 

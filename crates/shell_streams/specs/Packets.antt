@@ -1,5 +1,5 @@
 -- The packets of an input, and what was cut out of those that were taken. A packet has 188 bytes (ISO/IEC 13818-1, 2.4.3.2).
-use Rattle.std.specs.Prelude.{◌≡◌, ℕ, zero, suc, ◌+◌, ◌*◌, Bool, true, List, [], ◌∷◌, ◌++◌, length, take, drop, Option, nat_le, nat_lt, if◌then◌else◌}
+use Rattle.std.specs.Prelude.{◌≡◌, ℕ, zero, suc, ◌+◌, ◌*◌, Bool, true, List, [], ◌∷◌, ◌++◌, length, take, drop, Option, nat_le, nat_lt, ◌&&◌, if◌then◌else◌}
 use Rattle.std.specs.List.{concat}
 use Rattle.oc_bytes.specs.Outcome.{Known}
 use Rattle.section_stream.specs.Cuts.{candidates}
@@ -64,6 +64,10 @@ pub record HasCut (pid : ℕ) (reader : PacketReader) (start left : Option Bytes
   pub stands : StandsFor reader.demux packets
   pub taken : Known start (onto_left reader.unread left) (AreTaken packets)
   pub all : candidates pid packets ≡ candidates_so_far
+
+-- the next packet is held, and may be taken
+abbrev pub is_ready : PacketReader → Bool
+is_ready reader = nat_le 188 (length reader.unread) && nat_lt 0 reader.most
 
 -- What was taken of the input when a command stopped: its packets are those of which these are the candidates, and perhaps
 -- others after them. But for want of memory they are all that may be taken; where it stopped at the limit, the input goes on after them.

@@ -1,9 +1,9 @@
-ghost use Rattle.std.specs.Prelude.{◌≡◌, ◌+◌, ◌<◌, ◌≤◌, ◌↔◌, ◌++◌, ℕ, List, Option, [], map, length, IsTrue, Ok, None, true, false, IfOk, IfErr, IfSome, OnErr};
+ghost use Rattle.std.specs.Prelude.{◌≡◌, ◌+◌, ◌<◌, ◌≤◌, ◌↔◌, ◌++◌, ℕ, List, Option, [], map, length, IsTrue, Ok, None, true, IfOk, IfErr, IfSome, OnErr, false};
 ghost use Rattle.oc_bytes.specs.Outcome.{Rose, Known};
 ghost use Rattle.section_stream.specs.Kept.{view_bytes};
 ghost use Rattle.shell_streams.specs.Cuts.{Bytes};
 ghost use Rattle.shell_streams.specs.Held.{onto_left, IsDry};
-ghost use Rattle.shell_streams.specs.Packets.{HasCut, Halts, HasEnded, HasTaken, Stops, AreAllTaken};
+ghost use Rattle.shell_streams.specs.Packets.{HasCut, Halts, HasEnded, HasTaken, Stops, AreAllTaken, is_ready};
 
 use crate::input::InputFault;
 use crate::sections::goes_on;
@@ -39,11 +39,18 @@ impl PacketReader {
         })
     }
 
+    /// Whether the next packet is held and may be taken, so that `next` reads nothing before it.
+    pub fn is_ready(&self) -> bool
+        ensures { result ≡ is_ready self.now }
+    {
+        self.unread.held().len() >= PACKET && self.most > 0
+    }
+
     /// Takes the next packet, and gives the sections that it completes, in order; `None` where the input has ended. A last
     /// piece of fewer than 188 bytes is counted and passed over.
     ///
     /// `TooLong` comes exactly where [`MOST_PACKETS`] packets were taken and at least a byte more is read, `Failed` where
-    /// the source fails, and `NoMemory` where the sections find no memory.
+    /// the source fails, and `NoMemory` where the sections find no memory. Where the next packet is ready `NoMemory` alone can come.
     pub fn next<S: Source>(&mut self, source: &mut S) -> Result<Option<Vec<Vec<u8>>>, InputFault>
         ensures next { IfOk result (λ out. IfSome out (λ out. (pid : ℕ) (start : Option Bytes) (cs : List Bytes) → HasCut pid self.old start (S.left source.old) cs
             → HasCut pid self.new start (S.left source.new) (cs ++ map view_bytes out.items))) }
@@ -52,6 +59,7 @@ impl PacketReader {
             → Known start (S.left source.new) (HasEnded pid cs) }
         ensures stopped { IfErr result (λ s. (pid : ℕ) (start : Option Bytes) (cs : List Bytes) → HasCut pid self.old start (S.left source.old) cs
             → Known start (S.left source.new) (Halts pid cs s)) }
+        ensures needed { IfErr result (λ s. (s ≡ InputFault.NoMemory → ⊥) → is_ready self.old ≡ false) }
         ensures later { S.faults source.old ≤ S.faults source.new }
         ensures read_fault { IfErr result (λ s. s ≡ InputFault.Failed → Rose (S.faults source.old) (S.faults source.new)) }
     {
@@ -83,6 +91,7 @@ pub fn has_next<S: Source>(
         → Known start (S.left source.new) (AreAllTaken packets) }
     ensures stopped { IfErr result (λ s. (start : Option Bytes) (packets : List Bytes) → HasTaken packets most start (onto_left unread.old (S.left source.old))
         → Known start (S.left source.new) (Stops packets s)) }
+    ensures needed { OnErr result (0 < most → length unread.old < 188) }
     ensures later { S.faults source.old ≤ S.faults source.new }
     ensures read_fault { IfErr result (λ s. s ≡ InputFault.Failed → Rose (S.faults source.old) (S.faults source.new)) }
 {
@@ -101,6 +110,7 @@ fn has_packet<S: Source>(unread: &mut Unread, source: &mut S) -> Result<bool, Fa
     ensures whole { IfOk result (λ whole. IsTrue whole ↔ (188 ≤ length unread.new)) }
     ensures ended { result ≡ Ok false → IsDry (S.left source.new) }
     ensures short { OnErr result (length unread.new < 188) }
+    ensures needed { OnErr result (length unread.old < 188) }
     ensures rest { onto_left unread.new (S.left source.new) ≡ onto_left unread.old (S.left source.old) }
     ensures later { S.faults source.old ≤ S.faults source.new }
     ensures cause { OnErr result (Rose (S.faults source.old) (S.faults source.new)) }

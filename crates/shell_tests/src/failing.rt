@@ -5,7 +5,7 @@ use carousel_shell::{Status, run_plain};
 use cycle_planner::{GREATEST_ID, Weigh};
 use folder_playout::NoNotices;
 use folder_store::{Folders, MemFolders, MemStore, Store};
-use oc_bytes::{Blob, MemSink, MemSource, NoMemory};
+use oc_bytes::{Blob, MemSink, MemSource, NoMemory, Source};
 use std::alloc::Global;
 use std::test::Fail;
 
@@ -56,10 +56,10 @@ fn folder(alloc: Global, fail_at: Vec<u64>) -> Result<MemFolders, Fail> {
 }
 
 /// The status of a command under which each module is sent once a cycle.
-pub(crate) fn run_once<F: Folders, T: Store>(
+pub(crate) fn run_once<S: Source, F: Folders, T: Store>(
     alloc: Global,
     words: &[String],
-    source: &mut MemSource,
+    source: &mut S,
     sink: &mut MemSink,
     folders: &mut F,
     store: &mut T,

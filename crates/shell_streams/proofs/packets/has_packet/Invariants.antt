@@ -5,6 +5,7 @@ use Rattle.shell_streams.proofs.packets.has_packet.Given as goal
 abbrev pub invariant-loop-unread : goal.invariant-loop-unread
 invariant-loop-unread g l = record {
   rest : onto_left l.unread (g.S.Source.left l.source) ≡ onto_left l.fn.unread (g.S.Source.left l.fn.source);
+  grown : length l.fn.unread ≤ length l.unread;
   later : g.S.Source.faults l.fn.source ≤ g.S.Source.faults l.source;
 }
 
