@@ -15,10 +15,18 @@ use Rattle.carousel_world.proofs.Generations.{IsNearTo, OnDii, DiisAre, gens_wit
 abbrev pub OfGeneration : Type 1
 OfGeneration = ℕ → ℕ → Type 0
 
--- each accepted candidate is of a generation that says it, none goes back, and no block is 256 or more after the DII before it
+-- each accepted candidate is of a generation that says it
+abbrev pub EachIsSaid : ℕ → List Layout → List Bytes → OfGeneration → Type 0
+EachIsSaid carousel ls cs of = (i : ℕ) (bytes : Bytes) → slice_get cs i ≡ Some bytes → IsTrue (is_accepted bytes) → (g : ℕ) × (of i g × ((g < length ls) × IsSaidIn carousel ls g (as_heard bytes)))
+
+-- none goes back
+abbrev pub NoneGoesBack : OfGeneration → Type 0
+NoneGoesBack of = (i j g h : ℕ) → i < j → of i g → of j h → g ≤ h
+
+-- both, and no block is 256 or more after the DII before it
 pub record AreAscribed (carousel : ℕ) (ls : List Layout) (cs : List Bytes) (of : OfGeneration) : Type 0 where
-  pub each : (i : ℕ) (bytes : Bytes) → slice_get cs i ≡ Some bytes → IsTrue (is_accepted bytes) → (g : ℕ) × (of i g × ((g < length ls) × IsSaidIn carousel ls g (as_heard bytes)))
-  pub order : (i j g h : ℕ) → i < j → of i g → of j h → g ≤ h
+  pub each : EachIsSaid carousel ls cs of
+  pub order : NoneGoesBack of
   pub near : (i j g h : ℕ) → i < j → IsDiiAt cs i → IsBlockAt cs j → ((k : ℕ) → i < k → k < j → IsDiiAt cs k → ⊥) → of i g → of j h → h < g + 256
 
 later : (carousel : ℕ) (ls : List Layout) (c : Bytes) (cs : List Bytes) (of : OfGeneration) → AreAscribed carousel ls (c ∷ cs) of → AreAscribed carousel ls cs (λ i g. of (suc i) g)

@@ -197,7 +197,7 @@ IsSaidIn carousel ls k (ABlock x) = IsBlockSaid ls k x
 pub number_of : (carousel : ℕ) (ls : List Layout) (g : ℕ) (d : DiiFields) (of : IsDiiOf carousel ls g d) → identification d ≡ of.number
 number_of carousel ls g d of = ap identification of.is ∙ number_is g of.number of.few
 
-version_is : (carousel : ℕ) (ls : List Layout) (g : ℕ) (d : DiiFields) → g < 16384 → IsDiiOf carousel ls g d → version d ≡ g
+pub version_is : (carousel : ℕ) (ls : List Layout) (g : ℕ) (d : DiiFields) → g < 16384 → IsDiiOf carousel ls g d → version d ≡ g
 version_is carousel ls g d lt of = ap version of.is ∙ generation_is g of.number lt of.few
 
 -- ---- the DIIs of one identification, from generation to generation
@@ -355,7 +355,7 @@ newest_are carousel ls g top gs t ts of s a =
 first_of : (carousel : ℕ) (ls : List Layout) (g top : ℕ) (gs : List ℕ) (t : Turn) → IsTurnOf carousel ls g top gs t → IsDiiOf carousel ls g t.turning.dii
 first_of carousel ls g top gs t of = of.each.0.dii
 
-apart_is : (carousel : ℕ) (ls : List Layout) (h g : ℕ) (d e : DiiFields) → h ≤ g → g < 16384 → IsDiiOf carousel ls h d → IsDiiOf carousel ls g e → distance_of (version d) (version e) ≡ g - h
+pub apart_is : (carousel : ℕ) (ls : List Layout) (h g : ℕ) (d e : DiiFields) → h ≤ g → g < 16384 → IsDiiOf carousel ls h d → IsDiiOf carousel ls g e → distance_of (version d) (version e) ≡ g - h
 apart_is carousel ls h g d e le lt a b =
     let one : version d ≡ h = version_is carousel ls h d (omega (arith, le, lt)) a in
     let two : version e ≡ g = version_is carousel ls g e lt b in
@@ -363,6 +363,10 @@ apart_is carousel ls h g d e le lt a b =
   where
     between : (h g : ℕ) → h ≤ g → g < 16384 → distance_of h g ≡ g - h
     between h g le lt = omega (arith, le, lt)
+
+-- a label and the distance to the next version
+pub sums : (h g : ℕ) → h ≤ g → g < 16384 → cap_at_u64 (h + (g - h)) ≡ g
+sums h g le lt = omega (arith, le, lt)
 
 pub label_right : (carousel : ℕ) (ls : List Layout) → length ls ≤ 16384 → (top : ℕ) → top < length ls → (gs : List ℕ) (g : ℕ) (t : Turn) (ts : List Turn) → AreOf carousel ls top (g ∷ gs) (t ∷ ts) → label_of (t ∷ ts) ≡ Some g
 label_right carousel ls few top lt [] g t [] of = ap (λ (n : ℕ). Some n) (version_is carousel ls g t.turning.dii (omega (arith, of.0.generation, lt, few)) (first_of carousel ls g top [] t of.0))
@@ -372,9 +376,7 @@ label_right carousel ls few top lt (h ∷ hs) g t (u ∷ us) of =
     let was : label_in (u.turning ∷ turnings us) ≡ Some h = label_right carousel ls few g (omega (arith, of.0.generation, lt)) hs h u us of.1 in
     let apart : distance_of (version u.turning.dii) (version t.turning.dii) ≡ g - h =
     apart_is carousel ls h g u.turning.dii t.turning.dii of.1.0.generation (omega (arith, of.0.generation, lt, few)) (first_of carousel ls h g hs u of.1.0) (first_of carousel ls g top (h ∷ hs) t of.0) in
-    rw (was, apart) (ap (λ (n : ℕ). Some n) (sums h g of.1.0.generation (omega (arith, of.0.generation, lt, few)))) where
-      sums : (h g : ℕ) → h ≤ g → g < 16384 → cap_at_u64 (h + (g - h)) ≡ g
-      sums h g le lt = omega (arith, le, lt)
+    rw (was, apart) (ap (λ (n : ℕ). Some n) (sums h g of.1.0.generation (omega (arith, of.0.generation, lt, few))))
 
 -- ---- one candidate more
 

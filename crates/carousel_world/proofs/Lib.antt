@@ -14,6 +14,7 @@ mod Completing
 mod Receiving
 mod Climbing
 mod Premising
+mod Onward
 mod Forward
 pub mod CallerLemmas
 mod Single

@@ -21,12 +21,12 @@ use Rattle.section_stream.specs.Laws.{CutsComeInOrder}
 use Rattle.section_stream.proofs.CallerLemmas.{places_count, places_within, starts_behind}
 use Rattle.tuner_core.specs.Heard.{as_heard}
 use Rattle.carousel_world.specs.Broadcasts.{Broadcast, Group, Sending, SendsInOrder, Ascription, NeverBack, IsAscribed, sendings, sendings_of}
-use Rattle.carousel_world.specs.Premises.{Ascribed, IsFromGeneration, IsHeardOf}
+use Rattle.carousel_world.specs.Premises.{Ascribed, AcceptedAreSent, IsFromGeneration, IsHeardOf}
 use Rattle.carousel_world.specs.Receptions.{IsSentIn, Meets, EveryReceptionMeets}
 use Rattle.carousel_world.proofs.Saying.{Spelled, says, hears_item, item_framed}
 use Rattle.carousel_world.proofs.Modules.{IsSent, is_sent}
 use Rattle.carousel_world.proofs.Generations.{IsSaidIn}
-use Rattle.carousel_world.proofs.Ascribing.{AreAscribed}
+use Rattle.carousel_world.proofs.Ascribing.{AreAscribed, EachIsSaid, NoneGoesBack}
 use Rattle.carousel_world.proofs.Receiving.{meets_ascribed}
 
 pub record At {X : Type 0} (xs : List X) (k : ℕ) (x d : X) : Type 0 where
@@ -75,28 +75,35 @@ in_order xs pairs k l s t le e f = by (ltb k l) refl where
       let one : s ≡ t = same_Some s t (sym e ∙ ap (slice_get xs) same ∙ f) in
       subst (λ x. s.0 ≤ x.0) one (omega arith)
 
+pub each_said : (b : Broadcast) (cs : List Bytes) (is_from : Ascribed) → Spelled → Lawful b.carousel b.layouts b.trees → SendsInOrder b → AcceptedAreSent b cs is_from
+    → EachIsSaid b.carousel b.layouts cs (IsFromGeneration b is_from)
+each_said b cs is_from spelled lawful sends sent_all i bytes e accepted =
+    let x = sent_all i bytes e accepted in
+    let y = get_map (λ (s : Sending). section_in b.carousel b.layouts s.0 s.1) (sendings b) x.0 bytes x.2 in
+    let s : Sending = y.0 in
+    let p = at (sendings b) x.0 s s y.1.0 in
+    let item : IsItem b.layouts s.0 s.1 = subst (λ (t : Sending). IsItem b.layouts t.0 t.1) p.is (sends.items x.0 s p.inside) in
+    let lt : s.0 < length b.layouts = below b.layouts s.0 s.1 item in
+    let sent = is_sent b.carousel b.layouts b.trees s.0 lawful lt in (
+      s.0,
+      (
+        (x.0, s, x.1, y.1.0, refl),
+        (
+          lt,
+          subst (λ z. IsSaidIn b.carousel b.layouts s.0 (as_heard z)) (sym y.1.1)
+              (subst (IsSaidIn b.carousel b.layouts s.0) (sym (hears_item b.carousel b.layouts s.0 spelled sent s.1 item)) (said b.carousel b.layouts s.0 s.1 item)),
+        ),
+      ),
+    )
+
+pub none_back : (b : Broadcast) (is_from : Ascribed) → InOrder b is_from → NoneGoesBack (IsFromGeneration b is_from)
+none_back b is_from ordered i j g k lt p q =
+    subst (λ x. x ≤ k) p.4 (subst (λ x. p.1.0 ≤ x) q.4 (ordered i j p.0 q.0 p.1 q.1 lt p.2 q.2 p.3 q.3))
+
 pub ascribed : (b : Broadcast) (cs : List Bytes) (is_from : Ascribed) → Spelled → IsHeardOf b cs is_from → InOrder b is_from → AreAscribed b.carousel b.layouts cs (IsFromGeneration b is_from)
 ascribed b cs is_from spelled h ordered = record {
-  each = λ i bytes e accepted.
-      let x = h.accepted i bytes e accepted in
-      let y = get_map (λ (s : Sending). section_in b.carousel b.layouts s.0 s.1) (sendings b) x.0 bytes x.2 in
-      let s : Sending = y.0 in
-      let p = at (sendings b) x.0 s s y.1.0 in
-      let item : IsItem b.layouts s.0 s.1 = subst (λ (t : Sending). IsItem b.layouts t.0 t.1) p.is (h.in_order.items x.0 s p.inside) in
-      let lt : s.0 < length b.layouts = below b.layouts s.0 s.1 item in
-      let sent = is_sent b.carousel b.layouts b.trees s.0 h.lawful lt in (
-        s.0,
-        (
-          (x.0, s, x.1, y.1.0, refl),
-          (
-            lt,
-            subst (λ z. IsSaidIn b.carousel b.layouts s.0 (as_heard z)) (sym y.1.1)
-                (subst (IsSaidIn b.carousel b.layouts s.0) (sym (hears_item b.carousel b.layouts s.0 spelled sent s.1 item)) (said b.carousel b.layouts s.0 s.1 item)),
-          ),
-        ),
-      );
-  order = λ i j g k lt p q.
-      subst (λ x. x ≤ k) p.4 (subst (λ x. p.1.0 ≤ x) q.4 (ordered i j p.0 q.0 p.1 q.1 lt p.2 q.2 p.3 q.3));
+  each = each_said b cs is_from spelled h.lawful h.in_order h.accepted;
+  order = none_back b is_from ordered;
   near = λ i j g k lt dii block none p q. h.near i j g k block (record { before = lt; there = dii; last = none }) p q;
 }
 
@@ -236,6 +243,10 @@ meets_heard b cs is_from spelled same h ordered =
     meets_ascribed b cs (IsFromGeneration b is_from) h.first (λ g item is. hears_item b.carousel b.layouts g spelled (sent g (below b.layouts g item is)) item is) h.lawful sent same
     (ascribed b cs is_from spelled h ordered) (sent_from b is_from)
 
+-- what is sent in order of sections that stand back to back
+pub sections_in_order : (b : Broadcast) (from : Ascription) → SendsInOrder b → NeverBack from → InOrder b (λ i k. from i ≡ Some k)
+sections_in_order b from sends never i j k l s t lt p q e f = in_order (sendings b) sends.order k l s t (never i j k l lt p q) e f
+
 pub every_reception : Framed → Spelled → ((ls : List Layout) → EqualVersionsMeanEqualBytes ls) → CutsComeInOrder → EveryReceptionMeets
 every_reception framed spelled law cut = record {
   packets = λ pid packets b from never h.
@@ -243,5 +254,5 @@ every_reception framed spelled law cut = record {
       (packets_in_order framed spelled cut b pid packets from h.lawful h.in_order never);
   sections = λ cs b from never h.
       meets_heard b cs (λ i k. from i ≡ Some k) spelled (law b.layouts) h
-      (λ i j k l s t lt p q e f. in_order (sendings b) h.in_order.order k l s t (never i j k l lt p q) e f);
+      (sections_in_order b from h.in_order never);
 }

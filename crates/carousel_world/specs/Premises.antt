@@ -20,6 +20,10 @@ abbrev pub AcceptedAreSent : Broadcast → List Bytes → Ascribed → Type 0
 AcceptedAreSent b candidates is_from = (i : ℕ) (bytes : Bytes) → slice_get candidates i ≡ Some bytes → IsTrue (is_accepted bytes)
     → (k : ℕ) × is_from i k × (slice_get (sections b) k ≡ Some bytes)
 
+-- candidate number i is accepted
+abbrev pub IsAcceptedAt : List Bytes → ℕ → Type 0
+IsAcceptedAt candidates i = (bytes : Bytes) × (slice_get candidates i ≡ Some bytes) × IsTrue (is_accepted bytes)
+
 -- candidate number i is an accepted DII, or an accepted block
 abbrev pub IsDiiAt : List Bytes → ℕ → Type 0
 IsDiiAt candidates i = (bytes : Bytes) × (d : DiiFields) × (slice_get candidates i ≡ Some bytes) × (as_heard bytes ≡ ADii d)

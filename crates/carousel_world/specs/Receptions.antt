@@ -1,12 +1,12 @@
 -- What a receiver owes of whatever it hears, over many generations.
-use Rattle.std.specs.Prelude.{◌≡◌, ℕ, ◌+◌, ◌<◌, ◌≤◌, true, false, List, [], ◌∷◌, ◌++◌, length, map, Option, Some, None, slice_get}
+use Rattle.std.specs.Prelude.{◌≡◌, ℕ, ◌+◌, ◌<◌, ◌≤◌, true, false, List, [], ◌∷◌, ◌++◌, length, map, take, Option, Some, None, slice_get}
 use Rattle.std.specs.List.{All, Contains, list_any}
 use Rattle.path_tree.specs.Paths.{Bytes, PathNames}
 use Rattle.path_tree.specs.Trees.{node_at}
 use Rattle.biop_object.specs.Names.{Layout, module_in}
 use Rattle.ddb_block.specs.Blocks.{block_of}
 use Rattle.dsi_dii.specs.Controls.{DiiFields}
-use Rattle.generation.specs.Lawful.{layout_at, tree_at, HasDii, dii_in}
+use Rattle.generation.specs.Lawful.{Lawful, layout_at, tree_at, HasDii, dii_in}
 use Rattle.module_cache.specs.Turns.{newest}
 use Rattle.path_resolver.specs.declared.answer.Answer.{Answer}
 use Rattle.path_resolver.specs.declared.answer.Answer.TheVariants as answers
@@ -14,9 +14,9 @@ use Rattle.section_stream.specs.Cuts.{candidates}
 use Rattle.tuner_core.specs.Heard.{ADii, as_heard}
 use Rattle.tuner_core.specs.Spans.{Span}
 use Rattle.tuner_core.specs.Turns.{Turn, turns_of, label_of, answer_after}
-use Rattle.carousel_world.specs.Broadcasts.{Broadcast, Sending, sendings, Ascription, NeverBack, IsAscribed}
+use Rattle.carousel_world.specs.Broadcasts.{Broadcast, Sending, sendings, SendsInOrder, Ascription, NeverBack, IsAscribed}
 use Rattle.carousel_world.specs.Headline.{IsAnswer, IsNodeAnswer, is_dii, has_carousel, first_missing, block_there, waiting_in}
-use Rattle.carousel_world.specs.Premises.{IsHeardOf, IsWhole}
+use Rattle.carousel_world.specs.Premises.{Ascribed, AcceptedAreSent, IsAcceptedAt, IsFromGeneration, IsHeardOf, IsWhole}
 use Rattle.dsi_dii.specs.declared.TheConstants.{BLOCK_SIZE}
 
 -- the number of the generation that a receiver takes what it holds for
@@ -115,3 +115,36 @@ GoesOn (Some g) None = ⊥
 pub record LabelsNeverFall : Type 0 where
   pub sections : (candidates more : List Bytes) → GoesOn (label_after candidates) (label_after (candidates ++ more))
   pub packets : (pid : ℕ) (packets more : List Bytes) → GoesOn (label_after (candidates pid packets)) (label_after (candidates pid (packets ++ more)))
+
+-- ---- the generations of what is heard
+
+-- The generations of the sections that accepted candidates are from never go back. Each accepted
+-- candidate is from one of some generation: none earlier than that of an accepted one before it, and
+-- none below the label that a receiver has after all that it heard before.
+pub record GoForward (b : Broadcast) (candidates : List Bytes) (is_from : Ascribed) : Type 0 where
+  pub each : (i : ℕ) → IsAcceptedAt candidates i → (g : ℕ) × IsFromGeneration b is_from i g
+  pub order : (i j g h : ℕ) → i < j → IsAcceptedAt candidates i → IsAcceptedAt candidates j
+      → IsFromGeneration b is_from i g → IsFromGeneration b is_from j h → g ≤ h
+  pub next : (j h label : ℕ) → IsAcceptedAt candidates j → IsFromGeneration b is_from j h
+      → label_after (take j candidates) ≡ Some label → label ≤ h
+
+-- Over packets: the accepted candidates were sent, in order, of a lawful broadcast. How far a block
+-- is from the DII before it is free.
+abbrev pub GoForwardOnPackets : ℕ → List Bytes → List Bytes → Type 0
+GoForwardOnPackets pid packets candidates = (b : Broadcast) (from : Ascription) → NeverBack from
+    → Lawful b.carousel b.layouts b.trees → SendsInOrder b
+    → AcceptedAreSent b candidates (IsAscribed b pid packets from)
+    → GoForward b candidates (IsAscribed b pid packets from)
+
+-- the same over sections that stand back to back
+abbrev pub GoForwardOnSections : List Bytes → Type 0
+GoForwardOnSections candidates = (b : Broadcast) (from : Ascription) → NeverBack from
+    → Lawful b.carousel b.layouts b.trees → SendsInOrder b
+    → AcceptedAreSent b candidates (λ i k. from i ≡ Some k)
+    → GoForward b candidates (λ i k. from i ≡ Some k)
+
+-- it holds of whatever is heard
+pub record GenerationsNeverGoBack : Type 0 where
+  pub packets : (pid : ℕ) (packets : List Bytes)
+      → GoForwardOnPackets pid packets (candidates pid packets)
+  pub sections : (candidates : List Bytes) → GoForwardOnSections candidates

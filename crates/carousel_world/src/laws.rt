@@ -2,7 +2,7 @@
 ghost use Rattle.carousel_world.specs.Instances.{PremisesCanBeMet};
 ghost use Rattle.carousel_world.specs.Publishing.{EachCycleOpens, EveryPublicationMeets, PublicationsCanBePacked};
 ghost use Rattle.carousel_world.specs.Promises.{EveryRunMeetsTheHeadline};
-ghost use Rattle.carousel_world.specs.Receptions.{EveryReceptionMeets, LabelsNeverFall};
+ghost use Rattle.carousel_world.specs.Receptions.{EveryReceptionMeets, GenerationsNeverGoBack, LabelsNeverFall};
 ghost use Rattle.carousel_world.specs.Settling.{EverySettledRunIsWhole, EverySettledRunOpens};
 
 /// Whatever a receiver hears of a carousel whose tree changes from generation to generation, lost, damaged, repeated or interleaved
@@ -23,6 +23,23 @@ pub fn every_reception_meets()
     ddb_block::spellings_read();
     dsi_dii::spellings_read_back();
     generation::equal_versions_mean_equal_bytes();
+    section_stream::cuts_come_in_order();
+}
+
+/// The generations of the sections that the accepted candidates are from never go back: each is no
+/// earlier than that of any candidate accepted before it, and the next one is of no generation below
+/// the label that a receiver has by then. It holds while each section that is accepted is one that
+/// was sent, and what is received keeps the order of sending. How many commits lie between a block
+/// and the DII heard before it is free.
+///
+/// It holds of the candidates of any list of packets, whatever their PIDs, and of any list of
+/// sections, for all layouts whose modules up to 16 DIIs list.
+pub fn generations_never_go_back()
+    ensures { GenerationsNeverGoBack }
+{
+    dsmcc_section::spellings_read();
+    ddb_block::spellings_read();
+    dsi_dii::spellings_read_back();
     section_stream::cuts_come_in_order();
 }
 

@@ -29,7 +29,8 @@ pub use downlink::Downlink;
 pub use event::{Event, Reply};
 pub use laws::{
     each_cycle_opens, every_publication_meets, every_reception_meets, every_run_meets_the_headline,
-    labels_never_fall, premises_can_be_met, publications_can_be_packed, settling_is_whole,
+    generations_never_go_back, labels_never_fall, premises_can_be_met, publications_can_be_packed,
+    settling_is_whole,
 };
 pub use ts_packet::Fate;
 pub use world::World;
