@@ -37,4 +37,6 @@ mod WholeDraws
 mod Settling
 mod Tables
 mod Room
+mod TwoGroups
 mod TwoDiis
+mod FarApart

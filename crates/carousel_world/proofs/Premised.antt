@@ -1,5 +1,5 @@
 -- Premises of a reception that are found by computing.
-use Rattle.std.proofs.Common.{◌≡◌, ℕ, zero, suc, ◌<◌, ◌≤◌, Bool, true, false, cond, ◌&&◌, ◌==◌, nat_le, nat_lt, List, [], ◌∷◌, length, map, get_or, Some, None, refl, ap, sym, ◌∙◌, subst, arith}
+use Rattle.std.proofs.Common.{◌≡◌, ℕ, zero, suc, ◌+◌, ◌<◌, ◌≤◌, Bool, true, false, cond, ◌&&◌, ◌==◌, nat_le, nat_lt, List, [], ◌∷◌, length, map, get_or, Some, None, refl, ap, sym, ◌∙◌, subst, arith}
 use Rattle.std.specs.Prelude.{slice_get}
 use Rattle.std.specs.List.{All, AllPairs, Contains, list_all}
 use Rattle.std.proofs.lemmas.Bool.{and_parts, eqb-true, ltb-true, leb-true}
@@ -66,22 +66,32 @@ each_at test [] all k s e = cc
 each_at test (x ∷ xs) all zero s e = subst (λ y. test y ≡ true) (same_Some x s e) (and_parts (test x) (list_all test xs) all).0
 each_at test (x ∷ xs) all (suc k) s e = each_at test xs (and_parts (test x) (list_all test xs) all).1 k s e
 
--- of the first 256 generations alone
-abbrev pub is_early : Sending → Bool
-is_early s = nat_lt s.0 256
+-- of the 256 generations from this one on
+abbrev pub is_within : ℕ → Sending → Bool
+is_within lo s = nat_le lo s.0 && nat_lt s.0 (lo + 256)
+
+within : (lo : ℕ) (xs : List Sending) → list_all (is_within lo) xs ≡ true
+    → (k : ℕ) (s : Sending) → slice_get xs k ≡ Some s → (lo ≤ s.0) × (s.0 < lo + 256)
+within lo xs all k s e =
+    let one = each_at (is_within lo) xs all k s e in
+    let p = and_parts (nat_le lo s.0) (nat_lt s.0 (lo + 256)) one in
+    (leb-true lo s.0 p.0, ltb-true s.0 (lo + 256) p.1)
 
 -- what is heard of them is near
-pub near_by : (b : Broadcast) (cs : List Bytes) (is_from : Ascribed) → list_all is_early (sendings b) ≡ true → BlocksAreNear b cs is_from
-near_by b cs is_from early i j g h block last p q =
-    let few : q.1.0 < 256 = ltb-true q.1.0 256 (each_at is_early (sendings b) early q.0 q.1 q.3) in
-    let same : q.1.0 ≡ h = q.4 in
-    omega (arith, few, same)
+pub near_within : (lo : ℕ) (b : Broadcast) (cs : List Bytes) (is_from : Ascribed)
+    → list_all (is_within lo) (sendings b) ≡ true → BlocksAreNear b cs is_from
+near_within lo b cs is_from all i j g h block last p q =
+    let first : g ≡ p.1.0 = sym p.4 in
+    let next : h ≡ q.1.0 = sym q.4 in
+    let low : lo ≤ p.1.0 = (within lo (sendings b) all p.0 p.1 p.3).0 in
+    let high : q.1.0 < lo + 256 = (within lo (sendings b) all q.0 q.1 q.3).1 in
+    omega (arith, first, next, low, high)
 
 -- where these are the layouts that the rules make
 pub heard_by : LayoutsAreLawful → (ls : List Layout) (trees : List Tree) (gs : List ℕ) (cs : List Bytes) (is_from : Ascribed) → layouts_of 1 trees ≡ ls → ArePublishable 1 trees
     → list_all (λ g. nat_lt g (length ls)) gs ≡ true → is_climbing 0 (map (λ s. s.0) (sendings (cycles_with ls trees gs))) ≡ true
-    → list_all is_early (sendings (cycles_with ls trees gs)) ≡ true → AcceptedAreSent (cycles_with ls trees gs) cs is_from → IsHeardOf (cycles_with ls trees gs) cs is_from
-heard_by lawful ls trees gs cs is_from laid publishable below climbing early accepted =
+    → list_all (is_within 0) (sendings (cycles_with ls trees gs)) ≡ true → AcceptedAreSent (cycles_with ls trees gs) cs is_from → IsHeardOf (cycles_with ls trees gs) cs is_from
+heard_by lawful ls trees gs cs is_from laid publishable below climbing few accepted =
     let l : Lawful 1 ls ([] ∷ trees) = subst (λ x. Lawful 1 x ([] ∷ trees)) laid (lawful 1 trees publishable) in
     record {
       first = omega (arith, l.as_many);
@@ -91,7 +101,7 @@ heard_by lawful ls trees gs cs is_from laid publishable below climbing early acc
         order = pairs_by (sendings (cycles_with ls trees gs)) climbing;
       };
       accepted = accepted;
-      near = near_by (cycles_with ls trees gs) cs is_from early;
+      near = near_within 0 (cycles_with ls trees gs) cs is_from few;
     }
 
 -- ---- a generation of one module

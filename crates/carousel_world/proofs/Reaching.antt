@@ -14,6 +14,7 @@ use Rattle.carousel_world.proofs.Instances.{letter, first_content, first_node, f
 use Rattle.carousel_world.proofs.Damaged.{damage}
 use Rattle.carousel_world.proofs.Carried.{carrying}
 use Rattle.carousel_world.proofs.TwoDiis.{joining}
+use Rattle.carousel_world.proofs.FarApart.{far}
 use Rattle.carousel_world.proofs.Lossy.{run_is_premised}
 use Rattle.carousel_world.proofs.Opening.{whole_cycles}
 use Rattle.carousel_world.proofs.Saying.{Spelled}
@@ -36,5 +37,6 @@ can_be_met spelled lawful one meets = record {
   damage = damage lawful;
   carrying = carrying lawful;
   joining = joining lawful;
+  far = far lawful;
   run = run_is_premised lawful;
 }

@@ -22,7 +22,7 @@ use Rattle.biop_object.specs.declared.written.FolderKind.TheVariants.{Gateway}
 use Rattle.cycle_planner.specs.declared.Item.{Item}
 use Rattle.tuner_core.specs.Heard.{as_heard}
 use Rattle.tuner_core.specs.Turns.{turns_of}
-use Rattle.carousel_world.specs.Headline.{waiting_in}
+use Rattle.carousel_world.specs.Headline.{block_there, waiting_in}
 use Rattle.carousel_world.specs.Broadcasts.{Broadcast, SendsInOrder, section_groups, sections, NeverBack, IsAscribed, Group}
 use Rattle.carousel_world.specs.Premises.{AcceptedAreSent, IsHeardOf, IsWhole}
 use Rattle.carousel_world.specs.Receptions.{label_after}
@@ -195,6 +195,48 @@ pub record JoiningIsPremised : Type 0 where
   -- the block came once more
   pub after : Tells two_diis_received 9 (Some 2) (answers.File (1 ∷ 2 ∷ 3 ∷ []))
 
+-- ---- two generations as far apart as the premises allow
+
+-- The same file is published 256 times. Of generation 1 the DSI and both DIIs are sent; of
+-- generation 256, which is 255 commits later, the block of module 140, and then a whole cycle, with
+-- the block of module 1 twice. Each section begins in a packet of its own, and ends in it.
+abbrev pub far_apart : Broadcast
+far_apart = record {
+  carousel = 1;
+  trees = [] ∷ replicate 256 one_file;
+  layouts = empty_gateway ∷ replicate 256 two_groups;
+  groups = one_by_one 1 (Dsi ∷ Dii 1 ∷ Dii 2 ∷ []) ++ one_by_one 256
+      (Block 140 0 ∷ Dsi ∷ Dii 1 ∷ Dii 2 ∷ Block 1 0 ∷ Block 1 0 ∷ Block 140 0 ∷ []);
+}
+
+-- all packets come, but a byte of the first block of module 1 is changed
+abbrev pub far_received : Reception
+far_received = record {
+  broadcast = far_apart;
+  packets = map (packet_of far_apart) (range_with_len 0 7)
+      ++ slice_set (packet_of far_apart 7) 100 7 ∷ map (packet_of far_apart) (8 ∷ 9 ∷ []);
+  numbers = range_with_len 0 10;
+}
+
+-- block 0 of module 140 is there, after the first n packets
+abbrev pub file_there : Reception → ℕ → Option Bytes
+file_there r n = block_there (candidates 256 (take n r.packets)) 140 0
+
+pub record FarIsPremised : Type 0 where
+  pub premised : IsPremised far_received 256
+  -- The last DII before the block of module 140 is generation 1's DII 2, which describes the module
+  -- alike: the block is taken.
+  pub before : Tells far_received 4 (Some 1) (answers.NotYet 1)
+  pub taken : file_there far_received 4 ≡ Some file_alone
+  -- generation 256's DII 1 turned
+  pub turned : Tells far_received 6 (Some 256) (answers.NotYet 1)
+  -- its DII 2 joined, and the block was kept: it wasn't heard since
+  pub kept : file_there far_received 7 ≡ Some file_alone
+  -- module 1's block is damaged
+  pub damaged : Tells far_received 8 (Some 256) (answers.NotYet 1)
+  -- it came once more
+  pub after : Tells far_received 9 (Some 256) (answers.File (1 ∷ 2 ∷ 3 ∷ []))
+
 pub record PremisesCanBeMet : Type 0 where
   -- the weights of the instances here are weights
   pub weights : AreWeights ones
@@ -215,5 +257,7 @@ pub record PremisesCanBeMet : Type 0 where
   pub carrying : CarryingIsPremised
   -- a module of a second DII, which waits over a turn until that DII joins
   pub joining : JoiningIsPremised
+  -- a block that is heard 255 commits after the DII before it, and carried over that turn
+  pub far : FarIsPremised
   -- a list of events of a world, with losses and damage
   pub run : RunIsPremised

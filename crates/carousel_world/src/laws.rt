@@ -123,11 +123,14 @@ pub fn settling_is_whole()
 /// are items of its generation, in order; its sections, as they were sent, are ascribed to themselves, and from one cycle on they
 /// are a whole one. Who has heard the control sections alone waits for module 1, in which the gateway lies, whatever the path.
 ///
-/// All premises hold together of three receptions of packets, of a whole cycle of the later of two generations each. In one a byte of
+/// All premises hold together of four receptions of packets, of a whole cycle of the later of two generations each. In one a byte of
 /// a DSI is changed, a packet comes twice and the next is lost, and a byte of a block is changed; in another a block is heard
 /// before the DII of its generation and carried over that DII. In the third two DIIs describe each generation and a byte of a block is
-/// changed; a module of the second DII waits over the turn until that DII joins, and is there then with no further block of it. All
-/// three answer that a module isn't whole before they answer the file.
+/// changed; a module of the second DII waits over the turn until that DII joins, and is there then with no further block of it. The
+/// fourth is as bad as the premises allow: the two generations are 255 commits apart. A block of the
+/// later is heard while the DIIs of the earlier are held, is carried over the turn from label 1 to
+/// label 256, and is there after it; a byte of another block is changed. All four answer that a
+/// module isn't whole before they answer the file.
 ///
 /// They hold too after a list of events of a world: two editors' commits, and draws of which a packet is lost and bits are inverted.
 /// Its opens are answered that there is no carousel, that a module isn't whole, and then the file.
