@@ -122,7 +122,7 @@ pub(crate) fn run(
     Ok(Ended { code, sink, store })
 }
 
-/// Whether a run ended as it should in which a call of this end failed: nothing was written, or what the writes of two bytes before it
+/// Whether a run ended as it should in which a call of this end failed: nothing was written, or what the writes of a byte before it
 /// took, or which path can't be read, or the lines of what was stored before, when each call before stored one file or folder.
 fn is_right(end: End, call: u64, good: &[u8], ended: &Ended) -> bool {
     let written = ended.sink.written();
@@ -130,7 +130,7 @@ fn is_right(end: End, call: u64, good: &[u8], ended: &Ended) -> bool {
         End::Source => ended.code == 4 && written.is_empty(),
         End::Sink => {
             ended.code == 5
-                && written.len() as u64 == call.saturating_mul(2)
+                && written.len() as u64 == call
                 && good.starts_with(written)
         }
         End::Folders => {
@@ -145,7 +145,7 @@ fn is_right(end: End, call: u64, good: &[u8], ended: &Ended) -> bool {
 /// How many calls of an end a command makes, each of which failed in turn.
 fn failing(alloc: Global, line: &str, input: &[u8], good: &Ended, end: End) -> Result<u64, Fail> {
     for call in 0..1000u64 {
-        let ended = run(alloc, line, input, (20, 2), Some((end, call)))?;
+        let ended = run(alloc, line, input, (20, 1), Some((end, call)))?;
         if ended.code == good.code {
             return Ok(call);
         }
@@ -159,24 +159,24 @@ fn failing(alloc: Global, line: &str, input: &[u8], good: &Ended, end: End) -> R
 #[test]
 fn each_call_fails_in_turn(rt: HostRuntime) -> Result<(), Fail> {
     let alloc = rt.alloc();
-    let published = run(alloc, "publish F 1 1", b"", (20, 2), None)?;
+    let published = run(alloc, "publish F 1 1", b"", (20, 1), None)?;
     let packets = published.sink.written();
-    // The packets are 564 bytes, 29 reads and one that finds their end. The texts are half as many writes as they have bytes: 127, 716 and
-    // 21 of `plan`, `inspect` and `extract`. A folder is listed and a file read; a folder is made and a file written.
+    // The packets are 564 bytes, 29 reads and one that finds their end. Each byte that is written is a write: 127, 716 and 21 of `plan`,
+    // `inspect` and `extract`. A folder is listed and a file read; a folder is made and a file written.
     let rows: [(&str, &[u8], [u64; 4]); 10] = [
-        ("assemble 1 0 5 42", &HELLO, [3, 3, 0, 0]),
-        ("publish F 1 1", b"", [0, 282, 2, 0]),
-        ("record 256", packets, [30, 193, 0, 0]),
-        ("list 256", packets, [30, 11, 0, 0]),
-        ("open 256 /a /a/b", packets, [30, 15, 0, 0]),
-        ("rehearse", NEWS, [8, 78, 0, 0]),
-        ("plan F 1 1000000", b"", [0, 64, 2, 0]),
-        ("inspect 256", packets, [30, 358, 0, 0]),
-        ("extract 256 G", packets, [30, 11, 0, 2]),
-        ("air 256 F 1 1", b"", [0, 282, 2, 0]),
+        ("assemble 1 0 5 42", &HELLO, [3, 5, 0, 0]),
+        ("publish F 1 1", b"", [0, 564, 2, 0]),
+        ("record 256", packets, [30, 385, 0, 0]),
+        ("list 256", packets, [30, 21, 0, 0]),
+        ("open 256 /a /a/b", packets, [30, 29, 0, 0]),
+        ("rehearse", NEWS, [8, 155, 0, 0]),
+        ("plan F 1 1000000", b"", [0, 127, 2, 0]),
+        ("inspect 256", packets, [30, 716, 0, 0]),
+        ("extract 256 G", packets, [30, 21, 0, 2]),
+        ("air 256 F 1 1", b"", [0, 564, 2, 0]),
     ];
     for (line, input, [reads, writes, calls, stores]) in rows {
-        let good = run(alloc, line, input, (20, 2), None)?;
+        let good = run(alloc, line, input, (20, 1), None)?;
         for (end, count) in [
             (End::Source, reads),
             (End::Sink, writes),
@@ -191,15 +191,15 @@ fn each_call_fails_in_turn(rt: HostRuntime) -> Result<(), Fail> {
         alloc,
         "air 256 F 1 2",
         b"",
-        (20, 2),
+        (20, 1),
         Some((End::Folders, 2)),
     )?;
-    let twice = run(alloc, "publish F 1 2", b"", (20, 2), None)?;
+    let twice = run(alloc, "publish F 1 2", b"", (20, 1), None)?;
     assert_eq!(rt;
         (aired.code, aired.sink.written()),
         (0, twice.sink.written())
     );
-    let extracted = run(alloc, "extract 256 G", packets, (20, 2), None)?;
+    let extracted = run(alloc, "extract 256 G", packets, (20, 1), None)?;
     assert!(rt; extracted.store.is_folder("G"));
     assert!(rt; extracted.store.content("G/a") == Some(b"hello".as_slice()));
     Ok(())

@@ -111,7 +111,7 @@ fn calls_that_fail_stop_commands(rt: HostRuntime) -> Result<(), Fail> {
     Ok(())
 }
 
-/// A read that fails while sections are recorded: some of them are written.
+/// A read that fails while sections are recorded: the one of 115 bytes in the packet before it is written by then.
 #[test]
 fn a_read_that_fails_stops_recording(rt: HostRuntime) -> Result<(), Fail> {
     let alloc = rt.alloc();
@@ -119,7 +119,7 @@ fn a_read_that_fails_stops_recording(rt: HostRuntime) -> Result<(), Fail> {
     put_packet(&mut packets, 0, &DSI)?;
     put_packet(&mut packets, 1, &NEXT_DII)?;
     put_packet(&mut packets, 2, &NEXT_BLOCK)?;
-    let (code, _, whole) = stopped(alloc, "record 256", &packets, (100, 50), (End::Source, 2))?;
-    assert_eq!(rt; (code, whole), (4, 254));
+    let ended = stopped(alloc, "record 256", &packets, (100, 50), (End::Source, 2))?;
+    assert_eq!(rt; ended, (4, 115, 254));
     Ok(())
 }
