@@ -25,7 +25,7 @@ use Rattle.shell_streams.specs.declared.output.OutputFault.TheVariants as output
 use Rattle.folder_playout.specs.Readings.{AreOfFolder, AreRead, IsFailed, Reading, Found, Refused, Failed as Unreadable, broken_path, by_judgement, by_walk, judged, reading_of, unless_fault, unless_limit}
 use Rattle.folder_playout.specs.Notices.{Notice}
 use Rattle.folder_playout.specs.Playing.{Sent, Airs, AirsPart, IsFull}
-use Rattle.folder_playout.specs.Laws.{JudgedAsFirst, PlayoutsMeet, UnchangedIsPublished}
+use Rattle.folder_playout.specs.Laws.{JudgedAsFirst, UnchangedIsPublished}
 use Rattle.folder_playout.specs.declared.reading.Unread.TheVariants as unread
 use Rattle.folder_playout.specs.declared.playing.AirFault.{AirFault}
 use Rattle.folder_playout.specs.declared.playing.AirFault.TheVariants as airs
@@ -138,9 +138,9 @@ module _ (sent : Sent) (folder : Bytes) (cycles : ℕ) (Read : List Reading → 
   ends_aired (Err (airs.Output outputs.Failed)) a = (a.puts.cause refl, part_aired outputs.Failed a)
   ends_aired (Err (airs.Output outputs.NoMemory)) a = inr (part_aired outputs.NoMemory a)
 
-  pub stays : PlayoutsMeet → (r : Result (Unit {0}) AirFault) → Airs sent cycles Read Told r old new
+  pub stays : (r : Result (Unit {0}) AirFault) → Airs sent cycles Read Told r old new
       → StaysOnAir sent.pid folder sent.carousel sent.weights cycles (air_status r) (sink_over old new) folders Told
-  stays meet r a = record { ends = ends_aired r a; heard = meet }
+  stays r a = record { ends = ends_aired r a }
 
 -- the folders that were read are those that were handed in
 pub were_over : {X : Type 0} (folder : Bytes) (tree : X → Option FolderTree) (faults : X → ℕ) (begin end first last : X) (read : Bytes) (rs : List Reading) → read ≡ folder → begin ≡ first → end ≡ last

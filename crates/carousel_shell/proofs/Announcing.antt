@@ -4,7 +4,6 @@ use Rattle.std.specs.List.{concat}
 use Rattle.std.proofs.lemmas.List.Folds.{concat-append}
 use Rattle.path_tree.specs.Trees.{Tree}
 use Rattle.cycle_planner.specs.Cycle.{cycle_of}
-use Rattle.cycle_planner.specs.Weights.{AreWeights}
 use Rattle.generation.specs.Layouts.{GenerationState, generation_of, lines_of, section_of}
 use Rattle.generation.specs.Kept.{GenerationsAreOfTheLists}
 use Rattle.folder_store.specs.Folders.{FolderTree}
@@ -16,15 +15,13 @@ use Rattle.shell_streams.specs.Cuts.{Bytes}
 use Rattle.shell_streams.specs.Sending.{OutputState, Puts, HasPut}
 use Rattle.shell_streams.specs.declared.output.OutputFault.{OutputFault}
 use Rattle.shell_streams.proofs.CallerLemmas.{puts_as}
-use Rattle.carousel_shell.specs.Over.{Over, sink_over, IsUntouched}
-use Rattle.carousel_shell.specs.Cycles.{IsOfFolder, Refused}
+use Rattle.carousel_shell.specs.Over.{Over, sink_over}
+use Rattle.carousel_shell.specs.Cycles.{IsOfFolder}
 use Rattle.carousel_shell.specs.Announced.{Senders, senders_start, cycle_sent, after_cycle, cycles_sent, after_cycles, published_psi}
 use Rattle.carousel_shell.specs.PublishPsi.{PublishesPsi}
-use Rattle.carousel_shell.specs.Reception.{Receptions}
 use Rattle.carousel_shell.specs.Statuses.{output_status}
-use Rattle.carousel_shell.specs.declared.status.Status.{Status}
 use Rattle.carousel_shell.specs.declared.status.Status.TheVariants as status
-use Rattle.carousel_shell.proofs.Committing.{HasEnded, one_cycle_is, ended_none, ended_all, ended_part}
+use Rattle.carousel_shell.proofs.Committing.{one_cycle_is, ended_all, ended_part}
 
 -- ---- cycles one after another
 
@@ -80,32 +77,22 @@ tables_then cycle n s tables t = cycle_more cycle n s tables (after_cycles cycle
 
 -- ---- what is promised
 
-psi_by : (folder : Bytes) (carousel : ℕ) (weights : List ℕ) (cycles : ℕ) (s : Status) (sink : Over Bytes) (folders : Over FolderTree) → Receptions → AreWeights weights → HasEnded folder carousel (published_psi carousel weights cycles) s sink folders
-    → PublishesPsi folder carousel weights cycles s sink folders
-psi_by folder carousel weights cycles s sink folders law are e = record { ends = e.ends; needs = e.needs; heard = law.cycles carousel weights cycles are }
-
 psi_is : (carousel : ℕ) (weights : List ℕ) (cycles : ℕ) (t : Tree) (g : GenerationState) → GenerationsAreOfTheLists → g ≡ generation_of carousel (t ∷ [])
     → concat (cycles_sent (map (section_of g) (cycle_of weights (lines_of g))) cycles (senders_start carousel)) ≡ published_psi carousel weights cycles t
 psi_is carousel weights cycles t g law e = ap (λ cycle. concat (cycles_sent cycle cycles (senders_start carousel))) (one_cycle_is carousel weights t g law e)
 
-pub psi_none : (folder : Bytes) (carousel : ℕ) (weights : List ℕ) (cycles : ℕ) (sink : Over Bytes) (folders : Over FolderTree) (s : Status) → Receptions → AreWeights weights → Refused folder carousel folders s → IsUntouched sink
-    → PublishesPsi folder carousel weights cycles s sink folders
-psi_none folder carousel weights cycles sink folders s law are r none = psi_by folder carousel weights cycles s sink folders law are (ended_none folder carousel (published_psi carousel weights cycles) sink folders s r none)
-
-pub psi_all : (folder : Bytes) (carousel : ℕ) (weights : List ℕ) (cycles : ℕ) (old new : OutputState) (folders : Over FolderTree) (g : GenerationState) → Receptions → AreWeights weights → GenerationsAreOfTheLists
+pub psi_all : (folder : Bytes) (carousel : ℕ) (weights : List ℕ) (cycles : ℕ) (old new : OutputState) (folders : Over FolderTree) (g : GenerationState) → GenerationsAreOfTheLists
     → IsOfFolder folder carousel folders.before g → old.pending ≡ [] → new.pending ≡ []
     → HasPut old new (concat (cycles_sent (map (section_of g) (cycle_of weights (lines_of g))) cycles (senders_start carousel))) → PublishesPsi folder carousel weights cycles status.Done (sink_over old new) folders
-psi_all folder carousel weights cycles old new folders g law are lists of begin empty puts =
-    psi_by folder carousel weights cycles status.Done (sink_over old new) folders law are
-    (ended_all folder carousel (published_psi carousel weights cycles) old new folders g of begin empty (puts_as (psi_is carousel weights cycles of.tree g lists of.is) puts))
+psi_all folder carousel weights cycles old new folders g lists of begin empty puts =
+    ended_all folder carousel (published_psi carousel weights cycles) old new folders g of begin empty (puts_as (psi_is carousel weights cycles of.tree g lists of.is) puts)
 
-pub psi_part : (folder : Bytes) (carousel : ℕ) (weights : List ℕ) (cycles : ℕ) (old new : OutputState) (folders : Over FolderTree) (g : GenerationState) (f : OutputFault) → Receptions → AreWeights weights → GenerationsAreOfTheLists
+pub psi_part : (folder : Bytes) (carousel : ℕ) (weights : List ℕ) (cycles : ℕ) (old new : OutputState) (folders : Over FolderTree) (g : GenerationState) (f : OutputFault) → GenerationsAreOfTheLists
     → IsOfFolder folder carousel folders.before g → old.pending ≡ []
     → Puts {T = Unit {0}} (Err f) old new (concat (cycles_sent (map (section_of g) (cycle_of weights (lines_of g))) cycles (senders_start carousel)))
     → PublishesPsi folder carousel weights cycles (output_status f) (sink_over old new) folders
-psi_part folder carousel weights cycles old new folders g f law are lists of begin puts =
-    psi_by folder carousel weights cycles (output_status f) (sink_over old new) folders law are
-    (ended_part folder carousel (published_psi carousel weights cycles) old new folders g f of begin (puts_as (psi_is carousel weights cycles of.tree g lists of.is) puts))
+psi_part folder carousel weights cycles old new folders g f lists of begin puts =
+    ended_part folder carousel (published_psi carousel weights cycles) old new folders g f of begin (puts_as (psi_is carousel weights cycles of.tree g lists of.is) puts)
 
 -- the packets that were put into the emptied room
 pub room_is : (cleared made : List Bytes) (packets : List Bytes) → made ≡ cleared ++ packets → cleared ≡ [] → made ≡ packets

@@ -2,25 +2,18 @@
 use Rattle.std.proofs.Common.{◌≡◌, Bool, [], map, Result, ap, ◌∙◌, subst}
 use Rattle.std.specs.Prelude.{IfOk, OnOk}
 use Rattle.std.proofs.lemmas.Result.{IfOk-weaker}
-use Rattle.oc_bytes.specs.Outcome.{Known}
 use Rattle.path_resolver.specs.Resolving.{Held, answer_of}
 use Rattle.tuner_core.specs.Heard.{as_heard}
 use Rattle.tuner_core.specs.LookBack.{held_after}
 use Rattle.shell_streams.specs.Cuts.{Bytes}
-use Rattle.shell_streams.specs.Held.{Stopped}
-use Rattle.shell_streams.specs.Carriers.{Reading, sections_by, HeardAll}
+use Rattle.shell_streams.specs.Carriers.{Reading, HeardAll}
 use Rattle.shell_streams.specs.Sending.{OutputState, Puts}
-use Rattle.shell_streams.specs.declared.carrier.Carrier.{Carrier}
-use Rattle.shell_streams.specs.declared.input.InputFault.{InputFault}
-use Rattle.shell_streams.specs.declared.input.InputFault.TheVariants as inputs
 use Rattle.shell_streams.specs.declared.output.OutputFault.{OutputFault}
-use Rattle.carousel_shell.specs.Over.{Over, sink_over, Failed, IsUntouched}
+use Rattle.carousel_shell.specs.Over.{Over, sink_over}
 use Rattle.carousel_shell.specs.Replies.{Replies}
-use Rattle.carousel_shell.specs.Open.{Question, answers_to, Answers}
-use Rattle.carousel_shell.specs.Reception.{Receptions}
-use Rattle.carousel_shell.specs.Statuses.{input_status, answer_status}
-use Rattle.carousel_shell.specs.declared.status.Status.{Status}
-use Rattle.carousel_shell.proofs.Replying.{replies_stopped, replies_written}
+use Rattle.carousel_shell.specs.Open.{Question, answers_to}
+use Rattle.carousel_shell.specs.Statuses.{answer_status}
+use Rattle.carousel_shell.proofs.Replying.{replies_written}
 
 -- what was read, and what is held of it
 abbrev pub HoldsHeard : Reading → Held → Over Bytes → Type 0
@@ -34,21 +27,3 @@ answers_replied reading question source old new held r h begin all puts empty =
     let P : Held → Type 0 = λ x. Puts r old new (question.text (answer_of x)) in
     replies_written reading (answers_to question) source old new h.taken r h.told begin
     (IfOk-weaker r _ _ (λ all e. e ∙ ap (λ x. question.all (answer_of x)) h.heard) all) (subst P h.heard puts) empty
-
-pub answers_by : (carrier : Carrier) (question : Question) (s : Status) (source sink : Over Bytes) → Receptions → Replies (sections_by carrier) (answers_to question) s source sink
-    → Answers carrier question s source sink
-answers_by carrier question s source sink law replies = record { replies = replies; reception = λ input _. law.each carrier input }
-
--- a fault stopped the reading
-pub answers_stopped : (carrier : Carrier) (question : Question) (source sink : Over Bytes) (fault : InputFault) → Receptions
-    → Known source.before source.after (Stopped (sections_by carrier).goes_on fault) → (fault ≡ inputs.Failed → Failed source) → IsUntouched sink
-    → Answers carrier question (input_status fault) source sink
-answers_stopped carrier question source sink fault law t cause none =
-    answers_by carrier question (input_status fault) source sink law (replies_stopped (sections_by carrier) (answers_to question) source sink fault t cause none)
-
--- the input was heard to its end, and the answers were put
-pub answers_written : (carrier : Carrier) (question : Question) (source : Over Bytes) (old new : OutputState) (held : Held) (r : Result Bool OutputFault) → Receptions
-    → HoldsHeard (sections_by carrier) held source → old.pending ≡ [] → IfOk r (λ all. all ≡ question.all (answer_of held)) → Puts r old new (question.text (answer_of held))
-    → OnOk r (new.pending ≡ []) → Answers carrier question (answer_status r) source (sink_over old new)
-answers_written carrier question source old new held r law h begin all puts empty =
-    answers_by carrier question (answer_status r) source (sink_over old new) law (answers_replied (sections_by carrier) question source old new held r h begin all puts empty)

@@ -13,7 +13,7 @@ use Rattle.shell_streams.specs.declared.output.OutputFault.TheVariants as output
 use Rattle.shell_streams.proofs.CallerLemmas.{told_weaker, all_rear}
 use Rattle.carousel_shell.specs.Over.{Over, sink_over, Failed, IsUntouched, TakesPrefix}
 use Rattle.carousel_shell.specs.Input.{Asked, blocks_among}
-use Rattle.carousel_shell.specs.Open.{Hears}
+use Rattle.carousel_shell.specs.Replies.{Hears}
 use Rattle.carousel_shell.specs.Assemble.{module_carrier, IsModule, EndsModule, Assembles}
 use Rattle.carousel_shell.specs.Statuses.{input_status, output_status}
 use Rattle.carousel_shell.specs.declared.status.Status.{Status}

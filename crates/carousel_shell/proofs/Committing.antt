@@ -10,7 +10,6 @@ use Rattle.path_tree.specs.Edits.{apply_all}
 use Rattle.path_tree.specs.declared.tree.Edit.{Edit}
 use Rattle.path_tree.specs.declared.tree.EditFault.{EditFault}
 use Rattle.cycle_planner.specs.Cycle.{cycle_of}
-use Rattle.cycle_planner.specs.Weights.{AreWeights}
 use Rattle.generation.specs.Layouts.{GenerationState, generation_of, lines_of, section_of}
 use Rattle.generation.specs.Lawful.{IsPublishable}
 use Rattle.generation.specs.Kept.{IsGenerationOf, GenerationsAreOfTheLists}
@@ -36,10 +35,9 @@ use Rattle.shell_streams.specs.declared.output.OutputFault.TheVariants as output
 use Rattle.shell_streams.proofs.CallerLemmas.{puts_as}
 use Rattle.carousel_shell.specs.Over.{Over, sink_over, Failed, IsUntouched}
 use Rattle.carousel_shell.specs.Publishing.{new_carousel, first_outcome, unless_refused, end_by, publish_end, accepted_tree, tree_by}
-use Rattle.carousel_shell.specs.Publish.{IsTreeOf, EndsPublish, NeedsFolder, Publishes}
+use Rattle.carousel_shell.specs.Publish.{IsTreeOf, EndsPublish, NeedsFolder, Sends, Publishes}
 use Rattle.carousel_shell.specs.Announced.{one_cycle}
 use Rattle.carousel_shell.specs.Cycles.{group_bytes, IsOfFolder, Refused}
-use Rattle.carousel_shell.specs.Reception.{Receptions}
 use Rattle.carousel_shell.specs.Statuses.{output_status, walk_status, commit_status}
 use Rattle.carousel_shell.proofs.Writing.{writes_all, writes_prefix}
 use Rattle.carousel_shell.specs.declared.status.Status.{Status}
@@ -198,14 +196,9 @@ ends_refused folder carousel sent_of sink folders (status.TreeRefused fault) r n
 ends_refused folder carousel sent_of sink folders status.NoMemory r none = inl none
 ends_refused folder carousel sent_of sink folders _ r none = absurd r
 
--- how it ends, and that a known tree needs the folder
-pub record HasEnded (folder : Bytes) (carousel : ℕ) (sent_of : Tree → Bytes) (s : Status) (sink : Over Bytes) (folders : Over FolderTree) : Type 0 where
-  pub ends : EndsPublish folder carousel sent_of sink folders s
-  pub needs : NeedsFolder folder folders s
-
 -- the folder gives no generation
 pub ended_none : (folder : Bytes) (carousel : ℕ) (sent_of : Tree → Bytes) (sink : Over Bytes) (folders : Over FolderTree) (s : Status) → Refused folder carousel folders s → IsUntouched sink
-    → HasEnded folder carousel sent_of s sink folders
+    → Sends folder carousel sent_of s sink folders
 ended_none folder carousel sent_of sink folders s r none = record {
   ends = ends_refused folder carousel sent_of sink folders s r none;
   needs = needs_refused folder carousel folders s r;
@@ -213,7 +206,7 @@ ended_none folder carousel sent_of sink folders s r none = record {
 
 -- all that is sent of it was put
 pub ended_all : (folder : Bytes) (carousel : ℕ) (sent_of : Tree → Bytes) (old new : OutputState) (folders : Over FolderTree) (g : GenerationState) (of : IsOfFolder folder carousel folders.before g)
-    → old.pending ≡ [] → new.pending ≡ [] → HasPut old new (sent_of of.tree) → HasEnded folder carousel sent_of status.Done (sink_over old new) folders
+    → old.pending ≡ [] → new.pending ≡ [] → HasPut old new (sent_of of.tree) → Sends folder carousel sent_of status.Done (sink_over old new) folders
 ended_all folder carousel sent_of old new folders g of begin empty puts = record {
   ends = record { tree = of.tree; of = of.of; writes = writes_all begin empty puts };
   needs = needs_made folder carousel folders g status.Done of;
@@ -228,7 +221,7 @@ ends_part folder carousel sent_of old new folders tree outputs.NoMemory of begin
 -- a fault stopped the writing
 pub ended_part : (folder : Bytes) (carousel : ℕ) (sent_of : Tree → Bytes) (old new : OutputState) (folders : Over FolderTree) (g : GenerationState) (f : OutputFault)
     (of : IsOfFolder folder carousel folders.before g) → old.pending ≡ [] → Puts {T = Unit {0}} (Err f) old new (sent_of of.tree)
-    → HasEnded folder carousel sent_of (output_status f) (sink_over old new) folders
+    → Sends folder carousel sent_of (output_status f) (sink_over old new) folders
 ended_part folder carousel sent_of old new folders g f of begin puts = record {
   ends = ends_part folder carousel sent_of old new folders of.tree f of.of begin puts;
   needs = needs_made folder carousel folders g (output_status f) of;
@@ -236,25 +229,14 @@ ended_part folder carousel sent_of old new folders g f of begin puts = record {
 
 -- ---- `publish`
 
-publishes_by : (pid : ℕ) (folder : Bytes) (carousel : ℕ) (weights : List ℕ) (cycles : ℕ) (s : Status) (sink : Over Bytes) (folders : Over FolderTree) → Receptions → AreWeights weights
-    → HasEnded folder carousel (published_bytes pid carousel weights cycles) s sink folders → Publishes pid folder carousel weights cycles s sink folders
-publishes_by pid folder carousel weights cycles s sink folders law are e = record { ends = e.ends; needs = e.needs; heard = law.sent pid carousel weights cycles are }
-
-pub publishes_none : (pid : ℕ) (folder : Bytes) (carousel : ℕ) (weights : List ℕ) (cycles : ℕ) (sink : Over Bytes) (folders : Over FolderTree) (s : Status) → Receptions → AreWeights weights → Refused folder carousel folders s → IsUntouched sink
-    → Publishes pid folder carousel weights cycles s sink folders
-publishes_none pid folder carousel weights cycles sink folders s law are r none =
-    publishes_by pid folder carousel weights cycles s sink folders law are (ended_none folder carousel (published_bytes pid carousel weights cycles) sink folders s r none)
-
-pub publishes_all : (pid : ℕ) (folder : Bytes) (carousel : ℕ) (weights : List ℕ) (cycles : ℕ) (old new : OutputState) (folders : Over FolderTree) (g : GenerationState) → Receptions → AreWeights weights → GenerationsAreOfTheLists
+pub publishes_all : (pid : ℕ) (folder : Bytes) (carousel : ℕ) (weights : List ℕ) (cycles : ℕ) (old new : OutputState) (folders : Over FolderTree) (g : GenerationState) → GenerationsAreOfTheLists
     → IsOfFolder folder carousel folders.before g → old.pending ≡ [] → new.pending ≡ [] → HasPut old new (group_bytes pid (map (section_of g) (repeat_list cycles (cycle_of weights (lines_of g)))))
     → Publishes pid folder carousel weights cycles status.Done (sink_over old new) folders
-publishes_all pid folder carousel weights cycles old new folders g law are lists of begin empty puts =
-    publishes_by pid folder carousel weights cycles status.Done (sink_over old new) folders law are
-    (ended_all folder carousel (published_bytes pid carousel weights cycles) old new folders g of begin empty (puts_as (published_is pid carousel weights cycles of.tree g lists of.is) puts))
+publishes_all pid folder carousel weights cycles old new folders g lists of begin empty puts =
+    ended_all folder carousel (published_bytes pid carousel weights cycles) old new folders g of begin empty (puts_as (published_is pid carousel weights cycles of.tree g lists of.is) puts)
 
-pub publishes_part : (pid : ℕ) (folder : Bytes) (carousel : ℕ) (weights : List ℕ) (cycles : ℕ) (old new : OutputState) (folders : Over FolderTree) (g : GenerationState) (f : OutputFault) → Receptions → AreWeights weights → GenerationsAreOfTheLists
+pub publishes_part : (pid : ℕ) (folder : Bytes) (carousel : ℕ) (weights : List ℕ) (cycles : ℕ) (old new : OutputState) (folders : Over FolderTree) (g : GenerationState) (f : OutputFault) → GenerationsAreOfTheLists
     → IsOfFolder folder carousel folders.before g → old.pending ≡ [] → Puts {T = Unit {0}} (Err f) old new (group_bytes pid (map (section_of g) (repeat_list cycles (cycle_of weights (lines_of g)))))
     → Publishes pid folder carousel weights cycles (output_status f) (sink_over old new) folders
-publishes_part pid folder carousel weights cycles old new folders g f law are lists of begin puts =
-    publishes_by pid folder carousel weights cycles (output_status f) (sink_over old new) folders law are
-    (ended_part folder carousel (published_bytes pid carousel weights cycles) old new folders g f of begin (puts_as (published_is pid carousel weights cycles of.tree g lists of.is) puts))
+publishes_part pid folder carousel weights cycles old new folders g f lists of begin puts =
+    ended_part folder carousel (published_bytes pid carousel weights cycles) old new folders g f of begin (puts_as (published_is pid carousel weights cycles of.tree g lists of.is) puts)

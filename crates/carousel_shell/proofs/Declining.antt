@@ -1,10 +1,8 @@
 -- What is promised where nothing was done.
 use Rattle.std.proofs.Common.{◌≡◌, ℕ, Bool, false, List, [], Option, Result, Ok, Err, inl, inr, refl, sym, ap, ◌∙◌, append-nil, subst}
-use Rattle.cycle_planner.specs.Weights.{AreWeights}
 use Rattle.oc_bytes.specs.Outcome.{Known}
 use Rattle.path_tree.specs.Paths.{PathNames}
 use Rattle.folder_store.specs.Folders.{FolderTree}
-use Rattle.folder_playout.specs.Laws.{PlayoutsMeet}
 use Rattle.folder_playout.specs.Notices.{Notice}
 use Rattle.shell_words.specs.Words as commands
 use Rattle.shell_words.specs.Complaints.{complaint_line}
@@ -21,15 +19,11 @@ use Rattle.carousel_shell.specs.Air.{WereRead}
 use Rattle.carousel_shell.specs.Watch.{Watches}
 use Rattle.carousel_shell.specs.Find.{place_of}
 use Rattle.carousel_shell.specs.OpenId.{sections_by_id}
-use Rattle.carousel_shell.specs.Reception.{Receptions}
 use Rattle.carousel_shell.specs.Promises.{Promises, Keeps}
 use Rattle.carousel_shell.specs.declared.status.Status.{Status}
 use Rattle.carousel_shell.specs.declared.status.Status.TheVariants as status
 use Rattle.carousel_shell.proofs.Recording.{first_none}
 use Rattle.carousel_shell.proofs.Replying.{replies_nothing}
-use Rattle.carousel_shell.proofs.Answering.{answers_by}
-use Rattle.carousel_shell.proofs.Finding.{finds_by}
-use Rattle.carousel_shell.proofs.Opening.{opens_by}
 use Rattle.carousel_shell.proofs.Serving.{serves_no_memory}
 use Rattle.carousel_shell.proofs.Reporting.{inspects_nothing}
 use Rattle.carousel_shell.proofs.Unpacking.{extracts_nothing}
@@ -38,9 +32,8 @@ use Rattle.carousel_shell.proofs.Planning.{plan_nothing}
 takes_nothing : (source : Over Bytes) → IsUntouched source → TakesPrefix source
 takes_nothing source e = let P : Option Bytes → Type 0 = λ a. Known source.before a IsRear in subst P (sym e) (told_same source.before (λ x. record { taken = []; whole = refl }))
 
-answers_nothing : (carrier : Carrier) (question : Question) (source sink : Over Bytes) → Receptions → IsUntouched source → IsUntouched sink → Answers carrier question status.NoMemory source sink
-answers_nothing carrier question source sink law e f =
-    answers_by carrier question status.NoMemory source sink law (replies_nothing (sections_by carrier) (answers_to question) source sink (takes_nothing source e) f)
+answers_nothing : (carrier : Carrier) (question : Question) (source sink : Over Bytes) → IsUntouched source → IsUntouched sink → Answers carrier question status.NoMemory source sink
+answers_nothing carrier question source sink e f = replies_nothing (sections_by carrier) (answers_to question) source sink (takes_nothing source e) f
 
 first_untouched : (pid : ℕ) (source : Over Bytes) → IsUntouched source → Known source.before source.after (AreFirst pid [])
 first_untouched pid source e = let P : Option Bytes → Type 0 = λ a. Known source.before a (AreFirst pid []) in subst P (sym e) (first_none pid source.before)
@@ -64,41 +57,40 @@ watches_nothing pid prefixes paths source sink e f =
 pub record HasDoneNothing (folders : Over FolderTree) (told : List Notice → Type 0) : Type 0 where
   pub unread : (folder : Bytes) → WereRead folder folders []
   pub untold : told []
-  pub law : PlayoutsMeet
 
 -- there was no memory before a command began
-memory_promises : (weights : List ℕ) (prefixes : List PathNames) (c : commands.Named) (source sink : Over Bytes) (folders store : Over FolderTree) (refused : Option Bytes) (told : List Notice → Type 0) → Receptions → AreWeights weights → IsUntouched source → IsUntouched sink → IsUntouched store → HasDoneNothing folders told → Promises weights prefixes c status.NoMemory source sink folders store refused told
-memory_promises weights prefixes (commands.Assemble id version size download) source sink folders store refused told law are e f k none = record { ends = inl f; takes = takes_nothing source e }
-memory_promises weights prefixes (commands.OpenSections paths) source sink folders store refused told law are e f k none = answers_nothing (carriers.Sections 16777216) (asks_paths paths) source sink law e f
-memory_promises weights prefixes (commands.Open pid paths) source sink folders store refused told law are e f k none = answers_nothing (carriers.Packets pid) (asks_paths paths) source sink law e f
-memory_promises weights prefixes (commands.Record pid) source sink folders store refused told law are e f k none = records_nothing pid source sink e f
-memory_promises weights prefixes (commands.ListAll pid) source sink folders store refused told law are e f k none = answers_nothing (carriers.Packets pid) asks_all source sink law e f
-memory_promises weights prefixes (commands.Publish folder carousel cycles) source sink folders store refused told law are e f k none =
-    record { unread = e; keeps = record { ends = inl f; needs = λ t h n. inr refl; heard = law.sent 256 carousel weights cycles are } }
-memory_promises weights prefixes commands.Rehearse source sink folders store refused told law are e f k none = record { ends = inl f; takes = takes_nothing source e }
-memory_promises weights prefixes commands.Session source sink folders store refused told law are e f k none = record { ends = inr refl; unread = e; unwritten = f }
-memory_promises weights prefixes (commands.Big n) source sink folders store refused told law are e f k none = record { ends = inr refl; unread = e; unwritten = f }
-memory_promises weights prefixes (commands.Find carousel) source sink folders store refused told law are e f k none =
-    finds_by carousel status.NoMemory source sink law (replies_nothing all_packets (place_of carousel) source sink (takes_nothing source e) f)
-memory_promises weights prefixes (commands.OpenId carousel paths) source sink folders store refused told law are e f k none =
-    opens_by carousel paths status.NoMemory source sink law (replies_nothing (sections_by_id carousel) (answers_to (asks_paths paths)) source sink (takes_nothing source e) f)
-memory_promises weights prefixes (commands.PublishPsi folder carousel cycles) source sink folders store refused told law are e f k none =
-    record { unread = e; keeps = record { ends = inl f; needs = λ t h n. inr refl; heard = law.cycles carousel weights cycles are } }
-memory_promises weights prefixes (commands.PublishOn pid folder carousel cycles) source sink folders store refused told law are e f k none =
-    record { unread = e; keeps = record { ends = inl f; needs = λ t h n. inr refl; heard = law.sent pid carousel weights cycles are } }
-memory_promises weights prefixes (commands.Mounts entries paths) source sink folders store refused told law are e f k none = serves_no_memory entries paths source sink law e f
-memory_promises weights prefixes (commands.Watch pid paths) source sink folders store refused told law are e f k none = watches_nothing pid prefixes paths source sink e f
-memory_promises weights prefixes (commands.Plan folder carousel bitrate) source sink folders store refused told law are e f k none = record { unread = e; keeps = plan_nothing folder carousel weights bitrate sink folders refused f }
-memory_promises weights prefixes (commands.Inspect pid) source sink folders store refused told law are e f k none = inspects_nothing pid source sink (takes_nothing source e) f
-memory_promises weights prefixes (commands.Extract pid folder) source sink folders store refused told law are e f k none = extracts_nothing pid folder source sink store (takes_nothing source e) (f, k)
-memory_promises weights prefixes (commands.Air pid folder carousel cycles) source sink folders store refused told law are e f k none =
-    record { unread = e; keeps = record { ends = inl (record { read = none.unread folder; told = none.untold; unwritten = f }); heard = none.law } }
-memory_promises weights prefixes (commands.Why complaint) source sink folders store refused told law are e f k none = record { unread = e; keeps = record { ends = prefix_untouched sink (complaint_line complaint) f } }
+memory_promises : (weights : List ℕ) (prefixes : List PathNames) (c : commands.Named) (source sink : Over Bytes) (folders store : Over FolderTree) (refused : Option Bytes) (told : List Notice → Type 0) → IsUntouched source → IsUntouched sink → IsUntouched store → HasDoneNothing folders told → Promises weights prefixes c status.NoMemory source sink folders store refused told
+memory_promises weights prefixes (commands.Assemble id version size download) source sink folders store refused told e f k none = record { ends = inl f; takes = takes_nothing source e }
+memory_promises weights prefixes (commands.OpenSections paths) source sink folders store refused told e f k none = answers_nothing (carriers.Sections 16777216) (asks_paths paths) source sink e f
+memory_promises weights prefixes (commands.Open pid paths) source sink folders store refused told e f k none = answers_nothing (carriers.Packets pid) (asks_paths paths) source sink e f
+memory_promises weights prefixes (commands.Record pid) source sink folders store refused told e f k none = records_nothing pid source sink e f
+memory_promises weights prefixes (commands.ListAll pid) source sink folders store refused told e f k none = answers_nothing (carriers.Packets pid) asks_all source sink e f
+memory_promises weights prefixes (commands.Publish folder carousel cycles) source sink folders store refused told e f k none =
+    record { unread = e; keeps = record { ends = inl f; needs = λ t h n. inr refl } }
+memory_promises weights prefixes commands.Rehearse source sink folders store refused told e f k none = record { ends = inl f; takes = takes_nothing source e }
+memory_promises weights prefixes commands.Session source sink folders store refused told e f k none = record { ends = inr refl; unread = e; unwritten = f }
+memory_promises weights prefixes (commands.Big n) source sink folders store refused told e f k none = record { ends = inr refl; unread = e; unwritten = f }
+memory_promises weights prefixes (commands.Find carousel) source sink folders store refused told e f k none =
+    replies_nothing all_packets (place_of carousel) source sink (takes_nothing source e) f
+memory_promises weights prefixes (commands.OpenId carousel paths) source sink folders store refused told e f k none =
+    replies_nothing (sections_by_id carousel) (answers_to (asks_paths paths)) source sink (takes_nothing source e) f
+memory_promises weights prefixes (commands.PublishPsi folder carousel cycles) source sink folders store refused told e f k none =
+    record { unread = e; keeps = record { ends = inl f; needs = λ t h n. inr refl } }
+memory_promises weights prefixes (commands.PublishOn pid folder carousel cycles) source sink folders store refused told e f k none =
+    record { unread = e; keeps = record { ends = inl f; needs = λ t h n. inr refl } }
+memory_promises weights prefixes (commands.Mounts entries paths) source sink folders store refused told e f k none = serves_no_memory entries paths source sink e f
+memory_promises weights prefixes (commands.Watch pid paths) source sink folders store refused told e f k none = watches_nothing pid prefixes paths source sink e f
+memory_promises weights prefixes (commands.Plan folder carousel bitrate) source sink folders store refused told e f k none = record { unread = e; keeps = plan_nothing folder carousel weights bitrate sink folders refused f }
+memory_promises weights prefixes (commands.Inspect pid) source sink folders store refused told e f k none = inspects_nothing pid source sink (takes_nothing source e) f
+memory_promises weights prefixes (commands.Extract pid folder) source sink folders store refused told e f k none = extracts_nothing pid folder source sink store (takes_nothing source e) (f, k)
+memory_promises weights prefixes (commands.Air pid folder carousel cycles) source sink folders store refused told e f k none =
+    record { unread = e; keeps = record { ends = inl (record { read = none.unread folder; told = none.untold; unwritten = f }) } }
+memory_promises weights prefixes (commands.Why complaint) source sink folders store refused told e f k none = record { unread = e; keeps = record { ends = prefix_untouched sink (complaint_line complaint) f } }
 
-pub memory_keeps : (weights : List ℕ) (prefixes : List PathNames) (r : Result commands.Named commands.Misfit) (source sink : Over Bytes) (folders store : Over FolderTree) (refused : Option Bytes) (told : List Notice → Type 0) → Receptions → AreWeights weights → IsUntouched source → IsUntouched sink → IsUntouched store → HasDoneNothing folders told
+pub memory_keeps : (weights : List ℕ) (prefixes : List PathNames) (r : Result commands.Named commands.Misfit) (source sink : Over Bytes) (folders store : Over FolderTree) (refused : Option Bytes) (told : List Notice → Type 0) → IsUntouched source → IsUntouched sink → IsUntouched store → HasDoneNothing folders told
     → Keeps weights prefixes r status.NoMemory source sink folders store refused told
-memory_keeps weights prefixes (Ok c) source sink folders store refused told law are e f k none = memory_promises weights prefixes c source sink folders store refused told law are e f k none
-memory_keeps weights prefixes (Err misfit) source sink folders store refused told law are e f k none = record { ends = inr refl; unread = e; unwritten = f }
+memory_keeps weights prefixes (Ok c) source sink folders store refused told e f k none = memory_promises weights prefixes c source sink folders store refused told e f k none
+memory_keeps weights prefixes (Err misfit) source sink folders store refused told e f k none = record { ends = inr refl; unread = e; unwritten = f }
 
 -- the words don't fit
 pub words_keep : (weights : List ℕ) (prefixes : List PathNames) (r : Result commands.Named commands.Misfit) (source sink : Over Bytes) (folders store : Over FolderTree) (refused : Option Bytes) (told : List Notice → Type 0) → r ≡ Err commands.Words → IsUntouched source → IsUntouched sink

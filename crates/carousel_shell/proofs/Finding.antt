@@ -4,20 +4,14 @@ use Rattle.std.specs.Prelude.{IfOk, OnOk}
 use Rattle.psi_tables.specs.declared.finder.Find.{Find}
 use Rattle.psi_tables.specs.Finding.{found_in}
 use Rattle.shell_streams.specs.Cuts.{Bytes}
-use Rattle.shell_streams.specs.Packets.{packets_of}
 use Rattle.shell_streams.specs.Carriers.{all_packets, HeardAll}
 use Rattle.shell_streams.specs.Sending.{OutputState, Puts}
 use Rattle.shell_streams.specs.declared.output.OutputFault.{OutputFault}
 use Rattle.carousel_shell.specs.Over.{Over, sink_over}
 use Rattle.carousel_shell.specs.Replies.{Replies}
-use Rattle.carousel_shell.specs.Find.{is_at, found_line, place_of, Finds}
-use Rattle.carousel_shell.specs.Reception.{Receptions}
+use Rattle.carousel_shell.specs.Find.{is_at, found_line, Finds}
 use Rattle.carousel_shell.specs.Statuses.{answer_status}
-use Rattle.carousel_shell.specs.declared.status.Status.{Status}
 use Rattle.carousel_shell.proofs.Replying.{replies_written}
-
-pub finds_by : (carousel : ℕ) (s : Status) (source sink : Over Bytes) → Receptions → Replies all_packets (place_of carousel) s source sink → Finds carousel s source sink
-finds_by carousel s source sink law replies = record { replies = replies; usual = λ input _. law.tables carousel (packets_of input) }
 
 -- the packets were read, and what was found by them was put
 written_by : (find : List Bytes → Find) (source : Over Bytes) (old new : OutputState) (found : Find) (r : Result Bool OutputFault)
@@ -29,8 +23,7 @@ written_by find source old new found r h begin all puts empty =
     replies_written all_packets (record { text = λ packets. found_line (find packets); all = λ packets. is_at (find packets) }) source old new h.taken r h.told begin
     (subst A h.heard all) (subst P h.heard puts) empty
 
-pub finds_written : (carousel : ℕ) (source : Over Bytes) (old new : OutputState) (found : Find) (r : Result Bool OutputFault) → Receptions
+pub finds_written : (carousel : ℕ) (source : Over Bytes) (old new : OutputState) (found : Find) (r : Result Bool OutputFault)
     → HeardAll all_packets (λ packets. found ≡ found_in carousel packets) source.before source.after → old.pending ≡ [] → IfOk r (λ all. all ≡ is_at found) → Puts r old new (found_line found)
     → OnOk r (new.pending ≡ []) → Finds carousel (answer_status r) source (sink_over old new)
-finds_written carousel source old new found r law h begin all puts empty =
-    finds_by carousel (answer_status r) source (sink_over old new) law (written_by (found_in carousel) source old new found r h begin all puts empty)
+finds_written carousel source old new found r h begin all puts empty = written_by (found_in carousel) source old new found r h begin all puts empty

@@ -1,4 +1,4 @@
--- What `open-id` promises, and the packet at which a carousel is found.
+-- The packet at which a carousel is found, and what is heard from there on.
 use Rattle.std.proofs.Common.{◌≡◌, ℕ, zero, suc, ◌*◌, ◌<◌, ◌≤◌, ◌⊎◌, inl, inr, List, [], ◌∷◌, ◌++◌, length, take, drop, Option, Some, None, refl, sym, ap, ◌∙◌, arith, length-append}
 use Rattle.std.proofs.lemmas.Bool.{cases_lt}
 use Rattle.std.proofs.lemmas.List.{take_all, take-append-le}
@@ -10,15 +10,10 @@ use Rattle.psi_tables.specs.declared.finder.Find.{Find}
 use Rattle.psi_tables.specs.declared.finder.Find.TheVariants.{NoPat, NotNamed, At}
 use Rattle.psi_tables.specs.Finding.{found_in}
 use Rattle.shell_streams.specs.Cuts.{Bytes}
-use Rattle.shell_streams.specs.Packets.{packets_of}
-use Rattle.shell_streams.specs.declared.carrier.Carrier.TheVariants as carriers
+use Rattle.shell_streams.specs.Packets.{packets_of, candidates_of}
 use Rattle.shell_streams.proofs.CallerLemmas.{packets_behind}
-use Rattle.carousel_shell.specs.Over.{Over}
-use Rattle.carousel_shell.specs.Replies.{Replies}
-use Rattle.carousel_shell.specs.Open.{asks_paths, answers_to}
-use Rattle.carousel_shell.specs.OpenId.{found_after, or_then, found_within, first_found, sections_after, sections_among, sections_by_id, IsNowhere, IsFirst, IsNeverFound, OpensAfter, OpensId}
-use Rattle.carousel_shell.specs.Reception.{Receptions}
-use Rattle.carousel_shell.specs.declared.status.Status.{Status}
+use Rattle.carousel_shell.specs.OpenId.{found_after, or_then, found_within, first_found, sections_after, sections_among}
+use Rattle.carousel_shell.specs.Laws.{IsNowhere, IsFirst, IsNeverFound, HeardById}
 
 -- ---- the packet at which it is found
 
@@ -71,26 +66,25 @@ first_more carousel packets p =
     ∙ ap (λ o. or_then o (found_after (suc (length packets)) (found_in carousel (take (suc (length packets)) all)))) (within_more carousel packets p (length packets) (omega arith))
     ∙ ap (λ ps. or_then (first_found carousel packets) (found_after (suc (length packets)) (found_in carousel ps))) (take_all (suc (length packets)) all (omega (arith, e)))
 
--- ---- what is promised
+-- ---- what is heard
 
-opens_behind : Receptions → (carousel : ℕ) (input : Bytes) (n pid : ℕ) → IsFirst carousel (packets_of input) n pid → OpensAfter carousel input n pid
-opens_behind law carousel input n pid first = record {
-  sections = ap (sections_after (packets_of input)) (first_within carousel (packets_of input) n pid (length (packets_of input)) first first.within)
-      ∙ ap (candidates pid) (sym (packets_behind n input first.within));
-  reception = law.each (carriers.Packets pid) (drop (188 * n) input);
-}
+heard_behind : (carousel : ℕ) (input : Bytes) (n pid : ℕ) → IsFirst carousel (packets_of input) n pid
+    → sections_among carousel (packets_of input) ≡ candidates_of pid (drop (188 * n) input)
+heard_behind carousel input n pid first =
+    let packets = packets_of input in
+    ap (sections_after packets) (first_within carousel packets n pid (length packets) first first.within)
+    ∙ ap (candidates pid) (sym (packets_behind n input first.within))
 
 no_carousel : (sections : List Bytes) (p : PathNames) → sections ≡ [] → answer_after sections p ≡ answers.NoCarousel
 no_carousel sections p e = ap (λ ss. answer_after ss p) e
 
-opens_nowhere : (carousel : ℕ) (input : Bytes) (p : PathNames) → IsNeverFound carousel (packets_of input) → answer_after (sections_among carousel (packets_of input)) p ≡ answers.NoCarousel
-opens_nowhere carousel input p never =
-    no_carousel (sections_among carousel (packets_of input)) p (ap (sections_after (packets_of input)) (none_within carousel (packets_of input) (length (packets_of input)) never))
+heard_nowhere : (carousel : ℕ) (packets : List Bytes) (p : PathNames) → IsNeverFound carousel packets
+    → answer_after (sections_among carousel packets) p ≡ answers.NoCarousel
+heard_nowhere carousel packets p never = no_carousel (sections_among carousel packets) p
+    (ap (sections_after packets) (none_within carousel packets (length packets) never))
 
-pub opens_by : (carousel : ℕ) (paths : List PathNames) (s : Status) (source sink : Over Bytes) → Receptions → Replies (sections_by_id carousel) (answers_to (asks_paths paths)) s source sink
-    → OpensId carousel paths s source sink
-opens_by carousel paths s source sink law replies = record {
-  replies = replies;
-  behind = λ input n pid _ first. opens_behind law carousel input n pid first;
-  nowhere = λ input p _ never. opens_nowhere carousel input p never;
+pub heard_by_id : (carousel : ℕ) (input : Bytes) → HeardById carousel input
+heard_by_id carousel input = record {
+  behind = λ n pid first. heard_behind carousel input n pid first;
+  nowhere = λ p never. heard_nowhere carousel (packets_of input) p never;
 }

@@ -1,5 +1,5 @@
 -- The law of receptions, for every input and every publication.
-use Rattle.std.proofs.Common.{◌≡◌, ℕ, zero, suc, ◌+◌, ◌≤◌, ◌%◌, List, [], ◌∷◌, length, refl, sym, ap, ◌∙◌, arith, append-nil, length-append}
+use Rattle.std.proofs.Common.{◌≡◌, ℕ, zero, suc, ◌+◌, ◌≤◌, ◌%◌, List, [], ◌∷◌, ◌++◌, length, Option, Some, refl, sym, ap, ◌∙◌, arith, append-nil, length-append}
 use Rattle.std.proofs.lemmas.List.{length-replicate}
 use Rattle.std.proofs.lemmas.List.Elements.{All-head, All-tail}
 use Rattle.std.specs.List.{All, concat}
@@ -24,10 +24,16 @@ use Rattle.shell_streams.specs.declared.carrier.Carrier.{Carrier}
 use Rattle.shell_streams.specs.declared.carrier.Carrier.TheVariants as carriers
 use Rattle.shell_streams.proofs.CallerLemmas.{packets_before}
 use Rattle.mount_table.specs.Laws.{OneMountDecides}
+use Rattle.mount_table.specs.Mounts.{mount_named, at_mount}
+use Rattle.mount_table.specs.declared.mount.Mount.{Mount}
+use Rattle.mount_table.specs.declared.mounts.Mounted.{Mounted}
+use Rattle.shell_words.specs.Texts.{answered_line, tail_of}
 use Rattle.psi_tables.specs.Laws.{IsNowhereElse, IsFoundOnceItCame, EachIsFollowed}
-use Rattle.carousel_shell.specs.Find.{UsuallyFound}
 use Rattle.carousel_shell.proofs.Beginning.{falls_never}
-use Rattle.carousel_shell.specs.Reception.{Reception, SentOpens, CyclesOpen, Receptions, node_answer, answer_in}
+use Rattle.carousel_shell.proofs.Opening.{heard_by_id}
+use Rattle.carousel_shell.specs.Mounts.{as_answer}
+use Rattle.carousel_shell.specs.Laws.{UsuallyFound, UnderMount, Receptions}
+use Rattle.carousel_shell.specs.Reception.{Reception, SentOpens, CyclesOpen, node_answer, answer_in}
 
 same_answer : (a : Answer) (n : Node) → IsNodeAnswer a n → a ≡ node_answer n
 same_answer (answers.File b) (File c) h = ap answers.File h
@@ -91,6 +97,24 @@ usually nowhere once each carousel packets = record {
   followed = λ p l all line program few. each packets p l all line program few;
 }
 
+under_mount : OneMountDecides → (table : List Mount) (name : Bytes) (m : Mount) (input : Bytes)
+    → mount_named table name ≡ Some m → UnderMount table name m input
+under_mount law table name m input named = record {
+  as_open = λ rest.
+      ap (λ (o : Option Mount). as_answer table (at_mount (packets_of input) rest o)) named;
+  alone = λ other rest same.
+      ap (λ (a : Mounted). answered_line (name ∷ rest) (as_answer table a) ++ tail_of (as_answer table a))
+      (law table name m (packets_of input) (packets_of other) named same rest);
+}
+
 pub all_laws : EveryReceptionMeets → LabelsNeverFall → EveryPublicationMeets → EachCycleOpens → ((carousel : ℕ) (weights : List ℕ) (cycles : ℕ) → AreWeights weights → CyclesOpen carousel weights cycles) → IsNowhereElse → IsFoundOnceItCame → EachIsFollowed → OneMountDecides
     → Receptions
-all_laws law falls one cycle cycles nowhere once each mounts = record { each = received law falls one; sent = sent_opens cycle; cycles = cycles; tables = usually nowhere once each; mounts = mounts }
+all_laws law falls one cycle cycles nowhere once each mounts = record {
+  each = received law falls one;
+  sent = sent_opens cycle;
+  cycles = cycles;
+  tables = usually nowhere once each;
+  by_id = heard_by_id;
+  mounts = mounts;
+  under = under_mount mounts;
+}

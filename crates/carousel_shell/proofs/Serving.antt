@@ -15,17 +15,14 @@ use Rattle.mount_table.specs.Stands.{MountsState, StandsFor, mounts_of}
 use Rattle.shell_words.specs.Values.{Entry}
 use Rattle.shell_words.specs.Texts.{answered_line, tail_of, open_text, open_entry}
 use Rattle.shell_streams.specs.Cuts.{Bytes}
-use Rattle.shell_streams.specs.Packets.{packets_of}
 use Rattle.shell_streams.specs.Carriers.{all_packets, HeardAll}
 use Rattle.shell_streams.specs.Sending.{OutputState, Puts}
-use Rattle.shell_streams.specs.declared.carrier.Carrier.TheVariants as carriers
 use Rattle.shell_streams.specs.declared.output.OutputFault.{OutputFault}
 use Rattle.carousel_shell.specs.Over.{Over, sink_over, IsUntouched}
 use Rattle.carousel_shell.specs.Open.{AllAnswers, asks_paths, reply_by}
 use Rattle.carousel_shell.specs.Replies.{Replies}
-use Rattle.carousel_shell.specs.Reception.{Receptions}
 use Rattle.carousel_shell.specs.Statuses.{answer_status, table_status}
-use Rattle.carousel_shell.specs.Mounts.{mounts_in, as_answer, mounted_answer, root_text, AreItsAnswers, UnderMount, EndsMounts, ServesMounts}
+use Rattle.carousel_shell.specs.Mounts.{mounts_in, as_answer, mounted_answer, root_text, AreItsAnswers, EndsMounts, ServesMounts}
 use Rattle.carousel_shell.specs.declared.status.Status.{Status}
 use Rattle.carousel_shell.specs.declared.status.Status.TheVariants as status
 use Rattle.carousel_shell.proofs.Replying.{replies_written}
@@ -77,43 +74,31 @@ mounts_written old new paths source begin end r fed none all puts empty =
 
 -- ---- what is promised
 
-under_mount : Receptions → (input : Bytes) (table : List Mount) (name : Bytes) (m : Mount) → mount_named table name ≡ Some m → UnderMount table name m input
-under_mount law input table name m named = record {
-  as_open = λ rest. ap (λ (o : Option Mount). as_answer table (at_mount (packets_of input) rest o)) named;
-  reception = law.each (carriers.Packets m.pid) input;
-  alone = λ other rest same. ap (λ (a : Mounted). answered_line (name ∷ rest) (as_answer table a) ++ tail_of (as_answer table a))
-      (law.mounts table name m (packets_of input) (packets_of other) named same rest);
-}
-
-serves_by : (entries : List Entry) (paths : List PathNames) (s : Status) (source sink : Over Bytes) → Receptions
-    → EndsMounts (refusal_of (mounts_in entries)) (mounts_in entries) paths s source sink → ServesMounts entries paths s source sink
-serves_by entries paths s source sink law ends = record { ends = ends; under = λ input table name m _ named. under_mount law input table name m named }
-
 ends_as : (mounts : List Mount) (paths : List PathNames) (s : Status) (source sink : Over Bytes) (o : Option TableFault) → refusal_of mounts ≡ o → EndsMounts o mounts paths s source sink
     → EndsMounts (refusal_of mounts) mounts paths s source sink
 ends_as mounts paths s source sink o e ends = subst (λ (x : Option TableFault). EndsMounts x mounts paths s source sink) (sym e) ends
 
 -- the table was made, and answered
-pub serves_table : (entries : List Entry) (paths : List PathNames) (s : Status) (source sink : Over Bytes) (table : List Mount) → Receptions → refusal_of (mounts_in entries) ≡ None
+pub serves_table : (entries : List Entry) (paths : List PathNames) (s : Status) (source sink : Over Bytes) (table : List Mount) → refusal_of (mounts_in entries) ≡ None
     → IsTableOf (mounts_in entries) table → Replies all_packets (reply_by (mounted_answer table) (asks_paths paths)) s source sink → ServesMounts entries paths s source sink
-serves_table entries paths s source sink table law accepted of replies =
-    serves_by entries paths s source sink law (ends_as (mounts_in entries) paths s source sink None accepted (inr (record { table = table; of = of; replies = replies })))
+serves_table entries paths s source sink table accepted of replies =
+    ends_as (mounts_in entries) paths s source sink None accepted (inr (record { table = table; of = of; replies = replies }))
 
 -- there was no memory for it
-pub serves_no_memory : (entries : List Entry) (paths : List PathNames) (source sink : Over Bytes) → Receptions → IsUntouched source → IsUntouched sink → ServesMounts entries paths status.NoMemory source sink
-serves_no_memory entries paths source sink law e f = serves_by entries paths status.NoMemory source sink law (by (refusal_of (mounts_in entries)))
+pub serves_no_memory : (entries : List Entry) (paths : List PathNames) (source sink : Over Bytes) → IsUntouched source → IsUntouched sink → ServesMounts entries paths status.NoMemory source sink
+serves_no_memory entries paths source sink e f = by (refusal_of (mounts_in entries))
   where
     by : (o : Option TableFault) → EndsMounts o (mounts_in entries) paths status.NoMemory source sink
     by (Some fault) = record { ends = inr refl; unread = e; unwritten = f }
     by None = inl (record { ends = refl; unread = e; unwritten = f })
 
 -- it wasn't made
-pub serves_none : (entries : List Entry) (paths : List PathNames) (source sink : Over Bytes) (fault : TableFault) → Receptions → IfSome (refusal_in fault) (λ f. refusal_of (mounts_in entries) ≡ Some f)
+pub serves_none : (entries : List Entry) (paths : List PathNames) (source sink : Over Bytes) (fault : TableFault) → IfSome (refusal_in fault) (λ f. refusal_of (mounts_in entries) ≡ Some f)
     → IsUntouched source → IsUntouched sink → ServesMounts entries paths (table_status fault) source sink
-serves_none entries paths source sink fault law refused e f = by fault refused
+serves_none entries paths source sink fault refused e f = by fault refused
   where
     words : (x : TableFault) → refusal_of (mounts_in entries) ≡ Some x → ServesMounts entries paths status.Words source sink
-    words x is = serves_by entries paths status.Words source sink law (ends_as (mounts_in entries) paths status.Words source sink (Some x) is (record { ends = inl refl; unread = e; unwritten = f }))
+    words x is = ends_as (mounts_in entries) paths status.Words source sink (Some x) is (record { ends = inl refl; unread = e; unwritten = f })
 
     by : (x : TableFault) → IfSome (refusal_in x) (λ y. refusal_of (mounts_in entries) ≡ Some y) → ServesMounts entries paths (table_status x) source sink
     by tables.TooMany is = words tables.TooMany is
@@ -121,7 +106,7 @@ serves_none entries paths source sink fault law refused e f = by fault refused
     by (tables.BadPid place) is = words (tables.BadPid place) is
     by (tables.NameTwice place) is = words (tables.NameTwice place) is
     by (tables.PidTwice place) is = words (tables.PidTwice place) is
-    by tables.NoMemory is = serves_no_memory entries paths source sink law e f
+    by tables.NoMemory is = serves_no_memory entries paths source sink e f
 
 -- what a refusal of the list says of it
 pub refused_as : (r o : Option TableFault) → r ≡ o → IfSome o (λ f. r ≡ Some f)

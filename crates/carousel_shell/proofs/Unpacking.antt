@@ -19,7 +19,8 @@ use Rattle.shell_streams.specs.declared.output.OutputFault.{OutputFault}
 use Rattle.shell_streams.specs.declared.output.OutputFault.TheVariants as outputs
 use Rattle.shell_streams.proofs.CallerLemmas.{told_weaker, all_rear}
 use Rattle.carousel_shell.specs.Over.{Over, sink_over, Failed, TakesPrefix}
-use Rattle.carousel_shell.specs.Open.{AllAnswers, Hears}
+use Rattle.carousel_shell.specs.Replies.{Hears}
+use Rattle.carousel_shell.specs.Open.{AllAnswers}
 use Rattle.carousel_shell.specs.Statuses.{input_status}
 use Rattle.carousel_shell.specs.Extract.{all_entries, NothingMade, EndsExtract, Extracts, extract_status}
 use Rattle.carousel_shell.specs.declared.status.Status.TheVariants as status

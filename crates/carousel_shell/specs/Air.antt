@@ -12,12 +12,12 @@ use Rattle.shell_streams.specs.Cuts.{Bytes}
 use Rattle.folder_playout.specs.Readings.{AreRead, Reading, Found, Refused, Failed as Unreadable}
 use Rattle.folder_playout.specs.Notices.{Notice}
 use Rattle.folder_playout.specs.Playing.{Sent, IsFull, IsLawful, ToldFront, notices_of, sent_bytes}
-use Rattle.folder_playout.specs.Laws.{PlayoutsMeet}
 use Rattle.folder_playout.specs.declared.reading.Unread.{Unread}
 use Rattle.folder_playout.specs.declared.reading.Unread.TheVariants as unread
 use Rattle.folder_playout.specs.declared.playing.AirFault.{AirFault}
 use Rattle.folder_playout.specs.declared.playing.AirFault.TheVariants as airs
-use Rattle.carousel_shell.specs.Over.{Over, Failed, IsUntouched, WritesAll, WritesPrefix}
+use Rattle.carousel_shell.specs.Over.{Over, IsUntouched, WritesAll, WritesPrefix}
+use Rattle.carousel_shell.specs.Ends.{EndsWriting}
 use Rattle.carousel_shell.specs.Publishing.{tree_of_folder}
 use Rattle.carousel_shell.specs.Statuses.{output_status}
 use Rattle.carousel_shell.specs.declared.status.Status.{Status}
@@ -78,19 +78,27 @@ pub record AiredNothing (folder : Bytes) (Told : List Notice → Type 0) (readin
 abbrev pub season_full : TreeFault
 season_full = trees.Commit (refusals.SeasonFull LAST_GENERATION)
 
-abbrev pub EndsAir : Sent → (folder : Bytes) → (cycles : ℕ) → (List Notice → Type 0) → Over Bytes → Over FolderTree → Status → Type 0
-EndsAir sent folder cycles Told sink folders status.Done = AiredAll sent folder cycles Told sink folders
-EndsAir sent folder cycles Told sink folders status.FolderFault = (path : Bytes) × AiredNothing folder Told (Unreadable path ∷ []) sink folders
-EndsAir sent folder cycles Told sink folders (status.TreeRefused fault) =
-    ((path : Option Bytes) × AiredNothing folder Told (Refused fault path ∷ []) sink folders) ⊎ ((fault ≡ season_full) × AiredSeason sent folder cycles Told sink folders)
-EndsAir sent folder cycles Told sink folders status.WriteFault = Failed sink × AiredPart sent folder cycles Told sink folders
-EndsAir sent folder cycles Told sink folders status.NoMemory = AiredNothing folder Told [] sink folders ⊎ AiredPart sent folder cycles Told sink folders
-EndsAir sent folder cycles Told sink folders _ = ⊥
+abbrev pub AirsAll : Sent → (folder : Bytes) → (cycles : ℕ) → (List Notice → Type 0) → Over Bytes
+    → Over FolderTree → Status → Type 0
+AirsAll sent folder cycles Told sink folders status.Done =
+    AiredAll sent folder cycles Told sink folders
+AirsAll sent folder cycles Told sink folders status.FolderFault =
+    (path : Bytes) × AiredNothing folder Told (Unreadable path ∷ []) sink folders
+AirsAll sent folder cycles Told sink folders (status.TreeRefused fault) =
+    ((path : Option Bytes) × AiredNothing folder Told (Refused fault path ∷ []) sink folders)
+    ⊎ ((fault ≡ season_full) × AiredSeason sent folder cycles Told sink folders)
+AirsAll sent folder cycles Told sink folders _ = ⊥
+
+abbrev pub EndsAir : Sent → (folder : Bytes) → (cycles : ℕ) → (List Notice → Type 0) → Over Bytes
+    → Over FolderTree → Status → Type 0
+EndsAir sent folder cycles Told sink folders =
+    EndsWriting (AirsAll sent folder cycles Told sink folders)
+    (AiredPart sent folder cycles Told sink folders)
+    (AiredNothing folder Told [] sink folders ⊎ AiredPart sent folder cycles Told sink folders) sink
 
 -- `Told` is what holds of the notices that were given.
 pub record StaysOnAir (pid : ℕ) (folder : Bytes) (carousel : ℕ) (weights : List ℕ) (cycles : ℕ) (s : Status) (sink : Over Bytes) (folders : Over FolderTree) (Told : List Notice → Type 0) : Type 0 where
   pub ends : EndsAir (record { pid = pid; carousel = carousel; weights = weights }) folder cycles Told sink folders s
-  pub heard : PlayoutsMeet
 
 -- ---- the status of a playout
 

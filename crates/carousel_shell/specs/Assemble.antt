@@ -1,14 +1,16 @@
 -- What `assemble ID VERSION SIZE DOWNLOAD` promises: the first fitting blocks of the input's sections make the module.
-use Rattle.std.specs.Prelude.{◌≡◌, ◌⊎◌, ℕ, List, Option, Some}
+use Rattle.std.specs.Prelude.{◌≡◌, ℕ, List, Option, Some}
 use Rattle.std.specs.List.{position}
 use Rattle.std.specs.Option.{is_none}
 use Rattle.block_assembler.specs.Blocks.{join_all}
 use Rattle.shell_streams.specs.Cuts.{Bytes}
+use Rattle.shell_streams.specs.Carriers.{sections_by}
 use Rattle.shell_streams.specs.declared.carrier.Carrier.{Carrier}
 use Rattle.shell_streams.specs.declared.carrier.Carrier.TheVariants as carriers
 use Rattle.carousel_shell.specs.Over.{Over, Failed, IsUntouched, TakesPrefix, WritesAll, WritesPrefix}
 use Rattle.carousel_shell.specs.Input.{Asked, blocks_among}
-use Rattle.carousel_shell.specs.Open.{Hears, GoesOn}
+use Rattle.carousel_shell.specs.Ends.{EndsRead}
+use Rattle.carousel_shell.specs.Replies.{Hears}
 use Rattle.carousel_shell.specs.declared.status.Status.{Status}
 use Rattle.carousel_shell.specs.declared.status.Status.TheVariants as status
 use Rattle.carousel_shell.specs.declared.assemble.TheConstants.{MOST_ASSEMBLED}
@@ -48,14 +50,15 @@ IsModule blocks sink status.WriteFault = Failed sink × ((bytes : Bytes) × (joi
 IsModule blocks sink status.NoMemory = (bytes : Bytes) × (join_all blocks ≡ Some bytes) × WritesPrefix sink bytes
 IsModule blocks sink _ = ⊥
 
+abbrev pub AssemblesAll : Asked → Over Bytes → Over Bytes → Status → Type 0
+AssemblesAll m source sink status.Done = Assembled m source sink
+AssemblesAll m source sink (status.Incomplete block) = Misses m block source sink
+AssemblesAll m source sink _ = ⊥
+
 abbrev pub EndsModule : Asked → Over Bytes → Over Bytes → Status → Type 0
-EndsModule m source sink status.Done = Assembled m source sink
-EndsModule m source sink (status.Incomplete block) = Misses m block source sink
-EndsModule m source sink status.ReadFault = Failed source × IsUntouched sink
-EndsModule m source sink status.InputTooLong = GoesOn module_carrier source × IsUntouched sink
-EndsModule m source sink status.WriteFault = Failed sink × Assembling m source sink
-EndsModule m source sink status.NoMemory = IsUntouched sink ⊎ Assembling m source sink
-EndsModule m source sink _ = ⊥
+EndsModule m source sink =
+    EndsRead (sections_by module_carrier).goes_on (AssemblesAll m source sink)
+    (IsUntouched sink) (Assembling m source sink) source sink
 
 pub record Assembles (m : Asked) (s : Status) (source sink : Over Bytes) : Type 0 where
   pub ends : EndsModule m source sink s

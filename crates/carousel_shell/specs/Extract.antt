@@ -1,7 +1,8 @@
 -- What `extract PID FOLDER` promises: the sections of one PID are heard by one receiver, and each file and folder that it then answers is
 -- written into a folder that is made.
-use Rattle.std.specs.Prelude.{◌≡◌, ◌⊎◌, ℕ, Bool, true, false, List, ◌∷◌, ◌++◌, Result, Ok, Err}
+use Rattle.std.specs.Prelude.{◌≡◌, ℕ, Bool, true, false, List, ◌∷◌, ◌++◌, Result, Ok, Err}
 use Rattle.path_tree.specs.Paths.{PathNames}
+use Rattle.path_resolver.specs.declared.answer.Answer.{Answer}
 use Rattle.folder_store.specs.Folders.{FolderTree, MayFail}
 use Rattle.folder_store.specs.Stores.{can_add, with_entries}
 use Rattle.folder_store.specs.Walk.{text_below}
@@ -12,17 +13,19 @@ use Rattle.folder_extract.specs.declared.extracting.Extracted.{Extracted}
 use Rattle.folder_extract.specs.declared.extracting.Extracted.TheVariants as ended
 use Rattle.tuner_core.specs.LookBack.{answer_after}
 use Rattle.shell_streams.specs.Cuts.{Bytes}
+use Rattle.shell_streams.specs.Carriers.{sections_by}
 use Rattle.shell_streams.specs.declared.carrier.Carrier.TheVariants as carriers
 use Rattle.shell_streams.specs.declared.output.OutputFault.{OutputFault}
 use Rattle.shell_words.specs.Texts.{is_found}
 use Rattle.carousel_shell.specs.Over.{Over, Failed, IsUntouched, TakesPrefix, WritesAll, WritesPrefix}
-use Rattle.carousel_shell.specs.Open.{AllAnswers, Hears, GoesOn}
+use Rattle.carousel_shell.specs.Ends.{EndsRead}
+use Rattle.carousel_shell.specs.Replies.{Hears}
 use Rattle.carousel_shell.specs.Statuses.{output_status}
 use Rattle.carousel_shell.specs.declared.status.Status.{Status}
 use Rattle.carousel_shell.specs.declared.status.Status.TheVariants as status
 
 -- all files and folders that are answered and can be written, in order
-abbrev pub all_entries : (folder : Bytes) → AllAnswers → FolderTree
+abbrev pub all_entries : (folder : Bytes) → (PathNames → Answer) → FolderTree
 all_entries folder answer = entries_for folder answer (listed answer)
 
 -- ---- how it ends
@@ -60,15 +63,21 @@ pub record ExtractedPart (pid : ℕ) (folder : Bytes) (source sink : Over Bytes)
 abbrev pub NothingMade : Over Bytes → Over FolderTree → Type 0
 NothingMade sink store = IsUntouched sink × IsUntouched store
 
-abbrev pub EndsExtract : (pid : ℕ) (folder : Bytes) → Over Bytes → Over Bytes → Over FolderTree → Status → Type 0
-EndsExtract pid folder source sink store status.Done = ExtractedAll pid folder true source sink store
-EndsExtract pid folder source sink store status.NotAll = ExtractedAll pid folder false source sink store
-EndsExtract pid folder source sink store status.FolderFault = ExtractedUpTo pid folder source sink store
-EndsExtract pid folder source sink store status.ReadFault = Failed source × NothingMade sink store
-EndsExtract pid folder source sink store status.InputTooLong = GoesOn (carriers.Packets pid) source × NothingMade sink store
-EndsExtract pid folder source sink store status.WriteFault = Failed sink × ExtractedPart pid folder source sink store
-EndsExtract pid folder source sink store status.NoMemory = NothingMade sink store ⊎ ExtractedPart pid folder source sink store
-EndsExtract pid folder source sink store _ = ⊥
+abbrev pub MakesAll : (pid : ℕ) (folder : Bytes) (source sink : Over Bytes) → Over FolderTree
+    → Status → Type 0
+MakesAll pid folder source sink store status.Done =
+    ExtractedAll pid folder true source sink store
+MakesAll pid folder source sink store status.NotAll =
+    ExtractedAll pid folder false source sink store
+MakesAll pid folder source sink store status.FolderFault =
+    ExtractedUpTo pid folder source sink store
+MakesAll pid folder source sink store _ = ⊥
+
+abbrev pub EndsExtract : (pid : ℕ) (folder : Bytes) (source sink : Over Bytes) → Over FolderTree
+    → Status → Type 0
+EndsExtract pid folder source sink store =
+    EndsRead (sections_by (carriers.Packets pid)).goes_on (MakesAll pid folder source sink store)
+    (NothingMade sink store) (ExtractedPart pid folder source sink store) source sink
 
 pub record Extracts (pid : ℕ) (folder : Bytes) (s : Status) (source sink : Over Bytes) (store : Over FolderTree) : Type 0 where
   pub ends : EndsExtract pid folder source sink store s

@@ -1,14 +1,15 @@
 -- What `inspect PID` promises: all packets of the input are heard by one receiver, and a report on what it holds and passed over is
 -- written. Where the input isn't one of packets, that is said beside the status.
-use Rattle.std.specs.Prelude.{◌≡◌, ◌⊎◌, ℕ, List, Option, Some, None, Result, Ok, Err}
+use Rattle.std.specs.Prelude.{◌≡◌, ℕ, List, Option, Some, None, Result, Ok, Err}
 use Rattle.oc_bytes.specs.Outcome.{Known}
 use Rattle.reception_report.specs.Report.{report_text, sync_told, tail_count}
 use Rattle.reception_report.specs.declared.sync.SyncPlace.{SyncPlace}
 use Rattle.shell_streams.specs.Cuts.{Bytes}
 use Rattle.shell_streams.specs.Carriers.{all_packets}
 use Rattle.shell_streams.specs.declared.output.OutputFault.{OutputFault}
-use Rattle.carousel_shell.specs.Over.{Over, Failed, IsUntouched, TakesPrefix, WritesAll, WritesPrefix}
-use Rattle.carousel_shell.specs.Replies.{ReadsAll, GoesOn}
+use Rattle.carousel_shell.specs.Over.{Over, IsUntouched, TakesPrefix, WritesAll, WritesPrefix}
+use Rattle.carousel_shell.specs.Ends.{EndsRead}
+use Rattle.carousel_shell.specs.Replies.{ReadsAll}
 use Rattle.carousel_shell.specs.Statuses.{output_status}
 use Rattle.carousel_shell.specs.declared.status.Status.{Status}
 use Rattle.carousel_shell.specs.declared.status.Status.TheVariants as status
@@ -37,14 +38,14 @@ pub record Reporting (pid : ℕ) (source sink : Over Bytes) : Type 0 where
   pub reads : ReadsPackets packets tail source
   pub writes : WritesPrefix sink (report_text pid packets tail)
 
+abbrev pub ReportsAll : ℕ → Over Bytes → Over Bytes → Status → Type 0
+ReportsAll pid source sink status.Done = Reported pid None source sink
+ReportsAll pid source sink (status.NotPackets place) = Reported pid (Some place) source sink
+ReportsAll pid source sink _ = ⊥
+
 abbrev pub EndsInspect : ℕ → Over Bytes → Over Bytes → Status → Type 0
-EndsInspect pid source sink status.Done = Reported pid None source sink
-EndsInspect pid source sink (status.NotPackets place) = Reported pid (Some place) source sink
-EndsInspect pid source sink status.ReadFault = Failed source × IsUntouched sink
-EndsInspect pid source sink status.InputTooLong = GoesOn all_packets source × IsUntouched sink
-EndsInspect pid source sink status.WriteFault = Failed sink × Reporting pid source sink
-EndsInspect pid source sink status.NoMemory = IsUntouched sink ⊎ Reporting pid source sink
-EndsInspect pid source sink _ = ⊥
+EndsInspect pid source sink = EndsRead all_packets.goes_on (ReportsAll pid source sink)
+    (IsUntouched sink) (Reporting pid source sink) source sink
 
 pub record Inspects (pid : ℕ) (s : Status) (source sink : Over Bytes) : Type 0 where
   pub ends : EndsInspect pid source sink s

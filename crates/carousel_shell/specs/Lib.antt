@@ -6,7 +6,7 @@ pub mod Listing
 pub mod Statuses
 pub mod Publishing
 pub mod Announced
-pub mod Reception
+pub mod Ends
 pub mod Replies
 pub mod Refusing
 pub mod Open
@@ -27,7 +27,9 @@ pub mod Air
 pub mod PublishPsi
 pub mod Rehearse
 pub mod Promises
+pub mod Reception
+pub mod Laws
+pub mod Limits
 pub mod Gathering
 pub mod Gatherers
-pub mod Hearing
 pub mod Cycles

@@ -1,6 +1,6 @@
--- What `open sections PATH..`, `open PID PATH..` and `list PID` promise: the sections of the input are heard by one receiver, and the
--- answers that it then gives are written.
-use Rattle.std.specs.Prelude.{◌≡◌, Bool, List, Some}
+-- What `open sections PATH..`, `open PID PATH..` and `list PID` promise: the sections of the input
+-- are heard by one receiver, and the answers that it then gives are written.
+use Rattle.std.specs.Prelude.{Bool, List}
 use Rattle.std.specs.List.{list_all}
 use Rattle.path_tree.specs.Paths.{PathNames}
 use Rattle.path_resolver.specs.declared.answer.Answer.{Answer}
@@ -11,9 +11,7 @@ use Rattle.shell_streams.specs.declared.carrier.Carrier.{Carrier}
 use Rattle.carousel_shell.specs.Over.{Over}
 use Rattle.shell_words.specs.Texts.{open_text, is_found}
 use Rattle.carousel_shell.specs.Listing.{list_text, all_listed}
-use Rattle.carousel_shell.specs.Replies as replies
 use Rattle.carousel_shell.specs.Replies.{Reply, Replies}
-use Rattle.carousel_shell.specs.Reception.{Reception}
 use Rattle.carousel_shell.specs.declared.status.Status.{Status}
 
 -- ---- what is asked
@@ -45,14 +43,5 @@ answers_to question = reply_by answer_after question
 
 -- ---- how it ends
 
--- all sections of the input were heard: it was read to its end, and within the limit
-abbrev pub Hears : Carrier → Over Bytes → List Bytes → Type 0
-Hears carrier source sections = replies.ReadsAll (sections_by carrier) source sections
-
--- the limit was taken, and at least a byte more is there
-abbrev pub GoesOn : Carrier → Over Bytes → Type 0
-GoesOn carrier source = replies.GoesOn (sections_by carrier) source
-
-pub record Answers (carrier : Carrier) (question : Question) (s : Status) (source sink : Over Bytes) : Type 0 where
-  pub replies : Replies (sections_by carrier) (answers_to question) s source sink
-  pub reception : (input : Bytes) → source.before ≡ Some input → Reception carrier input
+abbrev pub Answers : Carrier → Question → Status → Over Bytes → Over Bytes → Type 0
+Answers carrier question = Replies (sections_by carrier) (answers_to question)

@@ -8,6 +8,7 @@ use Rattle.publication_plan.specs.declared.planning.PlanEnd.TheVariants as plann
 use Rattle.shell_streams.specs.Cuts.{Bytes}
 use Rattle.shell_streams.specs.declared.output.OutputFault.{OutputFault}
 use Rattle.carousel_shell.specs.Over.{Over, Failed, IsUntouched, WritesAll, WritesPrefix}
+use Rattle.carousel_shell.specs.Ends.{EndsWriting}
 use Rattle.carousel_shell.specs.Publishing.{publish_end}
 use Rattle.carousel_shell.specs.Statuses.{output_status}
 use Rattle.carousel_shell.specs.declared.status.Status.{Status}
@@ -26,13 +27,18 @@ pub record Planning (folder : Bytes) (carousel : ℕ) (weights : List ℕ) (bitr
   pub is : IsTextOf folder weights carousel bitrate folders.before (Failed folders) refused end text
   pub writes : WritesPrefix sink text
 
+abbrev pub PlansAll : (Told : PlanEnd → Type 0) → Status → Type 0
+PlansAll Told status.Done = Told planned.Published
+PlansAll Told status.NotAll = Told planned.Refused
+PlansAll Told status.FolderFault = Told planned.Unreadable
+PlansAll Told _ = ⊥
+
 abbrev pub EndsPlan : (folder : Bytes) (carousel : ℕ) (weights : List ℕ) (bitrate : ℕ) → Over Bytes → Over FolderTree → Option Bytes → Status → Type 0
-EndsPlan folder carousel weights bitrate sink folders refused status.Done = Planned folder carousel weights bitrate planned.Published sink folders refused
-EndsPlan folder carousel weights bitrate sink folders refused status.NotAll = Planned folder carousel weights bitrate planned.Refused sink folders refused
-EndsPlan folder carousel weights bitrate sink folders refused status.FolderFault = Planned folder carousel weights bitrate planned.Unreadable sink folders refused
-EndsPlan folder carousel weights bitrate sink folders refused status.WriteFault = Failed sink × Planning folder carousel weights bitrate sink folders refused
-EndsPlan folder carousel weights bitrate sink folders refused status.NoMemory = IsUntouched sink ⊎ Planning folder carousel weights bitrate sink folders refused
-EndsPlan folder carousel weights bitrate sink folders refused _ = ⊥
+EndsPlan folder carousel weights bitrate sink folders refused =
+    EndsWriting
+    (PlansAll (λ end. Planned folder carousel weights bitrate end sink folders refused))
+    (Planning folder carousel weights bitrate sink folders refused)
+    (IsUntouched sink ⊎ Planning folder carousel weights bitrate sink folders refused) sink
 
 -- Publishing a known folder ends alike: with all of it sent where the plan is whole, and with a refused tree where the plan says so. A
 -- tree without the folder has neither.

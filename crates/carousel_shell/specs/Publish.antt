@@ -9,8 +9,8 @@ use Rattle.folder_store.specs.declared.reading.TreeFault.{TreeFault}
 use Rattle.carousel_world.specs.Publishing.{published_bytes}
 use Rattle.shell_streams.specs.Cuts.{Bytes}
 use Rattle.carousel_shell.specs.Over.{Over, Failed, IsUntouched, WritesAll, WritesPrefix}
+use Rattle.carousel_shell.specs.Ends.{EndsWriting}
 use Rattle.carousel_shell.specs.Publishing.{publish_end, tree_of_folder}
-use Rattle.carousel_shell.specs.Reception.{SentOpens}
 use Rattle.carousel_shell.specs.declared.status.Status.{Status}
 use Rattle.carousel_shell.specs.declared.status.Status.TheVariants as status
 
@@ -39,20 +39,33 @@ abbrev pub Refuses : Bytes → ℕ → Over FolderTree → TreeFault → Type 0
 Refuses folder carousel folders fault = (t : FolderTree) → folders.before ≡ Some t → publish_end folder carousel t ≡ status.TreeRefused fault
 
 -- how it ends, where this is sent of a tree
-abbrev pub EndsPublish : (folder : Bytes) (carousel : ℕ) (sent_of : Tree → Bytes) → Over Bytes → Over FolderTree → Status → Type 0
-EndsPublish folder carousel sent_of sink folders status.Done = Published folder carousel sent_of sink folders
-EndsPublish folder carousel sent_of sink folders (status.TreeRefused fault) = Refuses folder carousel folders fault × IsUntouched sink
-EndsPublish folder carousel sent_of sink folders status.FolderFault =
+abbrev pub SendsAll : (folder : Bytes) (carousel : ℕ) (sent_of : Tree → Bytes) → Over Bytes
+    → Over FolderTree → Status → Type 0
+SendsAll folder carousel sent_of sink folders status.Done =
+    Published folder carousel sent_of sink folders
+SendsAll folder carousel sent_of sink folders (status.TreeRefused fault) =
+    Refuses folder carousel folders fault × IsUntouched sink
+SendsAll folder carousel sent_of sink folders status.FolderFault =
     MayFail (Failed folders) folders.before (λ t. is_folder_at t folder ≡ false) × IsUntouched sink
-EndsPublish folder carousel sent_of sink folders status.WriteFault = Failed sink × Sending folder carousel sent_of sink folders
-EndsPublish folder carousel sent_of sink folders status.NoMemory = IsUntouched sink ⊎ Sending folder carousel sent_of sink folders
-EndsPublish folder carousel sent_of sink folders _ = ⊥
+SendsAll folder carousel sent_of sink folders _ = ⊥
+
+abbrev pub EndsPublish : (folder : Bytes) (carousel : ℕ) (sent_of : Tree → Bytes) → Over Bytes
+    → Over FolderTree → Status → Type 0
+EndsPublish folder carousel sent_of sink folders =
+    EndsWriting (SendsAll folder carousel sent_of sink folders)
+    (Sending folder carousel sent_of sink folders)
+    (IsUntouched sink ⊎ Sending folder carousel sent_of sink folders) sink
 
 -- a known tree without the folder always answers so, except out of memory
 abbrev pub NeedsFolder : Bytes → Over FolderTree → Status → Type 0
 NeedsFolder folder folders s = (t : FolderTree) → folders.before ≡ Some t → is_folder_at t folder ≡ false → (s ≡ status.FolderFault) ⊎ (s ≡ status.NoMemory)
 
-pub record Publishes (pid : ℕ) (folder : Bytes) (carousel : ℕ) (weights : List ℕ) (cycles : ℕ) (s : Status) (sink : Over Bytes) (folders : Over FolderTree) : Type 0 where
-  pub ends : EndsPublish folder carousel (published_bytes pid carousel weights cycles) sink folders s
+pub record Sends (folder : Bytes) (carousel : ℕ) (sent_of : Tree → Bytes) (s : Status)
+    (sink : Over Bytes) (folders : Over FolderTree) : Type 0 where
+  pub ends : EndsPublish folder carousel sent_of sink folders s
   pub needs : NeedsFolder folder folders s
-  pub heard : SentOpens pid carousel weights cycles
+
+abbrev pub Publishes : (pid : ℕ) (folder : Bytes) (carousel : ℕ) (weights : List ℕ) (cycles : ℕ)
+    → Status → (sink : Over Bytes) (folders : Over FolderTree) → Type 0
+Publishes pid folder carousel weights cycles s sink folders =
+    Sends folder carousel (published_bytes pid carousel weights cycles) s sink folders

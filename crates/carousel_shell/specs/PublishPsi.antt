@@ -4,11 +4,10 @@ use Rattle.folder_store.specs.Folders.{FolderTree}
 use Rattle.shell_streams.specs.Cuts.{Bytes}
 use Rattle.carousel_shell.specs.Announced.{published_psi}
 use Rattle.carousel_shell.specs.Over.{Over}
-use Rattle.carousel_shell.specs.Publish.{EndsPublish, NeedsFolder}
-use Rattle.carousel_shell.specs.Reception.{CyclesOpen}
+use Rattle.carousel_shell.specs.Publish.{Sends}
 use Rattle.carousel_shell.specs.declared.status.Status.{Status}
 
-pub record PublishesPsi (folder : Bytes) (carousel : ℕ) (weights : List ℕ) (cycles : ℕ) (s : Status) (sink : Over Bytes) (folders : Over FolderTree) : Type 0 where
-  pub ends : EndsPublish folder carousel (published_psi carousel weights cycles) sink folders s
-  pub needs : NeedsFolder folder folders s
-  pub heard : CyclesOpen carousel weights cycles
+abbrev pub PublishesPsi : (folder : Bytes) (carousel : ℕ) (weights : List ℕ) (cycles : ℕ) → Status
+    → (sink : Over Bytes) (folders : Over FolderTree) → Type 0
+PublishesPsi folder carousel weights cycles s sink folders =
+    Sends folder carousel (published_psi carousel weights cycles) s sink folders

@@ -1,13 +1,12 @@
--- What holds of all that is heard of an input: the law of receptions. No other file names its words.
+-- What holds of all that is heard of an input: the law of receptions. No command's page names its
+-- words.
 use Rattle.std.specs.Prelude.{◌≡◌, ℕ, ◌+◌, ◌<◌, ◌≤◌, List, take, Some}
 use Rattle.path_tree.specs.Paths.{PathNames}
 use Rattle.path_tree.specs.Trees.{Tree, Node, File, Folder, NoSuch, node_at}
 use Rattle.path_resolver.specs.declared.answer.Answer.{Answer}
 use Rattle.path_resolver.specs.declared.answer.Answer.TheVariants as answers
-use Rattle.cycle_planner.specs.Weights.{AreWeights}
 use Rattle.generation.specs.Lawful.{IsPublishable, tree_at}
 use Rattle.tuner_core.specs.LookBack.{answer_after}
-use Rattle.mount_table.specs.Laws.{OneMountDecides}
 use Rattle.carousel_world.specs.Broadcasts.{Broadcast, Ascription, NeverBack, IsAscribed}
 use Rattle.carousel_world.specs.Premises.{AcceptedAreSent, IsHeardOf, IsWhole}
 use Rattle.carousel_world.specs.Headline.{IsNodeAnswer}
@@ -15,7 +14,6 @@ use Rattle.carousel_world.specs.Publishing.{published_bytes, publication, layout
 use Rattle.carousel_world.specs.Receptions.{MeetsOnPackets, MeetsOnSections, label_after, GoesOn}
 use Rattle.shell_streams.specs.Cuts.{Bytes}
 use Rattle.carousel_shell.specs.Announced.{published_after}
-use Rattle.carousel_shell.specs.Find.{UsuallyFound}
 use Rattle.shell_streams.specs.Packets.{packets_of, candidates_of}
 use Rattle.shell_streams.specs.Carriers.{candidates_in}
 use Rattle.shell_streams.specs.declared.carrier.Carrier.{Carrier}
@@ -85,11 +83,3 @@ SentOpens pid carousel weights cycles = (t : Tree) (p : PathNames) → pid < 819
 abbrev pub CyclesOpen : (carousel : ℕ) (weights : List ℕ) (cycles : ℕ) → Type 0
 CyclesOpen carousel weights cycles = (t : Tree) (missed heard : ℕ) (p : PathNames) → 0 < heard → missed + heard ≤ cycles → carousel < 4294967296 → IsPublishable t
     → IsNodeAnswer (answer_after (candidates_of 256 (published_after carousel weights missed heard t)) p) (node_at t p)
-
--- the laws of every input, of every publication, of the tables in any packets, and of each mount of a table
-pub record Receptions : Type 0 where
-  pub each : (carrier : Carrier) (input : Bytes) → Reception carrier input
-  pub sent : (pid carousel : ℕ) (weights : List ℕ) (cycles : ℕ) → AreWeights weights → SentOpens pid carousel weights cycles
-  pub cycles : (carousel : ℕ) (weights : List ℕ) (cycles : ℕ) → AreWeights weights → CyclesOpen carousel weights cycles
-  pub tables : (carousel : ℕ) (packets : List Bytes) → UsuallyFound carousel packets
-  pub mounts : OneMountDecides

@@ -3,9 +3,11 @@ use Rattle.std.specs.Prelude.{◌≡◌, ℕ, List, ◌++◌}
 use Rattle.oc_bytes.specs.Outcome.{Known}
 use Rattle.shell_streams.specs.Cuts.{Bytes}
 use Rattle.shell_streams.specs.Packets.{candidates_of}
+use Rattle.shell_streams.specs.Carriers.{sections_by}
 use Rattle.shell_streams.specs.declared.carrier.Carrier.TheVariants as carriers
-use Rattle.carousel_shell.specs.Over.{Over, Failed, TakesPrefix, WritesAll, WritesPrefix, WritesBut}
-use Rattle.carousel_shell.specs.Open.{Hears, GoesOn}
+use Rattle.carousel_shell.specs.Over.{Over, TakesPrefix, WritesAll, WritesPrefix, WritesBut}
+use Rattle.carousel_shell.specs.Ends.{EndsReading}
+use Rattle.carousel_shell.specs.Replies.{Hears}
 use Rattle.carousel_shell.specs.Accepted.{accepted_bytes}
 use Rattle.carousel_shell.specs.declared.status.Status.{Status}
 use Rattle.carousel_shell.specs.declared.status.Status.TheVariants as status
@@ -36,13 +38,15 @@ pub record RecordedBut (pid : ℕ) (source sink : Over Bytes) : Type 0 where
   pub first : Known source.before source.after (AreFirst pid sections)
   pub writes : WritesBut sink (accepted_bytes sections) MOST_PENDING
 
+abbrev pub RecordsAll : ℕ → Over Bytes → Over Bytes → Status → Type 0
+RecordsAll pid source sink status.Done = Recorded pid source sink
+RecordsAll pid source sink _ = ⊥
+
 abbrev pub EndsRecord : ℕ → Over Bytes → Over Bytes → Status → Type 0
-EndsRecord pid source sink status.Done = Recorded pid source sink
-EndsRecord pid source sink status.ReadFault = Failed source × RecordedBut pid source sink
-EndsRecord pid source sink status.InputTooLong = GoesOn (carriers.Packets pid) source × RecordedBut pid source sink
-EndsRecord pid source sink status.WriteFault = Failed sink × Recording pid source sink
-EndsRecord pid source sink status.NoMemory = Recording pid source sink
-EndsRecord pid source sink _ = ⊥
+EndsRecord pid source sink =
+    EndsReading (sections_by (carriers.Packets pid)).goes_on (RecordsAll pid source sink)
+    (RecordedBut pid source sink) (Recording pid source sink) (Recording pid source sink)
+    source sink
 
 pub record Records (pid : ℕ) (s : Status) (source sink : Over Bytes) : Type 0 where
   pub ends : EndsRecord pid source sink s

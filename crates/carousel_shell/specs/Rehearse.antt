@@ -1,6 +1,6 @@
 -- What `rehearse` promises: the input is a script, whose events happen in written order in one world of carousel 1, and a line of each is
 -- written. The language of scripts and the lines are this project's own.
-use Rattle.std.specs.Prelude.{◌≡◌, ◌⊎◌, ℕ, true, List, ◌++◌, Some, Ok, Err}
+use Rattle.std.specs.Prelude.{◌≡◌, ℕ, List, ◌++◌, Ok, Err}
 use Rattle.oc_bytes.specs.Outcome.{Known}
 use Rattle.session_script.specs.Scripts.{Fields}
 use Rattle.session_script.specs.Grammar.{meaning_of}
@@ -11,7 +11,8 @@ use Rattle.rehearsal.specs.Lines.{events_of}
 use Rattle.rehearsal.specs.Reports.{report_of}
 use Rattle.shell_streams.specs.Cuts.{Bytes}
 use Rattle.shell_streams.specs.Held.{AllTaken, is_longer}
-use Rattle.carousel_shell.specs.Over.{Over, Failed, IsUntouched, TakesPrefix, WritesAll, WritesPrefix}
+use Rattle.carousel_shell.specs.Over.{Over, IsUntouched, TakesPrefix, WritesAll, WritesPrefix}
+use Rattle.carousel_shell.specs.Ends.{EndsRead}
 use Rattle.carousel_shell.specs.declared.status.Status.{Status}
 use Rattle.carousel_shell.specs.declared.status.Status.TheVariants as status
 use Rattle.carousel_shell.specs.declared.rehearse.TheConstants.{MOST_SCRIPT_BYTES}
@@ -34,10 +35,6 @@ pub record ReadsBadLine (source : Over Bytes) (number : ℕ) (cause : LineCause)
   pub reads : ReadsAll source text
   pub says : meaning_of text ≡ Err (number, cause)
 
--- at least a byte more than the most is there
-abbrev pub GoesOn : Over Bytes → Type 0
-GoesOn source = (input : Bytes) → source.before ≡ Some input → is_longer MOST_SCRIPT_BYTES input ≡ true
-
 -- ---- how it ends
 
 -- all events of the script happened, and the whole report was written; what is promised of every list of events holds of them
@@ -57,14 +54,22 @@ pub record Rehearsing (weights : List ℕ) (source sink : Over Bytes) : Type 0 w
   pub writes : WritesPrefix sink (report_of weights happened)
   pub headline : MeetsHeadline 1 weights happened
 
+-- all of a script was run, or a line of it is bad and nothing was written
+abbrev pub RunsAll : (Whole : Type 0) → Over Bytes → Over Bytes → Status → Type 0
+RunsAll Whole source sink status.Done = Whole
+RunsAll Whole source sink (status.BadLine number cause) =
+    ReadsBadLine source number cause × IsUntouched sink
+RunsAll Whole source sink _ = ⊥
+
+-- how a command ends that reads a script and then runs it, all of it or a part
+abbrev pub EndsScript : (Whole Part : Type 0) (source sink : Over Bytes) → Status → Type 0
+EndsScript Whole Part source sink =
+    EndsRead (is_longer MOST_SCRIPT_BYTES) (RunsAll Whole source sink) (IsUntouched sink) Part
+    source sink
+
 abbrev pub EndsRehearse : List ℕ → Over Bytes → Over Bytes → Status → Type 0
-EndsRehearse weights source sink status.Done = Rehearsed weights source sink
-EndsRehearse weights source sink (status.BadLine number cause) = ReadsBadLine source number cause × IsUntouched sink
-EndsRehearse weights source sink status.ReadFault = Failed source × IsUntouched sink
-EndsRehearse weights source sink status.InputTooLong = GoesOn source × IsUntouched sink
-EndsRehearse weights source sink status.WriteFault = Failed sink × Rehearsing weights source sink
-EndsRehearse weights source sink status.NoMemory = IsUntouched sink ⊎ Rehearsing weights source sink
-EndsRehearse weights source sink _ = ⊥
+EndsRehearse weights source sink =
+    EndsScript (Rehearsed weights source sink) (Rehearsing weights source sink) source sink
 
 pub record Rehearses (weights : List ℕ) (s : Status) (source sink : Over Bytes) : Type 0 where
   pub ends : EndsRehearse weights source sink s

@@ -4,6 +4,7 @@ use Rattle.std.specs.Fmt.{decimal}
 use Rattle.std.specs.List.{flat_map}
 use Rattle.oc_bytes.specs.Outcome.{Known, cap_at_u64}
 use Rattle.path_tree.specs.Paths.{PathNames, same_path}
+use Rattle.path_resolver.specs.declared.answer.Answer.{Answer}
 use Rattle.section_stream.specs.Cuts.{candidates}
 use Rattle.tuner_core.specs.LookBack.{answer_after}
 use Rattle.watch_desk.specs.Telling.{Told, told_in}
@@ -12,11 +13,13 @@ use Rattle.watch_desk.specs.declared.notice.Notice.{Notice}
 use Rattle.shell_words.specs.Texts.{with_number, answered_line}
 use Rattle.shell_streams.specs.Cuts.{Bytes}
 use Rattle.shell_streams.specs.Packets.{packets_of}
+use Rattle.shell_streams.specs.Carriers.{sections_by}
 use Rattle.shell_streams.specs.declared.carrier.Carrier.TheVariants as carriers
 use Rattle.shell_streams.specs.declared.packets.TheConstants.{MOST_PACKETS}
-use Rattle.carousel_shell.specs.Over.{Over, Failed, TakesPrefix, WritesAll, WritesPrefix}
+use Rattle.carousel_shell.specs.Over.{Over, TakesPrefix, WritesAll, WritesPrefix}
 use Rattle.carousel_shell.specs.Firsts.{first_only}
-use Rattle.carousel_shell.specs.Open.{AllAnswers, Hears, GoesOn}
+use Rattle.carousel_shell.specs.Ends.{EndsReading}
+use Rattle.carousel_shell.specs.Replies.{Hears}
 use Rattle.carousel_shell.specs.Record.{AreFirst}
 use Rattle.carousel_shell.specs.declared.status.Status.{Status}
 use Rattle.carousel_shell.specs.declared.status.Status.TheVariants as status
@@ -41,7 +44,7 @@ abbrev pub front_of_line : (watcher mark : ℕ) → Bytes
 front_of_line watcher mark = with_number (decimal watcher) mark ++ 32 ∷ []
 
 -- the line of a notice: the watcher, the mark of the shot, and the path with its answer on that
-abbrev pub notice_line : (paths : List PathNames) (mark : ℕ) → AllAnswers → Notice → Bytes
+abbrev pub notice_line : (paths : List PathNames) (mark : ℕ) → (PathNames → Answer) → Notice → Bytes
 notice_line paths mark answer n = front_of_line n.watcher mark ++ answered_line (path_at paths n.path) (answer (path_at paths n.path))
 
 -- of what is told after the first of these candidates, as many as the mark says, up to the greatest u64
@@ -78,13 +81,16 @@ pub record Watching (pid : ℕ) (text : List Bytes → Bytes) (source sink : Ove
   pub first : Known source.before source.after (AreFirst pid sections)
   pub writes : WritesPrefix sink (text sections)
 
+abbrev pub WatchesAll : (pid : ℕ) (text : List Bytes → Bytes) → Over Bytes → Over Bytes → Status
+    → Type 0
+WatchesAll pid text source sink status.Done = Watched pid text source sink
+WatchesAll pid text source sink _ = ⊥
+
 abbrev pub EndsWatch : (pid : ℕ) (text : List Bytes → Bytes) → Over Bytes → Over Bytes → Status → Type 0
-EndsWatch pid text source sink status.Done = Watched pid text source sink
-EndsWatch pid text source sink status.ReadFault = Failed source × WatchedSoFar pid text source sink
-EndsWatch pid text source sink status.InputTooLong = GoesOn (carriers.Packets pid) source × WatchedSoFar pid text source sink
-EndsWatch pid text source sink status.WriteFault = Failed sink × Watching pid text source sink
-EndsWatch pid text source sink status.NoMemory = Watching pid text source sink
-EndsWatch pid text source sink _ = ⊥
+EndsWatch pid text source sink =
+    EndsReading (sections_by (carriers.Packets pid)).goes_on (WatchesAll pid text source sink)
+    (WatchedSoFar pid text source sink) (Watching pid text source sink)
+    (Watching pid text source sink) source sink
 
 pub record Watches (pid : ℕ) (prefixes paths : List PathNames) (s : Status) (source sink : Over Bytes) : Type 0 where
   pub ends : EndsWatch pid (watch_text (watched_paths paths) (first_watchers prefixes)) source sink s

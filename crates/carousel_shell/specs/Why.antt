@@ -4,16 +4,22 @@ use Rattle.shell_words.specs.Complaints.{complaint_line}
 use Rattle.shell_words.specs.declared.places.Complaint.{Complaint}
 use Rattle.shell_words.specs.declared.places.Complaint.TheVariants as complaints
 use Rattle.shell_streams.specs.Cuts.{Bytes}
-use Rattle.carousel_shell.specs.Over.{Over, Failed, WritesAll, WritesPrefix}
+use Rattle.carousel_shell.specs.Over.{Over, WritesAll, WritesPrefix}
+use Rattle.carousel_shell.specs.Ends.{EndsWriting}
 use Rattle.carousel_shell.specs.declared.status.Status.{Status}
 use Rattle.carousel_shell.specs.declared.status.Status.TheVariants as status
 
+abbrev pub SaysAll : Complaint → Over Bytes → Status → Type 0
+SaysAll complaint sink status.Done =
+    (complaint ≡ complaints.Fits → ⊥) × WritesAll sink (complaint_line complaint)
+SaysAll complaint sink status.NotAll =
+    (complaint ≡ complaints.Fits) × WritesAll sink (complaint_line complaint)
+SaysAll complaint sink _ = ⊥
+
 abbrev pub EndsWhy : Complaint → Over Bytes → Status → Type 0
-EndsWhy complaint sink status.Done = (complaint ≡ complaints.Fits → ⊥) × WritesAll sink (complaint_line complaint)
-EndsWhy complaint sink status.NotAll = (complaint ≡ complaints.Fits) × WritesAll sink (complaint_line complaint)
-EndsWhy complaint sink status.WriteFault = Failed sink × WritesPrefix sink (complaint_line complaint)
-EndsWhy complaint sink status.NoMemory = WritesPrefix sink (complaint_line complaint)
-EndsWhy complaint sink _ = ⊥
+EndsWhy complaint sink = EndsWriting (SaysAll complaint sink)
+    (WritesPrefix sink (complaint_line complaint)) (WritesPrefix sink (complaint_line complaint))
+    sink
 
 pub record SaysWhy (complaint : Complaint) (s : Status) (sink : Over Bytes) : Type 0 where
   pub ends : EndsWhy complaint sink s

@@ -5,9 +5,7 @@ ghost use Rattle.carousel_shell.specs.Over.{over, sink_over};
 
 use crate::status::Status;
 use cycle_planner::Weigh;
-use folder_playout::{
-    FolderTrees, Notices, judged_as_first, keep_on_air, playouts_meet, unchanged_is_published,
-};
+use folder_playout::{FolderTrees, Notices, judged_as_first, keep_on_air, unchanged_is_published};
 use folder_store::Folders;
 use shell_streams::Output;
 use std::alloc::Global;
@@ -45,7 +43,6 @@ pub fn air<O: Output, F: Folders, N: Notices>(
     ensures same { (O.state out.new).name ≡ (O.state out.old).name }
     ensures in_time { IsInTime (O.state out.old) (O.state out.new) }
 {
-    playouts_meet();
     judged_as_first();
     unchanged_is_published();
     let mut trees = FolderTrees::new(alloc, folders, folder);

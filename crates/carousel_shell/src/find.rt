@@ -7,7 +7,6 @@ ghost use Rattle.carousel_shell.specs.Over.{over, sink_over};
 ghost use Rattle.carousel_shell.specs.Find as finding;
 ghost use Rattle.carousel_shell.specs.Find.{Finds};
 
-use crate::law::receptions;
 use crate::open::status_of;
 use crate::status::Status;
 use oc_bytes::{NoMemory, Source};
@@ -53,7 +52,6 @@ pub fn find<S: Source, O: Output>(
     ensures same { (O.state out.new).name ≡ (O.state out.old).name }
     ensures in_time { IsInTime (O.state out.old) (O.state out.new) }
 {
-    receptions();
     match place(alloc, carousel, source) {
         Ok(found) => status_of(write_found(alloc, found, out)),
         Err(fault) => Status::from(fault),

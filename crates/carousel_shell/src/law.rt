@@ -1,4 +1,5 @@
-ghost use Rattle.carousel_shell.specs.Reception.{Receptions};
+ghost use Rattle.carousel_shell.specs.Laws.{Receptions};
+ghost use Rattle.carousel_shell.specs.Limits.{Limits};
 
 use carousel_world::{
     each_cycle_opens, every_publication_meets, every_reception_meets, labels_never_fall,
@@ -25,3 +26,8 @@ pub fn receptions()
     each_listed_pid_is_followed();
     one_mount_decides();
 }
+
+/// The limits of the commands, and of what stands below them.
+pub fn limits_are_numbers()
+    ensures { Limits }
+{}

@@ -46,6 +46,7 @@ mod watch;
 mod why;
 
 pub use assemble::MOST_ASSEMBLED;
+pub use law::{limits_are_numbers, receptions};
 pub use plain::{MOST_OPENED, run_plain};
 pub use rehearse::MOST_SCRIPT_BYTES;
 pub use status::Status;

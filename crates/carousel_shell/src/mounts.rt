@@ -12,7 +12,6 @@ ghost use Rattle.carousel_shell.specs.Replies.{Replies};
 ghost use Rattle.carousel_shell.specs.Mounts.{ServesMounts, mounts_in, mounted_answer, root_line, root_text};
 
 use crate::answers::{Answerer, put_entry, put_name, write_answers};
-use crate::law::receptions;
 use crate::open::status_of;
 use crate::status::Status;
 use mount_table::{Mount, Mounted, Mounts, TableFault};
@@ -86,7 +85,6 @@ pub fn mounts<S: Source, O: Output>(
     ensures same { (O.state out.new).name ≡ (O.state out.old).name }
     ensures in_time { IsInTime (O.state out.old) (O.state out.new) }
 {
-    receptions();
     match table_of(alloc, entries) {
         Ok(table) => serve(alloc, table, paths, source, out),
         Err(fault) => Status::from(fault),

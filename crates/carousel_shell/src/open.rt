@@ -5,7 +5,6 @@ ghost use Rattle.carousel_shell.specs.Open.{Answers, asks_paths, asks_all};
 ghost use Rattle.carousel_shell.specs.Statuses.{answer_status};
 
 use crate::answers::write_answers;
-use crate::law::receptions;
 use crate::listing::write_list;
 use crate::receiver::receive;
 use crate::status::Status;
@@ -27,7 +26,6 @@ pub fn open<S: Source, O: Output>(
     ensures same { (O.state out.new).name ≡ (O.state out.old).name }
     ensures in_time { IsInTime (O.state out.old) (O.state out.new) }
 {
-    receptions();
     match receive(alloc, carrier, source) {
         Ok(shot) => status_of(write_answers(alloc, &*shot, paths, out)),
         Err(fault) => Status::from(fault),
@@ -46,7 +44,6 @@ pub fn list<S: Source, O: Output>(
     ensures same { (O.state out.new).name ≡ (O.state out.old).name }
     ensures in_time { IsInTime (O.state out.old) (O.state out.new) }
 {
-    receptions();
     match receive(alloc, carrier, source) {
         Ok(shot) => status_of(write_list(alloc, &shot, out)),
         Err(fault) => Status::from(fault),

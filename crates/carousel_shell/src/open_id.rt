@@ -11,7 +11,6 @@ ghost use Rattle.carousel_shell.specs.OpenId.{OpensId, sections_by_id};
 ghost use Rattle.carousel_shell.specs.Seeking.{HasHeard};
 
 use crate::answers::write_answers;
-use crate::law::receptions;
 use crate::open::status_of;
 use crate::receiver::Receiver;
 use crate::status::Status;
@@ -88,7 +87,6 @@ pub fn open_id<S: Source, O: Output>(
     ensures same { (O.state out.new).name ≡ (O.state out.old).name }
     ensures in_time { IsInTime (O.state out.old) (O.state out.new) }
 {
-    receptions();
     match receive_by_id(alloc, carousel, source) {
         Ok(shot) => status_of(write_answers(alloc, &*shot, paths, out)),
         Err(fault) => Status::from(fault),

@@ -1,9 +1,13 @@
 ghost use Rattle.std.specs.Prelude.{◌≡◌, false, [], map, Ok};
 ghost use Rattle.std.specs.String.{string_bytes};
+ghost use Rattle.cycle_planner.specs.Weights.{AreWeights};
+ghost use Rattle.folder_playout.specs.Laws.{PlayoutsMeet};
 ghost use Rattle.shell_words.specs.Words as commands;
 ghost use Rattle.watch_desk.specs.Prefixes.{prefixes_of};
 ghost use Rattle.shell_streams.specs.Sending.{IsInTime};
 ghost use Rattle.carousel_shell.specs.Over.{over, sink_over};
+ghost use Rattle.carousel_shell.specs.Laws.{Receptions};
+ghost use Rattle.carousel_shell.specs.Limits.{Limits};
 ghost use Rattle.carousel_shell.specs.Promises.{Promises, Keeps, gives_notices, writes_store};
 
 use crate::air::air;
@@ -11,7 +15,7 @@ use crate::assemble::{Wanted, assemble};
 use crate::extract::extract;
 use crate::find::find;
 use crate::inspect::inspect;
-use crate::law::receptions;
+use crate::law::{limits_are_numbers, receptions};
 use crate::mounts::mounts;
 use crate::open::{list, open};
 use crate::open_id::open_id;
@@ -74,6 +78,10 @@ pub const MOST_OPENED: u32 = 16_777_216;
 ///
 /// What was written stands after what the sink had. A write that fails is the last one that is tried, where none had failed
 /// before. These rules are this project's own.
+///
+/// The laws beside it say what that comes to: `receptions` of all that is heard or found of an
+/// input, `playouts` of all that is heard of what `air` sends, and `limits` which numbers the limits
+/// are. `weights` is the condition of some of them.
 pub fn run_plain<S: Source, K: Sink, F: Folders, T: Store, N: Notices>(
     alloc: Global,
     words: &[String],
@@ -91,9 +99,14 @@ pub fn run_plain<S: Source, K: Sink, F: Folders, T: Store, N: Notices>(
     ensures stored { writes_store (commands.command_of (map string_bytes words.now)) ≡ false → store.new ≡ store.old }
     ensures quiet { gives_notices (commands.command_of (map string_bytes words.now)) ≡ false → notices.new ≡ notices.old }
     ensures in_time { K.failed sink.old ≡ false → K.late sink.new ≡ K.late sink.old }
+    ensures receptions { Receptions }
+    ensures playouts { PlayoutsMeet }
+    ensures weights { AreWeights weigh.weights }
+    ensures limits { Limits }
 {
     receptions();
     playouts_meet();
+    limits_are_numbers();
     let command = match command(alloc, words) {
         Ok(command) => command,
         Err(WordsFault::Words) => return Status::Words,

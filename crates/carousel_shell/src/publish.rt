@@ -10,7 +10,6 @@ ghost use Rattle.carousel_shell.specs.Over.{over, sink_over};
 ghost use Rattle.carousel_shell.specs.Publish.{Publishes};
 ghost use Rattle.carousel_shell.specs.Cycles.{IsOfFolder, Refused, group_bytes};
 
-use crate::law::receptions;
 use crate::status::Status;
 use carousel_world::publications_can_be_packed;
 use cycle_planner::Weigh;
@@ -55,7 +54,6 @@ pub fn publish<O: Output, F: Folders>(
 {
     generations_are_of_the_lists();
     publications_can_be_packed();
-    receptions();
     match first_generation(alloc, folder, carousel, &weigh, folders) {
         Ok(generation) => match send(alloc, pid, &generation, &weigh, cycles, out) {
             Ok(()) => Status::Done,

@@ -9,7 +9,6 @@ ghost use Rattle.carousel_shell.specs.Over.{over, sink_over};
 ghost use Rattle.carousel_shell.specs.Announced.{cycles_sent, senders_start};
 ghost use Rattle.carousel_shell.specs.PublishPsi.{PublishesPsi};
 
-use crate::law::receptions;
 use crate::publish::{PID, first_generation};
 use crate::status::Status;
 use carousel_world::publications_can_be_packed;
@@ -42,7 +41,6 @@ pub fn publish_psi<O: Output, F: Folders>(
 {
     generations_are_of_the_lists();
     publications_can_be_packed();
-    receptions();
     match first_generation(alloc, folder, carousel, &weigh, folders) {
         Ok(generation) => match send_announced(alloc, &generation, &weigh, carousel, cycles, out) {
             Ok(()) => Status::Done,

@@ -12,7 +12,8 @@ use Rattle.session_history.specs.Merged.{is_open_by}
 use Rattle.session.specs.Sessions.{IsSession, accepted_in}
 use Rattle.session_script.specs.Generated.{generated_script}
 use Rattle.shell_streams.specs.Cuts.{Bytes}
-use Rattle.carousel_shell.specs.Over.{Over, Failed, IsUntouched, WritesAll, WritesPrefix}
+use Rattle.carousel_shell.specs.Over.{Over, IsUntouched, WritesAll, WritesPrefix}
+use Rattle.carousel_shell.specs.Ends.{EndsWriting}
 use Rattle.carousel_shell.specs.declared.status.Status.{Status}
 use Rattle.carousel_shell.specs.declared.status.Status.TheVariants as status
 
@@ -73,8 +74,10 @@ pub record Counting (weights : List ℕ) (size : ℕ) (sink : Over Bytes) : Type
   pub session : IsSession weights (generated_script size) told
   pub writes : WritesPrefix sink (big_line size told)
 
+abbrev pub CountsAll : List ℕ → ℕ → Over Bytes → Status → Type 0
+CountsAll weights size sink status.Done = Counted weights size sink
+CountsAll weights size sink _ = ⊥
+
 abbrev pub PlaysBig : List ℕ → ℕ → Status → Over Bytes → Type 0
-PlaysBig weights size status.Done sink = Counted weights size sink
-PlaysBig weights size status.WriteFault sink = Failed sink × Counting weights size sink
-PlaysBig weights size status.NoMemory sink = IsUntouched sink ⊎ Counting weights size sink
-PlaysBig weights size _ sink = ⊥
+PlaysBig weights size s sink = EndsWriting (CountsAll weights size sink)
+    (Counting weights size sink) (IsUntouched sink ⊎ Counting weights size sink) sink s

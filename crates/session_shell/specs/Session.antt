@@ -1,16 +1,15 @@
 -- What `session` promises: the input is a script, whose actors run it side by side, and the report of one history of what they did is
 -- written. The language of scripts and the lines are this project's own.
-use Rattle.std.specs.Prelude.{◌⊎◌, ℕ, List, map}
+use Rattle.std.specs.Prelude.{ℕ, List, map}
 use Rattle.session_script.specs.Scripts.{Fields}
 use Rattle.carousel_world.specs.Events.{Step}
 use Rattle.carousel_world.specs.declared.event.Reply.{Reply}
 use Rattle.rehearsal.specs.Reports.{report}
 use Rattle.session.specs.Sessions.{IsSession}
 use Rattle.shell_streams.specs.Cuts.{Bytes}
-use Rattle.carousel_shell.specs.Over.{Over, Failed, IsUntouched, TakesPrefix, WritesAll, WritesPrefix}
-use Rattle.carousel_shell.specs.Rehearse.{ReadsScript, ReadsBadLine, GoesOn}
+use Rattle.carousel_shell.specs.Over.{Over, TakesPrefix, WritesAll, WritesPrefix}
+use Rattle.carousel_shell.specs.Rehearse.{ReadsScript, EndsScript}
 use Rattle.carousel_shell.specs.declared.status.Status.{Status}
-use Rattle.carousel_shell.specs.declared.status.Status.TheVariants as status
 
 -- the report of events, each with its reply
 abbrev pub report_of_known : List (Step × Reply) → Bytes
@@ -35,13 +34,8 @@ pub record Playing (weights : List ℕ) (source sink : Over Bytes) : Type 0 wher
   pub writes : WritesPrefix sink (report_of_known told)
 
 abbrev pub EndsSession : List ℕ → Over Bytes → Over Bytes → Status → Type 0
-EndsSession weights source sink status.Done = Played weights source sink
-EndsSession weights source sink (status.BadLine number cause) = ReadsBadLine source number cause × IsUntouched sink
-EndsSession weights source sink status.ReadFault = Failed source × IsUntouched sink
-EndsSession weights source sink status.InputTooLong = GoesOn source × IsUntouched sink
-EndsSession weights source sink status.WriteFault = Failed sink × Playing weights source sink
-EndsSession weights source sink status.NoMemory = IsUntouched sink ⊎ Playing weights source sink
-EndsSession weights source sink _ = ⊥
+EndsSession weights source sink =
+    EndsScript (Played weights source sink) (Playing weights source sink) source sink
 
 pub record Plays (weights : List ℕ) (s : Status) (source sink : Over Bytes) : Type 0 where
   pub ends : EndsSession weights source sink s

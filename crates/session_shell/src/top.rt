@@ -1,17 +1,21 @@
 ghost use Rattle.std.specs.Prelude.{◌≡◌, false, [], map};
 ghost use Rattle.std.specs.String.{string_bytes};
+ghost use Rattle.cycle_planner.specs.Weights.{AreWeights};
+ghost use Rattle.folder_playout.specs.Laws.{PlayoutsMeet};
 ghost use Rattle.shell_words.specs.Words as commands;
 ghost use Rattle.watch_desk.specs.Prefixes.{prefixes_of};
 ghost use Rattle.shell_streams.specs.Sending.{IsInTime};
+ghost use Rattle.carousel_shell.specs.Laws.{Receptions};
+ghost use Rattle.carousel_shell.specs.Limits.{Limits};
 ghost use Rattle.carousel_shell.specs.Over.{over, sink_over};
 ghost use Rattle.carousel_shell.specs.Promises.{gives_notices, writes_store};
 ghost use Rattle.session_shell.specs.Commands.{KeepsAll, KeepsSession, PromisesSession, begins_session};
 
 use crate::generated::play_generated;
 use crate::sessions::play_session;
-use carousel_shell::{Status, run_plain};
+use carousel_shell::{Status, limits_are_numbers, receptions, run_plain};
 use cycle_planner::Weigh;
-use folder_playout::Notices;
+use folder_playout::{Notices, playouts_meet};
 use folder_store::{Folders, Store};
 use oc_bytes::{Sink, Source};
 use section_workers::Gate;
@@ -30,6 +34,10 @@ use watch_desk::Filter;
 /// gives, of which none was given before. Each actor of a session
 /// passes the gate before each of its steps. Each module is sent as often a cycle as it weighs. The filters are the watchers that `watch` tells
 /// of changes. A write that fails is the last one that is tried, where none had failed before. These rules are this project's own.
+///
+/// The laws beside it say what that comes to: `receptions` of all that is heard or found of an
+/// input, `playouts` of all that is heard of what `air` sends, and `limits` which numbers the limits
+/// are. `weights` is the condition of some of them.
 pub fn run<R: Threads + Wait + Sync, S: Source, K: Sink, F: Folders, T: Store, N: Notices, G: Gate>(
     rt: &R,
     alloc: Global,
@@ -49,6 +57,10 @@ pub fn run<R: Threads + Wait + Sync, S: Source, K: Sink, F: Folders, T: Store, N
     ensures stored { writes_store (commands.command_of (map string_bytes words.now)) ≡ false → store.new ≡ store.old }
     ensures quiet { gives_notices (commands.command_of (map string_bytes words.now)) ≡ false → notices.new ≡ notices.old }
     ensures in_time { K.failed sink.old ≡ false → K.late sink.new ≡ K.late sink.old }
+    ensures receptions { Receptions }
+    ensures playouts { PlayoutsMeet }
+    ensures weights { AreWeights weigh.weights }
+    ensures limits { Limits }
 {
     if begins_a_session(words) {
         run_session(rt, alloc, words, source, sink, gate, weigh)
@@ -78,6 +90,8 @@ pub fn run<R: Threads + Wait + Sync, S: Source, K: Sink, F: Folders, T: Store, N
 /// Below `start` each editor, the feeder and each reader passes the gate before each of its lines, with steps counted from 0; the two
 /// workers that make a draw's sections pass it too. Each module is sent as often a cycle as it weighs. What was written stands after what the sink had. A write that
 /// fails is the last one that is tried, where none had failed before. These rules are this project's own.
+///
+/// The laws are those of `run`.
 pub fn run_session<R: Threads + Wait + Sync, S: Source, K: Sink, G: Gate>(
     rt: &R,
     alloc: Global,
@@ -90,7 +104,14 @@ pub fn run_session<R: Threads + Wait + Sync, S: Source, K: Sink, G: Gate>(
     ensures keeps { KeepsSession weigh.weights (commands.command_of (map string_bytes words.now)) result (over S.left S.faults source.old source.new)
         (over K.written K.faults sink.old sink.new) }
     ensures in_time { K.failed sink.old ≡ false → K.late sink.new ≡ K.late sink.old }
+    ensures receptions { Receptions }
+    ensures playouts { PlayoutsMeet }
+    ensures weights { AreWeights weigh.weights }
+    ensures limits { Limits }
 {
+    receptions();
+    playouts_meet();
+    limits_are_numbers();
     let command = match command(alloc, words) {
         Ok(command) => command,
         Err(WordsFault::Words) => return Status::Words,

@@ -2,17 +2,19 @@ use Rattle.std.proofs.Common.{ap, refl, Err}
 use Rattle.std.proofs.lemmas.Result.{IfOk-weaker}
 use Rattle.path_resolver.specs.Resolving.{answer_of}
 use Rattle.path_resolver.specs.Shots.{held_of}
-use Rattle.carousel_shell.specs.Open.{asks_paths}
-use Rattle.carousel_shell.proofs.Answering.{answers_stopped, answers_written}
+use Rattle.shell_streams.specs.Carriers.{sections_by}
+use Rattle.carousel_shell.specs.Open.{asks_paths, answers_to}
+use Rattle.carousel_shell.proofs.Replying.{replies_stopped}
+use Rattle.carousel_shell.proofs.Answering.{answers_replied}
 use Rattle.carousel_shell.proofs.open.open.Goals as goal
 
 pub returns-in-Ok-clause-answers : goal.returns-in-Ok-clause-answers
-returns-in-Ok-clause-answers g c = rw c.status_of.ensures (answers_written c.args.carrier (asks_paths c.args.paths.now) _ _ _ (held_of c.deref.result.now) c.write_answers.result c.receptions.ensures (rw c.deref.ensures c.in-Ok.ensures.ok) c.requires
+returns-in-Ok-clause-answers g c = rw c.status_of.ensures (answers_replied (sections_by c.args.carrier) (asks_paths c.args.paths.now) _ _ _ (held_of c.deref.result.now) c.write_answers.result (rw c.deref.ensures c.in-Ok.ensures.ok) c.requires
     (IfOk-weaker c.write_answers.result _ _ (λ all e. e (answer_of (held_of c.deref.result.now)) refl) c.write_answers.ensures.found)
     (c.write_answers.ensures.puts (answer_of (held_of c.deref.result.now)) refl) c.write_answers.ensures.empty)
 
 pub returns-in-Err-clause-answers : goal.returns-in-Err-clause-answers
-returns-in-Err-clause-answers g c = rw c.from.ensures (answers_stopped c.args.carrier (asks_paths c.args.paths.now) _ _ c.in-Err.fault c.receptions.ensures c.in-Err.ensures.err (λ e. c.in-Err.ensures.cause (ap Err e)) refl)
+returns-in-Err-clause-answers g c = rw c.from.ensures (replies_stopped (sections_by c.args.carrier) (answers_to (asks_paths c.args.paths.now)) _ _ c.in-Err.fault c.in-Err.ensures.err (λ e. c.in-Err.ensures.cause (ap Err e)) refl)
 
 pub returns-in-Ok-clause-same : goal.returns-in-Ok-clause-same
 returns-in-Ok-clause-same g c = (c.write_answers.ensures.puts (answer_of (held_of c.deref.result.now)) refl).same

@@ -6,18 +6,17 @@ use Rattle.carousel_shell.specs.Open.{asks_paths, answers_to}
 use Rattle.carousel_shell.specs.OpenId.{sections_by_id}
 use Rattle.carousel_shell.proofs.Replying.{replies_stopped}
 use Rattle.carousel_shell.proofs.Answering.{answers_replied}
-use Rattle.carousel_shell.proofs.Opening.{opens_by}
 use Rattle.carousel_shell.proofs.open_id.open_id.Goals as goal
 
 pub returns-in-Ok-clause-opens : goal.returns-in-Ok-clause-opens
-returns-in-Ok-clause-opens g c = rw c.status_of.ensures (opens_by c.args.carousel c.args.paths.now _ _ _ c.receptions.ensures
+returns-in-Ok-clause-opens g c = rw c.status_of.ensures
     (answers_replied (sections_by_id c.args.carousel) (asks_paths c.args.paths.now) _ _ _ (held_of c.deref.result.now) c.write_answers.result (rw c.deref.ensures c.in-Ok.ensures.ok) c.requires
     (IfOk-weaker c.write_answers.result _ _ (λ all e. e (answer_of (held_of c.deref.result.now)) refl) c.write_answers.ensures.found)
-    (c.write_answers.ensures.puts (answer_of (held_of c.deref.result.now)) refl) c.write_answers.ensures.empty))
+    (c.write_answers.ensures.puts (answer_of (held_of c.deref.result.now)) refl) c.write_answers.ensures.empty)
 
 pub returns-in-Err-clause-opens : goal.returns-in-Err-clause-opens
-returns-in-Err-clause-opens g c = rw c.from.ensures (opens_by c.args.carousel c.args.paths.now _ _ _ c.receptions.ensures
-    (replies_stopped (sections_by_id c.args.carousel) (answers_to (asks_paths c.args.paths.now)) _ _ c.in-Err.fault c.in-Err.ensures.err (λ e. c.in-Err.ensures.cause (ap Err e)) refl))
+returns-in-Err-clause-opens g c = rw c.from.ensures
+    (replies_stopped (sections_by_id c.args.carousel) (answers_to (asks_paths c.args.paths.now)) _ _ c.in-Err.fault c.in-Err.ensures.err (λ e. c.in-Err.ensures.cause (ap Err e)) refl)
 
 pub returns-in-Ok-clause-same : goal.returns-in-Ok-clause-same
 returns-in-Ok-clause-same g c = (c.write_answers.ensures.puts (answer_of (held_of c.deref.result.now)) refl).same

@@ -6,10 +6,10 @@ use Rattle.carousel_shell.proofs.Declining.{memory_keeps, promises_over, in_time
 use Rattle.carousel_shell.proofs.plain.run_plain.Goals as goal
 
 pub returns-in-Err-NoMemory-clause-keeps : goal.returns-in-Err-NoMemory-clause-keeps
-returns-in-Err-NoMemory-clause-keeps g c = memory_keeps c.args.weigh.weights (prefixes_of c.args.filters.items) _ _ _ _ _ _ _ c.receptions.ensures c.args.weigh.range refl refl refl (record { unread = λ folder. nothing_read folder (g.F.Folders.tree c.args.folders.now) (g.F.Folders.faults c.args.folders.now); untold = c.requires.untold; law = c.playouts_meet.ensures })
+returns-in-Err-NoMemory-clause-keeps g c = memory_keeps c.args.weigh.weights (prefixes_of c.args.filters.items) _ _ _ _ _ _ _ refl refl refl (record { unread = λ folder. nothing_read folder (g.F.Folders.tree c.args.folders.now) (g.F.Folders.faults c.args.folders.now); untold = c.requires.untold })
 
 pub returns-in_default-clause-keeps : goal.returns-in_default-clause-keeps
-returns-in_default-clause-keeps g c = memory_keeps c.args.weigh.weights (prefixes_of c.args.filters.items) _ _ _ _ _ _ _ c.receptions.ensures c.args.weigh.range refl refl refl (record { unread = λ folder. nothing_read folder (g.F.Folders.tree c.args.folders.now) (g.F.Folders.faults c.args.folders.now); untold = c.requires.untold; law = c.playouts_meet.ensures })
+returns-in_default-clause-keeps g c = memory_keeps c.args.weigh.weights (prefixes_of c.args.filters.items) _ _ _ _ _ _ _ refl refl refl (record { unread = λ folder. nothing_read folder (g.F.Folders.tree c.args.folders.now) (g.F.Folders.faults c.args.folders.now); untold = c.requires.untold })
 
 pub returns-clause-keeps : goal.returns-clause-keeps
 returns-clause-keeps g c =
