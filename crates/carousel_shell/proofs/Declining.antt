@@ -13,7 +13,8 @@ use Rattle.shell_streams.specs.declared.carrier.Carrier.{Carrier}
 use Rattle.shell_streams.specs.declared.carrier.Carrier.TheVariants as carriers
 use Rattle.shell_streams.proofs.CallerLemmas.{told_same}
 use Rattle.carousel_shell.specs.Over.{Over, over, IsUntouched, TakesPrefix, WritesPrefix, Appends}
-use Rattle.carousel_shell.specs.Record.{AreFirst, Records}
+use Rattle.carousel_shell.specs.AsRead.{AreFirst}
+use Rattle.carousel_shell.specs.Record.{Records}
 use Rattle.carousel_shell.specs.Open.{Question, Answers, answers_to, asks_paths, asks_all}
 use Rattle.carousel_shell.specs.Air.{WereRead}
 use Rattle.carousel_shell.specs.Watch.{Watches}
@@ -22,7 +23,7 @@ use Rattle.carousel_shell.specs.OpenId.{sections_by_id}
 use Rattle.carousel_shell.specs.Promises.{Promises, Keeps}
 use Rattle.carousel_shell.specs.declared.status.Status.{Status}
 use Rattle.carousel_shell.specs.declared.status.Status.TheVariants as status
-use Rattle.carousel_shell.proofs.Recording.{first_none}
+use Rattle.carousel_shell.proofs.Streaming.{first_none}
 use Rattle.carousel_shell.proofs.Replying.{replies_nothing}
 use Rattle.carousel_shell.proofs.Serving.{serves_no_memory}
 use Rattle.carousel_shell.proofs.Reporting.{inspects_nothing}

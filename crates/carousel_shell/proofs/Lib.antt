@@ -19,7 +19,7 @@ mod Assembling
 mod Recording
 mod Telling
 mod Showing
-mod Watching
+mod Streaming
 mod Committing
 mod Rehearsing
 mod Explaining

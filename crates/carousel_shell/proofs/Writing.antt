@@ -1,10 +1,10 @@
 -- What was written, by what was put.
-use Rattle.std.proofs.Common.{◌≡◌, ◌≤◌, ℕ, [], ◌++◌, length, Ok, Err, refl, sym, ap, ◌∙◌, append-nil}
+use Rattle.std.proofs.Common.{◌≡◌, [], ◌++◌, Ok, Err, refl, sym, ap, ◌∙◌, append-nil}
 use Rattle.shell_streams.specs.Cuts.{Bytes}
 use Rattle.shell_streams.specs.Sending.{OutputState, Puts}
 use Rattle.shell_streams.specs.declared.output.OutputFault.{OutputFault}
 use Rattle.shell_streams.proofs.CallerLemmas.{told_weaker, told_same}
-use Rattle.carousel_shell.specs.Over.{sink_over, WritesAll, WritesPrefix, WritesBut}
+use Rattle.carousel_shell.specs.Over.{sink_over, WritesAll, WritesPrefix}
 
 -- all of a text, where nothing is pending before and after
 pub writes_all : {T : Type 0} {x : T} {old new : OutputState} {text : Bytes} → old.pending ≡ [] → new.pending ≡ [] → Puts (Ok x) old new text → WritesAll (sink_over old new) text
@@ -17,16 +17,6 @@ writes_prefix {text = text} before puts = told_weaker puts.err (λ x y e. record
   part = e.sends.sent;
   after_is = e.sends.after_is;
   prefix = record { rest = e.rest; whole_is = sym (ap (λ bs. bs ++ text) before) ∙ e.sends.split };
-})
-
--- all but what is pending
-pub writes_but : {T : Type 0} {x : T} {old new : OutputState} {text : Bytes} (most : ℕ) → old.pending ≡ [] → length new.pending ≤ most → Puts (Ok x) old new text → WritesBut (sink_over old new) text most
-writes_but {new = new} {text = text} most before few puts = told_weaker puts.ok (λ x y s. record {
-  part = s.sent;
-  after_is = s.after_is;
-  rest = new.pending;
-  whole_is = sym (ap (λ bs. bs ++ text) before) ∙ s.split;
-  few = few;
 })
 
 -- a prefix of a text is one of a longer text

@@ -14,6 +14,7 @@ pub mod Find
 pub mod OpenId
 pub mod Seeking
 pub mod Mounts
+pub mod AsRead
 pub mod Watch
 pub mod Watching
 pub mod Why

@@ -51,13 +51,3 @@ pub record Appends (output before after : Bytes) : Type 0 where
 abbrev pub WritesPrefix : Over Bytes → Bytes → Type 0
 WritesPrefix sink output = Known sink.before sink.after (Appends output)
 
-pub record AppendsBut (output : Bytes) (most : ℕ) (before after : Bytes) : Type 0 where
-  pub part : Bytes
-  pub after_is : after ≡ before ++ part
-  pub rest : Bytes
-  pub whole_is : output ≡ part ++ rest
-  pub few : length rest ≤ most
-
--- all of it but at most so many bytes
-abbrev pub WritesBut : Over Bytes → Bytes → ℕ → Type 0
-WritesBut sink output most = Known sink.before sink.after (AppendsBut output most)

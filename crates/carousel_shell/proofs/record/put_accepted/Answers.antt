@@ -8,7 +8,7 @@ use Rattle.carousel_shell.proofs.Recording.{accepted_next, accepted_all}
 use Rattle.carousel_shell.proofs.record.put_accepted.Goals as goal
 
 pub loop-candidate-init : goal.loop-candidate-init
-loop-candidate-init g c = record { puts = puts_nothing tt _; few = λ h. h }
+loop-candidate-init g c = record { puts = puts_nothing tt _ }
 
 pub returns-in_err-put_one-clause-puts : goal.returns-in_err-put_one-clause-puts
 returns-in_err-put_one-clause-puts g c =
@@ -21,7 +21,6 @@ pub loop-candidate-preserved : goal.loop-candidate-preserved
 loop-candidate-preserved g c = record {
   puts = puts_as (accepted_next c.args.candidates.now c.loop-candidate.candidate-index c.candidate-item.result c.deref.result.now c.loop-candidate-test.true c.candidate-item.is c.deref.ensures.value)
       (puts_then c.loop-candidate.invariant.puts c.in_ok-put_one.ensures.puts);
-  few = λ h. c.in_ok-put_one.ensures.few (c.loop-candidate.invariant.few h);
 }
 
 pub returns-clause-puts : goal.returns-clause-puts

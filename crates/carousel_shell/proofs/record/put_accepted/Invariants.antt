@@ -1,4 +1,4 @@
-use Rattle.std.proofs.Common.{◌≤◌, length, map, take}
+use Rattle.std.proofs.Common.{map, take}
 use Rattle.section_stream.specs.Kept.{view_bytes}
 use Rattle.shell_streams.specs.Sending.{HasPut}
 use Rattle.carousel_shell.specs.Accepted.{accepted_bytes}
@@ -7,5 +7,4 @@ use Rattle.carousel_shell.proofs.record.put_accepted.Given as goal
 abbrev pub invariant-loop-candidate : goal.invariant-loop-candidate
 invariant-loop-candidate g l = record {
   puts : HasPut (g.O.Output.state l.fn.out) (g.O.Output.state l.out) (accepted_bytes (map view_bytes (take l.candidate-index l.candidates)));
-  few : length (g.O.Output.state l.fn.out).pending ≤ 65536 → length (g.O.Output.state l.out).pending ≤ 65536;
 }

@@ -1,6 +1,6 @@
-use Rattle.std.proofs.Common.{◌≤◌, List, length}
+use Rattle.std.proofs.Common.{◌≡◌, ◌≤◌, false, List, []}
 use Rattle.shell_streams.specs.Cuts.{Bytes}
-use Rattle.shell_streams.specs.Packets.{HasCut}
+use Rattle.shell_streams.specs.Packets.{HasCut, is_ready}
 use Rattle.shell_streams.specs.Sending.{HasPut}
 use Rattle.carousel_shell.specs.Accepted.{accepted_bytes}
 use Rattle.carousel_shell.proofs.record.record_all.Given as goal
@@ -10,7 +10,7 @@ invariant-loop-reader g l = record {
   candidates : List Bytes;
   cut : HasCut l.pid l.reader (g.S.Source.left l.fn.source) (g.S.Source.left l.source) candidates;
   puts : HasPut (g.O.Output.state l.fn.out) (g.O.Output.state l.out) (accepted_bytes candidates);
-  few : length (g.O.Output.state l.out).pending ≤ 65536;
+  due : is_ready l.reader ≡ false → (g.O.Output.state l.out).pending ≡ [];
   later : g.S.Source.faults l.fn.source ≤ g.S.Source.faults l.source;
 }
 

@@ -4,22 +4,21 @@ use Rattle.section_stream.specs.Kept.{view_bytes}
 use Rattle.shell_streams.specs.declared.input.InputFault.TheVariants as inputs
 use Rattle.shell_streams.proofs.CallerLemmas.{puts_nothing, puts_then, puts_as, rose_last, reader_stopped, reader_taken, taken_stopped}
 use Rattle.watch_desk.specs.Prefixes.{prefixes_of}
-use Rattle.carousel_shell.specs.Watch.{watched_paths, first_watchers}
-use Rattle.carousel_shell.proofs.Recording.{first_none, first_halted}
+use Rattle.carousel_shell.specs.Watch.{watched_paths, first_watchers, text_for}
 use Rattle.carousel_shell.proofs.Telling.{text_behind}
-use Rattle.carousel_shell.proofs.Watching.{watches_none, watches_read, watches_put, watches_all}
+use Rattle.carousel_shell.proofs.Streaming.{first_none, first_halted, as_none, as_read, as_put, as_all}
 use Rattle.carousel_shell.proofs.Writing.{writes_prefix}
 use Rattle.carousel_shell.proofs.watch.watch_all.Goals as goal
 
 pub returns-in_err-watcher-clause-watches : goal.returns-in_err-watcher-clause-watches
 returns-in_err-watcher-clause-watches g c =
     let p = err_from_is_err_and c.from_residual.result c.from_residual.ensures.1 in
-    rw (p.1, p.2) (watches_none c.args.pid (prefixes_of c.args.filters.items) c.args.paths.now _ (g.O.Output.state c.args.out.now) (first_none c.args.pid _))
+    rw (p.1, p.2) (as_none c.args.pid (text_for (prefixes_of c.args.filters.items) c.args.paths.now) _ (g.O.Output.state c.args.out.now) (first_none c.args.pid _))
 
 pub returns-in_err-reader-clause-watches : goal.returns-in_err-reader-clause-watches
 returns-in_err-reader-clause-watches g c =
     let p = err_from_is_err_and c.from_residual-in_err-reader.result c.from_residual-in_err-reader.ensures.1 in
-    rw (p.1, p.2) (watches_none c.args.pid (prefixes_of c.args.filters.items) c.args.paths.now _ (g.O.Output.state c.args.out.now) (first_none c.args.pid _))
+    rw (p.1, p.2) (as_none c.args.pid (text_for (prefixes_of c.args.filters.items) c.args.paths.now) _ (g.O.Output.state c.args.out.now) (first_none c.args.pid _))
 
 pub loop-reader-init : goal.loop-reader-init
 loop-reader-init g c = record {
@@ -35,9 +34,9 @@ pub returns-in_err-candidates-clause-watches : goal.returns-in_err-candidates-cl
 returns-in_err-candidates-clause-watches g c =
     let p = err_from_is_err_and c.from_residual-in_err-candidates.result c.from_residual-in_err-candidates.ensures.1 in
     let inv = c.loop-reader.invariant in
-    rw (p.1, p.2) (watches_read c.args.pid (prefixes_of c.args.filters.items) c.args.paths.now _ _ _ inv.candidates _ c.candidates_grow.ensures
+    rw (p.1, p.2) (as_read c.args.pid (text_for (prefixes_of c.args.filters.items) c.args.paths.now) _ _ _ inv.candidates _ c.candidates_grow.ensures
     (c.in_err-candidates.ensures.stopped c.args.pid _ inv.candidates inv.cut)
-    (λ e. rose_last inv.later (c.in_err-candidates.ensures.read_fault e)) c.requires.pending inv.empty inv.puts)
+    (λ e. rose_last inv.later (c.in_err-candidates.ensures.read_fault e)) c.requires.pending (λ _. inv.empty) inv.puts)
 
 pub returns-in_err-hear_all-clause-watches : goal.returns-in_err-hear_all-clause-watches
 returns-in_err-hear_all-clause-watches g c =
@@ -49,7 +48,7 @@ returns-in_err-hear_all-clause-watches g c =
     let cut = next c.args.pid _ inv.candidates inv.cut in
     let all = puts_as (text_behind paths (first_watchers prefixes) inv.candidates (map view_bytes c.in-Some.candidates.items))
     (puts_then inv.puts (rw c.deref.ensures.value at (c.in_err-hear_all.ensures.puts paths (first_watchers prefixes) inv.candidates inv.stands))) in
-    rw (p.1, p.2) (watches_put c.args.pid prefixes c.args.paths.now _ _ (inv.candidates ++ map view_bytes c.in-Some.candidates.items) _
+    rw (p.1, p.2) (as_put c.args.pid (text_for prefixes c.args.paths.now) _ _ (inv.candidates ++ map view_bytes c.in-Some.candidates.items) _
     (first_halted c.candidates_grow.ensures (reader_stopped inputs.NoMemory cut
     (taken_stopped c.next.new.self.most c.next.new.self.unread c.next.new.self.unread _ _ _ cut.packets inputs.NoMemory (λ e. cc) (λ e. absurd (cc)) refl (reader_taken cut))))
     (λ e. all.cause (ap Err e)) (writes_prefix c.requires.pending all))
@@ -73,7 +72,7 @@ loop-reader-preserved g c =
 pub returns-clause-watches : goal.returns-clause-watches
 returns-clause-watches g c =
     let inv = c.loop-reader.invariant in
-    watches_all c.args.pid (prefixes_of c.args.filters.items) c.args.paths.now _ _ _ inv.candidates
+    as_all c.args.pid (text_for (prefixes_of c.args.filters.items) c.args.paths.now) _ _ _ inv.candidates
     (c.in_ok-candidates.ensures.ended (ap Ok c.in_default.is) c.args.pid _ inv.candidates inv.cut) c.requires.pending inv.empty inv.puts
 
 pub returns-in_err-hear_all-clause-same : goal.returns-in_err-hear_all-clause-same

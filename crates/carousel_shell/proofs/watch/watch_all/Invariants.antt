@@ -3,9 +3,8 @@ use Rattle.shell_streams.specs.Cuts.{Bytes}
 use Rattle.shell_streams.specs.Packets.{HasCut}
 use Rattle.shell_streams.specs.Sending.{HasPut}
 use Rattle.watch_desk.specs.Prefixes.{prefixes_of}
-use Rattle.carousel_shell.specs.Watch.{watched_paths, first_watchers}
+use Rattle.carousel_shell.specs.Watch.{watched_paths, first_watchers, text_for}
 use Rattle.carousel_shell.specs.Watching.{StandsFor}
-use Rattle.carousel_shell.proofs.Watching.{text_for}
 use Rattle.carousel_shell.proofs.watch.watch_all.Given as goal
 
 abbrev pub invariant-loop-reader : goal.invariant-loop-reader
