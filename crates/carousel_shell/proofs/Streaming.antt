@@ -1,5 +1,5 @@
 -- What a command promises that writes as it reads, by what was cut out and what was put.
-use Rattle.std.proofs.Common.{◌≡◌, ℕ, List, [], ◌++◌, Option, Some, refl, sym, ap, ◌∙◌, append-nil}
+use Rattle.std.proofs.Common.{◌≡◌, ℕ, true, List, [], ◌++◌, Option, Some, refl, sym, ap, ◌∙◌, append-nil}
 use Rattle.oc_bytes.specs.Outcome.{Known}
 use Rattle.section_stream.specs.Cuts.{candidates}
 use Rattle.section_stream.specs.Laws.{CandidatesGrow}

@@ -50,4 +50,3 @@ pub record Appends (output before after : Bytes) : Type 0 where
 -- a prefix of it
 abbrev pub WritesPrefix : Over Bytes → Bytes → Type 0
 WritesPrefix sink output = Known sink.before sink.after (Appends output)
-

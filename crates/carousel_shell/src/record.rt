@@ -75,7 +75,7 @@ fn write_before_reading<O: Output>(reader: &PacketReader, out: &mut O) -> Result
 
 /// Puts those of the candidates that are sections after what is pending.
 fn put_accepted<O: Output>(candidates: &[Vec<u8>], out: &mut O) -> Result<(), OutputFault>
-    ensures puts { Puts result (O.state out.old) (O.state out.new) (sections.accepted_bytes (map view_bytes candidates.now)) }
+    ensures { Puts result (O.state out.old) (O.state out.new) (sections.accepted_bytes (map view_bytes candidates.now)) }
 {
     for candidate in candidates {
         put_one(candidate, out)?;
@@ -85,7 +85,7 @@ fn put_accepted<O: Output>(candidates: &[Vec<u8>], out: &mut O) -> Result<(), Ou
 
 /// Puts a candidate after what is pending, where it is a section.
 fn put_one<O: Output>(candidate: &[u8], out: &mut O) -> Result<(), OutputFault>
-    ensures puts { Puts result (O.state out.old) (O.state out.new) (sections.accepted_one candidate.now) }
+    ensures { Puts result (O.state out.old) (O.state out.new) (sections.accepted_one candidate.now) }
 {
     if is_accepted(candidate) {
         out.put(candidate)

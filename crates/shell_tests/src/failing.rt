@@ -129,9 +129,7 @@ fn is_right(end: End, call: u64, good: &[u8], ended: &Ended) -> bool {
     match end {
         End::Source => ended.code == 4 && written.is_empty(),
         End::Sink => {
-            ended.code == 5
-                && written.len() as u64 == call
-                && good.starts_with(written)
+            ended.code == 5 && written.len() as u64 == call && good.starts_with(written)
         }
         End::Folders => {
             ended.code == 6 && (written.is_empty() || written.starts_with(b"unreadable /"))

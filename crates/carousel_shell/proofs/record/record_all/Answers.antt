@@ -36,7 +36,7 @@ returns-in_err-put_accepted-clause-records g c =
     let next = rw c.in-Some.is at c.in_ok-candidates.ensures.next in
     let cut = next c.args.pid _ c.loop-reader.invariant.candidates c.loop-reader.invariant.cut in
     let all = puts_as (sym (accepted-append c.loop-reader.invariant.candidates (map view_bytes c.in-Some.candidates.items)))
-    (puts_then c.loop-reader.invariant.puts (rw c.deref.ensures.value at c.in_err-put_accepted.ensures.puts)) in
+    (puts_then c.loop-reader.invariant.puts (rw c.deref.ensures.value at c.in_err-put_accepted.ensures)) in
     rw (p.1, p.2) (as_put c.args.pid accepted_bytes _ _ (c.loop-reader.invariant.candidates ++ map view_bytes c.in-Some.candidates.items) _
     (first_halted c.candidates_grow.ensures (reader_stopped inputs.NoMemory cut
     (taken_stopped c.next.new.self.most c.next.new.self.unread c.next.new.self.unread _ _ _ cut.packets inputs.NoMemory (λ e. cc) (λ e. absurd (cc)) refl (reader_taken cut))))
@@ -48,7 +48,7 @@ returns-in_err-write_before_reading-clause-records g c =
     let next = rw c.in-Some.is at c.in_ok-candidates.ensures.next in
     let cut = next c.args.pid _ c.loop-reader.invariant.candidates c.loop-reader.invariant.cut in
     let put = puts_as (sym (accepted-append c.loop-reader.invariant.candidates (map view_bytes c.in-Some.candidates.items)))
-    (puts_then c.loop-reader.invariant.puts (rw c.deref.ensures.value at c.in_ok-put_accepted.ensures.puts)) in
+    (puts_then c.loop-reader.invariant.puts (rw c.deref.ensures.value at c.in_ok-put_accepted.ensures)) in
     let all = puts_as (append-nil _) (puts_then put c.in_err-write_before_reading.ensures.puts) in
     rw (p.1, p.2) (as_put c.args.pid accepted_bytes _ _ (c.loop-reader.invariant.candidates ++ map view_bytes c.in-Some.candidates.items) _
     (first_halted c.candidates_grow.ensures (reader_stopped inputs.NoMemory cut
@@ -63,7 +63,7 @@ loop-reader-preserved g c =
       cut = next c.args.pid _ c.loop-reader.invariant.candidates c.loop-reader.invariant.cut;
       puts = puts_as (append-nil _) (puts_then
           (puts_as (sym (accepted-append c.loop-reader.invariant.candidates (map view_bytes c.in-Some.candidates.items)))
-          (puts_then c.loop-reader.invariant.puts (rw c.deref.ensures.value at c.in_ok-put_accepted.ensures.puts)))
+          (puts_then c.loop-reader.invariant.puts (rw c.deref.ensures.value at c.in_ok-put_accepted.ensures)))
           c.in_ok-write_before_reading.ensures.puts);
       due = c.in_ok-write_before_reading.ensures.due;
       later = omega (arith, c.loop-reader.invariant.later, c.next.ensures.later);
@@ -84,7 +84,7 @@ returns-clause-records g c =
     c.requires c.in_ok-flush.ensures.empty (puts_as (append-nil _) (puts_then c.loop-reader.invariant.puts c.in_ok-flush.ensures.puts))
 
 pub returns-in_err-put_accepted-clause-in_time : goal.returns-in_err-put_accepted-clause-in_time
-returns-in_err-put_accepted-clause-in_time g c = (puts_then c.loop-reader.invariant.puts c.in_err-put_accepted.ensures.puts).in_time
+returns-in_err-put_accepted-clause-in_time g c = (puts_then c.loop-reader.invariant.puts c.in_err-put_accepted.ensures).in_time
 
 pub returns-in_err-flush-clause-in_time : goal.returns-in_err-flush-clause-in_time
 returns-in_err-flush-clause-in_time g c = (puts_then c.loop-reader.invariant.puts c.in_err-flush.ensures.puts).in_time
@@ -94,4 +94,4 @@ returns-clause-in_time g c = (puts_then c.loop-reader.invariant.puts c.in_ok-flu
 
 pub returns-in_err-write_before_reading-clause-in_time : goal.returns-in_err-write_before_reading-clause-in_time
 returns-in_err-write_before_reading-clause-in_time g c =
-    (puts_then (puts_then c.loop-reader.invariant.puts c.in_ok-put_accepted.ensures.puts) c.in_err-write_before_reading.ensures.puts).in_time
+    (puts_then (puts_then c.loop-reader.invariant.puts c.in_ok-put_accepted.ensures) c.in_err-write_before_reading.ensures.puts).in_time
