@@ -1,15 +1,25 @@
-use Rattle.std.proofs.Common.{rules, refl, ◌∙◌}
+use Rattle.std.proofs.Common.{rules, refl, map, ◌∙◌}
+use Rattle.std.specs.String.{string_bytes}
 use Rattle.shell_words.specs.Words as commands
 use Rattle.watch_desk.specs.Prefixes.{prefixes_of}
 use Rattle.folder_playout.proofs.CallerLemmas.{nothing_read}
+use Rattle.carousel_shell.specs.Over.{over}
 use Rattle.carousel_shell.proofs.Declining.{memory_keeps, promises_over, in_time_over}
 use Rattle.carousel_shell.proofs.plain.run_plain.Goals as goal
 
 pub returns-in-Err-NoMemory-clause-keeps : goal.returns-in-Err-NoMemory-clause-keeps
-returns-in-Err-NoMemory-clause-keeps g c = memory_keeps c.args.weigh.weights (prefixes_of c.args.filters.items) _ _ _ _ _ _ _ refl refl refl (record { unread = λ folder. nothing_read folder (g.F.Folders.tree c.args.folders.now) (g.F.Folders.faults c.args.folders.now); untold = c.requires.untold })
+returns-in-Err-NoMemory-clause-keeps g c =
+    memory_keeps c.args.weigh.weights (prefixes_of c.args.filters.items) (commands.command_of (map string_bytes c.args.words.now))
+    (over g.S.Source.left g.S.Source.faults c.args.source.now c.args.source.now) (over g.K.Sink.written g.K.Sink.faults c.args.sink.now c.args.sink.now)
+    (over g.F.Folders.tree g.F.Folders.faults c.args.folders.now c.args.folders.now) (over g.T.Store.tree g.T.Store.faults c.args.store.now c.args.store.now)
+    (g.F.Folders.refused c.args.folders.now) (g.N.Notices.told c.args.notices.now c.args.notices.now) refl refl refl (record { unread = λ folder. nothing_read folder (g.F.Folders.tree c.args.folders.now) (g.F.Folders.faults c.args.folders.now); untold = c.requires.untold })
 
 pub returns-in_default-clause-keeps : goal.returns-in_default-clause-keeps
-returns-in_default-clause-keeps g c = memory_keeps c.args.weigh.weights (prefixes_of c.args.filters.items) _ _ _ _ _ _ _ refl refl refl (record { unread = λ folder. nothing_read folder (g.F.Folders.tree c.args.folders.now) (g.F.Folders.faults c.args.folders.now); untold = c.requires.untold })
+returns-in_default-clause-keeps g c =
+    memory_keeps c.args.weigh.weights (prefixes_of c.args.filters.items) (commands.command_of (map string_bytes c.args.words.now))
+    (over g.S.Source.left g.S.Source.faults c.args.source.now c.args.source.now) (over g.K.Sink.written g.K.Sink.faults c.args.sink.now c.args.sink.now)
+    (over g.F.Folders.tree g.F.Folders.faults c.args.folders.now c.args.folders.now) (over g.T.Store.tree g.T.Store.faults c.args.store.now c.args.store.now)
+    (g.F.Folders.refused c.args.folders.now) (g.N.Notices.told c.args.notices.now c.args.notices.now) refl refl refl (record { unread = λ folder. nothing_read folder (g.F.Folders.tree c.args.folders.now) (g.F.Folders.faults c.args.folders.now); untold = c.requires.untold })
 
 pub returns-clause-keeps : goal.returns-clause-keeps
 returns-clause-keeps g c =
