@@ -38,7 +38,7 @@ impl Source for Repeated<'_> {
 }
 
 /// These bytes so often.
-fn repeated(alloc: Global, unit: &[u8], times: u32) -> Result<Vec<u8>, Fail> {
+fn many_of(alloc: Global, unit: &[u8], times: u32) -> Result<Vec<u8>, Fail> {
     let mut bytes = Vec::new(alloc);
     for _ in 0..times {
         bytes.extend_from_slice(unit)?;
@@ -73,9 +73,9 @@ fn inputs_that_go_on_are_too_long(rt: HostRuntime) -> Result<(), Fail> {
     packet[1] = 0x1F;
     packet[3] = 0x10;
     let section = [0x3C, 0xB0, 9, 0, 0, 0, 0, 0, 0, 0, 0, 0];
-    let packets = repeated(alloc, &packet, 256)?;
-    let sections = repeated(alloc, &section, 4096)?;
-    let lines = repeated(alloc, b"\n", 65_536)?;
+    let packets = many_of(alloc, &packet, 256)?;
+    let sections = many_of(alloc, &section, 4096)?;
+    let lines = many_of(alloc, b"\n", 65_536)?;
     // The most that each takes ends as the second number says; a byte more is too long.
     let rows: [(&str, &[u8], usize, u8); 4] = [
         ("list 256", &packets, 16_777_216 * 188, 1),
