@@ -123,11 +123,16 @@ pub(crate) fn run(
 }
 
 /// Whether a run ended as it should in which a call of this end failed: nothing was written, or what the writes of a byte before it
-/// took, or which path can't be read, or the lines of what was stored before, when each call before stored one file or folder.
-fn is_right(end: End, call: u64, good: &[u8], ended: &Ended) -> bool {
+/// took, or which path can't be read, or the first sections of `record`, or the lines of what was stored before, when each call before
+/// stored one file or folder.
+fn is_right(line: &str, end: End, call: u64, good: &[u8], ended: &Ended) -> bool {
     let written = ended.sink.written();
     match end {
-        End::Source => ended.code == 4 && written.is_empty(),
+        End::Source => {
+            ended.code == 4
+                && good.starts_with(written)
+                && (written.is_empty() || line.starts_with("record"))
+        }
         End::Sink => {
             ended.code == 5 && written.len() as u64 == call && good.starts_with(written)
         }
@@ -147,7 +152,7 @@ fn failing(alloc: Global, line: &str, input: &[u8], good: &Ended, end: End) -> R
         if ended.code == good.code {
             return Ok(call);
         }
-        if !is_right(end, call, good.sink.written(), &ended) {
+        if !is_right(line, end, call, good.sink.written(), &ended) {
             return Err(Fail::from("a failed call"));
         }
     }
@@ -164,7 +169,7 @@ fn each_call_fails_in_turn(rt: HostRuntime) -> Result<(), Fail> {
     let rows: [(&str, &[u8], [u64; 4]); 10] = [
         ("assemble 1 0 5 42", &HELLO, [3, 5, 0, 0]),
         ("publish F 1 1", b"", [0, 564, 2, 0]),
-        ("record 256", packets, [30, 385, 0, 0]),
+        ("record 256", packets, [30, 386, 0, 0]),
         ("list 256", packets, [30, 21, 0, 0]),
         ("open 256 /a /a/b", packets, [30, 29, 0, 0]),
         ("rehearse", NEWS, [8, 155, 0, 0]),

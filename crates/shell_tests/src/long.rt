@@ -81,7 +81,7 @@ fn inputs_that_go_on_are_too_long(rt: HostRuntime) -> Result<(), Fail> {
         ("list 256", &packets, 16_777_216 * 188, 1),
         ("open sections /", &sections, 16_777_216 * 12, 1),
         ("assemble 1 0 5 42", &HELLO, 65_536 * 35, 0),
-        ("rehearse", &lines, 16_777_216, 3),
+        ("rehearse", &lines, 16_777_216, 0),
     ];
     for (line, unit, most, good) in rows {
         assert_eq!(rt; code(alloc, line, unit, most)?, good, "{line}");
