@@ -141,7 +141,7 @@ fn run_watched<R: Threads + Wait + Sync, S: Source, K: Sink, F: Folders, T: Stor
         )?;
         filters.push(Filter::new(prefix.share()?, call))?;
     }
-    Ok(session_shell::run(
+    Ok(carousel_shell::run(
         rt, alloc, words, source, sink, folders, store, notices, &NoGate, weigh, filters,
     ))
 }

@@ -1,52 +1,39 @@
-//! The commands of the carousel: each takes its words, reads its input from a source or, `publish`, from a folder, and
-//! writes to a sink.
+//! The top calls: `run`, which runs every command, `run_session`, which runs `session` and `big`, whose actors are threads, and `run_plain`, which
+//! runs every other one and starts no thread. Beside them stands what their callers need: how a command ended, the limits and the laws, and how
+//! the parts of a session make one history.
 //!
 //! ```
 //! ghost use Rattle.std.specs.Prelude.{◌≡◌};
 //!
-//! use carousel_shell::run_plain;
+//! use carousel_shell::run;
 //! use cycle_planner::{GREATEST_ID, Weigh};
 //! use folder_playout::NoNotices;
 //! use folder_store::{MemFolders, MemStore};
 //! use oc_bytes::{MemSink, MemSource};
+//! use section_workers::NoGate;
 //!
 //! let weigh = Weigh::new([1; GREATEST_ID], Box::new(alloc, |_: u16| -> u8 ensures { result ≡ 1 } { 1 })?);
-//! let words = vec![in alloc; String::from_str(alloc, "rehearse")?]?;
-//! let mut source = MemSource::new(b"commit 1\ndraw 3\nopen 2 /a\n".to_vec(alloc)?, Vec::new(alloc), 100);
+//! let words = vec![in alloc; String::from_str(alloc, "session")?]?;
+//! let mut source = MemSource::new(b"commit 1\nsettle\nfinale 2 /a\n".to_vec(alloc)?, Vec::new(alloc), 100);
 //! let mut sink = MemSink::new(alloc, Vec::new(alloc), 100);
 //! let mut folders = MemFolders::new(Vec::new(alloc), Vec::new(alloc));
 //! let mut store = MemStore::new(alloc, Vec::new(alloc));
 //! let filters = Vec::new(alloc);
-//! let status = run_plain(alloc, &words, &mut source, &mut sink, &mut folders, &mut store, &mut NoNotices, weigh, filters);
+//! let status = run(&rt, alloc, &words, &mut source, &mut sink, &mut folders, &mut store, &mut NoNotices, &NoGate, weigh, filters);
 //! assert_eq!(rt; status.code(), 0);
-//! assert_eq!(rt; sink.written(), b"commit 1 generation 1\ndraw 1 0 3\nopen 2 1 /a no-such\n".as_slice());
+//! let report = b"commit 1 generation 1\ndraw 1 0 3\ndraw 1 0 3\nopen 2 1 /a no-such\n";
+//! assert_eq!(rt; sink.written(), report.as_slice());
 //! ```
 #![tactic(auto)]
 
-mod air;
-mod answers;
-mod assemble;
-mod extract;
-mod find;
-mod inspect;
-mod law;
-mod listing;
-mod mounts;
-mod open;
-mod open_id;
-mod plain;
-mod plan;
-mod publish;
-mod publish_psi;
-mod receiver;
-mod record;
-mod rehearse;
-mod status;
-mod watch;
-mod why;
+mod big;
+mod counts;
+mod sessions;
+mod top;
 
-pub use assemble::MOST_ASSEMBLED;
-pub use law::{limits_are_numbers, receptions};
-pub use plain::{MOST_OPENED, run_plain};
-pub use rehearse::MOST_SCRIPT_BYTES;
-pub use status::Status;
+pub use session_history::merge;
+pub use shell_commands::{
+    MOST_ASSEMBLED, MOST_OPENED, MOST_SCRIPT_BYTES, Status, limits_are_numbers, receptions,
+    run_plain,
+};
+pub use top::{run, run_session};

@@ -7,10 +7,10 @@ use crate::texts::{bytes_text, output_text, spelled};
 use crate::watchers::prefixes_of;
 use crate::weights::{run_first_twice, run_once};
 use crate::words::{size_of, words_of};
-use carousel_shell::Status;
 use folder_store::MemStore;
 use oc_bytes::{MemSink, MemSource};
 use path_tree::Path;
+use shell_commands::Status;
 use std::alloc::{AllocError, Global};
 use test_rows::{Row, RowFault, hex_text};
 

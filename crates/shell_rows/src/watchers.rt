@@ -3,10 +3,10 @@ ghost use Rattle.std.specs.Prelude.{◌≡◌};
 ghost use Rattle.watch_desk.specs.Wanting.{is_wanted};
 
 use crate::ends::Ends;
-use carousel_shell::{Status, run_plain};
 use cycle_planner::Weigh;
 use folder_store::MemStore;
 use path_tree::{Path, PathFault};
+use shell_commands::{Status, run_plain};
 use std::alloc::{AllocError, Global};
 use test_rows::{Row, RowFault};
 use watch_desk::Filter;

@@ -3,10 +3,10 @@ ghost use Rattle.std.specs.Prelude.{◌≡◌, ◌==◌, if◌then◌else◌};
 
 use crate::ends::Ends;
 use crate::watchers::run_watched;
-use carousel_shell::Status;
 use cycle_planner::{GREATEST_ID, Weigh};
 use folder_store::MemStore;
 use path_tree::Path;
+use shell_commands::Status;
 use std::alloc::{AllocError, Global};
 
 /// The status of a command under which each module is sent once a cycle, with a watcher for each of the prefixes.

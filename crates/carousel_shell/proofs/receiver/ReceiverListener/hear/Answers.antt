@@ -1,4 +1,0 @@
-use Rattle.carousel_shell.proofs.receiver.ReceiverListener.hear.Goals as goal
-
-pub returns : goal.returns
-returns c = λ start sections h. c.in_ok-feed.ensures.stands sections h

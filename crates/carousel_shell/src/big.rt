@@ -1,0 +1,65 @@
+ghost use Rattle.std.specs.Prelude.{◌≡◌, ◌≤◌, [], OnOk};
+ghost use Rattle.shell_streams.specs.Sending.{IsInTime, Puts};
+ghost use Rattle.shell_commands.specs.Over.{sink_over};
+ghost use Rattle.carousel_shell.specs.Big.{PlaysBig};
+
+use crate::counts::big_line;
+use cycle_planner::Weigh;
+use section_workers::Gate;
+use session::play;
+use session_script::generated;
+use shell_commands::Status;
+use shell_streams::{Output, OutputFault};
+use std::alloc::Global;
+use std::sync::Wait;
+use std::thread::Threads;
+
+/// Plays the session of the generated script of this size, 1 to 16, and writes one line: how many editors it has, how many commits were
+/// accepted, how many of the last opens answered a file, and how many bytes these files have together. The script and the line are this
+/// project's own.
+///
+/// The session is played to its end before anything is written. `Done` comes where the whole line was written, and after `WriteFault`,
+/// where the sink fails, a prefix of it was. After `NoMemory` nothing was written, or a prefix of the line. No other status comes.
+///
+/// Nothing may be pending in the output when it is called.
+pub(crate) fn play_generated<R: Threads + Wait + Sync, O: Output, G: Gate>(
+    rt: &R,
+    alloc: Global,
+    size: u32,
+    out: &mut O,
+    gate: &G,
+    weigh: Weigh,
+) -> Status
+    requires least { 1 ≤ size }
+    requires most { size ≤ 16 }
+    requires empty { (O.state out.old).pending ≡ [] }
+    ensures plays { PlaysBig weigh.weights size result (sink_over (O.state out.old) (O.state out.new)) }
+    ensures same { (O.state out.new).name ≡ (O.state out.old).name }
+    ensures in_time { IsInTime (O.state out.old) (O.state out.new) }
+{
+    let parts = match generated(alloc, size) {
+        Ok(parts) => parts,
+        Err(_) => return Status::NoMemory,
+    };
+    let told = match play(rt, alloc, parts, gate, weigh) {
+        Ok(told) => told,
+        Err(_) => return Status::NoMemory,
+    };
+    let line = match big_line(alloc, size, &told) {
+        Ok(line) => line,
+        Err(_) => return Status::NoMemory,
+    };
+    match put_all(line.as_bytes(), out) {
+        Ok(()) => Status::Done,
+        Err(fault) => Status::from(fault),
+    }
+}
+
+/// Puts bytes, and writes them.
+fn put_all<O: Output>(bytes: &[u8], out: &mut O) -> Result<(), OutputFault>
+    ensures puts { Puts result (O.state out.old) (O.state out.new) bytes.now }
+    ensures empty { OnOk result ((O.state out.new).pending ≡ []) }
+{
+    out.put(bytes)?;
+    out.flush()
+}

@@ -1,0 +1,142 @@
+//! The counts of a generated session.
+ghost use Rattle.std.specs.Prelude.{◌≡◌, ◌+◌, ◌<◌, ◌^◌, ◌++◌, if◌then◌else◌, map, IfOk, OnOk};
+ghost use Rattle.std.specs.List.{sum};
+ghost use Rattle.std.specs.String.{string_bytes};
+ghost use Rattle.carousel_world.specs.Events.{view};
+ghost use Rattle.session_history.specs.Merges.{known_view};
+ghost use Rattle.session_history.specs.Merged.{is_open_by};
+ghost use Rattle.session.specs.Sessions.{accepted_in, is_accepted as is_accepted_by_name};
+ghost use Rattle.carousel_shell.specs.Big as specs;
+
+use carousel_world::{Event, Reply};
+use oc_bytes::NoMemory;
+use path_resolver::Answer;
+use std::alloc::Global;
+
+/// How many opens the first reader makes before the finales.
+const FIRST_OPENS: u64 = 64;
+
+/// The line of a generated session of this size: how many commits were accepted, how many finales answered a file, and how many bytes
+/// these files have together. Out of memory is the only refusal. The line is this project's own.
+pub(crate) fn big_line(
+    alloc: Global,
+    size: u32,
+    told: &[(Event, Reply)],
+) -> Result<String, NoMemory>
+    ensures { IfOk result (λ line. string_bytes line ≡ specs.big_line size (map known_view told.now)) }
+{
+    let commits = accepted(told);
+    let lengths = finale_lengths(alloc, told)?;
+    let files = lengths.len();
+    let bytes = total(&lengths);
+    counts_line(alloc, size, commits, files, bytes)
+}
+
+/// The line of these counts.
+fn counts_line(
+    alloc: Global,
+    size: u32,
+    commits: u64,
+    files: usize,
+    bytes: u128,
+) -> Result<String, NoMemory>
+    ensures { IfOk result (λ line. string_bytes line ≡ specs.counts_line size commits files bytes) }
+{
+    format!(in alloc; "big {size} editors {size} commits {commits} files {files} bytes {bytes}\n")
+}
+
+/// How many commits were accepted.
+fn accepted(told: &[(Event, Reply)]) -> u64
+    ensures { result ≡ accepted_in (map known_view told.now) }
+{
+    let mut commits = 0;
+    for one in told {
+        if is_accepted(&one.1) {
+            commits += 1;
+        }
+    }
+    commits
+}
+
+fn is_accepted(reply: &Reply) -> bool
+    ensures { result ≡ is_accepted_by_name reply.now }
+{
+    matches!(reply, Reply::Committed(_))
+}
+
+/// How many bytes each file has that a finale answered.
+fn finale_lengths(alloc: Global, told: &[(Event, Reply)]) -> Result<Vec<u64>, NoMemory>
+    ensures { IfOk result (λ lengths. lengths.items ≡ specs.finale_lengths (map known_view told.now)) }
+{
+    let mut lengths = Vec::new(alloc);
+    let mut opens = 0;
+    for one in told {
+        push_length(&mut lengths, opens, one)?;
+        opens = opens_after(opens, &one.0);
+    }
+    Ok(lengths)
+}
+
+/// Adds the length of a finale's file, where the first reader made so many opens above it.
+fn push_length(lengths: &mut Vec<u64>, opens: u64, one: &(Event, Reply)) -> Result<(), NoMemory>
+    ensures { OnOk result (lengths.new.items ≡ lengths.old.items ++ specs.length_more opens (known_view one.now)) }
+{
+    if opens < FIRST_OPENS || !is_first(&one.0) {
+        return Ok(());
+    }
+    match reply_length(&one.1) {
+        Some(length) => {
+            lengths.push(length)?;
+            Ok(())
+        }
+        None => Ok(()),
+    }
+}
+
+/// How many opens the first reader made, with this event, if it is one.
+fn opens_after(opens: u64, event: &Event) -> u64
+    requires { opens + 1 < 2 ^ 64 }
+    ensures { result ≡ opens + (if is_open_by 1 (view event.now) then 1 else 0) }
+{
+    if is_first(event) { opens + 1 } else { opens }
+}
+
+/// Whether the first reader opens a path.
+fn is_first(event: &Event) -> bool
+    ensures { result ≡ is_open_by 1 (view event.now) }
+{
+    match event {
+        Event::Open { reader, path: _ } => *reader == 1,
+        _ => false,
+    }
+}
+
+/// How many bytes the file has that is answered, if one is.
+fn reply_length(reply: &Reply) -> Option<u64>
+    ensures { result ≡ specs.reply_length reply.now }
+{
+    match reply {
+        Reply::Opened { label: _, answer } => answer_length(answer),
+        _ => None,
+    }
+}
+
+fn answer_length(answer: &Answer) -> Option<u64>
+    ensures { result ≡ specs.answer_length answer.now }
+{
+    match answer {
+        Answer::File(file) => Some(file.bytes().len() as u64),
+        _ => None,
+    }
+}
+
+/// The sum of these lengths.
+fn total(lengths: &[u64]) -> u128
+    ensures { result ≡ sum lengths.now }
+{
+    let mut total: u128 = 0;
+    for bytes in lengths {
+        total += u128::from(*bytes);
+    }
+    total
+}

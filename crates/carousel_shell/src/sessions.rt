@@ -1,0 +1,59 @@
+ghost use Rattle.std.specs.Prelude.{◌≡◌, []};
+ghost use Rattle.shell_streams.specs.Sending.{IsInTime};
+ghost use Rattle.shell_commands.specs.Over.{over, sink_over};
+ghost use Rattle.carousel_shell.specs.Session.{Plays};
+
+use cycle_planner::Weigh;
+use oc_bytes::Source;
+use rehearsal::put_report;
+use section_workers::Gate;
+use session::play;
+use session_script::read_parts;
+use shell_commands::{MOST_SCRIPT_BYTES, Status};
+use shell_streams::{Output, read_all};
+use std::alloc::Global;
+use std::sync::Wait;
+use std::thread::Threads;
+
+/// Reads a script, plays its session, in which each module is sent as often a cycle as it weighs, and writes a line for each commit, draw
+/// and open of it, in one order in which they happened. The language, the order in which actors run and the lines are this project's own.
+///
+/// `ReadFault` comes where the source fails, and `InputTooLong` exactly where at least a byte more than [`MOST_SCRIPT_BYTES`] is read. The whole
+/// input is read before anything else is done. `BadLine` comes exactly where it is no script; it names the first line that doesn't fit,
+/// and that line's first cause. In these three cases nothing is written. Then the session is played to its end, and nothing is written
+/// before that. `Done` comes where the whole report was written, and after `WriteFault`, where the sink fails, a prefix of it was. After
+/// `NoMemory` nothing was written, or a prefix of the report of a session that was played to its end. No other status comes.
+///
+/// Nothing may be pending in the output when it is called.
+pub(crate) fn play_session<R: Threads + Wait + Sync, S: Source, O: Output, G: Gate>(
+    rt: &R,
+    alloc: Global,
+    source: &mut S,
+    out: &mut O,
+    gate: &G,
+    weigh: Weigh,
+) -> Status
+    requires { (O.state out.old).pending ≡ [] }
+    ensures plays { Plays weigh.weights result (over S.left S.faults source.old source.new) (sink_over (O.state out.old) (O.state out.new)) }
+    ensures same { (O.state out.new).name ≡ (O.state out.old).name }
+    ensures in_time { IsInTime (O.state out.old) (O.state out.new) }
+{
+    let text = match read_all(alloc, source, MOST_SCRIPT_BYTES) {
+        Ok(text) => text,
+        Err(fault) => return Status::from(fault),
+    };
+    let parts = match read_parts(alloc, &text) {
+        Ok(parts) => parts,
+        Err(fault) => return Status::from(fault),
+    };
+    // The text is of no use any more, and may be large.
+    drop(text);
+    let told = match play(rt, alloc, parts, gate, weigh) {
+        Ok(told) => told,
+        Err(_) => return Status::NoMemory,
+    };
+    match put_report(alloc, &told, out) {
+        Ok(()) => Status::Done,
+        Err(fault) => Status::from(fault),
+    }
+}

@@ -1,4 +1,0 @@
-mod Choosing
-mod Playing
-mod Tallies
-mod Making

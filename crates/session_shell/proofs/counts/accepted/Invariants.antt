@@ -1,7 +1,0 @@
-use Rattle.std.proofs.Common.{◌≡◌, map, take}
-use Rattle.session_history.specs.Merges.{known_view}
-use Rattle.session.specs.Sessions.{accepted_in}
-use Rattle.session_shell.proofs.counts.accepted.Given as goal
-
-abbrev pub invariant-loop-one : goal.invariant-loop-one
-invariant-loop-one l = l.commits ≡ accepted_in (map known_view (take l.one-index l.told))

@@ -1,3 +1,0 @@
-pub mod Session
-pub mod Big
-pub mod Commands

@@ -1,0 +1,30 @@
+use Rattle.std.proofs.Common.{sym, subst, refl, arith}
+use Rattle.generation.specs.Layouts.{GenerationState}
+use Rattle.shell_commands.specs.Announced.{published_psi}
+use Rattle.shell_commands.specs.Cycles.{IsOfFolder}
+use Rattle.shell_commands.proofs.Announcing.{psi_all, psi_part}
+use Rattle.shell_commands.proofs.Committing.{cycle_like, ended_none}
+use Rattle.shell_commands.proofs.publish_psi.publish_psi.Goals as goal
+
+pub send_announced-requires : goal.send_announced-requires
+send_announced-requires g c =
+    let G : GenerationState → Type 0 = λ s. IsOfFolder c.args.folder.now c.args.carousel (g.F.Folders.tree c.args.folders.now) s in
+    let of = subst G (sym c.deref.ensures) c.in-Ok.ensures.made in
+    cycle_like c.args.folder.now c.args.carousel c.args.weigh.weights _ c.deref.result.now c.publications_can_be_packed.ensures c.generations_are_of_the_lists.ensures (omega (arith, c.ranges.carousel.fits)) of
+
+pub returns-in-Ok-send_announced-clause-publishes : goal.returns-in-Ok-send_announced-clause-publishes
+returns-in-Ok-send_announced-clause-publishes g c =
+    let G : GenerationState → Type 0 = λ s. IsOfFolder c.args.folder.now c.args.carousel (g.F.Folders.tree c.args.folders.now) s in
+    let of = subst G (sym c.deref.ensures) c.in-Ok.ensures.made in
+    psi_all c.args.folder.now c.args.carousel c.args.weigh.weights c.args.cycles _ _ _ c.deref.result.now c.generations_are_of_the_lists.ensures of c.requires
+    c.in-Ok-send_announced.ensures.empty c.in-Ok-send_announced.ensures.puts
+
+pub returns-in-Ok-clause-publishes : goal.returns-in-Ok-clause-publishes
+returns-in-Ok-clause-publishes g c =
+    let G : GenerationState → Type 0 = λ s. IsOfFolder c.args.folder.now c.args.carousel (g.F.Folders.tree c.args.folders.now) s in
+    let of = subst G (sym c.deref.ensures) c.in-Ok.ensures.made in
+    rw c.from.ensures (psi_part c.args.folder.now c.args.carousel c.args.weigh.weights c.args.cycles _ _ _ c.deref.result.now c.in-Err-send_announced.fault c.generations_are_of_the_lists.ensures of c.requires
+    c.in-Err-send_announced.ensures.puts)
+
+pub returns-clause-publishes : goal.returns-clause-publishes
+returns-clause-publishes g c = ended_none c.args.folder.now c.args.carousel (published_psi c.args.carousel c.args.weigh.weights c.args.cycles) _ _ c.in-Err.status c.in-Err.ensures.refused refl

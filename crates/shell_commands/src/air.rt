@@ -1,0 +1,55 @@
+ghost use Rattle.std.specs.Prelude.{◌≡◌, ◌≤◌, ◌<◌, []};
+ghost use Rattle.shell_streams.specs.Sending.{IsInTime};
+ghost use Rattle.shell_commands.specs.Air.{StaysOnAir};
+ghost use Rattle.shell_commands.specs.Over.{over, sink_over};
+
+use crate::status::Status;
+use cycle_planner::Weigh;
+use folder_playout::{FolderTrees, Notices, judged_as_first, keep_on_air, unchanged_is_published};
+use folder_store::Folders;
+use shell_streams::Output;
+use std::alloc::Global;
+
+/// Keeps a folder on the air: writes whole cycles of its files as packets (ISO/IEC 13818-1, 2.4.3) on one PID, with continuity counters from 0,
+/// and reads the folder before each of them. Another tree than that of the generation on the air is the next generation, in which each object
+/// keeps its key and its module as far as there is room. One that can't be read or is refused leaves the generation on the air.
+///
+/// `pid` is the PID of all packets, 0 to 8,191. `folder` is a path text of the folders, `carousel` the carousel's id, any 32-bit number,
+/// `cycles` is at least 1, and `weigh` says how often each module is sent in a cycle. The notices are told of each generation and of each
+/// reading that gave no tree.
+///
+/// `FolderFault` comes where the first reading finds no folder or the folders fail, and `TreeRefused` where the first tree is refused; then nothing was
+/// written. `TreeRefused` comes too, with the refusal of a season that is full, where generation 16,383 is on the air and another tree is read; then all cycles
+/// so far were written. After `WriteFault` and `NoMemory` a prefix of the packets was. These rules are this project's own.
+///
+/// Nothing may be pending in the output, and no notice told, when it is called.
+pub fn air<O: Output, F: Folders, N: Notices>(
+    alloc: Global,
+    pid: u16,
+    folder: &str,
+    carousel: u32,
+    cycles: u32,
+    weigh: &Weigh,
+    out: &mut O,
+    folders: &mut F,
+    notices: &mut N,
+) -> Status
+    requires pending { (O.state out.old).pending ≡ [] }
+    requires in_range { pid < 8192 }
+    requires some { 1 ≤ cycles }
+    requires untold { N.told notices.old notices.old [] }
+    ensures stays { StaysOnAir pid folder.now carousel weigh.now.weights cycles result (sink_over (O.state out.old) (O.state out.new)) (over F.tree F.faults folders.old folders.new)
+        (N.told notices.old notices.new) }
+    ensures same { (O.state out.new).name ≡ (O.state out.old).name }
+    ensures in_time { IsInTime (O.state out.old) (O.state out.new) }
+{
+    judged_as_first();
+    unchanged_is_published();
+    let mut trees = FolderTrees::new(alloc, folders, folder);
+    match keep_on_air(
+        alloc, pid, carousel, cycles, weigh, &mut trees, notices, out,
+    ) {
+        Ok(()) => Status::Done,
+        Err(fault) => Status::from(fault),
+    }
+}

@@ -1,0 +1,50 @@
+ghost use Rattle.std.specs.Prelude.{◌≡◌, ◌≤◌, []};
+ghost use Rattle.shell_streams.specs.Sending.{IsInTime};
+ghost use Rattle.shell_commands.specs.Over.{over, sink_over};
+ghost use Rattle.shell_commands.specs.Plan.{TellsPlan, plan_status};
+
+use crate::status::Status;
+use cycle_planner::Weigh;
+use folder_store::Folders;
+use publication_plan::PlanEnd;
+use shell_streams::{Output, OutputFault};
+use std::alloc::Global;
+
+/// Tells what [`publish`](crate::publish::publish) would send of a folder: its objects with their modules, the modules, and how long a cycle is at
+/// a rate of `bitrate` bits a second, at least 1. The other values are those of `publish`.
+///
+/// `Done` comes where the folder can be published, and `NotAll` where the walk or the commit refuses it. `FolderFault` comes where the
+/// folders fail or the folder isn't there. In all three the whole text was written. After `WriteFault`, where the sink fails, and after
+/// `NoMemory` a prefix of one was written. No other status comes. These rules are this project's own.
+///
+/// Nothing may be pending in the output when it is called.
+pub fn plan<O: Output, F: Folders>(
+    alloc: Global,
+    folder: &str,
+    carousel: u32,
+    bitrate: u32,
+    weigh: &Weigh,
+    out: &mut O,
+    folders: &mut F,
+) -> Status
+    requires pending { (O.state out.old).pending ≡ [] }
+    requires rate { 1 ≤ bitrate }
+    ensures tells { TellsPlan folder.now carousel weigh.now.weights bitrate result (sink_over (O.state out.old) (O.state out.new)) (over F.tree F.faults folders.old folders.new) (F.refused folders.new) }
+    ensures same { (O.state out.new).name ≡ (O.state out.old).name }
+    ensures in_time { IsInTime (O.state out.old) (O.state out.new) }
+{
+    let planned = publication_plan::plan(alloc, folder, carousel, bitrate, weigh, out, folders);
+    status_of(planned)
+}
+
+/// The status of a plan.
+fn status_of(planned: Result<PlanEnd, OutputFault>) -> Status
+    ensures { result ≡ plan_status planned }
+{
+    match planned {
+        Ok(PlanEnd::Published) => Status::Done,
+        Ok(PlanEnd::Refused) => Status::NotAll,
+        Ok(PlanEnd::Unreadable) => Status::FolderFault,
+        Err(fault) => Status::from(fault),
+    }
+}

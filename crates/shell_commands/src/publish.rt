@@ -1,0 +1,108 @@
+ghost use Rattle.std.specs.Prelude.{◌≡◌, ◌<◌, [], map, IfOk, IfErr, OnOk};
+ghost use Rattle.std.specs.List.{All};
+ghost use Rattle.std.specs.Arc.{arc_value};
+ghost use Rattle.cycle_planner.specs.Cycle.{cycle_of};
+ghost use Rattle.generation.specs.Layouts.{lines_of, section_of};
+ghost use Rattle.section_stream.specs.Packing.{IsSectionLike};
+ghost use Rattle.carousel_world.specs.Publishing.{repeat_list};
+ghost use Rattle.shell_streams.specs.Sending.{Puts, IsInTime};
+ghost use Rattle.shell_commands.specs.Over.{over, sink_over};
+ghost use Rattle.shell_commands.specs.Publish.{Publishes};
+ghost use Rattle.shell_commands.specs.Cycles.{IsOfFolder, Refused, group_bytes};
+
+use crate::status::Status;
+use carousel_world::publications_can_be_packed;
+use cycle_planner::Weigh;
+use cycle_sender::Sender;
+use folder_store::{Folders, edits_make_the_files, read_tree};
+use generation::{Generation, generations_are_of_the_lists};
+use generation_catalogue::Journal;
+use path_tree::Edits;
+use shell_streams::{Output, OutputFault};
+use std::alloc::Global;
+use std::sync::Arc;
+
+/// The PID on which a carousel is sent where the command names none (this project's own).
+pub const PID: u16 = 256;
+
+/// Who commits the folder: the history has one entry, and nobody asks for it.
+const EDITOR: u32 = 1;
+
+/// Publishes a folder: its files become one commit on generation 0 of the carousel, and generation 1 is written as so many whole
+/// cycles of packets (ISO/IEC 13818-1, 2.4.3) on one PID, with continuity counters from 0. All cycles are one group of sections,
+/// which stand back to back.
+///
+/// `pid` is the PID of all packets, 0 to 8,191. `folder` is a path text of the folders, `carousel` the carousel's id, any 32-bit
+/// number, `cycles` is 1 to 1,000, and `weigh` says how often each module is sent in a cycle, which is 1 to 8 times. The answer is
+/// `FolderFault` where the folders fail or the folder isn't there, and `TreeRefused` exactly where the walk or the commit refuses the
+/// folder's files; then nothing is written. After `WriteFault` and `NoMemory` a prefix of the packets was written.
+pub fn publish<O: Output, F: Folders>(
+    alloc: Global,
+    pid: u16,
+    folder: &str,
+    carousel: u32,
+    cycles: u32,
+    weigh: Weigh,
+    out: &mut O,
+    folders: &mut F,
+) -> Status
+    requires pending { (O.state out.old).pending ≡ [] }
+    requires in_range { pid < 8192 }
+    ensures publishes { Publishes pid folder.now carousel weigh.weights cycles result (sink_over (O.state out.old) (O.state out.new)) (over F.tree F.faults folders.old folders.new) }
+    ensures same { (O.state out.new).name ≡ (O.state out.old).name }
+    ensures in_time { IsInTime (O.state out.old) (O.state out.new) }
+{
+    generations_are_of_the_lists();
+    publications_can_be_packed();
+    match first_generation(alloc, folder, carousel, &weigh, folders) {
+        Ok(generation) => match send(alloc, pid, &generation, &weigh, cycles, out) {
+            Ok(()) => Status::Done,
+            Err(fault) => Status::from(fault),
+        },
+        Err(status) => status,
+    }
+}
+
+/// Generation 1 of the carousel, made of the folder's files by one commit.
+pub fn first_generation<F: Folders>(
+    alloc: Global,
+    folder: &str,
+    carousel: u32,
+    weigh: &Weigh,
+    folders: &mut F,
+) -> Result<Arc<Generation>, Status>
+    ensures made { IfOk result (λ g. IsOfFolder folder.now carousel (F.tree folders.old) (arc_value g)) }
+    ensures refused { IfErr result (Refused folder.now carousel (over F.tree F.faults folders.old folders.new)) }
+{
+    edits_make_the_files();
+    let edits = read_tree(alloc, folders, folder)?;
+    let edits = Edits::new(edits);
+    let mut journal = Journal::new(alloc, carousel, weigh.kept())?;
+    journal.commit_edits(EDITOR, edits)?;
+    // Nothing is done with the entries: they say that the tree of the commit can be published.
+    let _entries = journal.entries();
+    let generation = Arc::try_clone(journal.current())?;
+    Ok(generation)
+}
+
+/// Writes so many cycles of a generation under these weights, which are one group, on the PID `pid`.
+fn send<O: Output>(
+    alloc: Global,
+    pid: u16,
+    generation: &Generation,
+    weigh: &Weigh,
+    cycles: u32,
+    out: &mut O,
+) -> Result<(), OutputFault>
+    requires in_range { pid < 8192 }
+    requires like { All IsSectionLike (map (section_of generation.now) (cycle_of weigh.now.weights (lines_of generation.now))) }
+    ensures puts { Puts result (O.state out.old) (O.state out.new) (group_bytes pid (map (section_of generation.now) (repeat_list cycles (cycle_of weigh.now.weights (lines_of generation.now))))) }
+    ensures empty { OnOk result ((O.state out.new).pending ≡ []) }
+{
+    let mut sender = Sender::new(alloc, pid);
+    for _ in 0..cycles {
+        sender.send_cycle(generation, weigh, out)?;
+    }
+    sender.finish(out)?;
+    out.flush()
+}

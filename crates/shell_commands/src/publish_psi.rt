@@ -1,0 +1,87 @@
+ghost use Rattle.std.specs.Prelude.{◌≡◌, [], map, OnOk};
+ghost use Rattle.std.specs.List.{All, concat};
+ghost use Rattle.cycle_planner.specs.Cycle.{cycle_of};
+ghost use Rattle.generation.specs.Layouts.{lines_of, section_of};
+ghost use Rattle.section_stream.specs.Packing.{IsSectionLike};
+ghost use Rattle.psi_tables.specs.Written.{announcer_packets, after_announcing};
+ghost use Rattle.shell_streams.specs.Sending.{Puts, IsInTime};
+ghost use Rattle.shell_commands.specs.Over.{over, sink_over};
+ghost use Rattle.shell_commands.specs.Announced.{cycles_sent, senders_start};
+ghost use Rattle.shell_commands.specs.PublishPsi.{PublishesPsi};
+
+use crate::publish::{PID, first_generation};
+use crate::status::Status;
+use carousel_world::publications_can_be_packed;
+use cycle_planner::Weigh;
+use cycle_sender::{Sender, put_packets};
+use folder_store::Folders;
+use generation::{Generation, generations_are_of_the_lists};
+use psi_tables::Announcer;
+use shell_streams::{Output, OutputFault};
+use std::alloc::Global;
+
+/// Publishes a folder as `publish` does, with the tables that name the carousel before each cycle (ISO/IEC 13818-1, 2.4.4): the program
+/// association table on the PID 0 and the map table of program 1 on the PID 32. Each of the three PIDs has continuity counters of its
+/// own, from 0, and each cycle is a group of sections of its own.
+///
+/// The values and the statuses are those of `publish`.
+pub fn publish_psi<O: Output, F: Folders>(
+    alloc: Global,
+    folder: &str,
+    carousel: u32,
+    cycles: u32,
+    weigh: Weigh,
+    out: &mut O,
+    folders: &mut F,
+) -> Status
+    requires { (O.state out.old).pending ≡ [] }
+    ensures publishes { PublishesPsi folder.now carousel weigh.weights cycles result (sink_over (O.state out.old) (O.state out.new)) (over F.tree F.faults folders.old folders.new) }
+    ensures same { (O.state out.new).name ≡ (O.state out.old).name }
+    ensures in_time { IsInTime (O.state out.old) (O.state out.new) }
+{
+    generations_are_of_the_lists();
+    publications_can_be_packed();
+    match first_generation(alloc, folder, carousel, &weigh, folders) {
+        Ok(generation) => match send_announced(alloc, &generation, &weigh, carousel, cycles, out) {
+            Ok(()) => Status::Done,
+            Err(fault) => Status::from(fault),
+        },
+        Err(status) => status,
+    }
+}
+
+/// Writes so many cycles of a generation under these weights, each after the tables.
+fn send_announced<O: Output>(
+    alloc: Global,
+    generation: &Generation,
+    weigh: &Weigh,
+    carousel: u32,
+    cycles: u32,
+    out: &mut O,
+) -> Result<(), OutputFault>
+    requires { All IsSectionLike (map (section_of generation.now) (cycle_of weigh.now.weights (lines_of generation.now))) }
+    ensures puts { Puts result (O.state out.old) (O.state out.new) (concat (cycles_sent (map (section_of generation.now) (cycle_of weigh.now.weights (lines_of generation.now))) cycles (senders_start carousel))) }
+    ensures empty { OnOk result ((O.state out.new).pending ≡ []) }
+{
+    let mut announcer = Announcer::new(alloc, carousel)?;
+    let mut sender = Sender::new(alloc, PID);
+    for _ in 0..cycles {
+        announce(&mut announcer, &mut sender.packets, out)?;
+        sender.send_group(generation, weigh, out)?;
+    }
+    out.flush()
+}
+
+/// Sends the tables once; the packets need room.
+fn announce<O: Output>(
+    announcer: &mut Announcer,
+    room: &mut Vec<[u8; 188]>,
+    out: &mut O,
+) -> Result<(), OutputFault>
+    ensures puts { Puts result (O.state out.old) (O.state out.new) (concat (announcer_packets announcer.old)) }
+    ensures counters { OnOk result (announcer.new ≡ after_announcing announcer.old) }
+{
+    room.clear();
+    announcer.packets(room)?;
+    put_packets(room, out)
+}
