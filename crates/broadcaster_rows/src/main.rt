@@ -7,7 +7,6 @@ mod cycle;
 mod folders;
 mod generations;
 mod journals;
-mod merging;
 mod packer;
 mod texts;
 mod weights;
@@ -41,9 +40,6 @@ impl<'a> Calls for Broadcaster<'a> {
 impl<'a> Broadcaster<'a> {
     fn answer(&mut self, alloc: Global, row: &Row<'_>) -> Option<Line> {
         if let Some(line) = packer::call(alloc, row) {
-            return Some(line);
-        }
-        if let Some(line) = merging::call(alloc, row) {
             return Some(line);
         }
         if let Some(line) = catalogue::call(alloc, row) {

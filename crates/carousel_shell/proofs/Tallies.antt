@@ -9,8 +9,8 @@ use Rattle.std.proofs.lemmas.List.Sums.{sum_by_push, count_by-le-length, length-
 use Rattle.carousel_world.specs.Events.{Step, view}
 use Rattle.carousel_world.specs.declared.event.Event.{Event}
 use Rattle.carousel_world.specs.declared.event.Reply.{Reply}
-use Rattle.session_history.specs.Merges.{known_view}
-use Rattle.session_history.specs.Merged.{is_open_by}
+use Rattle.history_merge.specs.Merges.{known_view}
+use Rattle.history_merge.specs.Merged.{is_open_by}
 use Rattle.session.specs.Sessions.{accepted_in, is_accepted}
 use Rattle.carousel_shell.specs.Big.{is_first, length_in, option_list, finale_lengths, length_more, counts_line, big_line}
 

@@ -8,7 +8,7 @@ use Rattle.path_resolver.specs.declared.answer.Answer.TheVariants as answers
 use Rattle.carousel_world.specs.Events.{Step}
 use Rattle.carousel_world.specs.declared.event.Reply.{Reply}
 use Rattle.carousel_world.specs.declared.event.Reply.TheVariants as replies
-use Rattle.session_history.specs.Merged.{is_open_by}
+use Rattle.history_merge.specs.Merged.{is_open_by}
 use Rattle.session.specs.Sessions.{IsSession, accepted_in}
 use Rattle.session_script.specs.Generated.{generated_script}
 use Rattle.shell_streams.specs.Cuts.{Bytes}

@@ -3,8 +3,8 @@ ghost use Rattle.std.specs.Prelude.{◌≡◌, ◌+◌, ◌<◌, ◌^◌, ◌++�
 ghost use Rattle.std.specs.List.{sum};
 ghost use Rattle.std.specs.String.{string_bytes};
 ghost use Rattle.carousel_world.specs.Events.{view};
-ghost use Rattle.session_history.specs.Merges.{known_view};
-ghost use Rattle.session_history.specs.Merged.{is_open_by};
+ghost use Rattle.history_merge.specs.Merges.{known_view};
+ghost use Rattle.history_merge.specs.Merged.{is_open_by};
 ghost use Rattle.session.specs.Sessions.{accepted_in, is_accepted as is_accepted_by_name};
 ghost use Rattle.carousel_shell.specs.Big as specs;
 

@@ -31,7 +31,7 @@ mod counts;
 mod sessions;
 mod top;
 
-pub use session_history::merge;
+pub use history_merge::merge;
 pub use shell_commands::{
     MOST_ASSEMBLED, MOST_OPENED, MOST_SCRIPT_BYTES, Status, limits_are_numbers, receptions,
     run_plain,

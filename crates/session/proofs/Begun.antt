@@ -21,7 +21,8 @@ use Rattle.shot_board.specs.Viewers.{known_of, told_of, most_of, viewer_board}
 use Rattle.shot_board.specs.Shots.{Each}
 use Rattle.carousel_world.specs.DownView.{DownlinkStands, DownlinkState}
 use Rattle.carousel_world.specs.Events.{Step, Commit, Draw, Open}
-use Rattle.session_history.specs.Merges.{candidates_after}
+use Rattle.history_merge.specs.Merges.{candidates_after}
+use Rattle.session_script.specs.declared.values.TheConstants.{MOST_ACTORS}
 use Rattle.session.specs.Chains.{DrawFields}
 use Rattle.session.specs.Inner.ByActor.{lists_of}
 use Rattle.session.specs.Shown.{AreShots, HasShown}
@@ -95,10 +96,10 @@ module _ (setting : Setting) (shots : List Shot) (start : Start) (u : IsBegun se
   abbrev plan : Plan
   plan = start.plan
 
-  pub few_editors : length plan.editors.items ≤ 64
+  pub few_editors : length plan.editors.items ≤ MOST_ACTORS
   few_editors = let m = u.ranges.editors.most in let e = ap (λ (v : Vec ℕ Global). length v.items) u.planned.editors in omega (arith, m, e)
 
-  pub few_readers : length plan.readers.items ≤ 64
+  pub few_readers : length plan.readers.items ≤ MOST_ACTORS
   few_readers = let m = u.ranges.readers.most in let e = ap (λ (v : Vec ℕ Global). length v.items) u.planned.readers in omega (arith, m, e)
 
   pub apart_editors : (ns : List ℕ) → ns ≡ plan.editors.items → AreApart ns

@@ -9,7 +9,7 @@ use Rattle.station.specs.declared.station.Station.{Station}
 use Rattle.station.specs.Passes.{carousel_of, weights_of}
 use Rattle.generation_catalogue.specs.History.{with_draw}
 use Rattle.carousel_world.specs.Events.{Step, Commit, Draw, Open}
-use Rattle.carousel_world.specs.World.{Drawing, InRange}
+use Rattle.carousel_world.specs.World.{Drawing}
 use Rattle.path_tree.specs.Paths.{PathNames}
 use Rattle.path_tree.specs.declared.tree.Edit.{Edit}
 use Rattle.std.specs.declared.vec.Vec.{Vec}
@@ -181,9 +181,6 @@ pub draw_has_room : {X : _} {F : _} {g : _} (setting : Setting) (s : Station X F
 draw_has_room setting s done shots cast d asked fates most st is next same =
     let room = room_to_draw setting done asked fates.items (subst (λ (x : Happening). IsNext setting done (view_happening x)) is next) in
     let count = shots_count s done shots cast.feeder st.feeder in omega (arith, room, count, same)
-
-pub draw_in_range : (d : Happening) (asked : ℕ) (fates : Vec Fate Global) → d ≡ deeds.Draw asked fates → InRange (view_happening d) → (1 ≤ asked) × (asked ≤ 1048576)
-draw_in_range d asked fates is range = subst (λ (x : Happening). InRange (view_happening x)) is range
 
 pub open_is_next : (setting : Setting) (done : List Step) (d : Happening) (reader : ℕ) (path : PathNames) → d ≡ deeds.Open reader path → IsNext setting done (view_happening d) → IsNext setting done (Open reader path)
 open_is_next setting done d reader path is next = subst (λ (x : Happening). IsNext setting done (view_happening x)) is next

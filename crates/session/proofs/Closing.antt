@@ -24,7 +24,7 @@ use Rattle.generation_catalogue.specs.declared.entry.Entry.{Entry}
 use Rattle.carousel_world.specs.DownView.{DownlinkState}
 use Rattle.carousel_world.specs.Events.{Step}
 use Rattle.carousel_world.specs.World.{Drawing, drawing_of}
-use Rattle.session_history.specs.Merges.{fates_view}
+use Rattle.history_merge.specs.Merges.{fates_view}
 use Rattle.session.specs.Chains.{Seen, seen_in, Commits, Draws, DrawFields, nothing_seen}
 use Rattle.session.specs.Shown.{HasShown}
 use Rattle.session.specs.Seats.{HasCommitted, HasFed, drawing_in}

@@ -9,8 +9,8 @@ use Rattle.generation_catalogue.specs.declared.entry.Entry.{Entry}
 use Rattle.generation_catalogue.specs.declared.entry.Entry.TheVariants as entries
 use Rattle.carousel_world.specs.Events.{Commit}
 use Rattle.carousel_world.specs.World.{commit_reply}
-use Rattle.session_history.specs.Merges.{event_of}
-use Rattle.session_history.specs.Merged.{AreNumbers}
+use Rattle.history_merge.specs.Merging.{event_of}
+use Rattle.history_merge.specs.Merged.{AreNumbers}
 use Rattle.session.specs.Gathering.{is_made, IsFullAfter, AreEntered, entries_to_next}
 use Rattle.session.specs.Sessions.{IsFull, AreCommitted, up_to_next, is_accepted, put_by_step}
 use Rattle.session.proofs.Telling.{Told, IsToldBy, Tells, tells_append, tells_cut, sum_told, none_told, tells_to_next}

@@ -54,11 +54,6 @@ editor_committed s place done old new edits same made =
 number_at : (seats : List EditorSeat) (k : ℕ) (d : EditorSeat) → k < length seats → slice_index_or (numbers_of seats) k 0 ≡ (slice_index_or seats k d).number
 number_at seats k d lt = get_or-map (λ (seat : EditorSeat). seat.number) seats k d 0 lt
 
-pub any_default : {A : Type 0} (xs : List A) (k : ℕ) (d e : A) → k < length xs → slice_index_or xs k d ≡ slice_index_or xs k e
-any_default [] k d e lt = absurd (omega (arith, lt))
-any_default (x ∷ xs) zero d e lt = refl
-any_default (x ∷ xs) (suc k) d e lt = any_default xs k d e (omega (arith, lt))
-
 module _ {X : _} {F : _} {g : _} (s : Station X F g) (seats : List EditorSeat) (place : ℕ) (was new : EditorSeat) (there : place < length seats) (is : was ≡ slice_index_or seats place was) (apart : AreApart (numbers_of seats))
     (same : new.number ≡ was.number) where
   -- a seat is put in the place of one of the same number, and nothing changes for the others
@@ -171,7 +166,3 @@ module _ (f : ℕ → List (List Edit)) where
   all_new numbers passes yielded ss e count h =
       let all : take (length yielded) numbers ≡ numbers = take_all (length yielded) numbers (let l = ap length e in omega (arith, count, l)) in
       subst (λ (ps : List (Pass Kept KeptItem)). AreNewSeats f numbers ps ss) e (subst (λ (ns : List ℕ). AreNewSeats f ns yielded ss) all h)
-
-pub map_same : {A : Type 0} (xs : List A) → map (λ (x : A). x) xs ≡ xs
-map_same [] = refl
-map_same (x ∷ xs) = ap (λ (ys : List _). x ∷ ys) (map_same xs)

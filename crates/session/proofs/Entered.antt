@@ -7,7 +7,7 @@ use Rattle.generation_catalogue.specs.History.{CatalogueState, outcome_of, is_en
 use Rattle.generation_catalogue.specs.declared.entry.Refusal.{Refusal}
 use Rattle.generation_catalogue.specs.declared.entry.Entry.{Entry}
 use Rattle.generation_catalogue.specs.declared.entry.Entry.TheVariants as entries
-use Rattle.session_history.specs.Merged.{is_commit_at}
+use Rattle.history_merge.specs.Merged.{is_commit_at}
 use Rattle.session.specs.Chains.{Seen, GoesOnWith, Commits}
 use Rattle.session.specs.Gathering.{IsFullAfter, AreEntered, entries_to_next}
 use Rattle.session.proofs.Lists.{cancel, get_below, get_behind, get_front, none_pass, first_fails, begins_on, times_append, times_other}

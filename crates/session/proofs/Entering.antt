@@ -8,10 +8,11 @@ use Rattle.generation_catalogue.specs.History.{CatalogueState, with_commit, with
 use Rattle.generation_catalogue.specs.declared.entry.Entry.{Entry}
 use Rattle.generation_catalogue.specs.declared.entry.Entry.TheVariants as entries
 use Rattle.carousel_world.specs.World.{Drawing}
-use Rattle.session_history.specs.Merging.{Each}
-use Rattle.session_history.specs.Merged.{is_commit_at}
+use Rattle.history_merge.specs.Merging.{Each}
+use Rattle.history_merge.specs.Merged.{is_commit_at}
+use Rattle.history_merge.proofs.CallerLemmas.{get_next}
 use Rattle.session.specs.Chains.{Seen, seen_after, Commits, Draws, DrawFields}
-use Rattle.session.proofs.Lists.{begins_self, begins_more, begins_on, begins_le, begins_get, get_at, times_append, times_other}
+use Rattle.session.proofs.Lists.{begins_self, begins_more, begins_on, begins_le, begins_get, times_append, times_other}
 
 -- all that came before, and one entry of one's own
 abbrev pub seen_with : Seen → List Entry → Entry → Seen
@@ -61,7 +62,7 @@ enters_own P s (e ∷ es) t history h each begins k more =
     dite (ℕ_discrete k (length before))
     (λ here.
     let all : Begins (before ++ e ∷ []) history = begins_on (before ++ e ∷ []) t.entries history (enters_begins next es t h.2) begins in
-    (e, ap (slice_get history) here ∙ begins_get (before ++ e ∷ []) history (length before) e all (get_at before [] e), each.0))
+    (e, ap (slice_get history) here ∙ begins_get (before ++ e ∷ []) history (length before) e all (get_next before [] e), each.0))
     (λ other. enters_own P next es t history h.2 each.1 begins k (let none = times_other k (length before) other in omega (arith, parts, none, more)))
 
 -- ---- a commit
@@ -114,9 +115,6 @@ IsCommitAt place e = is_commit_at place e ≡ true
 
 abbrev pub HasEntered : (P : Entry → Type 0) → Seen → Seen → Type 0
 HasEntered P s t = (es : List Entry) × Enters s es t × Each P es
-
-own_place : (place : ℕ) (e : Entry) (es : List Entry) → is_commit_at place e ≡ true → Each (IsCommitAt place) es → Each (IsCommitAt place) (e ∷ es)
-own_place place e es h k = (h, k)
 
 pub commits_enter : (id : ℕ) (ws : List ℕ) (place : ℕ) (lines : List (List Edit)) (s t : Seen) → (place == place) ≡ true → Commits id ws place s lines t → HasEntered (IsCommitAt place) s t
 commits_enter id ws place [] s t itself h = ([], subst (λ (u : Seen). Enters s [] u) (sym h) (enters_none s), tt)

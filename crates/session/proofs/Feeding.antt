@@ -6,7 +6,7 @@ use Rattle.generation_catalogue.specs.History.{CatalogueState, is_draw}
 use Rattle.generation_catalogue.specs.declared.entry.Entry.{Entry}
 use Rattle.generation_catalogue.specs.declared.entry.Entry.TheVariants as entries
 use Rattle.carousel_world.specs.World.{Drawing, drawing_of}
-use Rattle.session_history.specs.Merges.{state_of, drawings_after}
+use Rattle.history_merge.specs.Merges.{state_of, drawings_after}
 use Rattle.session.specs.Chains.{Seen, GoesOnWith, Draws, DrawFields}
 use Rattle.session.specs.Gathering.{asked_in}
 use Rattle.session.proofs.Lists.{get_behind, none_pass, first_fails, begins_on, times_append, times_other}

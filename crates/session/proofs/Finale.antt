@@ -1,16 +1,15 @@
 -- From what is left of a session to the whole of it.
-use Rattle.std.proofs.Common.{◌≡◌, ℕ, suc, ◌+◌, ◌≤◌, ◌==◌, Bool, true, false, List, [], ◌∷◌, ◌++◌, map, length, take, drop, refl, ap, sym, ◌∙◌, subst, arith, append-nil}
+use Rattle.std.proofs.Common.{◌≡◌, ℕ, suc, ◌+◌, ◌≤◌, ◌==◌, Bool, true, false, List, [], ◌∷◌, ◌++◌, map, length, refl, ap, sym, ◌∙◌, subst, arith, append-nil}
 use Rattle.std.specs.Prelude.{slice_index_or, is_some, if◌then◌else◌}
 use Rattle.std.specs.List.{All, count_by}
 use Rattle.std.specs.declared.vec.Vec.{Vec}
 use Rattle.std.specs.declared.alloc.Global.{Global}
-use Rattle.std.proofs.lemmas.List.{take_at}
 use Rattle.path_tree.specs.Paths.{PathNames}
 use Rattle.path_tree.specs.declared.tree.Edit.{Edit}
 use Rattle.ts_packet.specs.declared.Fate.{Fate}
 use Rattle.path_resolver.specs.declared.shot.Shot.{Shot}
 use Rattle.logbook.specs.Pages.{Book}
-use Rattle.open_history.specs.Opens.{AllAnswered}
+use Rattle.open_history.specs.Opens.{ReaderView}
 use Rattle.station.specs.declared.station.Station.{Station}
 use Rattle.station.specs.Passes.{carousel_of, weights_of}
 use Rattle.generation_catalogue.specs.declared.entry.Entry.{Entry}
@@ -19,10 +18,9 @@ use Rattle.session_script.specs.declared.script.Stage.{Stage}
 use Rattle.session_script.specs.Scripts.{Fields}
 use Rattle.session_script.specs.Parts.{script_of_parts}
 use Rattle.rehearsal.specs.Lines.{events_of}
-use Rattle.session_history.specs.declared.opens.ReaderOpens.{ReaderOpens}
-use Rattle.session_history.specs.Merging.{merge_of}
-use Rattle.session_history.specs.Merges.{ReaderFields, session_merge, reader_view, fates_view}
-use Rattle.session_history.specs.Merged.{AreParts}
+use Rattle.history_merge.specs.Merging.{merge_of}
+use Rattle.history_merge.specs.Merges.{fates_view}
+use Rattle.history_merge.specs.Merged.{AreParts}
 use Rattle.session.specs.Chains.{DrawFields}
 use Rattle.session.specs.Opened.{Asked, HasOpened}
 use Rattle.session.specs.Seats.{HasFed, asked_at}
@@ -32,14 +30,19 @@ use Rattle.session.specs.declared.reader.ReaderSeat.{ReaderSeat}
 use Rattle.session.specs.Lines.{commits_by, draws_in, opens_by, asked_from, asked_of, is_draw_before}
 use Rattle.session.specs.Inner.Plans.{at_end, end_steps, settling_lines, steps}
 use Rattle.session.specs.Gathering.{IsGathered}
-use Rattle.session.specs.Played.{IsPlayed, AllRead, PlayedIsASession, fates_of, opens_of}
+use Rattle.session.specs.Played.{IsPlayed, AllRead, PlayedIsASession, fates_of}
 use Rattle.session.specs.Sessions.{IsSession}
 use Rattle.session.specs.Inner.Acting.{Setting, done_in, draws_before, draws_of, readers_of}
-use Rattle.session.specs.Inner.Ending.{AllOpenedLast, AreDone, ClosedFields, EditorsDone, HasGathered, HasOpenedLast, MayOpenLast, ReaderDone, drawn_all}
+use Rattle.session.specs.Inner.Ending.{AllReadLast, AreDone, ClosedFields, EditorsDone, HasGathered, HasOpenedLast, MayOpenLast, ReaderDone, drawn_all}
 use Rattle.session.proofs.Casting.{draws_count as drawings_count}
 use Rattle.session.proofs.Parted.{commits_at_end, draws_at_end, events_parts, settle_there, staged_parts}
 use Rattle.session.proofs.Reading.{asked_count, opened_count}
 use Rattle.session.proofs.Staged.{asked_more, commits_more, count_all, draws_more, opens_more, steps_done}
+
+-- the parts of a merge fit together, and it tells a session of the script
+abbrev pub FitsAndTells : List ℕ → Fields → List ℕ → List Entry → List (List Fate) → List ReaderView → Type 0
+FitsAndTells weights script numbers entries fates passes =
+    AreParts entries fates numbers passes × IsSession weights script (merge_of numbers passes fates entries)
 
 -- ---- the events
 
@@ -108,26 +111,24 @@ module _ (setting : Setting) where
             room = omega (arith, opened, asked, paths, every, room);
           }
 
-  one_read : (shots : List Shot) (old new : ReaderSeat) → ReaderDone setting old → HasOpenedLast shots old.finales.items old.pass new.pass → HasOpened (asked_of old.pass.reader script) new.pass
+  one_read : (shots : List Shot) (old : ReaderSeat) (new : ReaderView) → ReaderDone setting old → HasOpenedLast shots old.finales.items old.pass new → HasOpened (asked_of old.pass.reader script) new
   one_read shots old new d h =
       let r = old.pass.reader in
-      subst (λ (all : List Asked). HasOpened all new.pass)
+      subst (λ (all : List Asked). HasOpened all new)
       ((λ i. asked_from r (draws_before setting) (draws_of setting) 0 done ++ map (asked_at (d.most_is i)) (d.finales i)) ∙ asked_split r)
       (h.opened (asked_from r (draws_before setting) (draws_of setting) 0 done) d.opened)
 
-  all_read : (shots : List Shot) (olds news : List ReaderSeat) → All (ReaderDone setting) olds → AllOpenedLast shots olds news
-      → All (λ (seat : ReaderSeat). AllAnswered seat.pass.known seat.pass.opens) news
-      → AllRead script shots (readers_of olds) (map (λ (seat : ReaderSeat). seat.pass) news)
-  all_read shots [] [] d h a = tt
-  all_read shots [] (new ∷ news) d h a = let l = h.0 in absurd (omega (arith, l))
-  all_read shots (old ∷ olds) [] d h a = let l = h.0 in absurd (omega (arith, l))
-  all_read shots (old ∷ olds) (new ∷ news) d h a =
-      let first = h.1 0 old (omega arith) in (
+  all_read : (shots : List Shot) (olds : List ReaderSeat) (news : List ReaderView) → All (ReaderDone setting) olds → AllReadLast shots olds news → AllRead script shots (readers_of olds) news
+  all_read shots [] [] d h = tt
+  all_read shots [] (new ∷ news) d h = absurd h
+  all_read shots (old ∷ olds) [] d h = absurd h
+  all_read shots (old ∷ olds) (new ∷ news) d h =
+      let first = (h.0).opened in (
         first.same.0,
         one_read shots old new (d 0 old (omega arith)) first,
         first.known,
-        a 0 old (omega arith),
-        all_read shots olds news (λ k e lt. d (suc k) e (omega (arith, lt))) (let l = h.0 in omega (arith, l), λ k e lt. h.1 (suc k) e (omega (arith, lt))) (λ k e lt. a (suc k) e (omega (arith, lt))),
+        (h.0).answered,
+        all_read shots olds news (λ k e lt. d (suc k) e (omega (arith, lt))) h.1,
       )
 
   -- ---- all of it
@@ -147,20 +148,18 @@ module _ (setting : Setting) where
     pub may_draw : (most : ℕ) → most ≡ draws_of setting → length first + length (settling_lines settling) ≤ most + 1
     may_draw most is = let shots = shown_count in let all = draws_count in let same = settle_count in omega (arith, shots, all, same, is)
 
-    pub may_read : (board before : Book) (shots : List Shot) (lent : List ReaderSeat) → before ≡ setting.board → board ≡ before
-        → length shots ≡ length first + length (settling_lines settling) → lent ≡ readers → All (MayOpenLast board shots) lent
-    may_read board before shots lent is same shown lent_is =
+    pub may_read : (board before : Book) (shots : List Shot) → before ≡ setting.board → board ≡ before → length shots ≡ length first + length (settling_lines settling)
+        → All (MayOpenLast board shots) readers
+    may_read board before shots is same shown =
         let count = shown_count in let all = draws_count in let settled = settle_count in
-        subst (λ (rs : List ReaderSeat). All (MayOpenLast board shots) rs) (sym lent_is)
-        (may_open board shots readers (same ∙ is) (omega (arith, shown, count, all, settled)) d.read)
+        may_open board shots readers (same ∙ is) (omega (arith, shown, count, all, settled)) d.read
 
-    module _ (e0 e1 : ClosedFields) (shots : List Shot) (news : List ReaderSeat)
+    module _ (e0 e1 : ClosedFields) (shots : List Shot) (news : List ReaderView)
         (gathered : (numbers : List ℕ) (events : List Step) (draws : List DrawFields) (shots : List Shot) → EditorsDone s numbers events editors → HasFed s draws feeder shots
         → HasGathered (carousel_of s) (weights_of s) (map (λ (n : ℕ). commits_by n events) numbers) draws shots e0)
         (drew : e1.catalogue ≡ drawn_all e0.catalogue (settling_lines settling))
         (went_on : (id : ℕ) (weights : List ℕ) (commits : List (List (List Edit))) (draws : List DrawFields) → HasGathered id weights commits draws first e0 → HasGathered id weights commits (draws ++ settling_lines settling) shots e1)
-        (read : AllOpenedLast shots readers news)
-        (answered : All (λ (seat : ReaderSeat). AllAnswered seat.pass.known seat.pass.opens) news) where
+        (read : AllReadLast shots readers news) where
       abbrev draws_all : draws_in (steps done) ++ settling_lines settling ≡ draws_in (events_of script)
       draws_all = ap (λ (b : Bool). draws_in (steps done) ++ settling_lines b) d.settled ∙ draws_split
 
@@ -169,14 +168,14 @@ module _ (setting : Setting) where
           went_on (carousel_of s) (weights_of s) (map (λ (n : ℕ). commits_by n (steps done)) numbers) (draws_in (steps done))
           (gathered numbers (steps done) (draws_in (steps done)) first d.committed d.fed)
 
-      is_played : IsPlayed script e1.catalogue all_gathered.drawings shots (map (λ (seat : ReaderSeat). seat.pass) news)
+      is_played : IsPlayed script e1.catalogue all_gathered.drawings shots news
       is_played = record {
         carousel = all_gathered.carousel ∙ d.carousel;
         gathered = subst (λ (commits : List (List (List Edit))). IsGathered commits (draws_in (events_of script)) e1.catalogue all_gathered.drawings)
             (λ i. map (λ (n : ℕ). commits_split n i) (d.numbers_are i))
             (subst (λ (draws : List DrawFields). IsGathered (map (λ (n : ℕ). commits_by n (steps done)) numbers) draws e1.catalogue all_gathered.drawings) draws_all all_gathered.gathered);
         shown = all_gathered.shown.shown;
-        read = subst (λ (rs : List ℕ). AllRead script shots rs (map (λ (seat : ReaderSeat). seat.pass) news)) d.readers_are (all_read shots readers news d.read read answered);
+        read = subst (λ (rs : List ℕ). AllRead script shots rs news) d.readers_are (all_read shots readers news d.read read);
         settled = λ yes. (
           e0.catalogue,
           drew ∙ ap (λ (b : Bool). drawn_all e0.catalogue (settling_lines b)) (d.settled ∙ settle_there setting.parts yes),
@@ -186,62 +185,28 @@ module _ (setting : Setting) where
       fates_are : e1.fates ≡ fates_of script
       fates_are = all_gathered.fates ∙ ap (map (λ (line : DrawFields). line.fates)) draws_all
 
-      -- the merge of what was read is a session
-      module _ (law : PlayedIsASession) (passes : List ReaderFields)
-          (passes_are : passes ≡ map (λ (seat : ReaderSeat). opens_of seat.pass) news) where
-        kept : map opens_of (map (λ (seat : ReaderSeat). seat.pass) news) ≡ passes
-        kept = both news ∙ sym passes_are
-          where
-            both : (xs : List ReaderSeat) → map opens_of (map (λ (seat : ReaderSeat). seat.pass) xs) ≡ map (λ (seat : ReaderSeat). opens_of seat.pass) xs
-            both [] = refl
-            both (x ∷ xs) = ap (λ (zs : List ReaderFields). opens_of x.pass ∷ zs) (both xs)
+      -- what is merged fits together, and tells a session
+      pub tells : PlayedIsASession → FitsAndTells (weights_of s) script numbers e1.catalogue.entries e1.fates news
+      tells law =
+          let es = e1.catalogue.entries in
+          subst (λ (ws : List ℕ). FitsAndTells ws script numbers es e1.fates news) all_gathered.weighs
+          (subst (λ (fs : List (List Fate)). FitsAndTells e1.catalogue.weights script numbers es fs news) (sym fates_are)
+          (subst (λ (ns : List ℕ). FitsAndTells e1.catalogue.weights script ns es (fates_of script) news) (sym d.numbers_are)
+          (law setting.parts e1.catalogue all_gathered.drawings shots news d.ranges d.listed is_played)))
 
-        pub are_parts : AreParts e1.catalogue.entries e1.fates numbers passes
-        are_parts =
-            subst (λ (fs : List (List Fate)). AreParts e1.catalogue.entries fs numbers passes) (sym fates_are)
-            (subst (λ (ns : List ℕ). AreParts e1.catalogue.entries (fates_of script) ns passes) (sym d.numbers_are)
-            (subst (λ (ps : List ReaderFields). AreParts e1.catalogue.entries (fates_of script) script.editors ps) kept
-            (law setting.parts e1.catalogue all_gathered.drawings shots (map (λ (seat : ReaderSeat). seat.pass) news) d.ranges d.listed is_played).0))
-
-        pub is_session : IsSession (weights_of s) script (merge_of (session_merge numbers) passes e1.fates e1.catalogue.entries)
-        is_session =
-            subst (λ (ws : List ℕ). IsSession ws script (merge_of (session_merge numbers) passes e1.fates e1.catalogue.entries)) all_gathered.weighs
-            (subst (λ (fs : List (List Fate)). IsSession e1.catalogue.weights script (merge_of (session_merge numbers) passes fs e1.catalogue.entries)) (sym fates_are)
-            (subst (λ (ns : List ℕ). IsSession e1.catalogue.weights script (merge_of (session_merge ns) passes (fates_of script) e1.catalogue.entries)) (sym d.numbers_are)
-            (subst (λ (ps : List ReaderFields). IsSession e1.catalogue.weights script (merge_of (session_merge script.editors) ps (fates_of script) e1.catalogue.entries)) kept
-            (law setting.parts e1.catalogue all_gathered.drawings shots (map (λ (seat : ReaderSeat). seat.pass) news) d.ranges d.listed is_played).1)))
-
--- a slice that was lent whole is all of its list afterwards
-pub written_back : {A : Type 0} (n : ℕ) (new lent all : List A) → length new ≡ length lent → lent ≡ all → n ≡ length all → take n (new ++ drop (length new) all) ≡ new
-written_back n new lent all same is len =
-    take_at new (drop (length new) all) n (let l = ap length is in omega (arith, same, l, len))
-
-abbrev pub FitsAndTells : List ℕ → Fields → List ℕ → List Entry → List (List Fate) → List ReaderOpens → Type 0
-FitsAndTells weights script numbers entries fates passes =
-    AreParts entries fates numbers (map reader_view passes)
-    × IsSession weights script (merge_of (session_merge numbers) (map reader_view passes) fates entries)
-
--- what is merged fits together, and tells a session
-pub ends_well : PlayedIsASession → {X : _} {F : _} {g : _} (s : Station X F g) (settling : Bool) (editors : List EditorSeat) (feeder : FeederSeat) (readers lent old new : List ReaderSeat) (first shots : List Shot) (e0 e1 : ClosedFields)
-    (kept passes : List ReaderOpens) (fates : List (Vec Fate Global)) (entries : List Entry) (numbers : List ℕ)
+pub ends_well : PlayedIsASession → {X : _} {F : _} {g : _} (s : Station X F g) (settling : Bool) (editors : List EditorSeat) (feeder : FeederSeat) (readers : List ReaderSeat) (read passes : List ReaderView)
+    (first shots : List Shot) (e0 e1 : ClosedFields) (fates : List (Vec Fate Global)) (entries : List Entry) (numbers : List ℕ)
     → ((numbers : List ℕ) (events : List Step) (draws : List DrawFields) (shots : List Shot) → EditorsDone s numbers events editors → HasFed s draws feeder shots
     → HasGathered (carousel_of s) (weights_of s) (map (λ (n : ℕ). commits_by n events) numbers) draws shots e0)
     → e1.catalogue ≡ drawn_all e0.catalogue (settling_lines settling)
     → ((id : ℕ) (weights : List ℕ) (commits : List (List (List Edit))) (draws : List DrawFields) → HasGathered id weights commits draws first e0 → HasGathered id weights commits (draws ++ settling_lines settling) shots e1)
-    → lent ≡ readers → AllOpenedLast shots lent old → new ≡ old
-    → All (λ (seat : ReaderSeat). AllAnswered seat.pass.known seat.pass.opens) new
-    → map reader_view kept ≡ map (λ (seat : ReaderSeat). opens_of seat.pass) new
-    → passes ≡ kept → map fates_view fates ≡ e1.fates → entries ≡ e1.catalogue.entries
+    → AllReadLast shots readers read
+    → passes ≡ read → map fates_view fates ≡ e1.fates → entries ≡ e1.catalogue.entries
     → (setting : Setting) → AreDone setting settling s numbers editors feeder readers first
     → FitsAndTells (weights_of s) (script_of_parts setting.parts) numbers entries (map fates_view fates) passes
-ends_well law s settling editors feeder readers lent old new first shots e0 e1 kept passes fates entries numbers gathered drew went_on lent_is read new_is answered kept_is
-    passes_is fates_is entries_is setting d =
+ends_well law s settling editors feeder readers read passes first shots e0 e1 fates entries numbers gathered drew went_on reads passes_is fates_is entries_is setting d =
     let script = script_of_parts setting.parts in
-    let all : AllOpenedLast shots readers new =
-    subst (λ (rs : List ReaderSeat). AllOpenedLast shots readers rs) (sym new_is) (subst (λ (rs : List ReaderSeat). AllOpenedLast shots rs old) lent_is read) in
     subst (λ (es : List Entry). FitsAndTells (weights_of s) script numbers es (map fates_view fates) passes) (sym entries_is)
     (subst (λ (fs : List (List Fate)). FitsAndTells (weights_of s) script numbers e1.catalogue.entries fs passes) (sym fates_is)
-    (subst (λ (ps : List ReaderOpens). FitsAndTells (weights_of s) script numbers e1.catalogue.entries e1.fates ps) (sym passes_is) (
-      are_parts setting s settling numbers editors feeder readers first d e0 e1 shots new gathered drew went_on all answered law (map reader_view kept) kept_is,
-      is_session setting s settling numbers editors feeder readers first d e0 e1 shots new gathered drew went_on all answered law (map reader_view kept) kept_is,
-    )))
+    (subst (λ (ps : List ReaderView). FitsAndTells (weights_of s) script numbers e1.catalogue.entries e1.fates ps) (sym passes_is)
+    (tells setting s settling numbers editors feeder readers first d e0 e1 shots read gathered drew went_on reads law)))

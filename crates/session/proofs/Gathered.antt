@@ -8,7 +8,7 @@ use Rattle.generation_catalogue.specs.History.{is_draw}
 use Rattle.generation_catalogue.specs.declared.entry.Entry.{Entry}
 use Rattle.generation_catalogue.specs.declared.entry.Entry.TheVariants as entries
 use Rattle.carousel_world.specs.World.{Drawing}
-use Rattle.session_history.specs.Merged.{IsPlaced, is_commit_at}
+use Rattle.history_merge.specs.Merged.{IsPlaced, is_commit_at}
 use Rattle.session.specs.Chains.{Seen, nothing_seen, Commits, Draws, DrawFields}
 use Rattle.session.specs.Gathering.{AllCommitted, AreEntered, ActorsGather}
 use Rattle.session.proofs.Lists.{get_below, get_one, get_last, total_some, once_inside, each_from_get}

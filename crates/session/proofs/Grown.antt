@@ -9,9 +9,9 @@ use Rattle.generation_catalogue.specs.declared.entry.Entry.{Entry}
 use Rattle.generation_catalogue.specs.declared.entry.Entry.TheVariants as entries
 use Rattle.generation_catalogue.proofs.CallerLemmas.{history_drawn}
 use Rattle.carousel_world.specs.World.{drawing_of}
-use Rattle.session_history.specs.Merging.{Each}
-use Rattle.session_history.specs.Merged.{IsPlaced, is_commit_at}
-use Rattle.session_history.specs.Merges.{state_of, drawings_after}
+use Rattle.history_merge.specs.Merging.{Each}
+use Rattle.history_merge.specs.Merged.{IsPlaced, is_commit_at}
+use Rattle.history_merge.specs.Merges.{state_of, drawings_after}
 use Rattle.session.specs.Chains.{DrawFields}
 use Rattle.session.specs.Gathering.{AreEntered, IsFullAfter, entries_to_next, asked_in, GatherGrows}
 use Rattle.session.proofs.Rooms.{full_later}

@@ -8,6 +8,7 @@ use Rattle.path_tree.specs.declared.tree.Edit.{Edit}
 use Rattle.path_resolver.specs.declared.shot.Shot.{Shot}
 use Rattle.station.specs.declared.station.Station.{Station}
 use Rattle.carousel_world.specs.Events.{Step, Commit, Draw, Open}
+use Rattle.shot_board.proofs.CallerLemmas.{prefix_length}
 use Rattle.session.specs.Chains.{DrawFields}
 use Rattle.session.specs.Opened.{Asked, HasOpened}
 use Rattle.session.specs.Seats.{DidEdit, DidFeed, DidRead, HasCommitted, HasFed, asked_at, edits_of}
@@ -20,7 +21,6 @@ use Rattle.session.specs.Inner.Acting.{EditorPlan, EditorsStand, ReaderPlan, Rea
 use Rattle.session.specs.Inner.Casting.{HasWork}
 use Rattle.session.specs.Inner.Ending.{EditorsDone, ReaderDone}
 use Rattle.session.proofs.Staged.{asked_more, commits_more, draws_more, steps_done}
-use Rattle.session.proofs.Reading.{prefix_length}
 
 -- ---- what lies before a seat
 

@@ -1,40 +1,39 @@
 -- The opens of a merge stand right after their draws, by their readers' numbers.
 use Rattle.std.proofs.Common.{ℕ, zero, suc, ◌+◌, ◌≤◌, List, [], ◌∷◌, ◌++◌, map, filter, drop, sym, subst, arith, append_assoc}
-use Rattle.std.specs.Prelude.{◌==◌}
 use Rattle.std.specs.List.{flat_map, range_with_len}
 use Rattle.ts_packet.specs.declared.Fate.{Fate}
 use Rattle.generation_catalogue.specs.declared.entry.Entry.{Entry}
 use Rattle.generation_catalogue.specs.declared.entry.Entry.TheVariants as entries
-use Rattle.session_history.specs.declared.opens.Open.{Open}
-use Rattle.session_history.specs.Merging.{opens_by, opens_of, merge_entries, merge_of}
-use Rattle.session_history.specs.Merges.{ReaderFields, opened_of, session_merge}
+use Rattle.open_history.specs.Opens.{ReaderView}
+use Rattle.open_history.specs.declared.entry.OpenEntry.{OpenEntry}
+use Rattle.history_merge.specs.Merging.{has_heard, opened_of, opens_by, opens_of, merge_entries, merge_of}
 use Rattle.session.specs.Sessions.{OpensInPlace}
 use Rattle.session.proofs.Telling.{Told}
 use Rattle.session.proofs.Settled.{steps}
 
-module _ (editors : List ℕ) (readers : List ReaderFields) where
+module _ (editors : List ℕ) (readers : List ReaderView) where
   -- those of one reader, and then what may follow
-  of_reader : (reader least : ℕ) (os : List Open) (rest : List Told) → least ≤ reader → ((n : ℕ) → n ≤ reader → OpensInPlace n (steps rest))
+  of_reader : (reader least : ℕ) (os : List OpenEntry) (rest : List Told) → least ≤ reader → ((n : ℕ) → n ≤ reader → OpensInPlace n (steps rest))
       → OpensInPlace least (steps (map (opened_of reader) os ++ rest))
   of_reader reader least [] rest low follows = follows least low
   of_reader reader least (o ∷ os) rest low follows = (low, of_reader reader reader os rest (omega arith) follows)
 
   -- those of the readers from a on
   of_readers : (drawn least a n : ℕ) (rest : List Told) → least ≤ a → ((m : ℕ) → OpensInPlace m (steps rest))
-      → OpensInPlace least (steps (flat_map (opens_of (session_merge editors) readers drawn) (range_with_len a n) ++ rest))
+      → OpensInPlace least (steps (flat_map (opens_of readers drawn) (range_with_len a n) ++ rest))
   of_readers drawn least a zero rest low follows = follows least
   of_readers drawn least a (suc n) rest low follows =
       subst (λ (l : List Told). OpensInPlace least (steps l))
-      (sym (append_assoc (opens_of (session_merge editors) readers drawn a) (flat_map (opens_of (session_merge editors) readers drawn) (range_with_len (a + 1) n)) rest))
-      (of_reader a least (filter (λ (o : Open). o.draws == drawn) (opens_by (session_merge editors) a readers))
-      (flat_map (opens_of (session_merge editors) readers drawn) (range_with_len (a + 1) n) ++ rest) low
+      (sym (append_assoc (opens_of readers drawn a) (flat_map (opens_of readers drawn) (range_with_len (a + 1) n)) rest))
+      (of_reader a least (filter (has_heard drawn) (opens_by a readers))
+      (flat_map (opens_of readers drawn) (range_with_len (a + 1) n) ++ rest) low
       (λ m most. of_readers drawn m (a + 1) n rest (omega (arith, most)) follows))
 
-  of_entries : (drawn least : ℕ) (fates : List (List Fate)) (es : List Entry) → OpensInPlace least (steps (merge_entries (session_merge editors) readers drawn fates es))
+  of_entries : (drawn least : ℕ) (fates : List (List Fate)) (es : List Entry) → OpensInPlace least (steps (merge_entries editors readers drawn fates es))
   of_entries drawn least fates [] = tt
   of_entries drawn least fates (entries.Commit editor edits outcome ∷ es) = of_entries drawn 65 fates es
   of_entries drawn least fates (entries.Draw asked generation first count ∷ es) =
-      of_readers (suc drawn) 0 1 64 (merge_entries (session_merge editors) readers (suc drawn) (drop 1 fates) es) (omega arith) (λ m. of_entries (suc drawn) m (drop 1 fates) es)
+      of_readers (suc drawn) 0 1 64 (merge_entries editors readers (suc drawn) (drop 1 fates) es) (omega arith) (λ m. of_entries (suc drawn) m (drop 1 fates) es)
 
-  pub opens_in_place : (fates : List (List Fate)) (es : List Entry) → OpensInPlace 0 (steps (merge_of (session_merge editors) readers fates es))
-  opens_in_place fates es = of_readers 0 0 1 64 (merge_entries (session_merge editors) readers 0 fates es) (omega arith) (λ m. of_entries 0 m fates es)
+  pub opens_in_place : (fates : List (List Fate)) (es : List Entry) → OpensInPlace 0 (steps (merge_of editors readers fates es))
+  opens_in_place fates es = of_readers 0 0 1 64 (merge_entries editors readers 0 fates es) (omega arith) (λ m. of_entries 0 m fates es)

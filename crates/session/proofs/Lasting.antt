@@ -4,20 +4,16 @@ use mathlib.Core.List.{IsPrefix}
 use Rattle.std.proofs.lemmas.List.{map-append}
 use Rattle.path_tree.specs.Paths.{PathNames}
 use Rattle.path_resolver.specs.declared.shot.Shot.{Shot}
+use Rattle.shot_board.proofs.CallerLemmas.{prefix_whole}
 use Rattle.open_history.specs.Opens.{ReaderView, IsSameReader}
 use Rattle.open_history.specs.declared.entry.OpenEntry.{OpenEntry}
+use Rattle.logbook.specs.Pages.{Book}
 use Rattle.session.specs.Opened.{Asked, AreOpened, HasOpened, Rises}
 use Rattle.session.specs.Seats.{asked_at}
-use Rattle.session.specs.Inner.Ending.{HasOpenedLast}
+use Rattle.session.specs.declared.reader.ReaderSeat.{ReaderSeat}
+use Rattle.session.specs.Inner.Ending.{HasOpenedLast, HasReadLast, AllReadLast, MayOpenLast}
 
 -- ---- one reader
-
-prefix_whole : {A : Type 0} (xs ys : List A) → IsPrefix xs ys → length ys ≤ length xs → ys ≡ xs
-prefix_whole {A} xs ys (rest, is) few = by rest is
-  where
-    by : (rest : List A) → xs ++ rest ≡ ys → ys ≡ xs
-    by [] e = sym e ∙ append-nil xs
-    by (z ∷ rest) e = let l = ap length e in let m = length-append xs (z ∷ rest) in absurd (omega (arith, l, m, few))
 
 rises_on : (first : ℕ) (opens : List OpenEntry) (last more : ℕ) → last ≤ more → Rises first opens last → Rises first opens more
 rises_on first [] last more le h = omega (arith, le, h)
@@ -45,7 +41,7 @@ opened_next shots paths first old new path last h same known few opens count =
     let all = ap length h.known in
     record {
       same = (same.0 ∙ h.same.0, same.1 ∙ h.same.1, same.2 ∙ h.same.2, most);
-      known = prefix_whole old.known new.known known (omega (arith, few, most, all, last)) ∙ h.known;
+      known = sym (prefix_whole old.known new.known known (omega (arith, few, most, all, last))) ∙ h.known;
       opened = λ asked done. subst (λ (all : List Asked). HasOpened all new)
           (append_assoc asked (map (asked_at first.most) paths) (asked_at first.most path ∷ []) ∙ ap (λ (all : List Asked). asked ++ all) (sym (map-append (asked_at first.most) paths (path ∷ []))))
           (opens first.most (asked ++ map (asked_at first.most) paths) (inr (omega (arith, all, last))) (h.opened asked done));
@@ -73,3 +69,16 @@ opened_none r = record {
 -- there is room for a path that comes next
 pub room_now : (shots : List Shot) (paths : List PathNames) (first old : ReaderView) (all : ℕ) → HasOpenedLast shots paths first old → length paths < all → length first.opens + all ≤ first.room → length old.opens < old.room
 room_now shots paths first old all h lt room = let made = h.count in let same = h.same.1 in omega (arith, lt, made, same, room)
+
+-- ---- all readers
+
+-- on the same board, which shows the same
+pub may_still : (board same : Book) (shots shown : List Shot) (seat : ReaderSeat) → same ≡ board → shown ≡ shots → MayOpenLast board shots seat → MayOpenLast same shown seat
+may_still board same shots shown seat b s h = record { board_is = h.board_is ∙ sym b; last = ap length s ∙ h.last; few = h.few; room = h.room }
+
+pub read_more : (shots : List Shot) (seats : List ReaderSeat) (passes : List ReaderView) (seat : ReaderSeat) (pass : ReaderView) → AllReadLast shots seats passes → HasReadLast shots seat pass
+    → AllReadLast shots (seats ++ seat ∷ []) (passes ++ pass ∷ [])
+read_more shots [] [] seat pass h r = (r, tt)
+read_more shots [] (p ∷ ps) seat pass h r = absurd h
+read_more shots (s ∷ ss) [] seat pass h r = absurd h
+read_more shots (s ∷ ss) (p ∷ ps) seat pass h r = (h.0, read_more shots ss ps seat pass h.1 r)

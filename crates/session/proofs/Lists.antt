@@ -1,10 +1,10 @@
 -- What stands at a place of a list, how a list begins, and counts.
-use Rattle.std.proofs.Common.{◌≡◌, ◌≢◌, ℕ, zero, suc, ◌+◌, ◌<◌, ◌≤◌, Bool, true, false, cond, List, [], ◌∷◌, ◌++◌, length, filter, Some, slice_get, count_by, ◌⊎◌, inl, inr, sym, ap, ◌∙◌, refl, arith, append_assoc, append-nil, length-append, eq-eqb, ne_eqb}
+use Rattle.std.proofs.Common.{◌≡◌, ◌≢◌, ℕ, zero, suc, ◌+◌, ◌<◌, ◌≤◌, Bool, true, false, cond, List, [], ◌∷◌, ◌++◌, length, filter, Some, slice_get, count_by, ◌⊎◌, inl, inr, sym, ap, ◌∙◌, refl, arith, append_assoc, append-nil, length-append, ne_eqb}
 use Rattle.std.proofs.lemmas.List.Sums.{sum_by-append}
 use Rattle.std.proofs.lemmas.Bool.Decides.{nat_tests}
 use Rattle.history_lock.specs.History.{Begins, times, total, once_within}
-use Rattle.session_history.specs.Merging.{Each}
-use Rattle.session_history.proofs.CallerLemmas.{filter_takes, filter_skips}
+use Rattle.history_merge.specs.Merging.{Each}
+use Rattle.history_merge.proofs.CallerLemmas.{filter_takes, filter_skips}
 
 module _ {A : Type 0} where
   pub cancel : (xs ys zs : List A) → xs ++ ys ≡ xs ++ zs → ys ≡ zs
@@ -16,11 +16,6 @@ module _ {A : Type 0} where
   get_below (x ∷ xs) zero e h = omega arith
   get_below (x ∷ xs) (suc k) e h = let r = get_below xs k e h in omega arith
 
-  pub get_some : (xs : List A) (k : ℕ) → k < length xs → (e : A) × (slice_get xs k ≡ Some e)
-  get_some [] k h = absurd (omega arith)
-  get_some (x ∷ xs) zero h = (x, refl)
-  get_some (x ∷ xs) (suc k) h = get_some xs k (omega arith)
-
   pub get_one : (xs : List A) (k : ℕ) (x y : A) → slice_get xs k ≡ Some x → slice_get xs k ≡ Some y → x ≡ y
   get_one xs k x y h g = let e : Some x ≡ Some y = sym h ∙ g in cc
 
@@ -28,10 +23,6 @@ module _ {A : Type 0} where
   get_front [] ys k e h = absurd (cc)
   get_front (x ∷ xs) ys zero e h = h
   get_front (x ∷ xs) ys (suc k) e h = get_front xs ys k e h
-
-  pub get_at : (xs ys : List A) (x : A) → slice_get (xs ++ x ∷ ys) (length xs) ≡ Some x
-  get_at [] ys x = refl
-  get_at (y ∷ xs) ys x = get_at xs ys x
 
   pub get_behind : (xs ys : List A) (k : ℕ) (e : A) → slice_get ys k ≡ Some e → slice_get (xs ++ ys) (length xs + k) ≡ Some e
   get_behind [] ys k e h = ap (slice_get ys) (same k) ∙ h
@@ -106,9 +97,6 @@ module _ {A : Type 0} where
 pub times_append : (p : ℕ) (xs ys : List ℕ) → times p (xs ++ ys) ≡ times p xs + times p ys
 times_append p [] ys = omega arith
 times_append p (x ∷ xs) ys = let h = times_append p xs ys in omega arith
-
-pub times_here : (p : ℕ) → times p (p ∷ []) ≡ 1
-times_here p = let e = eq-eqb p p refl in grind (arith, nat_tests)
 
 pub times_other : (p q : ℕ) → p ≢ q → times p (q ∷ []) ≡ 0
 times_other p q n = let e = ne_eqb p q n in grind (arith, nat_tests)

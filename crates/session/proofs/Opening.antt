@@ -1,5 +1,5 @@
 -- One open more.
-use Rattle.std.proofs.Common.{◌≡◌, ◌⊎◌, inl, inr, ℕ, ◌+◌, ◌≤◌, List, [], ◌∷◌, ◌++◌, length, refl, ap, sym, ◌∙◌, subst, append_assoc, arith}
+use Rattle.std.proofs.Common.{◌≡◌, ◌⊎◌, inl, inr, ℕ, ◌+◌, ◌≤◌, List, [], ◌∷◌, ◌++◌, length, ap, sym, ◌∙◌, subst, append_assoc, arith}
 use mathlib.Core.List.{IsPrefix}
 use Rattle.path_tree.specs.Paths.{PathNames}
 use Rattle.shot_board.proofs.CallerLemmas.{prefix_length}
@@ -7,10 +7,6 @@ use Rattle.open_history.specs.Opens.{ReaderView}
 use Rattle.open_history.specs.declared.entry.OpenEntry.{OpenEntry}
 use Rattle.session.specs.Opened.{Asked, AreOpened, Rises, HasOpened}
 use Rattle.session.specs.Seats.{asked_at}
-
-pub begins_itself : {A : Type 0} (xs : List A) → IsPrefix xs xs
-begins_itself [] = ([], refl)
-begins_itself (x ∷ xs) = let rest = begins_itself xs in (rest.0, ap (λ ys. x ∷ ys) rest.1)
 
 pub begins_later : {A : Type 0} (xs ys zs : List A) → IsPrefix xs ys → IsPrefix ys zs → IsPrefix xs zs
 begins_later xs ys zs p q = (p.0 ++ q.0, sym (append_assoc xs p.0 q.0) ∙ ap (λ l. l ++ q.0) p.1 ∙ q.1)

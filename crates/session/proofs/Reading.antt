@@ -9,6 +9,7 @@ use Rattle.std.proofs.lemmas.Grind.{get_or-set_at}
 use Rattle.std.proofs.Math.Seq.{map-set_same}
 use Rattle.path_tree.specs.Paths.{PathNames}
 use Rattle.path_resolver.specs.declared.shot.Shot.{Shot}
+use Rattle.shot_board.proofs.CallerLemmas.{prefix_length}
 use Rattle.open_history.specs.Opens.{IsSameReader}
 use Rattle.open_history.specs.declared.entry.OpenEntry.{OpenEntry}
 use Rattle.session_script.specs.declared.script.Stage.{Stage}
@@ -113,9 +114,6 @@ has_room setting done shots seat path st next =
     let all = count_all (opens_by r) (opens_more r) setting in
     let room = st.room in
     omega (arith, opened, asked, plain, before, one, first, all, room)
-
-pub prefix_length : {A : Type 0} (xs ys : List A) → IsPrefix xs ys → length xs ≤ length ys
-prefix_length xs ys p = let e = ap length p.1 in let l = length-append xs p.0 in omega (arith, e, l)
 
 -- the reader opened a path
 stands_opened : (setting : Setting) (done : List Step) (shots : List Shot) (old new : ReaderSeat) (path : PathNames) → IsSameReader old.pass new.pass → new.pass.told ≡ old.pass.told → length new.pass.known ≤ new.pass.most + 1

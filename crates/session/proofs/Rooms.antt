@@ -13,7 +13,7 @@ use Rattle.generation_catalogue.specs.declared.entry.Refusal.TheVariants as refu
 use Rattle.generation_catalogue.specs.declared.entry.Entry.{Entry}
 use Rattle.generation_catalogue.specs.declared.entry.Entry.TheVariants as entries
 use Rattle.session.specs.Gathering.{is_made, IsFullAfter}
-use Rattle.session_history.proofs.CallerLemmas.{count_more, count_same}
+use Rattle.history_merge.proofs.CallerLemmas.{count_more, count_same}
 use Rattle.session.proofs.Lists.{count_append}
 
 -- each accepted commit makes a tree

@@ -20,9 +20,9 @@ use Rattle.carousel_world.specs.Settling.{IsOpening, with_settling, Answers, Eve
 use Rattle.carousel_world.specs.declared.event.Reply.{Reply}
 use Rattle.carousel_world.proofs.CallerLemmas.{opens_leave, after_all-append, settled_among_opens}
 use Rattle.rehearsal.specs.Lines.{settling_step}
-use Rattle.session_history.specs.Merging.{Each}
-use Rattle.session_history.specs.Merged.{is_draw_step}
-use Rattle.session_history.specs.Merges.{IsRunOfWorld}
+use Rattle.history_merge.specs.Merging.{Each}
+use Rattle.history_merge.specs.Merged.{is_draw_step}
+use Rattle.history_merge.specs.Merges.{IsRunOfWorld}
 use Rattle.session.specs.Chains.{DrawFields}
 use Rattle.session.specs.Lines.{draws_in}
 use Rattle.session.specs.Played.{IsSettled}

@@ -17,7 +17,7 @@ use Rattle.carousel_world.specs.DownView.{DownlinkState, DownlinkStands}
 use Rattle.carousel_world.specs.Fates.{received_under}
 use Rattle.carousel_world.specs.World.{WorldState, Drawing, sections_of, groups_sent, arrivals, initial_world}
 use Rattle.carousel_world.proofs.CallerLemmas.{stands_after_draw}
-use Rattle.session_history.specs.Merges.{candidates_after}
+use Rattle.history_merge.specs.Merges.{candidates_after}
 use Rattle.session.specs.Shown.{AreShots, HasShown}
 
 -- what stands in a list with one element more

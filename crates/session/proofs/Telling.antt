@@ -1,28 +1,25 @@
 -- A history of events that tells entries, with opens between them.
-use Rattle.std.proofs.Common.{◌≡◌, ◌≢◌, ℕ, suc, ◌<◌, ◌==◌, Bool, true, false, cond, List, [], ◌∷◌, ◌++◌, length, map, filter, drop, get_or, sum_by, ◌⊎◌, inl, inr, sym, ap, ◌∙◌, refl, subst, arith, ne_eqb}
-use Rattle.std.specs.Prelude.{if◌then◌else◌}
-use Rattle.std.specs.List.{flat_map, range_with_len}
+use Rattle.std.proofs.Common.{◌≡◌, ◌≢◌, ℕ, suc, ◌<◌, Bool, true, false, cond, List, [], ◌∷◌, ◌++◌, length, filter, drop, get_or, sum_by, ◌⊎◌, inl, inr, sym, ap, ◌∙◌, refl, subst, arith, ne_eqb}
 use Rattle.std.proofs.lemmas.List.Sums.{sum_by-cons}
 use Rattle.ts_packet.specs.declared.Fate.{Fate}
 use Rattle.generation_catalogue.specs.declared.entry.Entry.{Entry}
 use Rattle.generation_catalogue.specs.declared.entry.Entry.TheVariants as entries
-use Rattle.generation_catalogue.specs.History.{is_draw}
 use Rattle.carousel_world.specs.Events.{Step}
 use Rattle.carousel_world.specs.declared.event.Reply.{Reply}
-use Rattle.session_history.specs.declared.opens.Open.{Open}
-use Rattle.session_history.specs.Merging.{Each, opens_by, opens_of, opens_at, merge_entries, merge_of}
-use Rattle.session_history.specs.Merges.{ReaderFields, event_of, opened_of, session_merge}
-use Rattle.session_history.specs.Merged.{IsPlaced, AreNumbers, is_commit_at, is_commit_of}
+use Rattle.open_history.specs.Opens.{ReaderView}
+use Rattle.open_history.specs.declared.entry.OpenEntry.{OpenEntry}
+use Rattle.history_merge.specs.Merging.{Each, event_of, opened_of, opens_at, merge_entries, merge_of}
+use Rattle.history_merge.specs.Merged.{IsPlaced, AreNumbers, is_commit_at, is_commit_of}
 use Rattle.session.specs.Gathering.{entries_to_next}
 use Rattle.session.specs.Sessions.{up_to_next}
-use Rattle.session_history.proofs.CallerLemmas.{filter_skips, each_append, commit_told}
+use Rattle.history_merge.proofs.CallerLemmas.{filter_skips, each_opened, commit_told}
 use Rattle.session.proofs.Lists.{first_fails}
 
 abbrev pub Told : Type 0
 Told = Step × Reply
 
 abbrev pub IsOpenTold : Told → Type 0
-IsOpenTold x = (reader : ℕ) × (o : Open) × (x ≡ opened_of reader o)
+IsOpenTold x = (reader : ℕ) × (o : OpenEntry) × (x ≡ opened_of reader o)
 
 module _ (editors : List ℕ) where
   -- the event tells this entry, an editor's commit under its number
@@ -72,39 +69,28 @@ module _ (editors : List ℕ) where
 
   -- ---- a merge tells the entries
 
-  opened_told : (reader : ℕ) (os : List Open) → Each IsOpenTold (map (opened_of reader) os)
-  opened_told reader [] = tt
-  opened_told reader (o ∷ os) = ((reader, o, refl), opened_told reader os)
+  all_told : (readers : List ReaderView) (k : ℕ) → Each IsOpenTold (opens_at readers k)
+  all_told readers k = each_opened IsOpenTold readers (λ r low high o. (r, o, refl)) k
 
-  opens_told : (readers : List ReaderFields) (k : ℕ) (rs : List ℕ) → Each IsOpenTold (flat_map (opens_of (session_merge editors) readers k) rs)
-  opens_told readers k [] = tt
-  opens_told readers k (r ∷ rs) =
-      each_append IsOpenTold (opens_of (session_merge editors) readers k r) (flat_map (opens_of (session_merge editors) readers k) rs)
-      (opened_told r (filter (λ o. o.draws == k) (opens_by (session_merge editors) r readers))) (opens_told readers k rs)
-
-  all_told : (readers : List ReaderFields) (k : ℕ) → Each IsOpenTold (opens_at (session_merge editors) readers k)
-  all_told readers k = opens_told readers k (range_with_len 1 64)
-
-  either : (es : List Entry) (a b : List Told) → Tells es a → Tells es b → (c : Bool) → Tells es (if c then a else b)
-  either es a b h k true = h
-  either es a b h k false = k
-
-  tells_entries : (readers : List ReaderFields) (k : ℕ) (fates : List (List Fate)) (es : List Entry) → Each (IsPlaced (length editors)) es → Tells es (merge_entries (session_merge editors) readers k fates es)
+  tells_entries : (readers : List ReaderView) (k : ℕ) (fates : List (List Fate)) (es : List Entry) → Each (IsPlaced (length editors)) es → Tells es (merge_entries editors readers k fates es)
   tells_entries readers k fates [] h = refl
-  tells_entries readers k fates (e ∷ es) h =
-      let m = session_merge editors in
-      let later = merge_entries m readers (suc k) (drop 1 fates) es in
-      either (e ∷ es) (event_of editors e (get_or fates 0 []) ∷ opens_at m readers (suc k) ++ later) (event_of editors e [] ∷ merge_entries m readers k fates es)
-      (inr (e, es, refl, (get_or fates 0 [], refl, h.0), behind_opens es (opens_at m readers (suc k)) later (all_told readers (suc k)) (tells_entries readers (suc k) (drop 1 fates) es h.1)))
-      (inr (e, es, refl, ([], refl, h.0), tells_entries readers k fates es h.1)) (is_draw e)
+  tells_entries readers k fates (entries.Commit editor edits outcome ∷ es) h =
+      inr (entries.Commit editor edits outcome, es, refl, ([], refl, h.0), tells_entries readers k fates es h.1)
+  tells_entries readers k fates (entries.Draw asked generation first count ∷ es) h =
+      inr (
+        entries.Draw asked generation first count,
+        es,
+        refl,
+        (get_or fates 0 [], refl, h.0),
+        behind_opens es (opens_at readers (suc k)) (merge_entries editors readers (suc k) (drop 1 fates) es) (all_told readers (suc k)) (tells_entries readers (suc k) (drop 1 fates) es h.1),
+      )
 
-  pub merge_tells : (readers : List ReaderFields) (fates : List (List Fate)) (es : List Entry) → Each (IsPlaced (length editors)) es → Tells es (merge_of (session_merge editors) readers fates es)
-  merge_tells readers fates es h =
-      behind_opens es (opens_at (session_merge editors) readers 0) (merge_entries (session_merge editors) readers 0 fates es) (all_told readers 0) (tells_entries readers 0 fates es h)
+  pub merge_tells : (readers : List ReaderView) (fates : List (List Fate)) (es : List Entry) → Each (IsPlaced (length editors)) es → Tells es (merge_of editors readers fates es)
+  merge_tells readers fates es h = behind_opens es (opens_at readers 0) (merge_entries editors readers 0 fates es) (all_told readers 0) (tells_entries readers 0 fates es h)
 
   -- ---- sums
 
-  pub sum_told : (F : Told → ℕ) (G : Entry → ℕ) → ((reader : ℕ) (o : Open) → F (opened_of reader o) ≡ 0) → ((e : Entry) (fates : List Fate) → F (event_of editors e fates) ≡ G e)
+  pub sum_told : (F : Told → ℕ) (G : Entry → ℕ) → ((reader : ℕ) (o : OpenEntry) → F (opened_of reader o) ≡ 0) → ((e : Entry) (fates : List Fate) → F (event_of editors e fates) ≡ G e)
       → (es : List Entry) (told : List Told) → Tells es told → sum_by F told ≡ sum_by G es
   sum_told F G none same es [] h = ap (sum_by G) (sym h)
   sum_told F G none same es (x ∷ told) (inl h) =

@@ -3,13 +3,10 @@ use Rattle.std.specs.Prelude.{◌≡◌, ℕ, true, List, [], ◌∷◌, map}
 use Rattle.ts_packet.specs.declared.Fate.{Fate}
 use Rattle.path_resolver.specs.declared.shot.Shot.{Shot}
 use Rattle.open_history.specs.Opens.{ReaderView, AllAnswered}
-use Rattle.open_history.specs.declared.entry.OpenEntry.{OpenEntry}
 use Rattle.generation_catalogue.specs.History.{CatalogueState, with_draw}
 use Rattle.carousel_world.specs.World.{Drawing}
-use Rattle.session_history.specs.declared.opens.Open.{Open}
-use Rattle.session_history.specs.Merging.{merge_of}
-use Rattle.session_history.specs.Merges.{ReaderFields, session_merge}
-use Rattle.session_history.specs.Merged.{AreParts}
+use Rattle.history_merge.specs.Merging.{merge_of}
+use Rattle.history_merge.specs.Merged.{AreParts}
 use Rattle.session_script.specs.declared.parts.Parts.{Parts}
 use Rattle.session_script.specs.Parts.{script_of_parts}
 use Rattle.session_script.specs.Ranges.{AreListed, IsInRanges}
@@ -22,13 +19,6 @@ use Rattle.session.specs.Lines.{commits_by, draws_in, asked_of, settles}
 use Rattle.session.specs.Gathering.{IsGathered}
 use Rattle.session.specs.Sessions.{IsSession}
 use Rattle.cycle_planner.specs.declared.TheConstants.{MOST_DRAWN}
-
--- an open without the number of its shot
-abbrev pub open_of : OpenEntry → Open
-open_of e = record { draws = e.draws; label = e.label; path = e.path; answer = e.answer }
-
-abbrev pub opens_of : ReaderView → ReaderFields
-opens_of r = record { reader = r.reader; opens = map open_of r.opens }
 
 -- the readers of these numbers opened all that they were asked for, and know all that was shown
 abbrev pub AllRead : Fields → List Shot → List ℕ → List ReaderView → Type 0
@@ -56,8 +46,8 @@ fates_of script = map (λ (d : DrawFields). d.fates) (draws_in (events_of script
 -- the parts of what was played fit together, and their merge is a session of the script
 abbrev pub IsItsSession : Fields → CatalogueState → List ReaderView → Type 0
 IsItsSession script c readers =
-    AreParts c.entries (fates_of script) script.editors (map opens_of readers)
-    × IsSession c.weights script (merge_of (session_merge script.editors) (map opens_of readers) (fates_of script) c.entries)
+    AreParts c.entries (fates_of script) script.editors readers
+    × IsSession c.weights script (merge_of script.editors readers (fates_of script) c.entries)
 
 abbrev pub PlayedIsASession : Type 0
 PlayedIsASession = (parts : Parts) (c : CatalogueState) (drawings : List Drawing) (shots : List Shot) (readers : List ReaderView)

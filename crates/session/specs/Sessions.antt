@@ -16,9 +16,9 @@ use Rattle.carousel_world.specs.Promises.{MeetsHeadline, IsUndamaged, world_afte
 use Rattle.carousel_world.specs.Settling.{IsOpening, Answers}
 use Rattle.carousel_world.specs.declared.event.Reply.{Reply}
 use Rattle.carousel_world.specs.declared.event.Reply.TheVariants as replies
-use Rattle.session_history.specs.Laws.{with_draws_before}
-use Rattle.session_history.specs.Merged.{is_draw_step, is_commit_of, is_open_by}
-use Rattle.session_history.specs.Merges.{IsRunOfWorld}
+use Rattle.history_merge.specs.Laws.{with_draws_before}
+use Rattle.history_merge.specs.Merged.{is_draw_step, is_commit_of, is_open_by}
+use Rattle.history_merge.specs.Merges.{IsRunOfWorld}
 use Rattle.session_script.specs.Scripts.{Fields}
 use Rattle.rehearsal.specs.Lines.{events_of, settling_step}
 use Rattle.session.specs.Opened.{Asked}

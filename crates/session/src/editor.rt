@@ -24,7 +24,7 @@ pub struct CommitLine {
 /// An editor's pass, and the commits that it has still to make.
 #[derive(Drop)]
 pub struct EditorSeat {
-    /// The editor's number in the script, 1 to 64.
+    /// The editor's number in the script, 1 to [`session_script::MOST_ACTORS`].
     pub number: u32,
     pub pass: Pass,
     pub commits: Vec<CommitLine>,

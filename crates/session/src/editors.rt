@@ -2,7 +2,8 @@
 ghost use Rattle.std.specs.Prelude.{◌≡◌, ◌++◌, ◌∷◌, ◌<◌, ◌≤◌, [], List, map, length, OnOk, IfOk, slice_index_or};
 ghost use Rattle.std.specs.List.{All, Contains};
 ghost use Rattle.carousel_world.specs.Events.{Step, Commit};
-ghost use Rattle.station.specs.Passes.{IsStationPass, AreNewPasses};
+ghost use Rattle.station.specs.Passes.{AreNewPasses};
+ghost use Rattle.session_script.specs.declared.values.TheConstants.{MOST_ACTORS};
 ghost use Rattle.session.specs.Seats.{IsEditorSeat, edits_of};
 ghost use Rattle.session.specs.Inner.ByActor.{lists_of};
 ghost use Rattle.session.specs.Inner.Acting.{AreApart, EditorsStand, editor_plan, numbers_of, planned_for};
@@ -26,7 +27,7 @@ pub(crate) fn editor_seats(
     mut edit_lines: BTreeMap<u32, u32>,
 ) -> Result<Vec<EditorSeat>, NoMemory>
     requires passes { AreNewPasses station.now 0 passes.items }
-    requires count { (length passes.items ≡ length numbers.now) × (length numbers.now ≤ 64) }
+    requires count { (length passes.items ≡ length numbers.now) × (length numbers.now ≤ MOST_ACTORS) }
     requires apart { AreApart numbers.now }
     ensures plans { IfOk result (λ seats. map editor_plan seats.items ≡ map (planned_for (λ n. map edits_of (lists_of commits n))) numbers.now) }
     ensures passes { IfOk result (λ seats. All (IsEditorSeat station.now) seats.items) }

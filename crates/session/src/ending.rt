@@ -3,22 +3,20 @@ ghost use Rattle.std.specs.Prelude.{◌≡◌, ◌++◌, ◌∷◌, ◌+◌, ◌
 ghost use Rattle.std.specs.List.{All};
 ghost use Rattle.path_resolver.specs.declared.shot.Shot.{Shot as ShotFields};
 ghost use Rattle.path_tree.specs.declared.tree.Edit.{Edit as EditFields};
-ghost use Rattle.open_history.specs.Opens.{AllAnswered};
 ghost use Rattle.station.specs.Passes.{IsStationPass, carousel_of, pass_count, weights_of};
 ghost use Rattle.generation_catalogue.specs.History.{with_draw};
 ghost use Rattle.generation_catalogue.specs.View.{state};
 ghost use Rattle.session_script.specs.Parts.{script_of_parts};
 ghost use Rattle.carousel_world.specs.Events.{Step};
 ghost use Rattle.shot_board.specs.Showers.{shown_by, shower_board, most_by, IsSameBoard};
-ghost use Rattle.session_history.specs.Merges.{known_view, reader_view};
+ghost use Rattle.history_merge.specs.Merges.{known_view};
 ghost use Rattle.session.specs.Chains.{DrawFields};
 ghost use Rattle.session.specs.Seats.{HasFed, IsEditorSeat};
 ghost use Rattle.session.specs.Lines.{commits_by};
 ghost use Rattle.session.specs.Inner.Plans.{settling_lines};
 ghost use Rattle.session.specs.Inner.Acting.{Setting, draws_of};
-ghost use Rattle.session.specs.Played.{open_of, opens_of as opens_in_history};
 ghost use Rattle.session.specs.Sessions.{IsSession};
-ghost use Rattle.session.specs.Inner.Ending.{EditorsDone, HasGathered, HasOpenedLast, AllOpenedLast, MayOpenLast, AreDone, drawn_all, view_closed};
+ghost use Rattle.session.specs.Inner.Ending.{EditorsDone, HasGathered, HasOpenedLast, HasReadLast, AllReadLast, MayOpenLast, AreDone, drawn_all, view_closed};
 ghost use Rattle.cycle_planner.specs.declared.TheConstants.{MOST_DRAWN};
 
 use crate::editor::EditorSeat;
@@ -28,16 +26,15 @@ use crate::reader::{ReaderSeat, open};
 use carousel_world::{Downlink, Event, Fate, Reply};
 use cycle_planner::MOST_DRAWN;
 use generation_catalogue::Catalogue;
+use history_merge::merge;
 use oc_bytes::NoMemory;
-use open_history::{OpenEntry, ReaderPass};
+use open_history::ReaderPass;
 use path_resolver::Shot;
 use path_tree::Path;
 use section_workers::Gate;
-use session_history::{Open, ReaderOpens, merge};
 use shot_board::Shower;
 use station::{Pass, Station};
 use std::alloc::{AllocError, Global};
-use std::mem;
 use std::sync::Wait;
 use std::thread::Threads;
 
@@ -166,75 +163,34 @@ fn open_all(pass: &mut ReaderPass, paths: Vec<Path>) -> Result<(), NoMemory>
     Ok(())
 }
 
-/// A reader takes the last shot, and opens its paths for the end. Out of memory is the only refusal.
-fn read_last(
-    alloc: Global,
-    seat: &mut ReaderSeat,
-    shower: &mut Shower<Shot>,
-) -> Result<(), NoMemory>
-    requires { MayOpenLast (shower_board shower.old) (shown_by shower.old) seat.old }
+/// A reader takes the last shot, and opens its paths for the end. Its pass is what is left of it. Out of memory is the only refusal.
+fn read_last(seat: ReaderSeat, shower: &mut Shower<Shot>) -> Result<ReaderPass, NoMemory>
+    requires { MayOpenLast (shower_board shower.old) (shown_by shower.old) seat }
     ensures board { (shown_by shower.new ≡ shown_by shower.old) × IsSameBoard shower.old shower.new }
-    ensures read { OnOk result (HasOpenedLast (shown_by shower.old) seat.old.finales.items seat.old.pass seat.new.pass) }
+    ensures read { IfOk result (HasReadLast (shown_by shower.old) seat) }
 {
-    seat.pass.catch_up(shower.front())?;
-    let paths = mem::replace(&mut seat.finales, Vec::new(alloc));
-    open_all(&mut seat.pass, paths)
+    let mut pass = seat.pass;
+    pass.catch_up(shower.front())?;
+    open_all(&mut pass, seat.finales)?;
+    pass.opens();
+    Ok(pass)
 }
 
-/// Each reader takes the last shot, and opens its paths for the end. Out of memory is the only refusal.
+/// Each reader takes the last shot, and opens its paths for the end. Their passes are left, in order. Out of memory is the only refusal.
 fn read_all(
     alloc: Global,
-    readers: &mut [ReaderSeat],
+    readers: Vec<ReaderSeat>,
     shower: &mut Shower<Shot>,
-) -> Result<(), NoMemory>
-    requires { All (MayOpenLast (shower_board shower.old) (shown_by shower.old)) readers.old }
+) -> Result<Vec<ReaderPass>, NoMemory>
+    requires { All (MayOpenLast (shower_board shower.old) (shown_by shower.old)) readers.items }
     ensures board { (shown_by shower.new ≡ shown_by shower.old) × IsSameBoard shower.old shower.new }
-    ensures read { OnOk result (AllOpenedLast (shown_by shower.old) readers.old readers.new) }
+    ensures read { IfOk result (λ passes. AllReadLast (shown_by shower.old) readers.items passes.items) }
 {
-    for place in 0..readers.len() {
-        read_last(alloc, &mut readers[place], shower)?;
-    }
-    Ok(())
-}
-
-/// An open as the history has it: its path and its answer are shared. Out of memory is the only refusal.
-fn open_for_history(made: &OpenEntry) -> Result<Open, NoMemory>
-    ensures { IfOk result (λ kept. kept ≡ open_of made.now) }
-{
-    Ok(Open {
-        draws: made.draws,
-        label: made.label,
-        path: made.path.share()?,
-        answer: made.answer.share()?,
-    })
-}
-
-/// A reader's opens as the history has them. Out of memory is the only refusal.
-fn opens_of(alloc: Global, pass: &ReaderPass) -> Result<ReaderOpens, NoMemory>
-    ensures opens { IfOk result (λ given. reader_view given ≡ opens_in_history pass.now) }
-    ensures answered { AllAnswered pass.now.known pass.now.opens }
-{
-    let made = pass.opens();
-    let mut opens = Vec::with_capacity(alloc, made.len())?;
-    for entry in made {
-        opens.push(open_for_history(entry)?)?;
-    }
-    Ok(ReaderOpens {
-        reader: pass.reader(),
-        opens,
-    })
-}
-
-/// All readers' opens. Out of memory is the only refusal.
-fn all_opens(alloc: Global, readers: &[ReaderSeat]) -> Result<Vec<ReaderOpens>, NoMemory>
-    ensures opens { IfOk result (λ all. map reader_view all.items ≡ map (λ seat. opens_in_history seat.pass) readers.now) }
-    ensures answered { OnOk result (All (λ seat. AllAnswered seat.pass.known seat.pass.opens) readers.now) }
-{
-    let mut all = Vec::with_capacity(alloc, readers.len())?;
+    let mut passes = Vec::with_capacity(alloc, readers.len())?;
     for seat in readers {
-        all.push(opens_of(alloc, &seat.pass)?)?;
+        passes.push(read_last(seat, shower)?)?;
     }
-    Ok(all)
+    Ok(passes)
 }
 
 /// What is left of a session once its threads are done, and its history.
@@ -248,7 +204,7 @@ pub(crate) fn end<R: Threads + Wait + Sync, G: Gate>(
     station: Station,
     editors: Vec<EditorSeat>,
     feeder: FeederSeat,
-    mut readers: Vec<ReaderSeat>,
+    readers: Vec<ReaderSeat>,
     shower: &mut Shower<Shot>,
     settles: bool,
     numbers: &[u32],
@@ -261,14 +217,13 @@ pub(crate) fn end<R: Threads + Wait + Sync, G: Gate>(
 {
     let mut closed = end_of_threads(alloc, station, editors, feeder)?;
     closed.settle(rt, alloc, gate, shower, settles)?;
-    read_all(alloc, &mut readers, shower)?;
-    let kept = all_opens(alloc, &readers)?;
+    let passes = read_all(alloc, readers, shower)?;
     played_is_a_session();
     merge(
         alloc,
         closed.catalogue.entries(),
         &closed.fates,
         numbers,
-        &kept,
+        &passes,
     )
 }

@@ -33,7 +33,7 @@ pub fn gathers_grow()
 pub fn played_is_a_session()
     ensures { PlayedIsASession }
 {
-    session_history::merges_are_runs();
+    history_merge::merges_are_runs();
     carousel_world::settling_is_whole();
     generation_catalogue::histories_grow();
 }

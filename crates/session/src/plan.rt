@@ -25,9 +25,9 @@ use std::collections::BTreeMap;
 /// A script's session before anybody runs.
 #[derive(Drop)]
 pub(crate) struct Plan {
-    /// The editors, each 1 to 64, in the order of the first lines that name them.
+    /// The editors, each 1 to [`session_script::MOST_ACTORS`], in the order of the first lines that name them.
     pub(crate) editors: Vec<u32>,
-    /// The readers, each 1 to 64, in the order of the first lines that name them.
+    /// The readers, each 1 to [`session_script::MOST_ACTORS`], in the order of the first lines that name them.
     pub(crate) readers: Vec<u32>,
     /// What happens above `start`, in written order.
     pub(crate) before: Vec<Happening>,

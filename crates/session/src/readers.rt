@@ -1,7 +1,6 @@
 //! The seats of the readers before the start.
 ghost use Rattle.std.specs.Prelude.{◌≡◌, ◌++◌, ◌∷◌, ◌<◌, ◌+◌, [], List, ℕ, map, length, slice_index_or, OnOk};
 ghost use Rattle.std.specs.List.{All, Contains};
-ghost use Rattle.logbook.specs.Pages.{Book};
 ghost use Rattle.path_resolver.specs.declared.shot.Shot.{Shot as ShotFields};
 ghost use Rattle.carousel_world.specs.Events.{Step, Open};
 ghost use Rattle.shot_board.specs.Showers.{shown_by, shower_board, IsSameBoard};

@@ -2,6 +2,7 @@
 ghost use Rattle.std.specs.Prelude.{◌≡◌, ◌+◌, ◌≤◌, [], ◌∷◌, List, ℕ, map, length, if◌then◌else◌, IfOk};
 ghost use Rattle.path_resolver.specs.declared.shot.Shot.{Shot as ShotFields};
 ghost use Rattle.shot_board.specs.Shots.{Each};
+ghost use Rattle.session_script.specs.declared.values.TheConstants.{MOST_ACTORS};
 ghost use Rattle.session.specs.Inner.ByActor.{lists_of};
 ghost use Rattle.session.specs.Lines.{opens_by};
 ghost use Rattle.session.specs.Inner.Plans.{before_steps, during_steps, end_steps};
@@ -51,7 +52,7 @@ pub(crate) fn reader_seats(
     mut paths: ByActor<Path>,
     mut finales: ByActor<Path>,
 ) -> Result<Vec<ReaderSeat>, NoMemory>
-    requires count { (length viewers.items ≡ length numbers.now) × (length numbers.now ≤ 64) }
+    requires count { (length viewers.items ≡ length numbers.now) × (length numbers.now ≤ MOST_ACTORS) }
     requires apart { AreApart numbers.now }
     ensures plans { IfOk result (λ seats. map reader_plan seats.items ≡ map (asked_for (lists_of paths) (lists_of finales)) numbers.now) }
     ensures stands { IfOk result (λ seats. (setting : Setting) (shots : List ShotFields) → map view_happening before.now ≡ before_steps setting.parts

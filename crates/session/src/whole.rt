@@ -2,7 +2,7 @@
 ghost use Rattle.std.specs.Prelude.{◌≡◌, map, length, IfOk};
 ghost use Rattle.session_script.specs.Parts.{script_of_parts};
 ghost use Rattle.session_script.specs.Ranges.{AreListed, IsInRanges};
-ghost use Rattle.session_history.specs.Merges.{known_view};
+ghost use Rattle.history_merge.specs.Merges.{known_view};
 ghost use Rattle.shot_board.specs.Showers.{shown_by};
 ghost use Rattle.session.specs.Sessions.{IsSession};
 ghost use Rattle.session.specs.Inner.Acting.{Setting};

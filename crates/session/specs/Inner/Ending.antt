@@ -6,7 +6,7 @@ use Rattle.path_tree.specs.declared.tree.Edit.{Edit}
 use Rattle.ts_packet.specs.declared.Fate.{Fate}
 use Rattle.path_resolver.specs.declared.shot.Shot.{Shot}
 use Rattle.logbook.specs.Pages.{Book}
-use Rattle.open_history.specs.Opens.{ReaderView, IsSameReader}
+use Rattle.open_history.specs.Opens.{ReaderView, AllAnswered, IsSameReader}
 use Rattle.station.specs.declared.station.Station.{Station}
 use Rattle.station.specs.Passes.{carousel_of, pass_count}
 use Rattle.generation_catalogue.specs.History.{CatalogueState, with_draw}
@@ -16,7 +16,7 @@ use Rattle.carousel_world.specs.Events.{Step}
 use Rattle.carousel_world.specs.World.{Drawing}
 use Rattle.session_script.specs.Parts.{script_of_parts}
 use Rattle.session_script.specs.Ranges.{AreListed, IsInRanges}
-use Rattle.session_history.specs.Merges.{fates_view}
+use Rattle.history_merge.specs.Merges.{fates_view}
 use Rattle.session.specs.Chains.{DrawFields}
 use Rattle.session.specs.Shown.{HasShown}
 use Rattle.session.specs.Opened.{Asked, HasOpened}
@@ -92,10 +92,17 @@ pub record HasOpenedLast (shots : List Shot) (paths : List PathNames) (old new :
   pub opened : (asked : List Asked) → HasOpened asked old → HasOpened (asked ++ map (asked_at old.most) paths) new
   pub count : length new.opens ≡ length old.opens + length paths
 
--- each reader did so with its paths for the end
-abbrev pub AllOpenedLast : List Shot → List ReaderSeat → List ReaderSeat → Type 0
-AllOpenedLast shots old new = (length new ≡ length old) × ((k : ℕ) (d : ReaderSeat) → k < length old
-    → HasOpenedLast shots (slice_index_or old k d).finales.items (slice_index_or old k d).pass (slice_index_or new k d).pass)
+-- a reader did so with its paths for the end, and each of its opens is answered on a shot that its pass knows
+pub record HasReadLast (shots : List Shot) (seat : ReaderSeat) (pass : ReaderView) : Type 0 where
+  pub opened : HasOpenedLast shots seat.finales.items seat.pass pass
+  pub answered : AllAnswered pass.known pass.opens
+
+-- each reader did, and these are their passes
+abbrev pub AllReadLast : List Shot → List ReaderSeat → List ReaderView → Type 0
+AllReadLast shots [] [] = Unit {0}
+AllReadLast shots [] (p ∷ ps) = ⊥
+AllReadLast shots (seat ∷ seats) [] = ⊥
+AllReadLast shots (seat ∷ seats) (p ∷ ps) = HasReadLast shots seat p × AllReadLast shots seats ps
 
 -- a reader of this board, which shows no more, with room for its paths for the end
 pub record MayOpenLast (board : Book) (shots : List Shot) (seat : ReaderSeat) : Type 0 where

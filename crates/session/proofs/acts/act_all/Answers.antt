@@ -1,11 +1,11 @@
 use Rattle.std.proofs.Common.{◌∙◌, sym, refl, ap, subst, List, map, rules}
+use Rattle.std.proofs.lemmas.List.{map-id}
 use Rattle.std.proofs.lemmas.Iterator.Consumers.{YieldsList-turn, YieldsList-end, YieldsList-so_far}
 use Rattle.std.proofs.lemmas.Iterator.Adapters.{YieldsList-from_vec}
 use Rattle.carousel_world.specs.Events.{Step}
 use Rattle.shot_board.specs.Showers.{shown_by}
 use Rattle.session.specs.Inner.Acting.{view_happening}
 use Rattle.session.specs.Inner.Casting.{CastStands}
-use Rattle.session.proofs.Editing.{map_same}
 use Rattle.session.proofs.Events.{acted_more, mention_of, next_in, range_of, same_twice}
 use Rattle.session.proofs.Turning.{all_done}
 use Rattle.session.proofs.acts.act_all.Goals as goal
@@ -18,14 +18,14 @@ act-requires-clause-range g c = λ κs h.
     let list = YieldsList-from_vec {s = c.into_iter-deed-iterator.result} c.args.before.items (search rules) (search rules) in
     let far = YieldsList-so_far list c.loop-deed.yielded c.loop-deed.deed-iterator c.loop-deed.yielded_by in
     let turn = YieldsList-turn list c.loop-deed.yielded c.loop-deed.deed-iterator c.loop-deed.yielded_by c.next.result c.next.new.self c.in-Some.deed c.in-Some.is c.next.ensures.steps in
-    range_of c.args.before.items c.loop-deed.yielded c.in-Some.deed (sym (map_same c.loop-deed.yielded) ∙ far) turn.0 turn.1 c.requires.range
+    range_of c.args.before.items c.loop-deed.yielded c.in-Some.deed (sym (map-id c.loop-deed.yielded) ∙ far) turn.0 turn.1 c.requires.range
 
 pub act-requires-clause-there : goal.act-requires-clause-there
 act-requires-clause-there g c = λ κs h.
     let list = YieldsList-from_vec {s = c.into_iter-deed-iterator.result} c.args.before.items (search rules) (search rules) in
     let far = YieldsList-so_far list c.loop-deed.yielded c.loop-deed.deed-iterator c.loop-deed.yielded_by in
     let turn = YieldsList-turn list c.loop-deed.yielded c.loop-deed.deed-iterator c.loop-deed.yielded_by c.next.result c.next.new.self c.in-Some.deed c.in-Some.is c.next.ensures.steps in
-    mention_of c.args.before.items c.loop-deed.yielded c.in-Some.deed (sym (map_same c.loop-deed.yielded) ∙ far) turn.0 turn.1 c.args.cast.now c.loop-deed.cast c.loop-deed.invariant.actors c.requires.there
+    mention_of c.args.before.items c.loop-deed.yielded c.in-Some.deed (sym (map-id c.loop-deed.yielded) ∙ far) turn.0 turn.1 c.args.cast.now c.loop-deed.cast c.loop-deed.invariant.actors c.requires.there
 
 pub act-requires-clause-next : goal.act-requires-clause-next
 act-requires-clause-next g c = λ κs h.
@@ -37,7 +37,7 @@ act-requires-clause-next g c = λ κs h.
       set.0,
       map view_happening c.loop-deed.yielded,
       i.acted set.0 set.1 set.2,
-      next_in c.args.before.items c.loop-deed.yielded c.in-Some.deed (sym (map_same c.loop-deed.yielded) ∙ far) turn.0 turn.1 set.0 set.1,
+      next_in c.args.before.items c.loop-deed.yielded c.in-Some.deed (sym (map-id c.loop-deed.yielded) ∙ far) turn.0 turn.1 set.0 set.1,
       record { board = i.board.0 ∙ set.3.board; most = i.board.1 ∙ set.3.most },
     )
 
@@ -53,7 +53,7 @@ loop-deed-preserved g c =
       actors = same_twice c.args.cast.now c.loop-deed.cast c.act.new.self i.actors c.act.ensures.actors;
       board = (c.act.ensures.board.0 ∙ i.board.0, c.act.ensures.board.1 ∙ i.board.1);
       acted = λ setting same st. acted_more c.args.station.now y c.in-Some.deed (shown_by c.act.new.shower) c.act.new.self setting
-          (c.in_ok-act.ensures.stands setting (map view_happening y) (i.acted setting same st) (next_in c.args.before.items y c.in-Some.deed (sym (map_same y) ∙ far) turn.0 turn.1 setting same));
+          (c.in_ok-act.ensures.stands setting (map view_happening y) (i.acted setting same st) (next_in c.args.before.items y c.in-Some.deed (sym (map-id y) ∙ far) turn.0 turn.1 setting same));
     }
 
 pub returns-clause-stands : goal.returns-clause-stands

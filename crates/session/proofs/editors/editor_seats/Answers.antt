@@ -1,11 +1,12 @@
 use Rattle.std.proofs.Common.{ℕ, List, [], ◌∷◌, ◌++◌, ◌<◌, ◌+◌, ◌≡◌, ◌∙◌, length, map, take, ap, sym, subst, arith, rules, refl, length-append}
+use Rattle.std.proofs.lemmas.List.{get_or_default, map-id}
 use Rattle.std.proofs.lemmas.Iterator.Consumers.{YieldsList-turn, YieldsList-end}
 use Rattle.std.proofs.lemmas.Iterator.Adapters.{YieldsList-from_vec}
 use Rattle.path_tree.specs.declared.tree.Edit.{Edit}
 use Rattle.session.specs.Inner.Acting.{EditorStands}
 use Rattle.session.specs.Inner.ByActor.{lists_of}
 use Rattle.session.specs.Seats.{edits_of}
-use Rattle.session.proofs.Editing.{new_seats_count, seats_more, new_plans, new_at, all_new, any_default, map_same, AreNewSeats}
+use Rattle.session.proofs.Editing.{new_seats_count, seats_more, new_plans, new_at, all_new, AreNewSeats}
 use Rattle.session.proofs.Taking.{AreLeft, left_on}
 use Rattle.std.specs.Prelude.{slice_index_or}
 use Rattle.session.specs.declared.editor.EditorSeat.{EditorSeat}
@@ -41,7 +42,7 @@ loop-pass-preserved g c =
       made = subst (λ (ss : List EditorSeat). AreNewSeats f (take (length (c.loop-pass.yielded ++ c.in-Some.pass ∷ [])) c.args.numbers.now) (c.loop-pass.yielded ++ c.in-Some.pass ∷ []) ss) (sym c.in_ok-push.ensures.items)
           (seats_more f c.args.numbers.now c.loop-pass.yielded c.loop-pass.seats.items c.in-Some.pass _ lt
           (ap (λ (k : ℕ). slice_index_or c.args.numbers.now k 0) (let len = c.len.ensures in let ok = c.loop-pass.seats.ok.0 in omega (arith, len, ok))
-          ∙ any_default c.args.numbers.now (length c.loop-pass.seats.items) 0 _ (let made = new_seats_count _ _ _ _ i.made in omega (arith, lt, made)))
+          ∙ get_or_default c.args.numbers.now (length c.loop-pass.seats.items) 0 _ (let made = new_seats_count _ _ _ _ i.made in omega (arith, lt, made)))
           refl laid i.made);
       left = subst (λ (k : ℕ). AreLeft c.args.numbers.now k (lists_of c.args.commits) (lists_of c.take-its_commits.new.self)) (sym (length-append c.loop-pass.yielded (c.in-Some.pass ∷ [])))
           (left_on c.args.numbers.now (length c.loop-pass.yielded) (lists_of c.args.commits) (lists_of c.loop-pass.commits) (lists_of c.take-its_commits.new.self) n c.requires.apart lt here i.left c.take-its_commits.ensures.left);
@@ -52,7 +53,7 @@ returns-clause-plans g c =
     let end = YieldsList-end (YieldsList-from_vec {s = c.into_iter-pass-iterator.result} c.args.passes.items (search rules) (search rules))
     c.loop-pass.yielded c.loop-pass.pass-iterator c.loop-pass.yielded_by c.next.result c.next.new.self c.in-None.is c.next.ensures.steps in
     let f : ℕ → List (List Edit) = λ n. map edits_of (lists_of c.args.commits n) in
-    new_plans f _ _ _ (all_new f c.args.numbers.now c.args.passes.items c.loop-pass.yielded c.loop-pass.seats.items (sym (map_same c.loop-pass.yielded) ∙ end.0) c.requires.count.0 c.loop-pass.invariant.made)
+    new_plans f _ _ _ (all_new f c.args.numbers.now c.args.passes.items c.loop-pass.yielded c.loop-pass.seats.items (sym (map-id c.loop-pass.yielded) ∙ end.0) c.requires.count.0 c.loop-pass.invariant.made)
 
 pub returns-clause-passes : goal.returns-clause-passes
 returns-clause-passes g c =
@@ -60,7 +61,7 @@ returns-clause-passes g c =
     c.loop-pass.yielded c.loop-pass.pass-iterator c.loop-pass.yielded_by c.next.result c.next.new.self c.in-None.is c.next.ensures.steps in
     let f : ℕ → List (List Edit) = λ n. map edits_of (lists_of c.args.commits n) in
     λ k d lt. (new_at f c.args.station.now 0 c.args.numbers.now c.args.passes.items c.loop-pass.seats.items c.requires.passes
-    (all_new f c.args.numbers.now c.args.passes.items c.loop-pass.yielded c.loop-pass.seats.items (sym (map_same c.loop-pass.yielded) ∙ end.0) c.requires.count.0 c.loop-pass.invariant.made) k d lt).pass
+    (all_new f c.args.numbers.now c.args.passes.items c.loop-pass.yielded c.loop-pass.seats.items (sym (map-id c.loop-pass.yielded) ∙ end.0) c.requires.count.0 c.loop-pass.invariant.made) k d lt).pass
 
 pub returns-clause-stands : goal.returns-clause-stands
 returns-clause-stands g c =
@@ -69,4 +70,4 @@ returns-clause-stands g c =
     let f : ℕ → List (List Edit) = λ n. map edits_of (lists_of c.args.commits n) in
     λ k d lt. subst (λ (n : ℕ). EditorStands c.args.station.now n [] (slice_index_or c.loop-pass.seats.items k d)) (omega arith)
     (new_at f c.args.station.now 0 c.args.numbers.now c.args.passes.items c.loop-pass.seats.items c.requires.passes
-    (all_new f c.args.numbers.now c.args.passes.items c.loop-pass.yielded c.loop-pass.seats.items (sym (map_same c.loop-pass.yielded) ∙ end.0) c.requires.count.0 c.loop-pass.invariant.made) k d lt)
+    (all_new f c.args.numbers.now c.args.passes.items c.loop-pass.yielded c.loop-pass.seats.items (sym (map-id c.loop-pass.yielded) ∙ end.0) c.requires.count.0 c.loop-pass.invariant.made) k d lt)

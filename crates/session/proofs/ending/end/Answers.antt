@@ -1,11 +1,11 @@
-use Rattle.std.proofs.Common.{◌∙◌, ap, arith, map, sym, subst}
+use Rattle.std.proofs.Common.{ap, map, sym, subst}
 use Rattle.shot_board.specs.Showers.{shown_by, shower_board, most_by}
 use Rattle.station.specs.Passes.{weights_of}
 use Rattle.session_script.specs.Parts.{script_of_parts}
-use Rattle.session_history.specs.Merges.{fates_view}
+use Rattle.history_merge.specs.Merges.{fates_view}
 use Rattle.session.specs.Inner.Ending.{view_closed}
 use Rattle.session.specs.Sessions.{IsSession}
-use Rattle.session.proofs.Finale.{may_draw, may_read, ends_well, written_back}
+use Rattle.session.proofs.Finale.{may_draw, may_read, ends_well}
 use Rattle.session.proofs.Planning.{if_ok_map}
 use Rattle.session.proofs.ending.end.Goals as goal
 
@@ -21,25 +21,21 @@ pub read_all-requires : goal.read_all-requires
 read_all-requires g c =
     let r = c.requires.ready in
     may_read r.0 c.args.station c.args.settles c.args.numbers.now c.args.editors.items c.args.feeder c.args.readers.items (shown_by c.args.shower.now) r.1
-    (shower_board c.settle.new.shower) (shower_board c.args.shower.now) (shown_by c.settle.new.shower) c.deref_mut.result.now r.2 c.settle.ensures.board.0 c.in_ok-settle.ensures.count c.deref_mut.ensures.value
+    (shower_board c.settle.new.shower) (shower_board c.args.shower.now) (shown_by c.settle.new.shower) r.2 c.settle.ensures.board.0 c.in_ok-settle.ensures.count
 
 pub merge-requires : goal.merge-requires
 merge-requires g c =
     let r = c.requires.ready in
-    (ends_well c.played_is_a_session.ensures c.args.station c.args.settles c.args.editors.items c.args.feeder c.args.readers.items c.deref_mut.result.now c.read_all.new.readers c.deref.result.now
-    (shown_by c.args.shower.now) (shown_by c.settle.new.shower) (view_closed c.in_ok-closed.closed) (view_closed c.settle.new.self) c.in_ok-kept.kept.items c.deref-3.result.now
-    c.deref-2.result.now c.entries.result.now c.args.numbers.now c.in_ok-closed.ensures.gathered c.in_ok-settle.ensures.drawn c.in_ok-settle.ensures.gathered
-    c.deref_mut.ensures.value c.in_ok-read_all.ensures.read (c.deref.ensures.value ∙ written_back c.args.readers.len c.read_all.new.readers c.deref_mut.result.now c.args.readers.items c.in_ok-read_all.ensures.read.0 c.deref_mut.ensures.value (let ok = c.args.readers.ok.0 in omega (arith, ok)))
-    c.in_ok-kept.ensures.answered c.in_ok-kept.ensures.opens
-    c.deref-3.ensures.value (ap (map fates_view) c.deref-2.ensures.value) c.entries.ensures.entries r.0 r.1).0
+    (ends_well c.played_is_a_session.ensures c.args.station c.args.settles c.args.editors.items c.args.feeder c.args.readers.items c.in_ok-passes.passes.items c.deref-2.result.now
+    (shown_by c.args.shower.now) (shown_by c.settle.new.shower) (view_closed c.in_ok-closed.closed) (view_closed c.settle.new.self) c.deref.result.now c.entries.result.now c.args.numbers.now
+    c.in_ok-closed.ensures.gathered c.in_ok-settle.ensures.drawn c.in_ok-settle.ensures.gathered c.in_ok-passes.ensures.read
+    c.deref-2.ensures.value (ap (map fates_view) c.deref.ensures.value) c.entries.ensures.entries r.0 r.1).0
 
 pub returns-clause-session : goal.returns-clause-session
 returns-clause-session g c =
     if_ok_map c.merge.result (λ told is setting d. subst (IsSession (weights_of c.args.station) (script_of_parts setting.parts)) (sym is)
-    (ends_well c.played_is_a_session.ensures c.args.station c.args.settles c.args.editors.items c.args.feeder c.args.readers.items c.deref_mut.result.now c.read_all.new.readers c.deref.result.now
-    (shown_by c.args.shower.now) (shown_by c.settle.new.shower) (view_closed c.in_ok-closed.closed) (view_closed c.settle.new.self) c.in_ok-kept.kept.items c.deref-3.result.now
-    c.deref-2.result.now c.entries.result.now c.args.numbers.now c.in_ok-closed.ensures.gathered c.in_ok-settle.ensures.drawn c.in_ok-settle.ensures.gathered
-    c.deref_mut.ensures.value c.in_ok-read_all.ensures.read (c.deref.ensures.value ∙ written_back c.args.readers.len c.read_all.new.readers c.deref_mut.result.now c.args.readers.items c.in_ok-read_all.ensures.read.0 c.deref_mut.ensures.value (let ok = c.args.readers.ok.0 in omega (arith, ok)))
-    c.in_ok-kept.ensures.answered c.in_ok-kept.ensures.opens
-    c.deref-3.ensures.value (ap (map fates_view) c.deref-2.ensures.value) c.entries.ensures.entries setting d).1)
+    (ends_well c.played_is_a_session.ensures c.args.station c.args.settles c.args.editors.items c.args.feeder c.args.readers.items c.in_ok-passes.passes.items c.deref-2.result.now
+    (shown_by c.args.shower.now) (shown_by c.settle.new.shower) (view_closed c.in_ok-closed.closed) (view_closed c.settle.new.self) c.deref.result.now c.entries.result.now c.args.numbers.now
+    c.in_ok-closed.ensures.gathered c.in_ok-settle.ensures.drawn c.in_ok-settle.ensures.gathered c.in_ok-passes.ensures.read
+    c.deref-2.ensures.value (ap (map fates_view) c.deref.ensures.value) c.entries.ensures.entries setting d).1)
     c.merge.ensures

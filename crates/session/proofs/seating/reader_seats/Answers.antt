@@ -1,12 +1,12 @@
 use Rattle.std.proofs.Common.{ℕ, List, [], ◌∷◌, ◌++◌, ◌<◌, ◌+◌, ◌≡◌, ◌∙◌, map, length, take, ap, sym, subst, arith, rules, length-append}
 use Rattle.std.specs.Prelude.{slice_index_or}
+use Rattle.std.proofs.lemmas.List.{get_or_default, map-id}
 use Rattle.std.proofs.lemmas.Iterator.Consumers.{YieldsList-turn, YieldsList-end}
 use Rattle.std.proofs.lemmas.Iterator.Adapters.{YieldsList-from_vec}
 use Rattle.carousel_world.specs.Events.{Step}
 use Rattle.session.specs.Inner.ByActor.{lists_of}
 use Rattle.session.specs.declared.reader.ReaderSeat.{ReaderSeat}
 use Rattle.session.specs.Inner.Acting.{view_happening}
-use Rattle.session.proofs.Editing.{any_default, map_same}
 use Rattle.session.proofs.Seated.{AreNewReaders, all_readers, new_readers, new_readers_count, readers_more, readers_stand, room_for, seat_of}
 use Rattle.session.proofs.Taking.{AreLeft, left_on}
 use Rattle.session.proofs.seating.reader_seats.Goals as goal
@@ -48,7 +48,7 @@ loop-viewer-preserved c =
       made = subst (λ (ss : List ReaderSeat). AreNewReaders room paths finales (take (length (y ++ c.in-Some.viewer ∷ [])) ns) (y ++ c.in-Some.viewer ∷ []) ss) (sym c.in_ok-push.ensures.items)
           (readers_more room paths finales ns y c.loop-viewer.seats.items c.in-Some.viewer c.in_ok-reader_seat.field-0 n lt
           (ap (λ (k : ℕ). slice_index_or ns k 0) (let len = c.len.ensures in let ok = c.loop-viewer.seats.ok.0 in omega (arith, len, ok))
-          ∙ any_default ns (length c.loop-viewer.seats.items) 0 n (omega (arith, lt, made)))
+          ∙ get_or_default ns (length c.loop-viewer.seats.items) 0 n (omega (arith, lt, made)))
           (seat_of before paths finales n c.in-Some.viewer c.in_ok-reader_seat.field-0 c.count_opens-opens.result c.take-its_paths.result.items c.take-its_finales.result.items c.count_opens-opens.ensures its_paths its_finales c.in_ok-reader_seat.ensures)
           i.made);
       paths_left = subst (λ (k : ℕ). AreLeft ns k paths (lists_of c.take-its_paths.new.self)) (sym one)
@@ -65,7 +65,7 @@ returns-clause-plans c =
     let finales = lists_of c.args.finales in
     let room = room_for (map view_happening c.args.before.now) paths finales in
     new_readers room paths finales _ _ _ (all_readers room paths finales c.args.numbers.now c.args.viewers.items c.loop-viewer.yielded c.loop-viewer.seats.items
-    (sym (map_same c.loop-viewer.yielded) ∙ end.0) c.requires.count.0 c.loop-viewer.invariant.made)
+    (sym (map-id c.loop-viewer.yielded) ∙ end.0) c.requires.count.0 c.loop-viewer.invariant.made)
 
 pub returns-clause-stands : goal.returns-clause-stands
 returns-clause-stands c =
@@ -78,4 +78,4 @@ returns-clause-stands c =
     λ setting shots above below last one each.
     readers_stand before paths finales setting shots above below last one c.args.numbers.now c.args.viewers.items c.loop-viewer.seats.items
     (all_readers room paths finales c.args.numbers.now c.args.viewers.items c.loop-viewer.yielded c.loop-viewer.seats.items
-    (sym (map_same c.loop-viewer.yielded) ∙ end.0) c.requires.count.0 c.loop-viewer.invariant.made) each
+    (sym (map-id c.loop-viewer.yielded) ∙ end.0) c.requires.count.0 c.loop-viewer.invariant.made) each

@@ -2,7 +2,7 @@ use Rattle.std.proofs.Common.{◌≡◌, ℕ, ◌+◌, true, List, length, map, 
 use Rattle.station.specs.Passes.{pass_count}
 use Rattle.shot_board.specs.Showers.{shown_by}
 use Rattle.session_script.specs.Parts.{script_of_parts}
-use Rattle.session_history.specs.Merges.{known_view}
+use Rattle.history_merge.specs.Merges.{known_view}
 use Rattle.session.specs.declared.cast.Cast.{Cast}
 use Rattle.session.specs.Inner.Acting.{view_happening}
 use Rattle.session.specs.Sessions.{IsSession}

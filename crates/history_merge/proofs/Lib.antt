@@ -1,0 +1,13 @@
+pub mod Lists
+pub mod Cutting
+pub mod Growing
+pub mod Placing
+pub mod Ordering
+pub mod Numbers
+pub mod Replying
+pub mod Merged
+pub mod Parts
+pub mod Turns
+pub mod Telling
+pub mod Witness
+pub mod CallerLemmas

@@ -1,0 +1,8 @@
+use Rattle.std.proofs.Common.{map}
+use Rattle.history_merge.specs.Merges.{known_view, fates_view}
+use Rattle.history_merge.specs.Inner.Waiting.{view_waiting}
+use Rattle.history_merge.proofs.Telling.{IsMerging}
+use Rattle.history_merge.proofs.history.merge.Given as goal
+
+abbrev pub invariant-loop-entry : goal.invariant-loop-entry
+invariant-loop-entry l = IsMerging l.entries (map fates_view l.fates) l.editors l.passes l.entry-index l.draws (map view_waiting l.waiting.items) (map known_view l.told.items)

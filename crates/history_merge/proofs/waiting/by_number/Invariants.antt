@@ -1,0 +1,7 @@
+use Rattle.std.proofs.Common.{◌≡◌, ◌-◌, ◌++◌, map}
+use Rattle.std.specs.List.{flat_map, range_with_len}
+use Rattle.history_merge.specs.Inner.Waiting.{view_waiting, waited_by}
+use Rattle.history_merge.proofs.waiting.by_number.Given as goal
+
+abbrev pub invariant-loop-number : goal.invariant-loop-number
+invariant-loop-number l = map view_waiting l.waiting.items ++ flat_map (waited_by l.passes) (range_with_len l.number (65 - l.number)) ≡ flat_map (waited_by l.passes) (range_with_len 1 64)

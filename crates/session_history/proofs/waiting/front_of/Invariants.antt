@@ -1,6 +1,0 @@
-use Rattle.std.proofs.Common.{◌≡◌, ◌+◌, ◌≤◌, length, drop}
-use Rattle.session_history.specs.Inner.Waiting.{count_first_opens}
-use Rattle.session_history.proofs.waiting.front_of.Given as goal
-
-abbrev pub invariant-loop-place : goal.invariant-loop-place
-invariant-loop-place l = (l.place ≤ length l.opens) × (l.place + count_first_opens l.draws (drop l.place l.opens) ≡ count_first_opens l.draws l.opens)
