@@ -1,5 +1,5 @@
 -- Opens and kept answers while the known list grows.
-use Rattle.std.proofs.Common.{◌≡◌, ℕ, List, [], ◌∷◌, ◌++◌, append-nil, sym, ◌∙◌}
+use Rattle.std.proofs.Common.{◌≡◌, ℕ, List, [], ◌∷◌, ◌++◌}
 use mathlib.Core.List.{IsPrefix}
 use Rattle.shot_board.proofs.CallerLemmas.{prefix_get}
 use Rattle.std.specs.declared.string.String.{String}
@@ -20,6 +20,3 @@ answered_push xs (x ∷ es) e h a = (h.0, answered_push xs es e h.1 a)
 
 pub kept_on : {Z : Type 0} (xs ys : List Shot) (n : ℕ) (es : List (String Z × Answer)) → IsPrefix xs ys → AreAnswersIn xs n es → AreAnswersIn ys n es
 kept_on xs ys n es p h = λ e c. let a = h e c in (a.0, prefix_get xs ys n a.0 p a.1, a.2)
-
-pub same_begins : {A : Type 0} (xs ys : List A) → ys ≡ xs → IsPrefix xs ys
-same_begins xs ys e = ([], append-nil xs ∙ sym e)

@@ -1,10 +1,12 @@
 -- What a contract sees of a reader's pass.
-use Rattle.std.specs.Prelude.{ℕ, ◌≡◌, List, [], ◌∷◌, Some, slice_get}
+use Rattle.std.specs.Prelude.{ℕ, ◌≡◌, ◌<◌, List, [], ◌∷◌, length, Some, slice_get, IsTrue}
 use Rattle.logbook.specs.Pages.{Book}
 use Rattle.shot_board.specs.declared.viewer.Viewer.{Viewer}
+use Rattle.shot_board.specs.Shots.{EndsWith}
 use Rattle.shot_board.specs.Viewers.{known_of, told_of, most_of, viewer_board}
+use Rattle.path_tree.specs.Paths.{PathNames}
 use Rattle.path_resolver.specs.declared.shot.Shot.{Shot}
-use Rattle.path_resolver.specs.Resolving.{answer_of}
+use Rattle.path_resolver.specs.Resolving.{answer_of, is_shared}
 use Rattle.path_resolver.specs.Shots.{held_of}
 use Rattle.open_history.specs.declared.entry.OpenEntry.{OpenEntry}
 
@@ -33,3 +35,11 @@ AllAnswered known (e ∷ es) = Answered known e × AllAnswered known es
 
 abbrev pub IsSameReader : ReaderView → ReaderView → Type 0
 IsSameReader a b = (b.reader ≡ a.reader) × (b.room ≡ a.room) × (b.board ≡ a.board) × (b.most ≡ a.most)
+
+-- the pass doesn't know all that it was told of
+abbrev pub IsBehind : ReaderView → Type 0
+IsBehind r = length r.known < length r.told
+
+-- the answer to the path on the last shot of the list shares what the shot holds
+abbrev pub SharesOnLast : List Shot → PathNames → Type 0
+SharesOnLast known path = (shot : Shot) × EndsWith (λ s. s.number) known shot × IsTrue (is_shared (answer_of (held_of shot) path))

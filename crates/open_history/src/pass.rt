@@ -1,4 +1,4 @@
-ghost use Rattle.std.specs.Prelude.{◌≡◌, ◌+◌, ◌<◌, ◌≤◌, [], ◌∷◌, ◌++◌, length, IfOk, IfErr, OnOk, OnErr};
+ghost use Rattle.std.specs.Prelude.{◌≡◌, ◌⊎◌, ◌+◌, ◌<◌, ◌≤◌, [], ◌∷◌, ◌++◌, length, IfOk, IfErr, OnOk, OnErr};
 ghost use mathlib.Core.List.{IsPrefix};
 ghost use Rattle.shot_board.specs.Fronts.{shots_in, front_board};
 
@@ -36,7 +36,7 @@ impl Model for ReaderPass {
 }
 
 impl ReaderPass {
-    ghost use Rattle.open_history.specs.Opens.{AllAnswered, Answered, reader_view, IsSameReader};
+    ghost use Rattle.open_history.specs.Opens.{AllAnswered, Answered, reader_view, IsSameReader, IsBehind, SharesOnLast};
 
     /// A pass of the reader with this number that looks at a board as `viewer` does. Memory for `room` opens, and for the
     /// answers that it keeps, is asked for here; without it the viewer comes back.
@@ -96,22 +96,25 @@ impl ReaderPass {
         self.viewer.learn(front);
     }
 
-    /// Takes a shot, and opens nothing. Out of memory is the only refusal, and leaves what the pass knows.
+    /// Takes a shot, and opens nothing. Out of memory is the only refusal, and leaves what the pass knows. It comes only where the
+    /// pass stays behind a list that it was told of, as after the shower was closed.
     pub fn look(&mut self) -> Result<(), NoMemory>
         ensures same { IsSameReader self.old self.new × (self.new.told ≡ self.old.told) × (self.new.opens ≡ self.old.opens) }
         ensures known { IsPrefix self.old.known self.new.known × (length self.new.known ≤ self.new.most + 1) }
         ensures told { OnOk result (IsPrefix self.old.told self.new.known) }
         ensures refused { OnErr result (self.new.known ≡ self.old.known) }
+        ensures memory { OnErr result (IsBehind self.new) }
     {
-        let shot = self.viewer.take()?;
-        self.answers.turn_to(shot.number);
+        self.viewer.look()?;
+        self.answers.turn_to(self.viewer.last().number);
         Ok(())
     }
 
     /// Takes a shot, resolves the whole path on it, and puts the open after the others. There has to be room for it. The
     /// answer is the place of the open in `opens`.
     ///
-    /// Out of memory is the only refusal: it gives the path back, and there is no new open.
+    /// Out of memory is the only refusal: it gives the path back, and there is no new open. It comes only where `look` is refused,
+    /// or of a path whose answer on that shot shares what is held.
     pub fn open_path(&mut self, path: Path) -> Result<usize, (NoMemory, Path)>
         requires { length self.old.opens < self.old.room }
         ensures same { IsSameReader self.old self.new × (self.new.told ≡ self.old.told) }
@@ -121,27 +124,29 @@ impl ReaderPass {
         ensures open { OnOk result ((made : OpenEntry) × (self.new.opens ≡ self.old.opens ++ made ∷ []) × (made.path ≡ path) × (made.shot + 1 ≡ length self.new.known) × Answered self.new.known made) }
         ensures refused { OnErr result (self.new.opens ≡ self.old.opens) }
         ensures back { IfErr result (λ refused. refused.1 ≡ path) }
+        ensures memory { OnErr result (IsBehind self.new ⊎ SharesOnLast self.new.known path) }
     {
-        let shot = match self.viewer.take() {
-            Ok(shot) => shot,
-            Err(refused) => return Err((refused, path)),
+        let Ok(()) = self.viewer.look() else {
+            return Err((AllocError, path));
         };
+        let shot = self.viewer.last();
         self.answers.turn_to(shot.number);
-        let answer = match self.answers.answer(&shot, &path) {
-            Ok(answer) => answer,
-            Err(refused) => return Err((refused, path)),
+        let Ok(answer) = self.answers.answer(shot, &path) else {
+            return Err((AllocError, path));
         };
         let place = self.opens.len();
-        self.opens.push_reserved(OpenEntry::on(&shot, path, answer));
+        self.opens.push_reserved(OpenEntry::on(shot, path, answer));
         Ok(place)
     }
 
-    /// Learns the front with the board's last shot, and takes a shot: the pass then knows just the list that was shown.
+    /// Learns the front with the board's last shot, and takes a shot: the pass then knows just the list that was shown. Out of
+    /// memory is the only refusal, and comes only where the pass stays behind that list.
     pub fn catch_up(&mut self, front: Front<Shot>) -> Result<(), NoMemory>
         requires board { front_board front ≡ self.old.board }
         requires last { length (shots_in front) ≡ self.old.most + 1 }
         ensures same { IsSameReader self.old self.new × (self.new.opens ≡ self.old.opens) }
         ensures known { OnOk result (self.new.known ≡ shots_in front) }
+        ensures memory { OnErr result (IsBehind self.new) }
     {
         self.learn(front);
         self.look()

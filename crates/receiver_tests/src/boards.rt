@@ -70,3 +70,33 @@ fn two_viewers_take_what_was_shown(rt: HostRuntime) -> Result<(), Fail> {
     assert_eq!(rt; (after.0?, after.1?), (1, 1));
     Ok(())
 }
+
+#[test]
+fn viewers_move_on_untold_and_stay_where_a_board_is_closed(rt: HostRuntime) -> Result<(), Fail> {
+    let alloc = rt.alloc();
+    let first = numbered_slide(alloc, 0)?;
+    let second = numbered_slide(alloc, 1)?;
+    let (mut shower, mut viewers) = board(&rt, alloc, first, 2, 1)?;
+    let Some(mut moved) = next(&shower, &mut viewers) else {
+        panic!(rt; "no viewer")
+    };
+    let Some(mut idle) = next(&shower, &mut viewers) else {
+        panic!(rt; "no second viewer")
+    };
+    let before = moved.last().number;
+    let shown = shower.show(&rt, second).is_ok();
+    let looked = moved.look().is_ok();
+    let front = shower.front();
+    shower.close(&rt);
+    assert_eq!(rt;
+        (before, shown, looked, moved.last().number),
+        (0, true, true, 1)
+    );
+    // Neither was told of more than it knows.
+    assert!(rt; moved.look().is_ok() && idle.look().is_ok());
+    assert_eq!(rt; (taken(&mut moved)?, taken(&mut idle)?), (1, 0));
+    idle.learn(front);
+    assert!(rt; idle.look().is_err() && taken(&mut idle).is_err());
+    assert_eq!(rt; idle.last().number, 0);
+    Ok(())
+}

@@ -162,3 +162,22 @@ fn kept_answers_are_those_of_the_last_shot(rt: HostRuntime) -> Result<(), Fail> 
     assert_eq!(rt; told(opens.get(183)), None);
     Ok(())
 }
+
+#[test]
+fn a_pass_opens_on_where_its_board_is_closed(rt: HostRuntime) -> Result<(), Fail> {
+    let alloc = rt.alloc();
+    let first = shot_of(alloc, 0, b"hello")?;
+    let (shower, mut viewers) = board(&rt, alloc, first, 1, 0)?;
+    let Some(viewer) = viewers.pop() else {
+        panic!(rt; "no viewer")
+    };
+    let Ok(mut pass) = ReaderPass::new(alloc, 7, viewer, 2) else {
+        panic!(rt; "no memory for a pass")
+    };
+    shower.close(&rt);
+    open_each(&mut pass, alloc, b'f', b'h')?;
+    let opens = pass.opens();
+    assert_eq!(rt; told(opens.get(0)), Some((0, b'h')));
+    assert!(rt; matches!(opens[1].answer, Answer::NoSuch));
+    Ok(())
+}

@@ -1,12 +1,11 @@
 -- Beginnings of a list.
-use Rattle.std.proofs.Common.{◌≡◌, ℕ, zero, suc, ◌≤◌, List, [], ◌∷◌, length, Some, slice_get, refl, ap, sym, ◌∙◌, arith, length-append}
+use Rattle.std.proofs.Common.{◌≡◌, ℕ, zero, suc, ◌≤◌, List, [], ◌∷◌, length, Some, slice_get, refl, ap, sym, ◌∙◌, arith, length-append, append-nil}
 use mathlib.Core.List.{IsPrefix}
 
 module _ {A : Type 0} where
   -- each list begins itself
-  pub prefix_self : (xs : List A) → IsPrefix xs xs
-  prefix_self [] = ([], refl)
-  prefix_self (x ∷ xs) = let rest = prefix_self xs in (rest.0, ap (λ ys. x ∷ ys) rest.1)
+  pub same_begins : (xs ys : List A) → ys ≡ xs → IsPrefix xs ys
+  same_begins xs ys e = ([], append-nil xs ∙ sym e)
 
   pub prefix_length : (xs ys : List A) → IsPrefix xs ys → length xs ≤ length ys
   prefix_length xs ys p = omega (arith, sym (ap length p.1) ∙ length-append xs p.0)

@@ -6,7 +6,7 @@ use Rattle.shot_board.specs.declared.viewer.Viewer.{Viewer}
 module _ {S : Type 0} where
   -- the list that the viewer knows
   abbrev pub known_of : Viewer S → List S
-  known_of v = v.known.seen.log
+  known_of v = v.shown.front.seen.log
 
   -- the list that it was told of
   abbrev pub told_of : Viewer S → List S
@@ -14,8 +14,8 @@ module _ {S : Type 0} where
 
   -- the board that it looks at
   abbrev pub viewer_board : Viewer S → Book
-  viewer_board v = v.known.seen.book
+  viewer_board v = v.shown.front.seen.book
 
   -- the greatest number that the board may show
   abbrev pub most_of : Viewer S → ℕ
-  most_of v = v.most
+  most_of v = v.shown.most

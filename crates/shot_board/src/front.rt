@@ -1,4 +1,4 @@
-ghost use Rattle.std.specs.Prelude.{◌≡◌, ◌+◌, length, true, false};
+ghost use Rattle.std.specs.Prelude.{◌≡◌, ◌+◌, ◌<◌, length, true, false};
 ghost use mathlib.Core.List.{IsPrefix};
 
 use crate::book::Law;
@@ -42,6 +42,7 @@ impl<S: Numbered> Front<S> {
         requires { self.now.seen.book ≡ other.now.seen.book }
         ensures yes { result ≡ true → IsPrefix other.now.seen.log self.now.seen.log }
         ensures no { result ≡ false → IsPrefix self.now.seen.log other.now.seen.log }
+        ensures shorter { result ≡ false → length self.now.seen.log < length other.now.seen.log }
         ensures numbers { AreNumbered S.number self.now.seen.log }
     {
         let mut both = self.seen.again();

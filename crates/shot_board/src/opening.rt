@@ -1,4 +1,4 @@
-ghost use Rattle.std.specs.Prelude.{◌≡◌, ◌≤◌, true, [], ◌∷◌, drop, length, IfSome, IfOk};
+ghost use Rattle.std.specs.Prelude.{◌≡◌, ◌≤◌, true, [], ◌∷◌, drop, length, IfSome, OnSome, IfOk};
 ghost use Rattle.std.specs.Arc.{arc_value};
 ghost use Rattle.std.specs.Vec.{vec_capacity};
 ghost use Rattle.left_right.specs.Sides.{view};
@@ -41,22 +41,24 @@ pub fn board<S: Numbered, R: Wait>(
     };
     let shown = Shown {
         shot: first,
-        front: front.again(),
+        front,
         most,
     };
-    let spare = shown.share()?;
+    let (posted, spare) = (shown.share()?, shown.share()?);
     let Ok(mut viewers) = Vec::with_capacity(alloc, readers as usize) else {
         return Err(AllocError);
     };
-    let writer = Desk::new(alloc, shown, spare, readers.max(1) as usize)?;
+    let writer = Desk::new(alloc, posted, spare, readers.max(1) as usize)?;
     let Some(writer) = named(rt, writer) else {
         return Err(AllocError);
     };
-    let writer = seat_all(rt, writer, &front, most, readers, &mut viewers);
+    let Some(writer) = seat_all(rt, writer, &shown, readers, &mut viewers) else {
+        return Err(AllocError);
+    };
     let shower = Shower {
         writer: Some(writer),
         head,
-        front,
+        front: shown.front.again(),
         most,
         spent: false,
     };
@@ -92,41 +94,39 @@ fn named<S: Numbered, R: Wait>(rt: &R, writer: Desk<S>) -> Option<Desk<S>>
     Some(writer)
 }
 
-/// A viewer for each reader.
+/// A viewer for each reader, which holds a share of `shown`. Where that can't be shared, the writer is gone.
 fn seat_all<S: Numbered, R: Wait>(
     rt: &R,
     mut writer: Desk<S>,
-    front: &Front<S>,
-    most: u64,
+    shown: &Shown<S>,
     readers: u32,
     viewers: &mut Vec<Viewer<S>>,
-) -> Desk<S>
-    requires name { ((view writer.desk.place).named ≡ true) × ((view writer.desk.place).book.book ≡ front.now.seen.book) × ((view writer.desk.place).most ≡ most) }
-    requires room { (viewers.old.items ≡ []) × (readers ≤ vec_capacity viewers.old) × (front.now.number ≤ most) }
-    ensures viewers { (length viewers.new.items ≡ readers) × Each (IsSeated front.now most) viewers.new.items }
-    ensures writer { (result.desk.shown.value ≡ writer.desk.shown.value) × (drop result.behind result.log.items ≡ drop writer.behind writer.log.items) }
+) -> Option<Desk<S>>
+    requires name { ((view writer.desk.place).named ≡ true) × ((view writer.desk.place).book.book ≡ shown.now.front.seen.book) × ((view writer.desk.place).most ≡ shown.now.most) }
+    requires room { (viewers.old.items ≡ []) × (readers ≤ vec_capacity viewers.old) }
+    ensures viewers { OnSome result ((length viewers.new.items ≡ readers) × Each (IsSeated shown.now.front shown.now.most) viewers.new.items) }
+    ensures writer { IfSome result (λ w. (w.desk.shown.value ≡ writer.desk.shown.value) × (drop w.behind w.log.items ≡ drop writer.behind writer.log.items)) }
 {
     for _seated in 0..readers {
-        viewers.push_reserved(seat(rt, &mut writer, front, most));
+        let Ok(share) = shown.share() else {
+            drop(writer.take(rt));
+            return None;
+        };
+        viewers.push_reserved(seat(rt, &mut writer, share));
     }
-    writer
+    Some(writer)
 }
 
-/// A viewer at a place of its own. A place that is refused is asked for again.
-fn seat<S: Numbered, R: Wait>(
-    rt: &R,
-    writer: &mut Desk<S>,
-    front: &Front<S>,
-    most: u64,
-) -> Viewer<S>
-    requires name { ((view writer.old.desk.place).named ≡ true) × ((view writer.old.desk.place).book.book ≡ front.now.seen.book) × ((view writer.old.desk.place).most ≡ most) × (front.now.number ≤ most) }
-    ensures viewer { IsSeated front.now most result }
+/// A viewer at a place of its own, which holds this share. A place that is refused is asked for again.
+fn seat<S: Numbered, R: Wait>(rt: &R, writer: &mut Desk<S>, share: Shown<S>) -> Viewer<S>
+    requires name { ((view writer.old.desk.place).named ≡ true) × ((view writer.old.desk.place).book.book ≡ share.front.seen.book) × ((view writer.old.desk.place).most ≡ share.most) }
+    ensures viewer { IsSeated share.front share.most result }
     ensures writer { (writer.new.desk.shown ≡ writer.old.desk.shown) × (writer.new.log ≡ writer.old.log) × (writer.new.behind ≡ writer.old.behind) × (view writer.new.desk.place ≡ view writer.old.desk.place) }
 {
     for _ in rt.forever() {
         if let Ok(mut reader) = writer.factory().reader() {
             reader.learn::<SameName>(writer.tell::<SameName>());
-            return Viewer::at(reader, front.again(), most);
+            return Viewer::at(reader, share);
         }
         thread::yield_now();
     }

@@ -111,7 +111,7 @@ impl<S: Numbered> Shower<S> {
         self.front.again()
     }
 
-    /// Ends the board, once nobody reads. What each viewer knows stays, and `take` may be refused from then on.
+    /// Ends the board, once nobody reads. What each viewer knows stays, and it moves on to no other value.
     pub fn close<R: Wait>(self, rt: &R) {
         let Shower {
             writer,

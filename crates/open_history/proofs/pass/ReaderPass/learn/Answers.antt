@@ -1,5 +1,6 @@
 use Rattle.shot_board.specs.Viewers.{known_of}
-use Rattle.open_history.proofs.Growing.{answered_on, kept_on, same_begins}
+use Rattle.shot_board.proofs.CallerLemmas.{same_begins}
+use Rattle.open_history.proofs.Growing.{answered_on, kept_on}
 use Rattle.open_history.proofs.pass.ReaderPass.learn.Goals as goal
 
 pub invariant_of-self : goal.invariant_of-self

@@ -1,4 +1,4 @@
-use Rattle.std.proofs.Common.{◌≤◌, ap, subst, arith}
+use Rattle.std.proofs.Common.{◌<◌, ◌≤◌, ap, subst, arith}
 use mathlib.Core.List.{IsPrefix}
 use Rattle.std.proofs.lemmas.Bool.Decides.{nat_tests}
 use Rattle.shot_board.proofs.Prefixes.{prefix_shorter}
@@ -17,3 +17,8 @@ returns-clause-no g c = λ e.
     let this : IsPrefix c.args.self.now.seen.log both = subst (λ l. IsPrefix l both) (ap (λ s. s.log) c.again-both.ensures) c.learn.ensures.2 in
     let le : c.args.self.now.number ≤ c.args.other.now.number = grind (arith, nat_tests) in
     prefix_shorter c.args.self.now.seen.log c.args.other.now.seen.log both this c.learn.ensures.3 (omega (arith, c.args.self.now.counted, c.args.other.now.counted))
+
+pub returns-clause-shorter : goal.returns-clause-shorter
+returns-clause-shorter g c = λ e.
+    let lt : c.args.self.now.number < c.args.other.now.number = grind (arith, nat_tests) in
+    omega (arith, lt, c.args.self.now.counted, c.args.other.now.counted)
