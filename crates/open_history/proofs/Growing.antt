@@ -1,5 +1,5 @@
 -- Opens and kept answers while the known list grows.
-use Rattle.std.proofs.Common.{◌≡◌, ℕ, List, [], ◌∷◌, ◌++◌}
+use Rattle.std.proofs.Common.{ℕ, List, [], ◌∷◌, ◌++◌}
 use mathlib.Core.List.{IsPrefix}
 use Rattle.shot_board.proofs.CallerLemmas.{prefix_get}
 use Rattle.std.specs.declared.string.String.{String}

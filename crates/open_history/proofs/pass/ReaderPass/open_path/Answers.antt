@@ -24,8 +24,8 @@ answer-requires c =
     let were = kept_on (known_of c.self.inside.viewer) after old.on old.kept.entries c.look.ensures.knew c.self.invariant.2 in
     turned after old.on shot.number shot old.kept.entries new.kept.entries were at (λ e. ap (λ k. k.entries) (c.turn_to.ensures.same e)) c.turn_to.ensures.other
 
-pub invariant_of-self-in-Err-answer : goal.invariant_of-self-in-Err-answer
-invariant_of-self-in-Err-answer c =
+pub invariant_of-self-in_default-answer : goal.invariant_of-self-in_default-answer
+invariant_of-self-in_default-answer c =
     let before = known_of c.self.inside.viewer in
     let after = known_of c.look.new.self in
     let shot = c.last-shot.result.now in
@@ -35,8 +35,8 @@ invariant_of-self-in-Err-answer c =
       kept_in after shot.number c.answer.new.self.on shot c.answer.new.self.kept.entries at (c.answer.ensures.on ∙ c.turn_to.ensures.on) c.answer.ensures.kept,
     )
 
-pub returns-in-Err-answer-clause-memory : goal.returns-in-Err-answer-clause-memory
-returns-in-Err-answer-clause-memory c = inr (c.last-shot.result.now, c.last-shot.ensures.last, c.in-Err-answer.ensures.memory)
+pub returns-in_default-answer-clause-memory : goal.returns-in_default-answer-clause-memory
+returns-in_default-answer-clause-memory c = inr (c.last-shot.result.now, c.last-shot.ensures.last, c.in_default-answer.ensures.memory)
 
 answered : (c : goal.After-push_reserved) → Answered (known_of c.look.new.self) c.on.result
 answered c =
