@@ -1,6 +1,7 @@
 """What the scripts of this folder share: where the program is, how it is run, and how differences are reported.
 
-The program is the one that ./carousel builds, or the one that the environment variable CAROUSEL names.
+The program is the one that ./carousel builds, or the one that the environment variable CAROUSEL names; that of
+crates/bench_programs is the one that BENCH_PROGRAMS names, or rt builds it.
 """
 
 import os
@@ -30,6 +31,9 @@ def find():
 
 def measured_work(*words):
     """The words that start a work of crates/bench_programs; that program is proved and built first where it is missing or old."""
+    given = os.environ.get("BENCH_PROGRAMS")
+    if given:
+        return [given, *words]
     folder = os.path.join(TOP, "crates", "bench_programs")
     how = {"stdin": subprocess.DEVNULL, "stdout": subprocess.DEVNULL, "stderr": subprocess.DEVNULL}
     subprocess.run(["rt", "run", "--", "crc"], cwd=folder, check=True, **how)

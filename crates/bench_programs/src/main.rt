@@ -1,5 +1,5 @@
-//! The work that the comparisons under bench/ measure, again and again. The first word says which, and what is printed
-//! shows that it was done.
+//! What the scripts under bench/ measure or try from inside. The first word says which work, and what is printed shows that it
+//! was done.
 //!
 //! `crc ROUNDS`: takes the CRC of all of standard input, in one round where there is no number. Round k leaves out the first k
 //! bytes, so that no two rounds do the same work. What is printed is the CRCs of all rounds, joined by exclusive or.
@@ -20,6 +20,9 @@
 //! 32, each has opened one path and stands still with the shot that it took. What is printed is how many opens of the others
 //! answered the file.
 //!
+//! `session SEED`: plays the session of the script on standard input, as the program's command does, but at a gate at which each thread
+//! yields, spins or goes on by chance. What is printed, also on standard error, and the status are those of the command.
+//!
 //! `each`: a little of `crc`, `commits`, `station commits` and `opens`, one after another, which the gate runs.
 #![tactic(auto)]
 
@@ -29,14 +32,16 @@ mod feeder;
 mod opens;
 mod readers;
 mod request;
+mod sessions;
 mod station_commits;
 mod station_sections;
 
 use crate::request::{Request, Work, read_request};
-use oc_bytes::NoMemory;
+use oc_bytes::{NoMemory, StdSink, StdSource};
 use std::alloc::Global;
 use std::io;
 use std::io::Read;
+use std::process::ExitCode;
 use std::sync::Wait;
 use std::thread::Threads;
 
@@ -61,7 +66,7 @@ fn counted<R: Threads + Wait + Sync>(
         Work::Station => station_commits::accepted_by(rt, alloc, first.min(64), second),
         Work::Sections if first == 1 => station_sections::made_alone(alloc, second),
         Work::Sections => station_sections::made_by_two(rt, alloc, second),
-        Work::Crc | Work::Each | Work::Opens => opens::opened(
+        Work::Crc | Work::Each | Work::Opens | Work::Session => opens::opened(
             rt,
             alloc,
             opens::Request {
@@ -89,10 +94,10 @@ fn print_crc(rt: &HostRuntime, rounds: u32) -> io::Result<()> {
     println!(rt; "{joined:08x}")
 }
 
-fn main(rt: HostRuntime) -> io::Result<()> {
+fn main(rt: HostRuntime) -> io::Result<ExitCode> {
     let alloc = rt.alloc();
     let Request { work, numbers } = read_request(&rt)?;
-    match work {
+    let printed = match work {
         Work::Crc => print_crc(&rt, numbers[0]),
         Work::Each => {
             print_crc(&rt, 2)?;
@@ -100,6 +105,14 @@ fn main(rt: HostRuntime) -> io::Result<()> {
             print_count(&rt, counted(&rt, alloc, Work::Station, [2, 1, 0]))?;
             print_count(&rt, counted(&rt, alloc, Work::Opens, [2, 1, 1]))
         }
+        Work::Session => {
+            let mut source = StdSource::new(rt.stdin());
+            let mut sink = StdSink::new(rt.stdout());
+            let status = sessions::play(&rt, alloc, &mut source, &mut sink, numbers[0]);
+            return Ok(ExitCode::from(status));
+        }
         _ => print_count(&rt, counted(&rt, alloc, work, numbers)),
-    }
+    };
+    printed?;
+    Ok(ExitCode::SUCCESS)
 }

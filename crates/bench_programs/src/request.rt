@@ -2,7 +2,7 @@
 
 use std::{env, io};
 
-/// What is done again and again.
+/// What is done.
 #[derive(Clone, Copy)]
 pub enum Work {
     Each,
@@ -11,6 +11,7 @@ pub enum Work {
     Station,
     Sections,
     Opens,
+    Session,
 }
 
 /// What is done, and the numbers with which.
@@ -27,6 +28,7 @@ fn work_of(word: &str) -> Work {
         "commits" => Work::Commits,
         "station" => Work::Station,
         "opens" => Work::Opens,
+        "session" => Work::Session,
         _ => Work::Each,
     }
 }
