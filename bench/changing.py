@@ -160,7 +160,7 @@ class Editing:
             self.write(path, self.read(path))
 
     def leave_empty(self):
-        """A folder with nothing in it, which isn't sent."""
+        """A folder with nothing in it, which is sent as one."""
         os.makedirs(self.at((b"nothing", b"%d" % self.chance.randrange(9))), exist_ok=True)
 
     def link(self):

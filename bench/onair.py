@@ -59,8 +59,8 @@ class OnAir:
             self.hear(min(most - len(self.out), PIECE))
 
     def read_cycles(self, count):
-        """Reads as much as so many cycles have, or somewhat more: each file, and once more those of the module that comes twice."""
-        size = sum(160 + len(content) for content in self.tree.values())
+        """Reads as much as so many cycles have, or somewhat more: each file and empty folder, and once more what the module has that comes twice."""
+        size = sum(160 + len(content or b"") for content in self.tree.values())
         self.read(int(count * 1.05 * (1500 + size + min(size, streams.ROOM))))
 
     def in_pipe(self):

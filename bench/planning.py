@@ -32,7 +32,8 @@ def shown(path):
 
 
 class Walk:
-    """The files below a folder, and what is passed over, in the order in which they are met."""
+    """The files below a folder, the folders in which neither a file nor a folder stands, and what is passed over, in the order in
+    which they are met."""
 
     def __init__(self, folder):
         self.files, self.left, self.read = {}, [], 0
@@ -58,7 +59,10 @@ class Walk:
         if not is_name(it.name):
             raise refused("bad-name", shown(here), LONGEST)
         if stat.S_ISDIR(mode):
+            met = len(self.files)
             self.walk(it.path, here)
+            if len(self.files) == met:
+                self.files[here] = streams.KEPT
             return
         try:
             with open(it.path, "rb") as file:
@@ -69,11 +73,11 @@ class Walk:
 
 
 def judge(folder, files):
-    total = sum(map(len, files.values()))
+    total = sum(len(content or b"") for content in files.values())
     if total > MOST_PUT:
         raise refused("journal-full", total, MOST_PUT)
     for path, content in files.items():
-        if len(content) > MOST_CONTENT:
+        if len(content or b"") > MOST_CONTENT:
             size = min(os.path.getsize(os.path.join(folder, *path)), MOST_SIZED)
             raise refused("file-too-large", shown(path), size, MOST_CONTENT)
     objects, children = streams.objects_of(files), streams.children_of(files)
@@ -81,7 +85,7 @@ def judge(folder, files):
         raise refused("too-many-objects", len(objects), MOST_OBJECTS)
     sizes = [streams.size_of(path, files, children) for path in objects]
     for path, size in zip(objects, sizes):
-        if path not in files and size > MOST_FOLDER:
+        if not streams.is_file(path, files) and size > MOST_FOLDER:
             raise refused("folder-too-large", shown(path), size, MOST_FOLDER)
     if sum(sizes) > MOST_TOTAL:
         raise refused("too-many-bytes", sum(sizes), MOST_TOTAL)
@@ -99,7 +103,7 @@ def lines(walk, carousel, bitrate):
     for path in sorted([*streams.objects_of(walk.files), *walk.left]):
         if path not in made.places:
             yield f"left {shown(path)}{hidden(path)}"
-        elif path in walk.files:
+        elif streams.is_file(path, walk.files):
             yield f"file {shown(path)} {len(walk.files[path])} module {made.places[path]}{hidden(path)}"
         else:
             yield f"folder {shown(path)} {len(children[path])} module {made.places[path]}{hidden(path)}"

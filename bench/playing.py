@@ -38,7 +38,7 @@ def read(folder):
 
 
 def files_between(before, now):
-    """How many files are new, gone or have other bytes."""
+    """How many files are new, gone or have other bytes. A kept folder counts for nothing."""
     return sum(before.get(path) != now.get(path) for path in before.keys() | now.keys())
 
 
@@ -91,7 +91,8 @@ def trees_in(stream, pid):
 
 
 def tree_of(held):
-    return {path: answer.content for path, answer in receiver.listed(held) if answer.names is None}
+    """The files, and the folders below the root in which nothing is. Where a kept folder has something in it nobody sees that it is kept."""
+    return {path: answer.content for path, answer in receiver.listed(held) if answer.names is None or (path and not answer.names)}
 
 
 class Wrong(Exception):

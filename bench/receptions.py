@@ -218,8 +218,9 @@ def lawful(chance, broadcaster=Broadcaster):
 
 def some_paths(chance, trees):
     """Paths to ask: of files and folders that are or were there, and some that never were."""
-    files = sorted({path for tree in trees.values() for path in tree})
-    paths = sorted({*files, *streams.folders_of(files), *(path + (b"x",) for path in files[:2]), (b"no", b"such")})
+    every = {path: content for tree in trees.values() for path, content in tree.items()}
+    files = sorted(every)
+    paths = sorted({*files, *streams.folders_of(every), *(path + (b"x",) for path in files[:2]), (b"no", b"such")})
     chance.shuffle(paths)
     return paths[:40]
 
@@ -382,7 +383,7 @@ class Premises:
 
 def looked_up(files, path):
     """What a tree has at a path: the text of the answer, the bytes and the names."""
-    if path in files:
+    if streams.is_file(path, files):
         return receiver.Answer(f"file {len(files[path])}", content=files[path])
-    names = sorted({file[len(path)] for file in files if file[:len(path)] == path and len(file) > len(path)})
-    return receiver.Answer(f"folder {len(names)}", names=names) if names or not path else receiver.NO_SUCH
+    names = sorted({other[len(path)] for other in files if other[:len(path)] == path and len(other) > len(path)})
+    return receiver.Answer(f"folder {len(names)}", names=names) if names or path in files or not path else receiver.NO_SUCH

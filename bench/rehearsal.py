@@ -29,6 +29,8 @@ MOST_BYTES = 268_435_456
 
 Put = namedtuple("Put", "path content")
 Remove = namedtuple("Remove", "path")
+MakeFolder = namedtuple("MakeFolder", "path")
+RemoveFolder = namedtuple("RemoveFolder", "path")
 Commit = namedtuple("Commit", "editor edits")
 Draw = namedtuple("Draw", "asked fates")
 Open = namedtuple("Open", "reader path")
@@ -75,6 +77,8 @@ WORDS = {
     b"put": [ACTOR, path, content],
     b"fill": [ACTOR, path, number(0, MOST_FILE + 1), number(0, 255)],
     b"remove": [ACTOR, path],
+    b"mkdir": [ACTOR, path],
+    b"rmdir": [ACTOR, path],
     b"commit": [ACTOR],
     b"draw": [number(1, MOST_DRAW)],
     b"open": [ACTOR, path],
@@ -169,6 +173,10 @@ def lines_of(text):
             raise BadLine(at, str(fault)) from None
 
 
+# The lines whose edits have a path alone.
+PATH_EDITS = {b"remove": Remove, b"mkdir": MakeFolder, b"rmdir": RemoveFolder}
+
+
 def steps_of(text):
     """The first word of each line that is no edit, in written order, and its event; `start` and `settle` have none."""
     edits = {}
@@ -177,8 +185,8 @@ def steps_of(text):
             edits.setdefault(values[0], []).append(Put(*values[1:]))
         elif keyword == b"fill":
             edits.setdefault(values[0], []).append(Put(values[1], filled(*values[2:])))
-        elif keyword == b"remove":
-            edits.setdefault(values[0], []).append(Remove(values[1]))
+        elif keyword in PATH_EDITS:
+            edits.setdefault(values[0], []).append(PATH_EDITS[keyword](values[1]))
         elif keyword == b"commit":
             yield keyword, Commit(values[0], edits.pop(values[0], []))
         elif keyword == b"draw":
@@ -212,14 +220,20 @@ class Refused(Exception):
 
 
 def fault_of(files, above, edit):
-    """Why an edit is refused, or None. `above` counts the files below each folder."""
+    """Why an edit is refused, or None. `above` counts what a tree has below each folder."""
+    path, is_file = edit.path, streams.is_file(edit.path, files)
+    is_kept = path in files and not is_file
     if isinstance(edit, Remove):
-        return None if edit.path in files else "no-such-file"
-    if edit.path in above or not edit.path:
+        return None if is_file else "no-such-file"
+    if isinstance(edit, RemoveFolder):
+        return "no-such-folder" if not is_kept else "not-empty" if path in above else None
+    if not path or is_kept or (isinstance(edit, Put) and path in above):
         return "folder-there"
-    if any(edit.path[:n] in files for n in range(1, len(edit.path))):
+    if isinstance(edit, MakeFolder) and is_file:
+        return "file-there"
+    if any(streams.is_file(path[:n], files) for n in range(1, len(path))):
         return "through-file"
-    return "file-too-large" if len(edit.content) > MOST_FILE else None
+    return "file-too-large" if isinstance(edit, Put) and len(edit.content) > MOST_FILE else None
 
 
 def applied(files, edits):
@@ -238,13 +252,13 @@ def applied(files, edits):
         fault = fault_of(files, above, edit)
         if fault:
             raise Refused(f"edit {place} {fault}")
-        if isinstance(edit, Remove):
+        if isinstance(edit, (Remove, RemoveFolder)):
             del files[edit.path]
             count(edit.path, -1)
         else:
             if edit.path not in files:
                 count(edit.path, 1)
-            files[edit.path] = edit.content
+            files[edit.path] = edit.content if isinstance(edit, Put) else streams.KEPT
     return files
 
 
@@ -255,7 +269,7 @@ def check(files):
         raise Refused(f"too-many-objects {len(objects)}")
     sizes = [streams.size_of(it, files, children) for it in objects]
     for it, size in zip(objects, sizes):
-        if it not in files and size > MOST_FOLDER:
+        if not streams.is_file(it, files) and size > MOST_FOLDER:
             raise Refused(f"folder-too-large {printed(it).decode()}")
     if sum(sizes) > MOST_BYTES:
         raise Refused(f"too-many-bytes {sum(sizes)}")

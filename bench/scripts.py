@@ -8,23 +8,30 @@ ASKED = PATHS + [b"/", b"/news", b"/no/such", b"/a/b", b"/" + b"/".join([b"p"] *
 
 # A line of each way to be wrong. The cause is the model's own to find; the models' tests have it beside the line.
 WRONG = {
-    b"unknown word": [b"frobnicate 1", b" commit 1", b"PUT 1 /a -", b" ", b"commit1", b"\r", b"finale\t1 /a", b"put\x00"],
+    b"unknown word": [b"frobnicate 1", b" commit 1", b"PUT 1 /a -", b" ", b"commit1", b"\r", b"finale\t1 /a", b"put\x00", b"mkdirs 1 /a", b"RMDIR 1 /a"],
     b"bad number": [
         b"commit 0", b"commit 65", b"commit 01", b"commit +1", b"commit 1\r", b"commit ", b"commit x", b"commit  1", b"put a b c",
         b"draw 0", b"draw 1048577", b"draw 99999999999999999999999", b"fill 1 /a 16777218 0", b"fill 1 /a 1 256", b"fill 1 /a -1 0",
-        b"open 1\xFF /a", b"put /a 1 00",
+        b"open 1\xFF /a", b"put /a 1 00", b"mkdir 0 /a", b"mkdir /a", b"rmdir 65 /a", b"rmdir 1\t /a",
     ],
     b"bad path": [
         b"open 1 relative", b"open 1 ", b"put 1 /a//b 00", b"remove 1 /a/", b"open 1 /%2f", b"open 1 /%00", b"open 1 /%4", b"open 1 /%zz",
-        b"put 1 " + b"/a" * 17 + b" -", b"open 1 /" + b"n" * 255, b"put 1  /a 00", b"open 1 //", b"fill 1 a x y",
+        b"put 1 " + b"/a" * 17 + b" -", b"open 1 /" + b"n" * 255, b"put 1  /a 00", b"open 1 //", b"fill 1 a x y", b"mkdir 1 a",
+        b"mkdir 1 /a/", b"rmdir 1 ", b"rmdir 1 /%2F",
     ],
     b"bad hex": [b"put 1 /a 0", b"put 1 /a 0g", b"put 1 /a --", b"put 1 /a ", b"put 1 /a 00-", b"put 1 /a +1", b"put 1 /a 0_0_"],
     b"bad fate": [
         b"draw 5 x1", b"draw 5 k0", b"draw 5 d65537", b"draw 5 f1504", b"draw 5 f01", b"draw 5 k", b"draw 5 ", b"draw 5 k1  d1",
         b"draw 5 k65536 k1", b"draw 5 k1 K1", b"draw 5 d65535 f3 f3", b"draw 5 k1 ", b"draw 5 k+1",
     ],
-    b"word missing": [b"put", b"put 1", b"put 1 /a", b"fill 1 /a", b"fill 1 /a 3", b"remove 2", b"commit", b"draw", b"open", b"open 3"],
-    b"extra word": [b"commit 1 2", b"commit 1 ", b"put 1 /a 00 00", b"open 1 /a /b", b"remove 1 /a ", b"fill 1 /a 3 4 5", b"start now", b"settle "],
+    b"word missing": [
+        b"put", b"put 1", b"put 1 /a", b"fill 1 /a", b"fill 1 /a 3", b"remove 2", b"mkdir", b"mkdir 2", b"rmdir 64", b"commit", b"draw", b"open",
+        b"open 3",
+    ],
+    b"extra word": [
+        b"commit 1 2", b"commit 1 ", b"put 1 /a 00 00", b"open 1 /a /b", b"remove 1 /a ", b"mkdir 1 /a -", b"rmdir 1 /a /b", b"rmdir 1 /a ",
+        b"fill 1 /a 3 4 5", b"start now", b"settle ",
+    ],
 }
 
 
@@ -42,13 +49,13 @@ def fates(chance):
 
 def edit(chance, editors=range(1, 4)):
     editor, kind = chance.choice(editors), chance.random()
-    if kind < 0.5:
+    if kind < 0.4:
         content = chance.randbytes(chance.choice([0, 1, 3, 30])).hex().encode() or b"-"
         return b"put %d %s %s" % (editor, pick(chance), content.upper() if chance.random() < 0.2 else content)
-    if kind < 0.8:
+    if kind < 0.6:
         length = chance.choice([0, 1, 500, 3905, 3906, 4066, 9000, 40_000, 65_492, 65_493, 70_000])
         return b"fill %d %s %d %d" % (editor, pick(chance), length, chance.randrange(256))
-    return b"remove %d %s" % (editor, pick(chance))
+    return b"%s %d %s" % (chance.choice([b"remove", b"remove", b"mkdir", b"mkdir", b"rmdir"]), editor, pick(chance))
 
 
 def draw(chance):
@@ -122,7 +129,7 @@ def wrong(chance):
 
 # What scripts are spelled with, so that bytes drawn of it get past the first word now and then.
 LETTERS = [b" ", b"\n", b"#", b"-", b"/a", b"%41", b"\r\n", b"\0", b"\xFF", *(b"%d " % n for n in (0, 1, 2, 64, 65)), *(b"%s " % it for it in (
-    b"put", b"fill", b"remove", b"commit", b"draw", b"open", b"start", b"settle", b"finale", b"k3", b"d1", b"f9",
+    b"put", b"fill", b"remove", b"mkdir", b"rmdir", b"commit", b"draw", b"open", b"start", b"settle", b"finale", b"k3", b"d1", b"f9",
 ))]
 
 
@@ -200,6 +207,37 @@ def full_sessions():
     yield "a full journal", [*puts, b"fill 1 /1 5 7", b"commit 1", b"start", *puts, b"put 2 /2 32", b"commit 2", b"settle", b"finale 2 /2"]
 
 
+# Scripts of edits alone, in every order.
+
+FAMILIES = [[b"/d", b"/d/x", b"/d/x/y"], [b"/d", b"/d/x", b"/e"]]
+EDITS = [b"put 1 %s 61", b"remove 1 %s", b"mkdir 1 %s", b"rmdir 1 %s"]
+
+
+def edits_in_order():
+    """Each script beside its name. A commit has three of all edits of three paths, on the empty tree: what it left is taken away by the
+    commits after it, of which each has one edit, and many are refused. Before that the root and the three paths are opened."""
+    for paths in FAMILIES:
+        edits = [edit % path for path in paths for edit in EDITS]
+        away = [b"%s 1 %s\ncommit 1" % (word, path) for path in reversed(paths) for word in (b"remove", b"rmdir")]
+        seen = [b"draw 9", *(b"open 1 " + path for path in (b"/", *paths))]
+        for first in edits:
+            lines = [line for second in edits for third in edits for line in [first, second, third, b"commit 1", *seen, *away]]
+            yield f"{first.decode()} first, of {' '.join(path.decode() for path in paths)}", lines
+
+
+def edits_at_random(number):
+    """A script of commits of a few such edits, each on what the ones before it left; the root and the three paths are opened after some, and
+    packets are lost on the way."""
+    chance = random.Random(f"folders {number}")
+    paths, lines = chance.choice(FAMILIES), []
+    edits = [edit % path for path in paths for edit in [*EDITS, *chance.choices(EDITS, k=2)]]
+    for _ in range(chance.choice([10, 40, 120])):
+        lines += [*chance.choices(edits, k=chance.choice([0, 1, 1, 1, 2, 3, 8])), b"commit 1"]
+        if chance.random() < 0.6:
+            lines += [draw(chance), *(b"open 1 " + path for path in (b"/", *paths))]
+    return [*lines, b"settle", *(b"finale 1 " + path for path in (b"/", *paths))]
+
+
 # Scripts at the limits. Each is large, or takes a while.
 
 def limits():
@@ -219,7 +257,9 @@ def limits():
     # fifteen files of 16,777,216 bytes and one of 16,775,150 have 268,435,456 bytes with their headers
     large = [b"fill 1 /%c 16777216 %d" % (97 + n, n) for n in range(15)]
     yield "bytes", [*large, b"fill 1 /p 16775150 0", b"commit 1", b"fill 1 /p 16775151 0", b"commit 1"]
-    yield "what is put", [*[b"fill 1 /a 16777216 1"] * 32, b"commit 1", b"put 2 /b 00", b"commit 2", b"commit 3"]
+    yield "what is put", [*[b"fill 1 /a 16777216 1"] * 32, b"commit 1", b"mkdir 2 /c", b"commit 2", b"put 2 /b 00", b"commit 2", b"commit 3"]
+    bare = [b"mkdir 1 /%d/%d" % (n // 91, n % 91) for n in range(8102)]
+    yield "folders", [*bare[:8101], b"commit 1", bare[8101], b"commit 1", b"draw 1048576", b"open 1 /7", b"open 1 /7/7"]
 
 
 # Scripts as long as they may be.

@@ -1,5 +1,6 @@
 """An independent writer of carousels, for tests and benchmarks alone: trees of files as transport packets.
 
+A tree has the bytes of each file by its path, and KEPT at the path of a folder that is kept, whether or not something stands in it.
 It shares no code with the crates, so that what they read of its streams says something. As a program:
 
     streams.py FOLDER CYCLES > STREAM        the folder's files, as CYCLES cycles on PID 256
@@ -27,6 +28,8 @@ MOST_LINES = 139
 MOST_GROUPS = 16
 # What the program places objects in: the modules of one DII.
 MOST_MODULES = MOST_LINES
+# What a tree has at the path of a kept folder.
+KEPT = None
 # The items of a cycle: the DSI, (DII, group) for each DII, and (module, block).
 DSI, DII = "dsi", "dii"
 FIRST_DII = (DII, 1)
@@ -92,9 +95,13 @@ def key_bytes(key):
     return struct.pack(">I", key)
 
 
+def is_file(path, files):
+    return files.get(path, KEPT) is not KEPT
+
+
 def folders_of(files):
-    """The root and each folder on the way to a file."""
-    found = {()}
+    """The root, each kept folder, and each folder on the way to a file or to a kept one."""
+    found = {(), *(path for path in files if not is_file(path, files))}
     for path in files:
         for n in range(1, len(path)):
             found.add(path[:n])
@@ -115,9 +122,9 @@ def children_of(files):
 
 
 def size_of(path, files, children):
-    if path in files:
+    if is_file(path, files):
         return 44 + len(files[path])
-    return 34 + sum(len(n) + (82 if path + (n,) in files else 74) for n in children[path])
+    return 34 + sum(len(n) + (82 if is_file(path + (n,), files) else 74) for n in children[path])
 
 
 def fresh_placement(sizes, old=None, room=ROOM):
@@ -184,7 +191,7 @@ def is_block(item):
 
 @dataclass(frozen=True)
 class Generation:
-    """One published tree: files by path, key and module of each object, modules by id, and how often each id has changed.
+    """One published tree: its files and kept folders by path, key and module of each object, modules by id, and how often each id has changed.
     `by` gives the identification of the DII that lists a module."""
 
     carousel: int
@@ -227,7 +234,7 @@ class Generation:
 
 def was_there(path, files, before):
     """Whether an object of the same path and kind was in the generation before."""
-    return path in before.keys and (path in files) == (path in before.files)
+    return path in before.keys and is_file(path, files) == is_file(path, before.files)
 
 
 def keys_of(objects, files, before):
@@ -246,16 +253,16 @@ def keys_of(objects, files, before):
 def modules_of(objects, files, children, keys, places, carousel, by):
     modules = {}
     for path in objects:
-        if path in files:
+        if is_file(path, files):
             written = file_message(key_bytes(keys[path]), files[path])
         else:
             bindings = []
             for name in children[path]:
                 child = path + (name,)
-                is_file = child in files
+                is_one = is_file(child, files)
                 m, key = places[child], key_bytes(keys[child])
-                reference = ior(b"fil\0" if is_file else b"dir\0", carousel, m, key, tap(by(m)))
-                bindings.append(binding(name, is_file, reference, len(files[child]) if is_file else 0))
+                reference = ior(b"fil\0" if is_one else b"dir\0", carousel, m, key, tap(by(m)))
+                bindings.append(binding(name, is_one, reference, len(files[child]) if is_one else 0))
             written = folder_message(key_bytes(keys[path]), bindings, b"dir\0" if path else b"srg\0")
         modules.setdefault(places[path], []).append(written)
     return {m: b"".join(parts) for m, parts in sorted(modules.items())}
@@ -395,7 +402,7 @@ def two_diis(files):
     DIIs and the blocks of the modules that changed: enough for whoever heard the first."""
     place = partial(kept_placement, room=300)
     first = next_generation(first_generation(by=lambda m: 5 if m % 2 else 9), files, place)
-    path = max(files)
+    path = max(path for path in files if is_file(path, files))
     second = next_generation(first, {**files, path: files[path].upper()}, place)
     changed = [it for it in second.cycle() if is_block(it) and second.counts[it[0]] != first.counts[it[0]]]
     return packed([*cycle(first), *map(second.section, [*reversed(second.diis()), *changed])])
@@ -435,15 +442,20 @@ def damaged(files):
     return [*sent[:40], *sent[60:70], sent[69], *sent[70:-5], bytes(wrong), *sent[-4:]]
 
 
+def path_below(folder, place):
+    return tuple(os.fsencode(part) for part in os.path.relpath(place, folder).split(os.sep))
+
+
 def files_in(folder):
+    """The tree of a folder: its files, and each folder below it in which neither a file nor a folder stands."""
     files = {}
-    for at, _, names in os.walk(folder):
-        for name in names:
-            whole = os.path.join(at, name)
-            if os.path.isfile(whole) and not os.path.islink(whole):
-                path = tuple(os.fsencode(part) for part in os.path.relpath(whole, folder).split(os.sep))
-                with open(whole, "rb") as source:
-                    files[path] = source.read()
+    for at, folders, names in os.walk(folder):
+        there = [whole for name in names if os.path.isfile(whole := os.path.join(at, name)) and not os.path.islink(whole)]
+        for whole in there:
+            with open(whole, "rb") as source:
+                files[path_below(folder, whole)] = source.read()
+        if at != folder and not there and all(os.path.islink(os.path.join(at, name)) for name in folders):
+            files[path_below(folder, at)] = KEPT
     return files
 
 
@@ -477,11 +489,13 @@ def large_folder(folder, megabytes):
 
 
 def write_files(files, folder):
+    """Writes a tree into a folder."""
     for path, content in files.items():
-        file = os.path.join(os.fsencode(folder), *path)
-        os.makedirs(os.path.dirname(file), exist_ok=True)
-        with open(file, "wb") as out:
-            out.write(content)
+        place = os.path.join(os.fsencode(folder), *path)
+        os.makedirs(os.path.dirname(place) if content is not KEPT else place, exist_ok=True)
+        if content is not KEPT:
+            with open(place, "wb") as out:
+                out.write(content)
 
 
 def main(words):

@@ -70,7 +70,9 @@ fn named_folders(alloc: Global, name: &str, fail_at: Vec<u64>) -> Result<MemFold
         "two-files-and-a-folder" => two_files_and_a_folder(alloc, fail_at),
         "files-out-of-order" => files_out_of_order(alloc, fail_at),
         "no-file" => no_file(alloc, fail_at),
+        "bare-folders" => bare_folders(alloc, fail_at),
         "sixteen-names" => sixteen_names(alloc, fail_at),
+        "a-folder-too-deep" => a_folder_too_deep(alloc, fail_at),
         "a-bad-name-after-a-deep-folder" => a_bad_name_after_a_deep_folder(alloc, fail_at),
         "a-deep-path-before-a-bad-name" => a_deep_path_before_a_bad_name(alloc, fail_at),
         "two-files" => two_files(alloc, fail_at),
@@ -99,8 +101,21 @@ fn no_file(alloc: Global, fail_at: Vec<u64>) -> Result<MemFolders, AllocError> {
     folders_of(alloc, &files, fail_at)
 }
 
+fn bare_folders(alloc: Global, fail_at: Vec<u64>) -> Result<MemFolders, AllocError> {
+    let files: [(&str, &[u8]); 3] = [("F/a/", b""), ("F/b", b"2"), ("F/c/d/", b"")];
+    folders_of(alloc, &files, fail_at)
+}
+
 fn sixteen_names(alloc: Global, fail_at: Vec<u64>) -> Result<MemFolders, AllocError> {
-    let files: [(&str, &[u8]); 1] = [("F/a/b/c/d/e/f/g/h/i/j/k/l/m/n/o/p", b"1")];
+    let files: [(&str, &[u8]); 2] = [
+        ("F/a/b/c/d/e/f/g/h/i/j/k/l/m/n/o/p", b"1"),
+        ("F/b/b/c/d/e/f/g/h/i/j/k/l/m/n/o/p/", b""),
+    ];
+    folders_of(alloc, &files, fail_at)
+}
+
+fn a_folder_too_deep(alloc: Global, fail_at: Vec<u64>) -> Result<MemFolders, AllocError> {
+    let files: [(&str, &[u8]); 1] = [("F/a/b/c/d/e/f/g/h/i/j/k/l/m/n/o/p/q/", b"")];
     folders_of(alloc, &files, fail_at)
 }
 
@@ -196,7 +211,7 @@ fn read<F: Folders>(alloc: Global, row: &Row<'_>, at: usize, folders: &mut F) ->
     row.line().outcome(folders.read(alloc, row.text(at), most))
 }
 
-/// The edits that put what stands below a folder, each as a path and bytes, or the fault.
+/// The edits that make what stands below a folder, or the fault.
 fn read_edits<F: Folders>(alloc: Global, row: &Row<'_>, at: usize, folders: &mut F) -> Line {
     match read_tree(alloc, folders, row.text(at)) {
         Ok(edits) => edits_text(row.line(), &edits),
@@ -208,23 +223,27 @@ fn edits_text(line: Line, edits: &[Edit]) -> Line {
     each(line.value("", &edits.len()).text(":"), edits)
 }
 
-/// A path and the bytes that are put there.
+/// A path and the bytes that are put there, or what else is done at a path.
 impl Told for Edit {
     fn told(&self, line: Line) -> Line {
         match self {
             Edit::Put(path, content) => line.value("", path).bytes("=", content.bytes()),
             Edit::Remove(path) => line.value("removed: ", path),
+            Edit::MakeFolder(path) => line.value("made: ", path),
+            Edit::RemoveFolder(path) => line.value("removed folder: ", path),
         }
     }
 }
 
-/// The folder F: a file, a folder with an empty file in it, and a link.
+/// The folder F: a file, a folder with an empty file in it, a folder with a link in it, and a link.
 fn write_folder(rt: &HostRuntime) -> io::Result<()> {
     let _ = fs::remove_dir_all(rt, "F");
     fs::create_dir(rt, "F")?;
     fs::create_dir(rt, "F/d")?;
     fs::write(rt, "F/a", "hello")?;
     fs::write(rt, "F/d/b", "")?;
+    fs::create_dir(rt, "F/e")?;
+    unix::fs::symlink(rt, "../a", "F/e/l")?;
     unix::fs::symlink(rt, "a", "F/l")
 }
 

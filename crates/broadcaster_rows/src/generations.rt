@@ -5,7 +5,7 @@ ghost use Rattle.generation.specs.Publication.{limit_of};
 use crate::texts::{Told, each};
 use crate::words::{edits, path_of, push_edit, put_shared, zeros};
 use dsi_dii::LAST_GENERATION;
-use generation::{Generation, Limit, check};
+use generation::{Generation, Limit, check, checked};
 use oc_bytes::Blob;
 use path_tree::{Edit, Tree, apply};
 use std::alloc::{AllocError, Global};
@@ -32,7 +32,8 @@ impl Generations {
     pub(crate) fn call(&mut self, alloc: Global, row: &Row<'_>) -> Option<Line> {
         match row.name() {
             "generation-new" => Some(self.keep(row, Generation::first(alloc, row.long(0)))),
-            "generation-files" => Some(self.put_files(alloc, row)),
+            "generation-files" => Some(self.put_edits(alloc, row, &files(alloc, row))),
+            "generation-folders" => Some(self.put_edits(alloc, row, &folders(alloc, row))),
             "generation-edit" => Some(self.edit(alloc, row)),
             "limit-folder" => Some(folder_limit(alloc, row)),
             "limit-modules" => Some(modules_limit(row)),
@@ -43,9 +44,9 @@ impl Generations {
         }
     }
 
-    /// The generation of a tree of files alone, which have the same zero bytes and names that end in five digits.
-    fn put_files(&mut self, alloc: Global, row: &Row<'_>) -> Line {
-        match apply(alloc, &Tree::empty(alloc), &files(alloc, row)) {
+    /// The generation of the tree that edits of the empty one make.
+    fn put_edits(&mut self, alloc: Global, row: &Row<'_>, edits: &[Edit]) -> Line {
+        match apply(alloc, &Tree::empty(alloc), edits) {
             Ok(tree) => self.put_tree(alloc, row, tree),
             Err(_) => row.failed(RowFault::BadRow),
         }
@@ -110,8 +111,9 @@ fn asked(row: &Row<'_>, generation: &Generation) -> Option<Line> {
 /// How many bytes a module has.
 fn size(row: &Row<'_>, generation: &Generation) -> Line {
     match generation.module(row.short(0)) {
-        Some(module) => row.line().value("", &module.bytes().len()),
-        None => row.line().text("no such module"),
+        Ok(Some(module)) => row.line().value("", &module.bytes().len()),
+        Ok(None) => row.line().text("no such module"),
+        Err(_) => row.failed(RowFault::NoMemory),
     }
 }
 
@@ -146,10 +148,31 @@ fn put_numbered(
     number: u32,
     content: &Blob,
 ) -> Result<Edit, RowFault> {
+    put_shared(alloc, &numbered(alloc, front, number)?, content)
+}
+
+/// So many folders that are made: the words are the front of their paths, and how many they are.
+fn folders(alloc: Global, row: &Row<'_>) -> Vec<Edit> {
+    let front = row.octets(0);
+    let mut edits = Vec::new(alloc);
+    for number in 0..row.long(1) {
+        push_edit(row, &mut edits, make_numbered(alloc, &front, number));
+    }
+    edits
+}
+
+/// The folder that is made at the path of this front and five digits.
+fn make_numbered(alloc: Global, front: &[u8], number: u32) -> Result<Edit, RowFault> {
+    let text = numbered(alloc, front, number)?;
+    Ok(Edit::MakeFolder(path_of(alloc, &text)?))
+}
+
+/// This front and a number in five digits.
+fn numbered(alloc: Global, front: &[u8], number: u32) -> Result<Vec<u8>, AllocError> {
     let name = format!(in alloc; "{number:05}")?;
     let mut text = Vec::from_slice(alloc, front)?;
     text.extend_from_slice(name.as_bytes())?;
-    put_shared(alloc, &text, content)
+    Ok(text)
 }
 
 /// The generation after edits of another one's tree, where nothing refuses them.
@@ -161,7 +184,7 @@ fn next_after(
     let Ok(tree) = apply(alloc, generation.tree(), edits) else {
         return Err(RowFault::BadRow);
     };
-    let Ok(()) = check(alloc, &tree) else {
+    let Ok(tree) = checked(alloc, tree) else {
         return Err(RowFault::BadRow);
     };
     if generation.number() >= LAST_GENERATION {

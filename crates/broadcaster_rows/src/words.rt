@@ -18,7 +18,7 @@ pub(crate) fn path(alloc: Global, row: &Row<'_>, place: usize) -> Result<Path, R
     path_of(alloc, row.text(place).as_bytes())
 }
 
-/// The edits of the words from a place up to a deed: `put PATH BYTES` and `remove PATH`.
+/// The edits of the words from a place up to a deed: `put PATH BYTES` and `remove PATH`, and of folders `mkdir PATH` and `rmdir PATH`.
 pub(crate) fn edits(alloc: Global, row: &Row<'_>, from: usize) -> Vec<Edit> {
     let mut edits = Vec::new(alloc);
     for place in from..row.len() {
@@ -50,6 +50,8 @@ fn edit(alloc: Global, row: &Row<'_>, place: usize) -> Option<Result<Edit, RowFa
     match row.text(place) {
         "put" => Some(put(alloc, row, place.saturating_add(1))),
         "remove" => Some(remove(alloc, row, place.saturating_add(1))),
+        "mkdir" => Some(make_folder(alloc, row, place.saturating_add(1))),
+        "rmdir" => Some(remove_folder(alloc, row, place.saturating_add(1))),
         _ => None,
     }
 }
@@ -62,6 +64,14 @@ pub(crate) fn put(alloc: Global, row: &Row<'_>, place: usize) -> Result<Edit, Ro
 
 fn remove(alloc: Global, row: &Row<'_>, place: usize) -> Result<Edit, RowFault> {
     Ok(Edit::Remove(path(alloc, row, place)?))
+}
+
+fn make_folder(alloc: Global, row: &Row<'_>, place: usize) -> Result<Edit, RowFault> {
+    Ok(Edit::MakeFolder(path(alloc, row, place)?))
+}
+
+fn remove_folder(alloc: Global, row: &Row<'_>, place: usize) -> Result<Edit, RowFault> {
+    Ok(Edit::RemoveFolder(path(alloc, row, place)?))
 }
 
 /// The put of shared bytes at the path of a text.

@@ -164,10 +164,7 @@ fn live<R: Threads + Wait + Sync>(
 fn copy(alloc: Global, edits: &Edits) -> Result<Vec<Edit>, NoMemory> {
     let mut copies = Vec::new(alloc);
     for edit in edits.list() {
-        copies.push(match edit {
-            Edit::Put(path, content) => Edit::Put(path.share()?, content.share()?),
-            Edit::Remove(path) => Edit::Remove(path.share()?),
-        })?;
+        copies.push(edit.share()?)?;
     }
     Ok(copies)
 }

@@ -1,8 +1,10 @@
 -- A name in a folder's listing leads to a file or a folder.
-use Rattle.std.proofs.Common.{◌≡◌, Bool, true, false, ◌||◌, List, [], ◌∷◌, ◌++◌, Option, Some, None, refl, sym, ◌∙◌, subst}
+use Rattle.std.proofs.Common.{◌≡◌, Bool, true, false, ◌||◌, List, [], ◌∷◌, ◌++◌, Option, Some, None, refl, ap, sym, ◌∙◌, subst}
 use Rattle.std.specs.List.{list_any, filter_map, dedup, dedup_from}
 use Rattle.path_tree.specs.Paths.{Bytes, PathNames, same_name, same_path, is_below, next_name}
-use Rattle.path_tree.specs.Trees.{Tree, Node, File, Folder, NoSuch, node_at, content_at, is_folder, names_below}
+use Rattle.path_tree.specs.Trees.{Tree, Node, File, Folder, NoSuch, node_at, content_at, entry_at, file_in, is_folder, is_kept, leads_on, names_below}
+use Rattle.path_tree.specs.declared.entry.Entry.{Entry}
+use Rattle.path_tree.specs.declared.entry.Entry.TheVariants as entries
 
 -- ---- tests
 
@@ -70,20 +72,34 @@ any_stands p n (x ∷ xs) e = go (is_named n (next_name p x.0)) refl (λ h. any_
     or_right true b h = refl
     or_right false b h = h
 
--- what stands at a path or below it, and not at it, stands below it
-stands_below : (q : PathNames) (es : Tree) → content_at es q ≡ None → list_any (λ e. is_at_or_below q e.0) es ≡ true → list_any (λ e. is_below q e.0) es ≡ true
-stands_below q [] c e = e
-stands_below q (x ∷ xs) c e = go (same_path q x.0) refl (λ d h. stands_below q xs d h) where
-  go : (t : Bool) → same_path q x.0 ≡ t → (content_at xs q ≡ None → list_any (λ e. is_at_or_below q e.0) xs ≡ true → list_any (λ e. is_below q e.0) xs ≡ true)
-      → (is_below q x.0 || list_any (λ e. is_below q e.0) xs) ≡ true
-  go true h rest = let bad = rw h at c in cc
+no_file : (e : Entry) → file_in (Some e) ≡ None → is_kept (Some e) ≡ true
+no_file (entries.File b) h = cc
+no_file entries.Folder h = refl
+
+left_then : (k b l a : Bool) → (b || a) ≡ true → (a ≡ true → (k || l) ≡ true) → (k || (b || l)) ≡ true
+left_then true b l a e next = refl
+left_then false true l a e next = refl
+left_then false false l a e next = next e
+
+-- where something stands at a path or below it, and no file at it, a folder is kept there, or the path leads on
+folder_there : (q : PathNames) (es : Tree) → content_at es q ≡ None → list_any (λ e. is_at_or_below q e.0) es ≡ true → (is_kept (entry_at es q) || leads_on es q) ≡ true
+folder_there q [] c e = e
+folder_there q (x ∷ xs) c e = go (same_path q x.0) refl (λ d h. folder_there q xs d h) where
+  go : (t : Bool) → same_path q x.0 ≡ t → (content_at xs q ≡ None → list_any (λ e. is_at_or_below q e.0) xs ≡ true → (is_kept (entry_at xs q) || leads_on xs q) ≡ true)
+      → (is_kept (entry_at (x ∷ xs) q) || (is_below q x.0 || leads_on xs q)) ≡ true
+  go true h rest =
+      let here : entry_at (x ∷ xs) q ≡ Some x.1 = rw h refl in
+      let kept : is_kept (entry_at (x ∷ xs) q) ≡ true = ap is_kept here ∙ no_file x.1 (sym (ap file_in here) ∙ c) in
+      rw kept refl
   go false h rest =
-      let d : content_at xs q ≡ None = rw h at c in
-      or_then (is_below q x.0) (list_any (λ e. is_at_or_below q e.0) xs) (list_any (λ e. is_below q e.0) xs) (rw h at e) (rest d)
+      let later : entry_at (x ∷ xs) q ≡ entry_at xs q = rw h refl in
+      let d : content_at xs q ≡ None = sym (ap file_in later) ∙ c in
+      ap (λ o. is_kept o || (is_below q x.0 || leads_on xs q)) later
+      ∙ left_then (is_kept (entry_at xs q)) (is_below q x.0) (leads_on xs q) (list_any (λ e. is_at_or_below q e.0) xs) (rw h at e) (rest d)
 
 -- ---- nodes
 
-folder_is : (t : Tree) (p : PathNames) (n : Bytes) → is_folder t (p ++ n ∷ []) ≡ list_any (λ e. is_below (p ++ n ∷ []) e.0) t
+folder_is : (t : Tree) (p : PathNames) (n : Bytes) → is_folder t (p ++ n ∷ []) ≡ (is_kept (entry_at t (p ++ n ∷ [])) || leads_on t (p ++ n ∷ []))
 folder_is t [] n = refl
 folder_is t (m ∷ ms) n = refl
 
@@ -99,7 +115,7 @@ node_none t q e f = rw (e, f) refl
 same_names : (a b : List Bytes) → Folder a ≡ Folder b → a ≡ b
 same_names a b e = cc
 
--- a folder's names are those that the files below it have next
+-- a folder's names are those that the entries below it have next
 listing : (t : Tree) (p : PathNames) (names : List Bytes) → node_at t p ≡ Folder names → names_below t p ≡ names
 listing t p names e = go (content_at t p) refl where
   go : (b : Option Bytes) → content_at t p ≡ b → names_below t p ≡ names
@@ -114,8 +130,8 @@ stands t p n e none = go (content_at t (p ++ n ∷ [])) refl where
   go : (b : Option Bytes) → content_at t (p ++ n ∷ []) ≡ b → ⊥
   go (Some b) h = let bad = sym (node_file t (p ++ n ∷ []) b h) ∙ none in cc
   go None h =
-      let below = folder_is t p n ∙ stands_below (p ++ n ∷ []) t h e in
-      let bad = sym (node_folder t (p ++ n ∷ []) h below) ∙ none in cc
+      let folder = folder_is t p n ∙ folder_there (p ++ n ∷ []) t h e in
+      let bad = sym (node_folder t (p ++ n ∷ []) h folder) ∙ none in cc
 
 -- each name of a listing leads to something
 abbrev pub IsClosed : (PathNames → Node) → Type 0

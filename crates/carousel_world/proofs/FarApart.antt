@@ -5,7 +5,6 @@ use Rattle.std.proofs.lemmas.Option.{same_Some, slice_get_within}
 use Rattle.oc_bytes.specs.Cursor.{each_at, sized_at}
 use Rattle.oc_bytes.specs.Grammar.{read}
 use Rattle.path_tree.specs.Paths.{Bytes}
-use Rattle.path_tree.specs.Trees.{File}
 use Rattle.ddb_block.specs.Message.{message_at}
 use Rattle.ddb_block.specs.Blocks.{block_at}
 use Rattle.dsi_dii.specs.ControlReading.{dii_at, dsi_at, frame_at, private_at}

@@ -1,12 +1,14 @@
--- A tree of one file can be published.
+-- A tree of one file, or of one kept folder, can be published.
 use Rattle.std.proofs.lemmas.List.{length-replicate}
-use Rattle.std.proofs.Common.{◌≡◌, ℕ, zero, suc, replicate, ◌<◌, ◌≤◌, ◌≢◌, false, [], ◌∷◌, length, None, refl, arith}
+use Rattle.std.proofs.Common.{◌≡◌, ℕ, zero, suc, replicate, ◌<◌, ◌≤◌, ◌≢◌, [], ◌∷◌, length, None, refl, arith}
 use Rattle.std.specs.List.{All, AllPairs}
 use Rattle.std.specs.declared.cmp.Ordering.TheVariants.{Less}
 use Rattle.std.proofs.lemmas.List.Elements.{All-nil, All-cons}
 use Rattle.oc_bytes.specs.Numbers.{IsBytes}
 use Rattle.path_tree.specs.Paths.{Bytes, path_cmp, is_below, IsName, IsPath}
-use Rattle.path_tree.specs.Trees.{IsTree, File, node_at}
+use Rattle.path_tree.specs.Trees.{Tree, IsTree, IsApart, HasContent, Fits, File, Folder, node_at}
+use Rattle.path_tree.specs.declared.entry.Entry.{Entry}
+use Rattle.path_tree.specs.declared.entry.Entry.TheVariants as entries
 use Rattle.generation.specs.Lawful.{IsPublishable}
 use Rattle.generation.specs.Publication.{limit_of}
 use Rattle.carousel_world.specs.Instances.{tree_of, seven}
@@ -30,20 +32,24 @@ letter_name = record {
   in_byte = only (λ b. b < 256) 97 (omega arith);
 }
 
-not_root : (n : Bytes) → n ∷ [] ≡ [] → ⊥
+pub not_root : (n : Bytes) → n ∷ [] ≡ [] → ⊥
 not_root n e = cc
 
-one_tree : (content : Bytes) → IsBytes content → length content ≤ 16777216 → IsTree (tree_of content)
-one_tree content bytes small = record {
-  paths = only (λ e. IsPath e.0 × (e.0 ≢ [])) (letter ∷ [], content) (record { depth = omega arith; names = only IsName letter letter_name }, not_root letter);
-  in_order = alone (λ e f. path_cmp e.0 f.0 ≡ Less) (letter ∷ [], content);
-  apart = alone (λ e f. is_below e.0 f.0 ≡ false) (letter ∷ [], content);
-  contents = only (λ e. IsBytes e.1) (letter ∷ [], content) bytes;
-  sizes = only (λ e. length e.1 ≤ 16777216) (letter ∷ [], content) small;
+-- a tree that maps one path
+abbrev pub tree_with : Entry → Tree
+tree_with entry = (letter ∷ [], entry) ∷ []
+
+one_tree : (entry : Entry) → HasContent entry → Fits entry → IsTree (tree_with entry)
+one_tree entry content fits = record {
+  paths = only (λ e. IsPath e.0 × (e.0 ≢ [])) (letter ∷ [], entry) (record { depth = omega arith; names = only IsName letter letter_name }, not_root letter);
+  in_order = alone (λ e f. path_cmp e.0 f.0 ≡ Less) (letter ∷ [], entry);
+  apart = alone (λ e f. IsApart e.1 (is_below e.0 f.0)) (letter ∷ [], entry);
+  contents = only (λ e. HasContent e.1) (letter ∷ [], entry) content;
+  sizes = only (λ e. Fits e.1) (letter ∷ [], entry) fits;
 }
 
 publishable : (content : Bytes) → IsBytes content → length content ≤ 16777216 → limit_of (tree_of content) ≡ None → IsPublishable (tree_of content)
-publishable content bytes small within = record { tree = one_tree content bytes small; within = within }
+publishable content bytes small within = record { tree = one_tree (entries.File content) bytes small; within = within }
 
 three_bytes : (a b c : _) → a < 256 → b < 256 → c < 256 → IsBytes (a ∷ b ∷ c ∷ [])
 three_bytes a b c p q r = All-cons (λ b. b < 256) a (b ∷ c ∷ []) p (All-cons (λ b. b < 256) b (c ∷ []) q (only (λ b. b < 256) c r))
@@ -59,6 +65,12 @@ first_publishable = publishable first_content (three_bytes 1 2 3 (omega arith) (
 
 pub second_publishable : IsPublishable (tree_of second_content)
 second_publishable = publishable second_content (three_bytes 4 5 6 (omega arith) (omega arith) (omega arith)) (omega arith) refl
+
+pub bare_publishable : IsPublishable (tree_with entries.Folder)
+bare_publishable = record { tree = one_tree entries.Folder tt tt; within = refl }
+
+pub bare_node : node_at (tree_with entries.Folder) (letter ∷ []) ≡ Folder []
+bare_node = refl
 
 pub first_node : node_at (tree_of first_content) (letter ∷ []) ≡ File first_content
 first_node = refl

@@ -15,7 +15,7 @@ use Rattle.carousel_world.proofs.Instances.{letter, first_content, second_conten
 abbrev pub objects_with : Bytes → List Placed
 objects_with content =
     record { spot = gateway_spot; key = 1; module_id = 1 }
-    ∷ record { spot = record { path = letter ∷ []; content = Some content }; key = 2; module_id = 1 } ∷ []
+    ∷ record { spot = record { path = letter ∷ []; name = letter; content = Some content; number = 1; parent = Some 0 }; key = 2; module_id = 1 } ∷ []
 
 -- one module of these objects
 abbrev pub layout_with : List Placed → Layout

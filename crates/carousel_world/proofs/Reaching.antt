@@ -1,6 +1,7 @@
 -- The premises can be met.
 use Rattle.std.proofs.Common.{ℕ, suc, ◌<◌, List, [], ◌∷◌, refl, sym, subst}
 use Rattle.path_tree.specs.Trees.{Tree}
+use Rattle.path_tree.specs.declared.entry.Entry.TheVariants as entries
 use Rattle.cycle_planner.specs.Weights.{AreWeights}
 use Rattle.cycle_planner.proofs.CallerLemmas.{are_ones}
 use Rattle.generation.specs.Kept.{LayoutsAreLawful, LayoutsAreInOneGroup}
@@ -10,7 +11,7 @@ use Rattle.carousel_world.specs.Instances.{PremisesCanBeMet, tree_of}
 use Rattle.carousel_world.specs.Premises.{IsWhole}
 use Rattle.carousel_world.specs.Publishing.{layouts_for, publication, EveryPublicationMeets}
 use Rattle.carousel_world.proofs.CallerLemmas.{published_sections}
-use Rattle.carousel_world.proofs.Instances.{letter, first_content, first_node, first_publishable}
+use Rattle.carousel_world.proofs.Instances.{letter, first_content, first_node, first_publishable, bare_node, bare_publishable, not_root, tree_with}
 use Rattle.carousel_world.proofs.Damaged.{damage}
 use Rattle.carousel_world.proofs.Carried.{carrying}
 use Rattle.carousel_world.proofs.TwoDiis.{joining}
@@ -30,6 +31,7 @@ pub can_be_met : Spelled → LayoutsAreLawful → LayoutsAreInOneGroup → Every
 can_be_met spelled lawful one meets = record {
   weights = are_ones;
   tree = (tree_of first_content, record { publishable = first_publishable; path = letter ∷ []; content = first_content; there = first_node });
+  bare = (tree_with entries.Folder, record { publishable = bare_publishable; path = letter ∷ []; below = not_root letter; there = bare_node });
   in_order = λ carousel weights cycles t lt is. in_order carousel weights cycles t (second_of lawful carousel t lt is);
   undamaged = λ carousel weights cycles t i bytes e accepted. (i, refl, e);
   whole = whole_round lawful one;

@@ -1,10 +1,9 @@
 -- The reception of two generations of two DIIs each meets the premises.
-use Rattle.std.proofs.Common.{◌≡◌, ℕ, zero, suc, ◌<◌, ◌≤◌, true, false, List, [], ◌∷◌, map, take, Some, refl, sym, subst, slice_get, slice_index_or, IsTrue, arith, lit<, lit≤}
+use Rattle.std.proofs.Common.{◌≡◌, ℕ, zero, suc, ◌<◌, true, false, List, [], ◌∷◌, map, take, Some, refl, sym, subst, slice_get, slice_index_or, IsTrue, arith, lit<, lit≤}
 use Rattle.std.proofs.lemmas.Option.{same_Some}
 use Rattle.oc_bytes.specs.Cursor.{each_at, sized_at}
 use Rattle.oc_bytes.specs.Grammar.{read}
 use Rattle.path_tree.specs.Paths.{Bytes}
-use Rattle.path_tree.specs.Trees.{File}
 use Rattle.ddb_block.specs.Message.{message_at}
 use Rattle.ddb_block.specs.Blocks.{block_at}
 use Rattle.dsi_dii.specs.ControlReading.{dii_at, dsi_at, frame_at, private_at}

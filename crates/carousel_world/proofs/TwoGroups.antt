@@ -11,9 +11,11 @@ use Rattle.std.specs.Option.{unwrap_or}
 use Rattle.oc_bytes.specs.Cursor.{each_at, sized_at}
 use Rattle.oc_bytes.specs.Grammar.{read}
 use Rattle.oc_bytes.specs.Numbers.{IsBytes}
-use Rattle.path_tree.specs.Paths.{Bytes, PathNames, same_name}
+use Rattle.path_tree.specs.Paths.{Bytes, PathNames, same_name, same_path}
 use Rattle.path_tree.proofs.CallerLemmas.{same_name-refl}
-use Rattle.path_tree.specs.Trees.{Tree, Node, File, Folder, NoSuch, content_at, is_folder, node_at}
+use Rattle.path_tree.specs.Trees.{Tree, Node, File, Folder, NoSuch, content_at, entry_at, file_in, is_folder, is_kept, leads_on, node_at}
+use Rattle.path_tree.specs.declared.entry.Entry.{Entry}
+use Rattle.path_tree.specs.declared.entry.Entry.TheVariants as entries
 use Rattle.ior_tap.specs.declared.Location.{Location}
 use Rattle.ior_tap.specs.Iors.{TapFields, Biop, delivery_of_taps}
 use Rattle.ddb_block.specs.Blocks.{block_count_of}
@@ -127,22 +129,40 @@ neither : (b : Bool) → ((b && false) || false) ≡ false
 neither true = refl
 neither false = refl
 
-no_more : (b : Bool) (c : Bytes) → cond (b && false) (Some c) None ≡ None
-no_more true c = refl
-no_more false c = refl
+no_more : (b : Bool) (x : Entry) → cond (b && false) (Some x) None ≡ None
+no_more true x = refl
+no_more false x = refl
+
+neither_one : (a b : Bool) → a ≡ false → b ≡ false → (a || b) ≡ false
+neither_one true b e f = cc
+neither_one false b e f = f
+
+not_kept : (b : Bool) (content : Bytes) → is_kept (cond b (Some (entries.File content)) None) ≡ false
+not_kept true content = refl
+not_kept false content = refl
+
+no_way : (n : Bytes) (ns : PathNames) → leads_on one_file (n ∷ ns) ≡ false
+no_way n [] = neither (same_name n (97 ∷ []))
+no_way n (m ∷ ms) = neither (same_name n (97 ∷ []))
 
 not_folder : (n : Bytes) (ns : PathNames) → is_folder one_file (n ∷ ns) ≡ false
-not_folder n [] = neither (same_name n (97 ∷ []))
-not_folder n (m ∷ ms) = neither (same_name n (97 ∷ []))
+not_folder n ns =
+    neither_one (is_kept (entry_at one_file (n ∷ ns))) (leads_on one_file (n ∷ ns)) (not_kept (same_path (n ∷ ns) ((97 ∷ []) ∷ [])) (1 ∷ 2 ∷ 3 ∷ [])) (no_way n ns)
+
+entry_a : (n : Bytes) → same_name n (97 ∷ []) ≡ true → entry_at one_file (n ∷ []) ≡ Some (entries.File (1 ∷ 2 ∷ 3 ∷ []))
+entry_a n e = rw e refl
+
+entry_other : (n : Bytes) → same_name n (97 ∷ []) ≡ false → entry_at one_file (n ∷ []) ≡ None
+entry_other n e = rw e refl
 
 content_a : (n : Bytes) → same_name n (97 ∷ []) ≡ true → content_at one_file (n ∷ []) ≡ Some (1 ∷ 2 ∷ 3 ∷ [])
-content_a n e = rw e refl
+content_a n e = ap file_in (entry_a n e)
 
 content_other : (n : Bytes) → same_name n (97 ∷ []) ≡ false → content_at one_file (n ∷ []) ≡ None
-content_other n e = rw e refl
+content_other n e = ap file_in (entry_other n e)
 
 content_below : (n m : Bytes) (ms : PathNames) → content_at one_file (n ∷ m ∷ ms) ≡ None
-content_below n m ms = no_more (same_name n (97 ∷ [])) (1 ∷ 2 ∷ 3 ∷ [])
+content_below n m ms = ap file_in (no_more (same_name n (97 ∷ [])) (entries.File (1 ∷ 2 ∷ 3 ∷ [])))
 
 no_node : (n : Bytes) (ns : PathNames) → content_at one_file (n ∷ ns) ≡ None → node_at one_file (n ∷ ns) ≡ NoSuch
 no_node n ns e = rw (e, not_folder n ns) refl

@@ -1,8 +1,9 @@
 -- That the premises of the laws can be met, and that a receiver does wait.
-use Rattle.std.specs.Prelude.{◌≡◌, ℕ, suc, ◌<◌, List, [], ◌∷◌, ◌++◌, map, take, replicate, Option, Some, slice_get, slice_index_or, slice_set}
+use Rattle.std.specs.Prelude.{◌≡◌, ◌≢◌, ℕ, suc, ◌<◌, List, [], ◌∷◌, ◌++◌, map, take, replicate, Option, Some, slice_get, slice_index_or, slice_set}
 use Rattle.std.specs.List.{range_with_len}
 use Rattle.path_tree.specs.Paths.{Bytes, PathNames}
-use Rattle.path_tree.specs.Trees.{Tree, File, node_at}
+use Rattle.path_tree.specs.Trees.{Tree, File, Folder, node_at}
+use Rattle.path_tree.specs.declared.entry.Entry.TheVariants as entries
 use Rattle.biop_object.specs.Names.{Layout}
 use Rattle.cycle_planner.specs.Cycle.{cycle_of}
 use Rattle.cycle_planner.specs.Weights.{AreWeights}
@@ -36,6 +37,13 @@ pub record HasFile (t : Tree) : Type 0 where
   pub content : Bytes
   pub there : node_at t path ≡ File content
 
+-- a tree that keeps a folder in which nothing stands, and can be published
+pub record HasBareFolder (t : Tree) : Type 0 where
+  pub publishable : IsPublishable t
+  pub path : PathNames
+  pub below : path ≢ []
+  pub there : node_at t path ≡ Folder []
+
 -- the control sections of generation 1 and no block
 abbrev pub control_alone : ℕ → Tree → List Bytes
 control_alone carousel t = section_in carousel (layouts_for carousel t) 1 Dsi ∷ section_in carousel (layouts_for carousel t) 1 (Dii 1) ∷ []
@@ -44,7 +52,7 @@ control_alone carousel t = section_in carousel (layouts_for carousel t) 1 Dsi �
 
 -- a tree of one file, whose name is `a`
 abbrev pub tree_of : Bytes → Tree
-tree_of content = ((97 ∷ []) ∷ [], content) ∷ []
+tree_of content = ((97 ∷ []) ∷ [], entries.File content) ∷ []
 
 -- a whole cycle of each of these generations, of carousel 1, with these layouts; the first tree is that of generation 1
 abbrev pub cycles_with : List Layout → List Tree → List ℕ → Broadcast
@@ -242,6 +250,8 @@ pub record PremisesCanBeMet : Type 0 where
   pub weights : AreWeights ones
   -- some tree can be published
   pub tree : (t : Tree) × HasFile t
+  -- and some tree with a folder in which nothing stands
+  pub bare : (t : Tree) × HasBareFolder t
   -- what is published is sent in order
   pub in_order : (carousel : ℕ) (weights : List ℕ) (cycles : ℕ) (t : Tree) → carousel < 4294967296 → IsPublishable t → SendsInOrder (publication carousel weights cycles t)
   -- its sections, as they were sent, are what was sent

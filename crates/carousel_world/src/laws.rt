@@ -119,9 +119,10 @@ pub fn settling_is_whole()
     dsi_dii::spellings_read_back();
 }
 
-/// The premises of the other laws can be met, and the answers differ: some tree of a file can be published; what is published
-/// are items of its generation, in order; its sections, as they were sent, are ascribed to themselves, and from one cycle on they
-/// are a whole one. Who has heard the control sections alone waits for module 1, in which the gateway lies, whatever the path.
+/// The premises of the other laws can be met, and the answers differ: some tree of a file can be published, and some tree
+/// that keeps a folder in which nothing stands; what is published are items of its generation, in order; its sections, as
+/// they were sent, are ascribed to themselves, and from one cycle on they are a whole one. Who has heard the control sections
+/// alone waits for module 1, in which the gateway lies, whatever the path.
 ///
 /// All premises hold together of four receptions of packets, of a whole cycle of the later of two generations each. In one a byte of
 /// a DSI is changed, a packet comes twice and the next is lost, and a byte of a block is changed; in another a block is heard

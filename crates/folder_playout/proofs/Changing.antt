@@ -3,11 +3,13 @@ use Rattle.std.proofs.Common.{◌≡◌, ℕ, Bool, true, false, ◌&&◌, List,
 use Rattle.std.specs.List.{fold, last_or}
 use Rattle.std.proofs.lemmas.Option.{same_Some}
 use Rattle.std.proofs.lemmas.Bool.{ne_eqb}
-use Rattle.path_tree.specs.Paths.{Bytes, PathNames, same_name, same_path}
+use Rattle.path_tree.specs.Paths.{Bytes, PathNames, same_path}
 use Rattle.path_tree.specs.Trees.{Tree}
+use Rattle.path_tree.specs.declared.entry.Entry.{Entry}
+use Rattle.path_tree.specs.declared.entry.Entry.TheVariants as entries
 use Rattle.path_tree.proofs.CallerLemmas.{same_name-is, same_name-refl, same_path-is, same_path-refl}
 use Rattle.std.specs.Bool.{Decides}
-use Rattle.folder_playout.specs.OnAir.{OnAir, begun, on_air, same_file, same_tree, taken, turn, with_cycle, with_tree}
+use Rattle.folder_playout.specs.OnAir.{OnAir, begun, on_air, same_entry, same_node, same_tree, taken, turn, with_cycle, with_tree}
 use Rattle.folder_playout.specs.Readings.{Reading, Found, Refused, Failed}
 use Rattle.folder_playout.specs.Laws.{Change}
 
@@ -16,25 +18,35 @@ both true true e = (refl, refl)
 both true false e = absurd (cc)
 both false b e = absurd (cc)
 
-pub file_is : (e f : PathNames × Bytes) → same_file e f ≡ true → e ≡ f
-file_is e f h =
-    let file = both (same_path e.0 f.0) (same_name e.1 f.1) h in
-    ap (λ (p : PathNames). (p, e.1)) (same_path-is e.0 f.0 file.0) ∙ ap (λ (b : Bytes). (f.0, b)) (same_name-is e.1 f.1 file.1)
+node_is : (x y : Entry) → same_node x y ≡ true → x ≡ y
+node_is (entries.File b) (entries.File c) h = ap (λ (bytes : Bytes). entries.File bytes) (same_name-is b c h)
+node_is (entries.File b) entries.Folder h = absurd (cc)
+node_is entries.Folder (entries.File c) h = absurd (cc)
+node_is entries.Folder entries.Folder h = refl
 
-pub file_alike : (e : PathNames × Bytes) → same_file e e ≡ true
-file_alike e = rw (same_path-refl e.0, same_name-refl e.1) refl
+node_alike : (x : Entry) → same_node x x ≡ true
+node_alike (entries.File b) = same_name-refl b
+node_alike entries.Folder = refl
+
+pub entry_is : (e f : PathNames × Entry) → same_entry e f ≡ true → e ≡ f
+entry_is e f h =
+    let parts = both (same_path e.0 f.0) (same_node e.1 f.1) h in
+    ap (λ (p : PathNames). (p, e.1)) (same_path-is e.0 f.0 parts.0) ∙ ap (λ (x : Entry). (f.0, x)) (node_is e.1 f.1 parts.1)
+
+pub entry_alike : (e : PathNames × Entry) → same_entry e e ≡ true
+entry_alike e = rw (same_path-refl e.0, node_alike e.1) refl
 
 pub same_is : (t u : Tree) → same_tree t u ≡ true → t ≡ u
 same_is [] [] e = refl
 same_is [] (f ∷ fs) e = absurd (cc)
 same_is (e ∷ es) [] h = absurd (cc)
 same_is (e ∷ es) (f ∷ fs) h =
-    let first = both (same_file e f) (same_tree es fs) h in
-    ap (λ x. x ∷ es) (file_is e f first.0) ∙ ap (λ ts. f ∷ ts) (same_is es fs first.1)
+    let first = both (same_entry e f) (same_tree es fs) h in
+    ap (λ x. x ∷ es) (entry_is e f first.0) ∙ ap (λ ts. f ∷ ts) (same_is es fs first.1)
 
 pub same_alike : (t : Tree) → same_tree t t ≡ true
 same_alike [] = refl
-same_alike (e ∷ es) = rw (file_alike e) (same_alike es)
+same_alike (e ∷ es) = rw (entry_alike e) (same_alike es)
 
 -- a test that answers whether two trees are one answers `same_tree`
 pub same_by : (t u : Tree) (r : Bool) → Decides r (t ≡ u) → r ≡ same_tree t u

@@ -68,8 +68,8 @@ Change [] = Unit {0}
 Change (t ∷ []) = Unit {0}
 Change (t ∷ u ∷ us) = (same_tree u t ≡ false) × Change (u ∷ us)
 
--- Equal trees are those with the same files. The generation on the air after a reading of a tree carries just this tree, and none carries the tree
--- of the one before.
+-- Equal trees are those with the same files and kept folders. The generation on the air after a reading of a tree carries just
+-- this tree, and none carries the tree of the one before.
 pub record TreesChange : Type 0 where
   pub same : (t u : Tree) → same_tree t u ≡ true → t ≡ u
   pub alike : (t : Tree) → same_tree t t ≡ true

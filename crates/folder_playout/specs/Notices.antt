@@ -1,10 +1,12 @@
 -- In what a generation differs from the one before, and what is told of readings.
-use Rattle.std.specs.Prelude.{ℕ, ◌+◌, Bool, not, true, false, ◌==◌, List, [], ◌∷◌, ◌++◌, length, map, Option, Some, None, Err, if◌then◌else◌}
+use Rattle.std.specs.Prelude.{ℕ, ◌+◌, Bool, not, true, false, ◌&&◌, ◌==◌, List, [], ◌∷◌, ◌++◌, length, map, Option, Some, None, Err, if◌then◌else◌}
 use Rattle.std.specs.List.{sum_by}
 use Rattle.std.specs.Option.{is_none, unwrap_or}
 use Rattle.oc_bytes.specs.Outcome.{cap_at_u64}
 use Rattle.path_tree.specs.Paths.{Bytes, PathNames, same_name}
-use Rattle.path_tree.specs.Trees.{Tree, content_at}
+use Rattle.path_tree.specs.Trees.{Tree, content_at, is_a_file}
+use Rattle.path_tree.specs.declared.entry.Entry.{Entry}
+use Rattle.path_tree.specs.declared.entry.Entry.TheVariants as entries
 use Rattle.biop_object.specs.Names.{module_in}
 use Rattle.cycle_planner.specs.Cycle.{Line}
 use Rattle.generation.specs.Layouts.{GenerationState, count_in, first_of, lines_of, next_of}
@@ -19,18 +21,21 @@ abbrev pub one_if : Bool → ℕ
 one_if true = 1
 one_if false = 0
 
--- the file isn't there with these bytes
-abbrev pub has_other : Tree → PathNames × Bytes → Bool
-has_other t e = by (content_at t e.0) where
-  by : Option Bytes → Bool
-  by (Some bytes) = not (same_name bytes e.1)
-  by None = true
+-- the entry is a file, and none of these bytes was found at its path
+abbrev pub is_other : Entry → Option Bytes → Bool
+is_other (entries.File b) (Some bytes) = not (same_name bytes b)
+is_other (entries.File b) None = true
+is_other entries.Folder found = false
 
-abbrev pub one_if_other : Tree → PathNames × Bytes → ℕ
-one_if_other t e = one_if (has_other t e)
+-- the entry is a file, and none was found at its path
+abbrev pub is_gone : Entry → Option Bytes → Bool
+is_gone e found = is_a_file e && is_none found
 
-abbrev pub one_if_gone : Tree → PathNames × Bytes → ℕ
-one_if_gone t e = one_if (is_none (content_at t e.0))
+abbrev pub one_if_other : Tree → PathNames × Entry → ℕ
+one_if_other t e = one_if (is_other e.1 (content_at t e.0))
+
+abbrev pub one_if_gone : Tree → PathNames × Entry → ℕ
+one_if_gone t e = one_if (is_gone e.1 (content_at t e.0))
 
 -- the files that are new or have other bytes, and those that are gone
 abbrev pub files_changed : Tree → Tree → ℕ

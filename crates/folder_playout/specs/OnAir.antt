@@ -3,21 +3,30 @@ use Rattle.std.specs.Prelude.{ℕ, Bool, true, false, ◌&&◌, List, [], ◌∷
 use Rattle.std.specs.List.{concat, fold}
 use Rattle.path_tree.specs.Paths.{Bytes, PathNames, same_name, same_path}
 use Rattle.path_tree.specs.Trees.{Tree}
+use Rattle.path_tree.specs.declared.entry.Entry.{Entry}
+use Rattle.path_tree.specs.declared.entry.Entry.TheVariants as entries
 use Rattle.cycle_planner.specs.Cycle.{cycle_of}
 use Rattle.generation.specs.Layouts.{GenerationState, first_of, next_of, lines_of, section_of}
 use Rattle.section_stream.specs.Packing.{idle}
 use Rattle.section_stream.specs.Groups.{packets_of_groups}
 use Rattle.folder_playout.specs.Readings.{Reading, Found, Refused, Failed}
 
-abbrev pub same_file : PathNames × Bytes → PathNames × Bytes → Bool
-same_file e f = same_path e.0 f.0 && same_name e.1 f.1
+-- both are files of the same bytes, or both kept folders
+abbrev pub same_node : Entry → Entry → Bool
+same_node (entries.File b) (entries.File c) = same_name b c
+same_node (entries.File b) entries.Folder = false
+same_node entries.Folder (entries.File c) = false
+same_node entries.Folder entries.Folder = true
 
--- the same files at the same paths
+abbrev pub same_entry : PathNames × Entry → PathNames × Entry → Bool
+same_entry e f = same_path e.0 f.0 && same_node e.1 f.1
+
+-- the same files and kept folders at the same paths
 abbrev pub same_tree : Tree → Tree → Bool
 same_tree [] [] = true
 same_tree [] (f ∷ fs) = false
 same_tree (e ∷ es) [] = false
-same_tree (e ∷ es) (f ∷ fs) = same_file e f && same_tree es fs
+same_tree (e ∷ es) (f ∷ fs) = same_entry e f && same_tree es fs
 
 -- The generation that is on the air, the trees of all generations so far, the sections of each generation that was, and those of this one
 -- so far.

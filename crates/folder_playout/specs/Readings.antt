@@ -63,8 +63,8 @@ judged edits =
     if nat_lt MOST_PUT_BYTES (put_bytes edits) then Err (refusals.JournalFull (cap_at_u64 (put_bytes edits)))
     else unless_fault (apply_all [] edits)
 
--- The path of the edit whose file is too large. That of a folder which is too large is in the refusal itself, and no other refusal of a folder's files is
--- of one path.
+-- The path of the edit whose file is too large. That of a folder which is too large is in the refusal itself, and no other refusal of
+-- what a folder holds is of one path.
 abbrev pub path_told : List Edit → Refusal → Option Bytes
 path_told edits (refusals.Edit place edit_faults.FileTooLarge) = option_map (λ e. text_of (path_in e)) (slice_get edits place)
 path_told edits _ = None

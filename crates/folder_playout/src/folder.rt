@@ -47,7 +47,7 @@ impl<F: Folders> Trees for FolderTrees<'_, F> {
     ghost answered = { λ a b readings. (b.folders.ghost_name ≡ a.folders.ghost_name) × (b.folder ≡ a.folder)
         × AreRead a.folder.now (F.tree a.folders.now) (F.tree b.folders.now) (F.faults a.folders.now) (F.faults b.folders.now) readings };
 
-    /// The tree of the folder's files, as `publish` makes it: what it refuses is refused in the same order.
+    /// The tree of the folder, as `publish` makes it: what it refuses is refused in the same order.
     fn read(&mut self) -> Result<Tree, Unread> {
         match survey(self.alloc, self.folders, self.folder) {
             Ok(survey) => tree_of(self.alloc, &survey.edits),
@@ -84,7 +84,7 @@ fn tree_of(alloc: Global, edits: &[Edit]) -> Result<Tree, Unread>
     }
 }
 
-/// The path of the file that is too large. That of a folder is in the refusal itself, and no other refusal of a folder's files is of one path.
+/// The path of the file that is too large. That of a folder is in the refusal itself, and no other refusal of what a folder holds is of one path.
 fn path_told(alloc: Global, edits: &[Edit], refusal: &Refusal) -> Result<Option<String>, NoMemory>
     ensures { IfOk result (λ path. option_map string_bytes path ≡ path_told edits.now refusal.now) }
 {
@@ -128,6 +128,6 @@ fn size_put(edit: &Edit) -> u64
 {
     match edit {
         Edit::Put(_, content) => content.bytes().len() as u64,
-        Edit::Remove(_) => 0,
+        Edit::Remove(_) | Edit::MakeFolder(_) | Edit::RemoveFolder(_) => 0,
     }
 }

@@ -26,7 +26,7 @@ pub fn playouts_meet()
     carousel_world::every_reception_meets();
 }
 
-/// A tree with the same files as that on the air makes no generation, and any other one does, which carries it.
+/// A tree with the same files and kept folders as that on the air makes no generation, and any other one does, which carries it.
 pub fn trees_change()
     ensures { TreesChange }
 {}
@@ -39,7 +39,7 @@ pub fn unchanged_is_published()
     generation::generations_are_of_the_lists();
 }
 
-/// What a folder's files are refused for is what the first commit of a carousel is.
+/// What a folder is refused for is what the first commit of a carousel is.
 pub fn judged_as_first()
     ensures { JudgedAsFirst }
 {}

@@ -7,8 +7,7 @@ ghost use Rattle.folder_playout.specs.Notices.{Notice, Began, bytes_changed, byt
 
 use crate::reading::Unread;
 use generation::Generation;
-use oc_bytes::Blob;
-use path_tree::{Path, Tree};
+use path_tree::{Entry, Path, Tree};
 
 /// Who is told of generations while a carousel is on the air. A playout goes on whatever becomes of it. This trait is this project's own.
 pub trait Notices {
@@ -62,8 +61,8 @@ fn files_that_are_other(before: &Tree, now: &Tree) -> u64
     ensures { result ≡ cap_at_u64 (sum_by (one_if_other before.now) now.now) }
 {
     let mut total = 0u64;
-    for file in now.iter().as_slice() {
-        total = total.saturating_add(u64::from(is_other(before, file)));
+    for entry in now.entries() {
+        total = total.saturating_add(u64::from(is_other(before, entry)));
     }
     total
 }
@@ -73,29 +72,30 @@ fn files_that_are_gone(before: &Tree, now: &Tree) -> u64
     ensures { result ≡ cap_at_u64 (sum_by (one_if_gone now.now) before.now) }
 {
     let mut total = 0u64;
-    for file in before.iter().as_slice() {
-        total = total.saturating_add(u64::from(is_gone(now, file)));
+    for entry in before.entries() {
+        total = total.saturating_add(u64::from(is_gone(now, entry)));
     }
     total
 }
 
-/// Whether a file isn't there with these bytes.
-fn is_other(tree: &Tree, file: &(Path, Blob)) -> bool
-    ensures { one_if result ≡ one_if_other tree.now file.now }
+/// Whether an entry is a file that isn't there with these bytes.
+fn is_other(tree: &Tree, entry: &(Path, Entry)) -> bool
+    ensures { one_if result ≡ one_if_other tree.now entry.now }
 {
-    // Nothing is done with the number of files: its contract says that they stand in order.
-    let _files = tree.len();
-    match tree.find(&file.0) {
-        Some(place) => tree.file(place).1.bytes() != file.1.bytes(),
-        None => true,
+    match &entry.1 {
+        Entry::File(content) => match tree.content(&entry.0) {
+            Some(there) => there.bytes() != content.bytes(),
+            None => true,
+        },
+        Entry::Folder => false,
     }
 }
 
-/// Whether a file isn't there.
-fn is_gone(tree: &Tree, file: &(Path, Blob)) -> bool
-    ensures { one_if result ≡ one_if_gone tree.now file.now }
+/// Whether an entry is a file, and none is there.
+fn is_gone(tree: &Tree, entry: &(Path, Entry)) -> bool
+    ensures { one_if result ≡ one_if_gone tree.now entry.now }
 {
-    tree.find(&file.0).is_none()
+    entry.1.is_file() && tree.content(&entry.0).is_none()
 }
 
 /// How many modules are new or have another version.
@@ -141,8 +141,8 @@ fn has_changed(before: &Generation, now: &Generation, id: u16) -> bool
 fn size_of(generation: &Generation, id: u16) -> u64
     ensures { result ≡ length (unwrap_or (module_in generation.now.layout id) []) }
 {
-    match generation.module(id) {
-        Some(module) => module.bytes().len() as u64,
+    match generation.module_bytes(id) {
+        Some(bytes) => bytes.len() as u64,
         None => 0,
     }
 }

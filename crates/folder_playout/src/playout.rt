@@ -28,7 +28,7 @@ pub(crate) struct Playout {
 }
 
 impl Playout {
-    /// Generation 1 of a carousel, of which nothing is sent yet, and in what it differs from the one without files.
+    /// Generation 1 of a carousel, of which nothing is sent yet, and in what it differs from the one in which nothing stands.
     pub(crate) fn new(
         alloc: Global,
         pid: u16,

@@ -1,23 +1,34 @@
 ghost use Rattle.std.specs.Prelude.{◌≡◌};
-ghost use Rattle.folder_playout.specs.OnAir.{same_file, same_tree};
+ghost use Rattle.folder_playout.specs.OnAir.{same_entry, same_node, same_tree};
 
-use oc_bytes::Blob;
-use path_tree::{Path, Tree};
+use path_tree::{Entry, Path, Tree};
 
-/// Whether two trees have the same files at the same paths.
+/// Whether two trees have the same files and kept folders at the same paths.
 pub(crate) fn is_same_tree(tree: &Tree, other: &Tree) -> bool
     ensures { result ≡ same_tree tree.now other.now }
 {
-    tree.len() == other.len()
-        && tree
+    let entries = tree.entries();
+    let others = other.entries();
+    entries.len() == others.len()
+        && entries
             .iter()
-            .zip(other.iter())
-            .all(|(one, another)| is_same_file(one, another))
+            .zip(others.iter())
+            .all(|(one, another)| is_same_entry(one, another))
 }
 
-/// Whether two files have one path and the same bytes.
-fn is_same_file(one: &(Path, Blob), another: &(Path, Blob)) -> bool
-    ensures { result ≡ same_file one.now another.now }
+/// Whether two entries have one path, and are files of the same bytes or kept folders.
+fn is_same_entry(one: &(Path, Entry), another: &(Path, Entry)) -> bool
+    ensures { result ≡ same_entry one.now another.now }
 {
-    one.0.is_same(&another.0) && one.1.bytes() == another.1.bytes()
+    one.0.is_same(&another.0) && is_same_node(&one.1, &another.1)
+}
+
+fn is_same_node(one: &Entry, another: &Entry) -> bool
+    ensures { result ≡ same_node one.now another.now }
+{
+    match (one, another) {
+        (Entry::File(content), Entry::File(other)) => content.bytes() == other.bytes(),
+        (Entry::Folder, Entry::Folder) => true,
+        _ => false,
+    }
 }

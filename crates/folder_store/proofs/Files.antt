@@ -1,5 +1,5 @@
--- The edits of a walk are the files below the folder.
-use Rattle.std.proofs.Common.{◌≡◌, ◌≢◌, ◌⊎◌, ℕ, zero, suc, ◌+◌, ◌<◌, ◌≤◌, Bool, true, false, ◌==◌, nat_lt, List, [], ◌∷◌, ◌++◌, length, map, take, get_or, Option, Some, None, Ok, Err, cond, refl, sym, ap, ◌∙◌, subst, inl, inr, arith, append_assoc, append-nil}
+-- The edits of a walk are the files and the bare folders below the folder.
+use Rattle.std.proofs.Common.{◌≡◌, ◌≢◌, ◌⊎◌, ℕ, zero, suc, ◌+◌, ◌<◌, ◌≤◌, Bool, true, false, not, ◌==◌, ◌||◌, ◌&&◌, nat_lt, List, [], ◌∷◌, ◌++◌, length, map, take, get_or, Option, Some, None, Ok, Err, cond, refl, sym, ap, ◌∙◌, subst, inl, inr, arith, append_assoc, append-nil}
 use Rattle.std.specs.declared.cmp.Ordering.TheVariants.{Less}
 use Rattle.std.specs.List.{AllPairs, AllByRecursion, Contains, IsDistinct, cons_option, find, flat_map, list_any, sum_by}
 use Rattle.std.specs.Option.{option_map}
@@ -13,10 +13,10 @@ use Rattle.std.proofs.lemmas.List.Sums.{sum_by-cons}
 use Rattle.path_tree.specs.Paths.{Bytes, PathNames, IsName, IsPath, name_cmp, path_cmp, same_name}
 use Rattle.path_tree.specs.Texts.{is_name, is_zero_or_slash}
 use Rattle.path_tree.specs.declared.tree.Edit.{Edit}
-use Rattle.path_tree.specs.declared.tree.Edit.TheVariants.{Put}
+use Rattle.path_tree.specs.declared.tree.Edit.TheVariants.{Put, MakeFolder}
 use Rattle.path_tree.proofs.CallerLemmas.{name_total, same_name-is, same_name-refl}
 use Rattle.folder_store.specs.Folders.{Entry, AFile, AFolder, AnOther, FolderTree, IsFolderTree, after_prefix, content_of, entries_below, entry_at, is_folder_at, is_name_text, named_by}
-use Rattle.folder_store.specs.Walk.{Met, Walked, IsBadName, PutsFile, PutsFiles, edits_of, met_at, met_below, met_past, onto, path_in, size, sort_entries, text_below, walk_edits}
+use Rattle.folder_store.specs.Walk.{Met, Walked, IsBadName, MakesFolder, PutsFile, PutsFiles, counts, edits_of, is_bare_folder, met_at, met_below, met_or_made, met_past, onto, path_in, size, sort_entries, text_below, walk_edits}
 use Rattle.folder_store.proofs.Naming.{In, AreDistinct, all_in, contains_from, distinct_from_pairs, each_in, in_map, names, named_at, named_is, stands, true_or_false}
 use Rattle.folder_store.proofs.Sorting.{Climbs, sorted_all, sorted_climbs, sorted_only}
 
@@ -184,6 +184,11 @@ in_order_all path f (x ∷ xs) up under each =
     later : (e g : Edit) → In (Ok e) (f x) → (y : Bytes × Entry) × (In y xs × In (Ok g) (f y)) → path_cmp (path_in e) (path_in g) ≡ Less
     later e g i (y, (j, k)) = names_less path x.0 y.0 e g (each_in (λ z. name_cmp x.0 z.0 ≡ Less) xs y up.0 j) (under x e i) (under y g k)
 
+under_made : (path : PathNames) (met : List Met) (e : Edit) → (In (Ok e) met → Under path e) → In (Ok e) (met_or_made path met) → Under path e
+under_made path [] e rest (inl is) = let same : MakeFolder path ≡ e = cc in ([], ap path_in (sym same) ∙ sym (append-nil path))
+under_made path [] e rest (inr none) = absurd none
+under_made path (m ∷ met) e rest h = rest h
+
 under_at : (deeper : PathNames → Bytes → List Met) → ((p : PathNames) (x : Bytes) (e : Edit) → In (Ok e) (deeper p x) → Under p e)
     → (path : PathNames) (text : Bytes) (x : Bytes × Entry) (e : Edit) → In (Ok e) (met_at deeper path text x) → Under (path ++ x.0 ∷ []) e
 under_at deeper below path text (name, AnOther) e h = absurd h
@@ -194,8 +199,8 @@ under_at deeper below path text (name, AFile content) e h = go (is_name name) h 
   go false (inl is) = cc
   go false (inr none) = absurd none
 under_at deeper below path text (name, AFolder) e h = go (is_name name) h (below (path ++ name ∷ []) (text ++ 47 ∷ name) e) where
-  go : (b : Bool) → In (Ok e) (cond b (deeper (path ++ name ∷ []) (text ++ 47 ∷ name)) (Err IsBadName ∷ [])) → (In (Ok e) (deeper (path ++ name ∷ []) (text ++ 47 ∷ name)) → Under (path ++ name ∷ []) e) → Under (path ++ name ∷ []) e
-  go true i rest = rest i
+  go : (b : Bool) → In (Ok e) (cond b (met_or_made (path ++ name ∷ []) (deeper (path ++ name ∷ []) (text ++ 47 ∷ name))) (Err IsBadName ∷ [])) → (In (Ok e) (deeper (path ++ name ∷ []) (text ++ 47 ∷ name)) → Under (path ++ name ∷ []) e) → Under (path ++ name ∷ []) e
+  go true i rest = under_made (path ++ name ∷ []) (deeper (path ++ name ∷ []) (text ++ 47 ∷ name)) e rest i
   go false (inl is) rest = cc
   go false (inr none) rest = absurd none
 
@@ -214,6 +219,10 @@ under_below t (suc room) path text e h =
     let u = under_at (met_below t room) (λ p x f i. under_below t room p x f i) path text r.0 e r.1.1 in
     (r.0.0 ∷ u.0, u.1 ∙ append_assoc path (r.0.0 ∷ []) u.0)
 
+ascends_made : (path : PathNames) (met : List Met) → Ascends (edits_in met) → Ascends (edits_in (met_or_made path met))
+ascends_made path [] h = (tt, tt)
+ascends_made path (m ∷ met) h = h
+
 ascends_at : (deeper : PathNames → Bytes → List Met) → ((p : PathNames) (x : Bytes) → Ascends (edits_in (deeper p x))) → (path : PathNames) (text : Bytes) (x : Bytes × Entry) → Ascends (edits_in (met_at deeper path text x))
 ascends_at deeper below path text (name, AnOther) = tt
 ascends_at deeper below path text (name, AFile content) = go (is_name name) where
@@ -221,8 +230,8 @@ ascends_at deeper below path text (name, AFile content) = go (is_name name) wher
   go true = (tt, tt)
   go false = tt
 ascends_at deeper below path text (name, AFolder) = go (is_name name) (below (path ++ name ∷ []) (text ++ 47 ∷ name)) where
-  go : (b : Bool) → Ascends (edits_in (deeper (path ++ name ∷ []) (text ++ 47 ∷ name))) → Ascends (edits_in (cond b (deeper (path ++ name ∷ []) (text ++ 47 ∷ name)) (Err IsBadName ∷ [])))
-  go true h = h
+  go : (b : Bool) → Ascends (edits_in (deeper (path ++ name ∷ []) (text ++ 47 ∷ name))) → Ascends (edits_in (cond b (met_or_made (path ++ name ∷ []) (deeper (path ++ name ∷ []) (text ++ 47 ∷ name))) (Err IsBadName ∷ [])))
+  go true h = ascends_made (path ++ name ∷ []) (deeper (path ++ name ∷ []) (text ++ 47 ∷ name)) h
   go false h = tt
 
 ascends_past : (x : Bytes × Entry) → Ascends (edits_in (met_past x))
@@ -298,40 +307,174 @@ entry_in (f ∷ t) text e h = go (true_or_false (same_name f.0 text)) h (λ k. e
       inl (ap (λ (n : Bytes). (n, f.1)) (same_name-is f.0 text found) ∙ ap (λ (x : Entry). (text, x)) entry)
   go (inr isnt) k rest = let j : entry_at t text ≡ Some e = rw isnt at k in inr (rest j)
 
--- ---- each edit is a file
+-- ---- folders in which neither a file nor a folder stands
+
+none_in : (es : List (Bytes × Entry)) → list_any (λ e. counts e.1) es ≡ false → (x : Bytes × Entry) → In x es → counts x.1 ≡ false
+none_in [] h x i = absurd i
+none_in (e ∷ es) h x i = go (true_or_false (counts e.1)) h i (λ k j. none_in es k x j) where
+  go : (counts e.1 ≡ true) ⊎ (counts e.1 ≡ false) → (counts e.1 || list_any (λ f. counts f.1) es) ≡ false → (e ≡ x) ⊎ In x es → (list_any (λ f. counts f.1) es ≡ false → In x es → counts x.1 ≡ false) → counts x.1 ≡ false
+  go (inl stands) k j rest = let z : true ≡ false = rw stands at k in cc
+  go (inr passed) k (inl is) rest = subst (λ (y : Bytes × Entry). counts y.1 ≡ false) is passed
+  go (inr passed) k (inr j) rest = rest (rw passed at k) j
+
+in_none : (es : List (Bytes × Entry)) → ((x : Bytes × Entry) → In x es → counts x.1 ≡ false) → list_any (λ e. counts e.1) es ≡ false
+in_none [] h = refl
+in_none (e ∷ es) h = rw (h e (inl refl)) (in_none es (λ x i. h x (inr i)))
+
+-- something is met at files and folders, and at them alone
+record Shows (f : Bytes × Entry → List Met) : Type 0 where
+  pub nothing : (x : Bytes × Entry) → counts x.1 ≡ false → f x ≡ []
+  pub something : (x : Bytes × Entry) → counts x.1 ≡ true → f x ≡ [] → ⊥
+
+past_shows : Shows met_past
+past_shows = record { nothing = none; something = some } where
+  none : (x : Bytes × Entry) → counts x.1 ≡ false → met_past x ≡ []
+  none (name, AnOther) h = refl
+  none (name, AFile content) h = cc
+  none (name, AFolder) h = cc
+
+  some : (x : Bytes × Entry) → counts x.1 ≡ true → met_past x ≡ [] → ⊥
+  some (name, AnOther) h k = cc
+  some (name, AFile content) h k = cc
+  some (name, AFolder) h k = cc
+
+made_some : (path : PathNames) (met : List Met) → met_or_made path met ≡ [] → ⊥
+made_some path [] h = cc
+made_some path (m ∷ met) h = cc
+
+at_shows : (deeper : PathNames → Bytes → List Met) (path : PathNames) (text : Bytes) → Shows (met_at deeper path text)
+at_shows deeper path text = record { nothing = none; something = some } where
+  none : (x : Bytes × Entry) → counts x.1 ≡ false → met_at deeper path text x ≡ []
+  none (name, AnOther) h = refl
+  none (name, AFile content) h = cc
+  none (name, AFolder) h = cc
+
+  file : (b : Bool) (one : Met) → cond b (one ∷ []) (Err IsBadName ∷ []) ≡ [] → ⊥
+  file true one h = cc
+  file false one h = cc
+
+  folder : (b : Bool) (below : PathNames) (met : List Met) → cond b (met_or_made below met) (Err IsBadName ∷ []) ≡ [] → ⊥
+  folder true below met h = made_some below met h
+  folder false below met h = cc
+
+  some : (x : Bytes × Entry) → counts x.1 ≡ true → met_at deeper path text x ≡ [] → ⊥
+  some (name, AnOther) h k = cc
+  some (name, AFile content) h k = file (is_name name) (Ok (Put (path ++ name ∷ []) (take 16777217 content))) k
+  some (name, AFolder) h k = folder (is_name name) (path ++ name ∷ []) (deeper (path ++ name ∷ []) (text ++ 47 ∷ name)) k
+
+append_none : {X : Type 0} (xs ys : List X) → xs ++ ys ≡ [] → (xs ≡ []) × (ys ≡ [])
+append_none [] ys h = (refl, h)
+append_none (x ∷ xs) ys h = cc
+
+none_counts : (f : Bytes × Entry → List Met) → Shows f → (es : List (Bytes × Entry)) → flat_map f es ≡ [] → (x : Bytes × Entry) → In x es → counts x.1 ≡ false
+none_counts f shows [] h x i = absurd i
+none_counts f shows (e ∷ es) h x (inl is) = go (true_or_false (counts x.1)) where
+  empty : f x ≡ []
+  empty = ap f (sym is) ∙ (append_none (f e) (flat_map f es) h).0
+
+  go : (counts x.1 ≡ true) ⊎ (counts x.1 ≡ false) → counts x.1 ≡ false
+  go (inl stands) = absurd (shows.something x stands empty)
+  go (inr passed) = passed
+none_counts f shows (e ∷ es) h x (inr i) = none_counts f shows es (append_none (f e) (flat_map f es) h).1 x i
+
+none_met : (f : Bytes × Entry → List Met) → Shows f → (es : List (Bytes × Entry)) → ((x : Bytes × Entry) → In x es → counts x.1 ≡ false) → flat_map f es ≡ []
+none_met f shows [] h = refl
+none_met f shows (e ∷ es) h = rw (shows.nothing e (h e (inl refl))) (none_met f shows es (λ x i. h x (inr i)))
+
+-- what is met below a folder, by its entries in order
+abbrev met_of : FolderTree → ℕ → PathNames → Bytes → Bytes × Entry → List Met
+met_of t zero path text = met_past
+met_of t (suc room) path text = met_at (met_below t room) path text
+
+met_of_is : (t : FolderTree) (room : ℕ) (path : PathNames) (text : Bytes) → met_below t room path text ≡ flat_map (met_of t room path text) (sort_entries (entries_below t text))
+unfolding met_below
+met_of_is t zero path text = refl
+met_of_is t (suc room) path text = refl
+
+of_shows : (t : FolderTree) (room : ℕ) (path : PathNames) (text : Bytes) → Shows (met_of t room path text)
+of_shows t zero path text = past_shows
+of_shows t (suc room) path text = at_shows (met_below t room) path text
+
+pub met_bare : (t : FolderTree) → AreDistinct t → (room : ℕ) (path : PathNames) (text : Bytes) → met_below t room path text ≡ [] → is_folder_at t text ≡ true → is_bare_folder t text ≡ true
+met_bare t apart room path text h folder =
+    let differ : AreDistinct (entries_below t text) = distinct_below t text apart in
+    let none : list_any (λ e. counts e.1) (entries_below t text) ≡ false =
+    in_none (entries_below t text) (λ x i. none_counts (met_of t room path text) (of_shows t room path text) (sort_entries (entries_below t text)) (sym (met_of_is t room path text) ∙ h) x (sorted_all (entries_below t text) x differ i)) in
+    rw (folder, none) refl
+
+bare_parts : (a b : Bool) → (a && not b) ≡ true → (a ≡ true) × (b ≡ false)
+bare_parts true false h = (refl, refl)
+bare_parts true true h = cc
+bare_parts false b h = cc
+
+pub bare_folder : (t : FolderTree) (text : Bytes) → is_bare_folder t text ≡ true → is_folder_at t text ≡ true
+bare_folder t text h = (bare_parts (is_folder_at t text) (list_any (λ e. counts e.1) (entries_below t text)) h).0
+
+pub bare_met : (t : FolderTree) → AreDistinct t → (room : ℕ) (path : PathNames) (text : Bytes) → is_bare_folder t text ≡ true → met_below t room path text ≡ []
+bare_met t apart room path text h =
+    let differ : AreDistinct (entries_below t text) = distinct_below t text apart in
+    let none = (bare_parts (is_folder_at t text) (list_any (λ e. counts e.1) (entries_below t text)) h).1 in
+    met_of_is t room path text ∙ none_met (met_of t room path text) (of_shows t room path text) (sort_entries (entries_below t text))
+    (λ x i. none_in (entries_below t text) none x (sorted_only (entries_below t text) x differ i))
+
+made_keeps : (path : PathNames) (met : List Met) (m : Met) → In m met → In m (met_or_made path met)
+made_keeps path [] m h = absurd h
+made_keeps path (n ∷ met) m h = h
+
+-- ---- each edit is a file's, or a bare folder's
+
+abbrev IsOf : FolderTree → Bytes → Edit → Type 0
+IsOf t root e = PutsFile t root e ⊎ MakesFolder t root e
 
 pub text_more : (root : Bytes) (path : PathNames) (name : Bytes) → text_below root (path ++ name ∷ []) ≡ text_below root path ++ 47 ∷ name
 text_more root path name =
     ap (λ (x : Bytes). root ++ x) (flat_map-append (λ (n : Bytes). 47 ∷ n) path (name ∷ []) ∙ ap (λ (x : Bytes). flat_map (λ (n : Bytes). 47 ∷ n) path ++ x) (append-nil (47 ∷ name)))
     ∙ sym (append_assoc root (flat_map (λ (n : Bytes). 47 ∷ n) path) (47 ∷ name))
 
-file_at : (t : FolderTree) (root : Bytes) (deeper : PathNames → Bytes → List Met) → ((p : PathNames) (x : Bytes) (e : Edit) → x ≡ text_below root p → In (Ok e) (deeper p x) → PutsFile t root e)
-    → (path : PathNames) (text : Bytes) (x : Bytes × Entry) (e : Edit) → text ≡ text_below root path → entry_at t (text ++ 47 ∷ x.0) ≡ Some x.1 → In (Ok e) (met_at deeper path text x) → PutsFile t root e
-file_at t root deeper below path text (name, AnOther) e is there h = absurd h
-file_at t root deeper below path text (name, AFile content) e is there h = go (is_name name) h where
+some_names : (path : PathNames) (name : Bytes) → (path ++ name ∷ []) ≡ [] → ⊥
+some_names [] name h = cc
+some_names (n ∷ path) name h = cc
+
+file_at : (t : FolderTree) (root : Bytes) (deeper : PathNames → Bytes → List Met) → ((p : PathNames) (x : Bytes) (e : Edit) → x ≡ text_below root p → In (Ok e) (deeper p x) → IsOf t root e)
+    → ((p : PathNames) (x : Bytes) → deeper p x ≡ [] → is_folder_at t x ≡ true → is_bare_folder t x ≡ true)
+    → (path : PathNames) (text : Bytes) (x : Bytes × Entry) (e : Edit) → text ≡ text_below root path → entry_at t (text ++ 47 ∷ x.0) ≡ Some x.1 → In (Ok e) (met_at deeper path text x) → IsOf t root e
+file_at t root deeper below bare path text (name, AnOther) e is there h = absurd h
+file_at t root deeper below bare path text (name, AFile content) e is there h = go (is_name name) h where
   whole : text_below root (path ++ name ∷ []) ≡ text ++ 47 ∷ name
   whole = text_more root path name ∙ ap (λ (x : Bytes). x ++ 47 ∷ name) (sym is)
 
-  go : (b : Bool) → In (Ok e) (cond b (Ok (Put (path ++ name ∷ []) (take 16777217 content)) ∷ []) (Err IsBadName ∷ [])) → PutsFile t root e
-  go true (inl same) = record { path = path ++ name ∷ []; content = content; form = cc; file = ap (λ (x : Bytes). content_of (entry_at t x)) whole ∙ ap content_of there }
+  go : (b : Bool) → In (Ok e) (cond b (Ok (Put (path ++ name ∷ []) (take 16777217 content)) ∷ []) (Err IsBadName ∷ [])) → IsOf t root e
+  go true (inl same) = inl (record { path = path ++ name ∷ []; content = content; form = cc; file = ap (λ (x : Bytes). content_of (entry_at t x)) whole ∙ ap content_of there })
   go true (inr none) = absurd none
   go false (inl same) = cc
   go false (inr none) = absurd none
-file_at t root deeper below path text (name, AFolder) e is there h = go (is_name name) h (below (path ++ name ∷ []) (text ++ 47 ∷ name) e (ap (λ (x : Bytes). x ++ 47 ∷ name) is ∙ sym (text_more root path name))) where
-  go : (b : Bool) → In (Ok e) (cond b (deeper (path ++ name ∷ []) (text ++ 47 ∷ name)) (Err IsBadName ∷ [])) → (In (Ok e) (deeper (path ++ name ∷ []) (text ++ 47 ∷ name)) → PutsFile t root e) → PutsFile t root e
-  go true i rest = rest i
-  go false (inl same) rest = cc
-  go false (inr none) rest = absurd none
+file_at t root deeper below bare path text (name, AFolder) e is there h = go (is_name name) h where
+  whole : text_below root (path ++ name ∷ []) ≡ text ++ 47 ∷ name
+  whole = text_more root path name ∙ ap (λ (x : Bytes). x ++ 47 ∷ name) (sym is)
 
-file_below : (t : FolderTree) (root : Bytes) → AreDistinct t → (room : ℕ) (path : PathNames) (text : Bytes) (e : Edit) → text ≡ text_below root path → In (Ok e) (met_below t room path text) → PutsFile t root e
+  folder : is_folder_at t (text ++ 47 ∷ name) ≡ true
+  folder = rw there refl
+
+  made : (met : List Met) → (met ≡ [] → is_bare_folder t (text ++ 47 ∷ name) ≡ true) → (In (Ok e) met → IsOf t root e) → In (Ok e) (met_or_made (path ++ name ∷ []) met) → IsOf t root e
+  made [] none rest (inl same) =
+      inr (record { path = path ++ name ∷ []; form = cc; below = some_names path name; bare = ap (is_bare_folder t) whole ∙ none refl })
+  made [] none rest (inr other) = absurd other
+  made (m ∷ met) none rest i = rest i
+
+  go : (b : Bool) → In (Ok e) (cond b (met_or_made (path ++ name ∷ []) (deeper (path ++ name ∷ []) (text ++ 47 ∷ name))) (Err IsBadName ∷ [])) → IsOf t root e
+  go true i = made (deeper (path ++ name ∷ []) (text ++ 47 ∷ name)) (λ none. bare (path ++ name ∷ []) (text ++ 47 ∷ name) none folder) (below (path ++ name ∷ []) (text ++ 47 ∷ name) e (sym whole)) i
+  go false (inl same) = cc
+  go false (inr none) = absurd none
+
+file_below : (t : FolderTree) (root : Bytes) → AreDistinct t → (room : ℕ) (path : PathNames) (text : Bytes) (e : Edit) → text ≡ text_below root path → In (Ok e) (met_below t room path text) → IsOf t root e
 unfolding met_below
 file_below t root apart zero path text e is h = let r = from_flat_map met_past (sort_entries (entries_below t text)) (Ok e) h in absurd (none_past r.0 e r.1.1)
 file_below t root apart (suc room) path text e is h =
     let r = from_flat_map (met_at (met_below t room) path text) (sort_entries (entries_below t text)) (Ok e) h in
     let differ : AreDistinct (entries_below t text) = distinct_below t text apart in
-    file_at t root (met_below t room) (λ p x f same i. file_below t root apart room p x f same i) path text r.0 e is (stands t text r.0 differ (sorted_only (entries_below t text) r.0 differ r.1.0)) r.1.1
+    file_at t root (met_below t room) (λ p x f same i. file_below t root apart room p x f same i) (λ p x none folder. met_bare t apart room p x none folder) path text r.0 e is (stands t text r.0 differ (sorted_only (entries_below t text) r.0 differ r.1.0)) r.1.1
 
--- ---- each file has its edit
+-- ---- each file has its edit, and each bare folder
 
 no_zero_or_slash : (b : ℕ) → b ≢ 0 → b ≢ 47 → is_zero_or_slash b ≡ false
 no_zero_or_slash b z s = grind (arith, nat_tests, z, s)
@@ -396,8 +539,36 @@ reach t tree apart (suc room) done text name (next ∷ rest) content few good al
     let found : In (Ok (Put ((done ++ name ∷ []) ++ next ∷ rest) (take 16777217 content))) (met_below t room (done ++ name ∷ []) inner) = reach t tree apart room (done ++ name ∷ []) inner next rest content (omega (arith, few)) all.0 all.1 deep in
     let whole : In (Ok (Put (done ++ name ∷ next ∷ rest) (take 16777217 content))) (met_below t room (done ++ name ∷ []) inner) =
     subst (λ (p : PathNames). In (Ok (Put p (take 16777217 content))) (met_below t room (done ++ name ∷ []) inner)) (append_assoc done (name ∷ []) (next ∷ rest)) found in
-    let met : In (Ok (Put (done ++ name ∷ next ∷ rest) (take 16777217 content))) (met_at (met_below t room) done text (name, AFolder)) = rw (name_good name good) whole in
+    let met : In (Ok (Put (done ++ name ∷ next ∷ rest) (take 16777217 content))) (met_at (met_below t room) done text (name, AFolder)) =
+    rw (name_good name good) (made_keeps (done ++ name ∷ []) (met_below t room (done ++ name ∷ []) inner) (Ok (Put (done ++ name ∷ next ∷ rest) (take 16777217 content))) whole) in
     into_flat_map (met_at (met_below t room) done text) (sort_entries below) (name, AFolder) (Ok (Put (done ++ name ∷ next ∷ rest) (take 16777217 content))) (sorted_all below (name, AFolder) (distinct_below t text apart) listed) met
+
+reach_bare : (t : FolderTree) → IsFolderTree t → AreDistinct t → (room : ℕ) (done : PathNames) (text name : Bytes) (rest : PathNames) → length rest < room → IsName name → AllByRecursion IsName rest
+    → is_bare_folder t (text_below text (name ∷ rest)) ≡ true → In (Ok (MakeFolder (done ++ name ∷ rest))) (met_below t room done text)
+unfolding met_below
+reach_bare t tree apart zero done text name rest few good all h = absurd (omega (arith, few))
+reach_bare t tree apart (suc room) done text name [] few good all h =
+    let below : List (Bytes × Entry) = entries_below t text in
+    let inner : Bytes = text ++ 47 ∷ name in
+    let one : text_below text (name ∷ []) ≡ inner = text_into text name [] ∙ append-nil inner in
+    let bare : is_bare_folder t inner ≡ true = ap (is_bare_folder t) (sym one) ∙ h in
+    let listed : In (name, AFolder) below = below_into t text name AFolder (name_plain name good) (entry_in t inner AFolder (folder_is t inner (bare_folder t inner bare))) in
+    let none : met_below t room (done ++ name ∷ []) inner ≡ [] = bare_met t apart room (done ++ name ∷ []) inner bare in
+    let met : In (Ok (MakeFolder (done ++ name ∷ []))) (met_at (met_below t room) done text (name, AFolder)) = rw (name_good name good, none) (inl refl) in
+    into_flat_map (met_at (met_below t room) done text) (sort_entries below) (name, AFolder) (Ok (MakeFolder (done ++ name ∷ []))) (sorted_all below (name, AFolder) (distinct_below t text apart) listed) met
+reach_bare t tree apart (suc room) done text name (next ∷ rest) few good all h =
+    let below : List (Bytes × Entry) = entries_below t text in
+    let inner : Bytes = text ++ 47 ∷ name in
+    let deep : is_bare_folder t (text_below inner (next ∷ rest)) ≡ true = ap (is_bare_folder t) (sym (text_into text name (next ∷ rest))) ∙ h in
+    let there : In (text_below inner (next ∷ rest), AFolder) t = entry_in t (text_below inner (next ∷ rest)) AFolder (folder_is t (text_below inner (next ∷ rest)) (bare_folder t (text_below inner (next ∷ rest)) deep)) in
+    let folder : entry_at t inner ≡ Some AFolder = folder_is t inner (folders_up t tree inner next rest AFolder (name_plain next all.0) all.1 there) in
+    let listed : In (name, AFolder) below = below_into t text name AFolder (name_plain name good) (entry_in t inner AFolder folder) in
+    let found : In (Ok (MakeFolder ((done ++ name ∷ []) ++ next ∷ rest))) (met_below t room (done ++ name ∷ []) inner) = reach_bare t tree apart room (done ++ name ∷ []) inner next rest (omega (arith, few)) all.0 all.1 deep in
+    let whole : In (Ok (MakeFolder (done ++ name ∷ next ∷ rest))) (met_below t room (done ++ name ∷ []) inner) =
+    subst (λ (p : PathNames). In (Ok (MakeFolder p)) (met_below t room (done ++ name ∷ []) inner)) (append_assoc done (name ∷ []) (next ∷ rest)) found in
+    let met : In (Ok (MakeFolder (done ++ name ∷ next ∷ rest))) (met_at (met_below t room) done text (name, AFolder)) =
+    rw (name_good name good) (made_keeps (done ++ name ∷ []) (met_below t room (done ++ name ∷ []) inner) (Ok (MakeFolder (done ++ name ∷ next ∷ rest))) whole) in
+    into_flat_map (met_at (met_below t room) done text) (sort_entries below) (name, AFolder) (Ok (MakeFolder (done ++ name ∷ next ∷ rest))) (sorted_all below (name, AFolder) (distinct_below t text apart) listed) met
 
 -- ---- the whole
 
@@ -426,6 +597,18 @@ each_file t root es tree apart h few (name ∷ rest) content good some there =
     let all : met_below t 16 [] root ≡ map Ok es = walked_whole 0 (met_below t 16 [] root) es h sum in
     contains_from es e (met_edit es e (subst (λ (ms : List Met). In (Ok e) ms) all found))
 
+each_folder : (t : FolderTree) (root : Bytes) (es : List Edit) → IsFolderTree t → AreDistinct t → edits_of t root ≡ Ok es → sum_by size es ≤ 536870912 → (path : PathNames) → IsPath path → path ≢ []
+    → is_bare_folder t (text_below root path) ≡ true → Contains es (MakeFolder path)
+each_folder t root es tree apart h few [] good some there = absurd (some refl)
+each_folder t root es tree apart h few (name ∷ rest) good some there =
+    let e : Edit = MakeFolder (name ∷ rest) in
+    let names_good : AllByRecursion IsName (name ∷ rest) = recursion_from_All IsName (name ∷ rest) good.names in
+    let short : length rest < 16 = omega (arith, good.depth) in
+    let found : In (Ok e) (met_below t 16 [] root) = reach_bare t tree apart 16 [] root name rest short names_good.0 names_good.1 there in
+    let sum : 0 + total es ≤ 536870912 = omega (arith, total_is es, few) in
+    let all : met_below t 16 [] root ≡ map Ok es = walked_whole 0 (met_below t 16 [] root) es h sum in
+    contains_from es e (met_edit es e (subst (λ (ms : List Met). In (Ok e) ms) all found))
+
 pub puts_files : (t : FolderTree) (root : Bytes) (es : List Edit) → IsFolderTree t → edits_of t root ≡ Ok es → PutsFiles t root es
 puts_files t root es tree h =
     let apart : AreDistinct t = distinct_from_pairs t tree.distinct in
@@ -434,7 +617,8 @@ puts_files t root es tree h =
     let split : edits_in met ≡ es ++ edits_in front.0 = ap edits_in front.1 ∙ edits_both (map Ok es) front.0 ∙ ap (λ (fs : List Edit). fs ++ edits_in front.0) (edits_all es) in
     record {
       in_order = pairs es (ascends_front es (edits_in front.0) (subst Ascends split (ascends_below t 16 [] root)));
-      files = All-from_recursion (λ e. PutsFile t root e) es (all_in (λ e. PutsFile t root e) es (λ e i.
+      each_is = All-from_recursion (λ e. IsOf t root e) es (all_in (λ e. IsOf t root e) es (λ e i.
           file_below t root apart 16 [] root e (sym (append-nil root)) (subst (λ (ms : List Met). In (Ok e) ms) (sym front.1) (in_front (map Ok es) front.0 (Ok e) (edit_walked es e i)))));
       each = each_file t root es tree apart h;
+      each_bare = each_folder t root es tree apart h;
     }

@@ -9,7 +9,7 @@ use Rattle.std.proofs.lemmas.List.Sums.{sum_by-cons}
 use Rattle.path_tree.specs.Paths.{Bytes, PathNames}
 use Rattle.path_tree.specs.Texts.{is_name}
 use Rattle.path_tree.specs.declared.tree.Edit.{Edit}
-use Rattle.path_tree.specs.declared.tree.Edit.TheVariants.{Put, Remove}
+use Rattle.path_tree.specs.declared.tree.Edit.TheVariants.{Put, Remove, MakeFolder, RemoveFolder}
 use Rattle.generation_catalogue.specs.History.{put_bytes, put_size}
 use Rattle.folder_store.specs.declared.folders.EntryKind.TheVariants as kinds
 use Rattle.folder_store.specs.declared.folders.FolderEntry.{FolderEntry}
@@ -209,6 +209,8 @@ longer es e h = omega (arith, ap length h, length-append es (e ∷ []))
 same_one : (e : Edit) → size e ≡ put_size e
 same_one (Put p b) = refl
 same_one (Remove p) = refl
+same_one (MakeFolder p) = refl
+same_one (RemoveFolder p) = refl
 
 same_size : (es : List Edit) → total es ≡ put_bytes es
 same_size [] = refl

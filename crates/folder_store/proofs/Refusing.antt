@@ -2,7 +2,7 @@
 use Rattle.std.proofs.Common.{◌≡◌, ℕ, Bool, true, false, cond, nat_lt, List, [], ◌∷◌, ◌++◌, length, Option, Some, refl, sym, ap, ◌∙◌, append-nil}
 use Rattle.path_tree.specs.Paths.{Bytes, PathNames}
 use Rattle.path_tree.specs.declared.tree.Edit.{Edit}
-use Rattle.path_tree.specs.declared.tree.Edit.TheVariants.{Put, Remove}
+use Rattle.path_tree.specs.declared.tree.Edit.TheVariants.{Put, Remove, MakeFolder, RemoveFolder}
 use Rattle.folder_store.specs.Walk.{text_below}
 use Rattle.folder_store.specs.Surveys.{Look, first_large, first_of}
 use Rattle.folder_store.specs.Inner.Sighting.{with_file}
@@ -27,6 +27,8 @@ large_more : (root : Bytes) (path : PathNames) (content : Bytes) (es : List Edit
     → cond (nat_lt 16777216 (length content)) (first_of (first_large root es) (text_below root path)) (first_large root es) ≡ first_large root (es ++ Put path content ∷ [])
 large_more root path content [] = refl
 large_more root path content (Remove p ∷ es) = large_more root path content es
+large_more root path content (MakeFolder p ∷ es) = large_more root path content es
+large_more root path content (RemoveFolder p ∷ es) = large_more root path content es
 large_more root path content (Put p c ∷ es) = by (nat_lt 16777216 (length c)) (nat_lt 16777216 (length content)) (large_more root path content es) where
   text : Bytes
   text = text_below root path
@@ -54,3 +56,14 @@ large_noted root text path content before after k l read text_is large_is read_i
     ∙ ap (λ (x : Bytes). cond (nat_lt 16777216 (length content)) (first_of k.large x) k.large) text_is
     ∙ ap (λ (o : Option Bytes). cond (nat_lt 16777216 (length content)) (first_of o (text_below root path)) o) large_is
     ∙ large_more root path content before ∙ ap (first_large root) (sym after_is)
+
+-- a folder that is made is no file
+pub large_made : (root : Bytes) (path : PathNames) (es : List Edit) → first_large root es ≡ first_large root (es ++ MakeFolder path ∷ [])
+large_made root path [] = refl
+large_made root path (Remove p ∷ es) = large_made root path es
+large_made root path (MakeFolder p ∷ es) = large_made root path es
+large_made root path (RemoveFolder p ∷ es) = large_made root path es
+large_made root path (Put p c ∷ es) = by (nat_lt 16777216 (length c)) (large_made root path es) where
+  by : (b : Bool) → first_large root es ≡ first_large root (es ++ MakeFolder path ∷ []) → cond b (Some (text_below root p)) (first_large root es) ≡ cond b (Some (text_below root p)) (first_large root (es ++ MakeFolder path ∷ []))
+  by true h = refl
+  by false h = h

@@ -11,14 +11,14 @@ use Rattle.oc_bytes.specs.Outcome.{Rose}
 use Rattle.path_tree.specs.Paths.{Bytes, PathNames}
 use Rattle.path_tree.specs.Texts.{is_name, path_of}
 use Rattle.path_tree.specs.declared.tree.Edit.{Edit}
-use Rattle.path_tree.specs.declared.tree.Edit.TheVariants.{Put}
+use Rattle.path_tree.specs.declared.tree.Edit.TheVariants.{Put, MakeFolder}
 use Rattle.folder_store.specs.declared.folders.EntryKind.{EntryKind}
 use Rattle.folder_store.specs.declared.folders.EntryKind.TheVariants as kinds
 use Rattle.folder_store.specs.declared.folders.FolderEntry.{FolderEntry}
 use Rattle.folder_store.specs.declared.reading.ReadTree.{ReadTree}
 use Rattle.folder_store.specs.declared.reading.ReadTree.TheVariants as refusals
 use Rattle.folder_store.specs.Folders.{Entry, AFile, AFolder, AnOther, FolderTree, IsRead, MayFail, content_of, entries_below, entry_at, kind_of, view_entry}
-use Rattle.folder_store.specs.Walk.{Met, Walked, WalkFault, IsTooDeep, IsBadName, met_at, met_past, met_below, edits_of, onto, walk_edits, size, sort_entries}
+use Rattle.folder_store.specs.Walk.{Met, Walked, WalkFault, IsTooDeep, IsBadName, met_at, met_or_made, met_past, met_below, edits_of, onto, walk_edits, size, sort_entries}
 use Rattle.folder_store.specs.Gathering.{IsSortedListing, Walks, after, broken_rule, going_on, kind_at, met_one}
 
 -- all this was met, and no rule was broken
@@ -109,21 +109,103 @@ file_walks t path below text name full (AFile content) before edits n m result k
 file_walks t path below text name full AFolder before edits n m result kind few good below_is full_is there read = cc
 file_walks t path below text name full AnOther before edits n m result kind few good below_is full_is there read = cc
 
-pub folder_walks : (t : FolderTree) (path below : PathNames) (text name full : Bytes) (e : Entry) (before edits : List Edit) (n m : ℕ) (result : Result (Unit {0}) ReadTree) → kind_of e ≡ kinds.Folder → length path < 16 → is_name name ≡ true
-    → below ≡ path ++ name ∷ [] → full ≡ text ++ 47 ∷ name
-    → Walks (met_below t (16 - length below) below full) before n result edits m
-    → Walks (met_one t (16 - length path) path text (name, e)) before n result edits m
-folder_walks t path below text name full AFolder before edits n m result kind few good below_is full_is walk =
+folder_met : (t : FolderTree) (path below : PathNames) (text name full : Bytes) (e : Entry) → kind_of e ≡ kinds.Folder → length path < 16 → is_name name ≡ true → below ≡ path ++ name ∷ [] → full ≡ text ++ 47 ∷ name
+    → met_one t (16 - length path) path text (name, e) ≡ met_or_made below (met_below t (16 - length below) below full)
+folder_met t path below text name full AFolder kind few good below_is full_is =
     let r : 16 - length path ≡ suc (15 - length path) = room_left path few in
     let s : 16 - length below ≡ 15 - length path = deeper path below name below_is in
-    let met : met_one t (16 - length path) path text (name, AFolder) ≡ met_below t (16 - length below) below full =
-    ap (λ room. met_one t room path text (name, AFolder)) r ∙ rw good (rw (s, below_is, full_is) refl) in
-    subst (λ (ms : List Met). Walks ms before n result edits m) (sym met) walk
+    ap (λ room. met_one t room path text (name, AFolder)) r ∙ rw good (rw (s, below_is, full_is) refl)
   where
     deeper : (path below : PathNames) (name : Bytes) → below ≡ path ++ name ∷ [] → 16 - length below ≡ 15 - length path
     deeper path below name e = omega (arith, ap length e, length-append path (name ∷ []))
-folder_walks t path below text name full (AFile content) before edits n m result kind few good below_is full_is walk = cc
-folder_walks t path below text name full AnOther before edits n m result kind few good below_is full_is walk = cc
+folder_met t path below text name full (AFile content) kind few good below_is full_is = cc
+folder_met t path below text name full AnOther kind few good below_is full_is = cc
+
+pub after_all : (edits : List Edit) → after edits (Ok []) ≡ Ok edits
+after_all [] = refl
+after_all (e ∷ edits) = ap (onto e) (after_all edits)
+
+onto_same : (e : Edit) (v w : Walked) → onto e v ≡ onto e w → v ≡ w
+onto_same e (Ok es) (Ok fs) h = let same : es ≡ fs = cc in ap Ok same
+onto_same e (Err f) (Err g) h = let same : f ≡ g = cc in ap Err same
+onto_same e (Ok es) (Err g) h = cc
+onto_same e (Err f) (Ok fs) h = cc
+
+after_same : (edits : List Edit) (v w : Walked) → after edits v ≡ after edits w → v ≡ w
+after_same [] v w h = h
+after_same (e ∷ edits) v w h = after_same edits v w (onto_same e (after edits v) (after edits w) h)
+
+onto_parts : (e : Edit) (w : Walked) (es : List Edit) → onto e w ≡ Ok es → (rest : List Edit) × ((w ≡ Ok rest) × (es ≡ e ∷ rest))
+onto_parts e (Ok rest) es h = (rest, (refl, cc))
+onto_parts e (Err fault) es h = cc
+
+after_parts : (before : List Edit) (w : Walked) (es : List Edit) → after before w ≡ Ok es → (more : List Edit) × ((w ≡ Ok more) × (es ≡ before ++ more))
+after_parts [] w es h = (es, (h, refl))
+after_parts (e ∷ before) w es h =
+    let r = onto_parts e (after before w) es h in
+    let q = after_parts before w r.0 r.1.0 in
+    (q.0, (q.1.0, r.1.1 ∙ ap (λ (fs : List Edit). e ∷ fs) q.1.1))
+
+-- where nothing was added, nothing was met
+none_added : (met : List Met) (before edits : List Edit) (n m : ℕ) → nat_lt 536870912 n ≡ false → length edits ≤ length before → Goes met before n edits m → (met ≡ []) × (edits ≡ before)
+none_added met before edits n m room same h =
+    let all : after before (walk_edits n met) ≡ Ok edits = ap (going_on before n) (sym (append-nil met)) ∙ h [] ∙ after_all edits in
+    let r = after_parts before (walk_edits n met) edits all in
+    let none : r.0 ≡ [] = empty r.0 (omega (arith, same, ap length r.1.1, length-append before r.0)) in
+    (nothing met (r.1.0 ∙ ap Ok none), r.1.1 ∙ ap (λ (fs : List Edit). before ++ fs) none ∙ append-nil before)
+  where
+    empty : (es : List Edit) → length es ≡ 0 → es ≡ []
+    empty [] h = refl
+    empty (e ∷ es) h = cc
+
+    onto_some : (e : Edit) (w : Walked) → onto e w ≡ Ok [] → ⊥
+    onto_some e (Ok es) h = cc
+    onto_some e (Err fault) h = cc
+
+    nothing : (met : List Met) → walk_edits n met ≡ Ok [] → met ≡ []
+    nothing [] h = refl
+    nothing (Ok e ∷ met) h = absurd (onto_some e (walk_edits (n + size e) met) (sym (walked_file n e met room) ∙ h))
+    nothing (Err fault ∷ met) h = let z : Err fault ≡ Ok [] = sym (walked_fault n fault met room) ∙ h in cc
+
+-- what was met below a folder, of which edits came
+pub met_goes : (path : PathNames) (met : List Met) (before edits : List Edit) (n m : ℕ) → (length edits ≡ length before → ⊥) → Goes met before n edits m → Goes (met_or_made path met) before n edits m
+met_goes path (e ∷ met) before edits n m more h = h
+met_goes path [] before edits n m more h = absurd (more (ap length same)) where
+  same : edits ≡ before
+  same = let z : Ok before ≡ Ok edits = sym (after_all before) ∙ h [] ∙ after_all edits in cc
+
+-- and of which none came: the folder is made
+pub made_goes : (path : PathNames) (met : List Met) (before edits made : List Edit) (n m k : ℕ) → nat_lt 536870912 n ≡ false → length edits ≤ length before → Goes met before n edits m → made ≡ edits ++ MakeFolder path ∷ [] → k ≡ m → Goes (met_or_made path met) before n made k
+made_goes path met before edits made n m k room same h made_is read rest =
+    let none = none_added met before edits n m room same h in
+    let walked : walk_edits n rest ≡ walk_edits m rest = after_same before (walk_edits n rest) (walk_edits m rest) (ap (λ (ms : List Met). going_on before n (ms ++ rest)) (sym none.0) ∙ h rest ∙ ap (λ (es : List Edit). after es (walk_edits m rest)) none.1) in
+    let first : going_on before n (Ok (MakeFolder path) ∷ rest) ≡ after (before ++ MakeFolder path ∷ []) (walk_edits n rest) =
+    ap (after before) (walked_file n (MakeFolder path) rest room ∙ ap (λ i. onto (MakeFolder path) (walk_edits i rest)) (plus_none n)) ∙ sym (after_more before (MakeFolder path) (walk_edits n rest)) in
+    ap (λ (ms : List Met). going_on before n (met_or_made path ms ++ rest)) none.0 ∙ first
+    ∙ ap (after (before ++ MakeFolder path ∷ [])) walked
+    ∙ ap (λ (es : List Edit). after (es ++ MakeFolder path ∷ []) (walk_edits m rest)) (sym none.1)
+    ∙ ap (λ (es : List Edit). after es (walk_edits m rest)) (sym made_is) ∙ ap (λ i. going_on made i rest) (sym read)
+  where
+    plus_none : (n : ℕ) → n + 0 ≡ n
+    plus_none n = omega arith
+
+-- what breaks a rule below a folder breaks it there
+met_ends : (path : PathNames) (met : List Met) (before : List Edit) (n : ℕ) (fault : WalkFault) → Ends met before n fault → Ends (met_or_made path met) before n fault
+met_ends path (e ∷ met) before n fault h = h
+met_ends path [] before n fault h = let z : Ok before ≡ Err fault = sym (after_all before) ∙ h [] in cc
+
+pub below_ends : (path : PathNames) (met : List Met) (before : List Edit) (n : ℕ) (error : ReadTree) → ((rest : List Met) → MatchOption (broken_rule error) ⊤ (λ fault. going_on before n (met ++ rest) ≡ Err fault))
+    → (rest : List Met) → MatchOption (broken_rule error) ⊤ (λ fault. going_on before n (met_or_made path met ++ rest) ≡ Err fault)
+below_ends path met before n error = by (broken_rule error) where
+  by : (o : Option WalkFault) → ((rest : List Met) → MatchOption o ⊤ (λ fault. going_on before n (met ++ rest) ≡ Err fault)) → (rest : List Met) → MatchOption o ⊤ (λ fault. going_on before n (met_or_made path met ++ rest) ≡ Err fault)
+  by None h rest = tt
+  by (Some fault) h rest = met_ends path met before n fault h rest
+
+pub folder_walks : (t : FolderTree) (path below : PathNames) (text name full : Bytes) (e : Entry) (before edits : List Edit) (n m : ℕ) (result : Result (Unit {0}) ReadTree) → kind_of e ≡ kinds.Folder → length path < 16 → is_name name ≡ true
+    → below ≡ path ++ name ∷ [] → full ≡ text ++ 47 ∷ name → Walks (met_or_made below (met_below t (16 - length below) below full)) before n result edits m
+    → Walks (met_one t (16 - length path) path text (name, e)) before n result edits m
+folder_walks t path below text name full e before edits n m result kind few good below_is full_is walk =
+    subst (λ (ms : List Met). Walks ms before n result edits m) (sym (folder_met t path below text name full e kind few good below_is full_is)) walk
 
 -- a file or a folder that breaks a rule
 pub place_ends : (t : FolderTree) (path : PathNames) (text name : Bytes) (e : Entry) (edits : List Edit) (n : ℕ) (error : ReadTree) → (kind_of e ≡ kinds.Other → ⊥) → nat_lt 536870912 n ≡ false
@@ -260,10 +342,6 @@ folder_not_other kind e f = let z : kinds.Folder ≡ kinds.Other = sym e ∙ f i
 
 pub root_is : (root : PathNames) → path_of (47 ∷ []) ≡ Ok root → root ≡ []
 root_is root e = cc
-
-pub after_all : (edits : List Edit) → after edits (Ok []) ≡ Ok edits
-after_all [] = refl
-after_all (e ∷ edits) = ap (onto e) (after_all edits)
 
 pub whole_goes : (t : FolderTree) (root : Bytes) (path : PathNames) (text : Bytes) (edits : List Edit) (n : ℕ) → path ≡ [] → text ≡ root
     → Goes (met_below t (16 - length path) path text) [] 0 edits n → edits_of t root ≡ Ok edits

@@ -7,7 +7,7 @@ use Rattle.path_tree.specs.Paths.{Bytes, PathNames}
 use Rattle.path_tree.specs.Texts.{is_name}
 use Rattle.path_tree.specs.declared.text.TheConstants.{MOST_NAMES}
 use Rattle.path_tree.specs.declared.tree.Edit.{Edit}
-use Rattle.path_tree.specs.declared.tree.Edit.TheVariants.{Put, Remove}
+use Rattle.path_tree.specs.declared.tree.Edit.TheVariants.{Put, Remove, MakeFolder, RemoveFolder}
 use Rattle.path_tree.specs.declared.tree.TheConstants.{MOST_CONTENT}
 use Rattle.folder_store.specs.Folders.{Entry, AFile, AFolder, AnOther, FolderTree, entries_below}
 use Rattle.folder_store.specs.Walk.{sort_entries, text_below}
@@ -45,6 +45,8 @@ abbrev pub first_large : (root : Bytes) → List Edit → Option Bytes
 first_large root [] = None
 first_large root (Put path content ∷ edits) = if nat_lt MOST_CONTENT (length content) then Some (text_below root path) else first_large root edits
 first_large root (Remove path ∷ edits) = first_large root edits
+first_large root (MakeFolder path ∷ edits) = first_large root edits
+first_large root (RemoveFolder path ∷ edits) = first_large root edits
 
 -- what the walk comes by: an entry that it passes over, one that breaks a rule, or a file, by its path text, that has more bytes than
 -- one of a carousel

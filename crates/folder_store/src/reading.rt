@@ -4,7 +4,7 @@ ghost use Rattle.oc_bytes.specs.Outcome.{Rose};
 ghost use Rattle.path_tree.specs.Paths.{Bytes};
 ghost use Rattle.path_tree.specs.Texts.{is_name};
 ghost use Rattle.folder_store.specs.Folders.{Entry, AFile, FolderTree, IsFolderTree, is_folder_at, kind_of, entry_at, content_of, view_entry, IsRefused, MayFail};
-ghost use Rattle.folder_store.specs.Walk.{PutsFiles, edits_of, met_below, text_below, IsTooDeep, IsBadName};
+ghost use Rattle.folder_store.specs.Walk.{PutsFiles, edits_of, met_below, met_or_made, text_below, IsTooDeep, IsBadName};
 ghost use Rattle.folder_store.specs.Gathering.{IsSortedListing, Walks, met_one, kind_at};
 ghost use Rattle.folder_store.specs.Surveys.{at_in, first_large, marks_below, text_at};
 ghost use Rattle.folder_store.specs.Inner.Sighting.{Tells, look_in, marks_one, with_file};
@@ -121,7 +121,7 @@ impl Place {
 /// What was read so far.
 #[derive(Drop)]
 pub(crate) struct Gathered {
-    /// An edit for each file, in the order in which they were met.
+    /// An edit for each file, and for each folder in which neither a file nor a folder stands, in the order in which they were met.
     pub(crate) edits: Vec<Edit>,
     /// How many bytes the files have in all.
     pub(crate) read: u64,
@@ -144,6 +144,15 @@ impl Gathered {
         let content = Blob::new(alloc, content)?;
         self.edits.push(Edit::Put(path, content))?;
         self.read = self.read.saturating_add(size);
+        Ok(())
+    }
+
+    /// Adds the edit that makes a folder.
+    fn make(&mut self, folder: Path) -> Result<(), NoMemory>
+        ensures edits { OnOk result (self.new.edits.items ≡ self.old.edits.items ++ Edit.MakeFolder folder ∷ []) }
+        ensures read { OnOk result (self.new.read ≡ self.old.read) }
+    {
+        self.edits.push(Edit::MakeFolder(folder))?;
         Ok(())
     }
 }
@@ -198,7 +207,7 @@ fn read_file<F: Folders>(
     Ok(())
 }
 
-/// Adds the edits of the files below a folder. A folder lies at most sixteen deep, and so do the calls.
+/// Adds the edits of what stands below a folder. A folder lies at most sixteen deep, and so do the calls.
 #[cycle(walk)]
 pub(crate) fn walk_folder<F: Folders>(
     alloc: Global,
@@ -229,7 +238,39 @@ pub(crate) fn walk_folder<F: Folders>(
     Ok(())
 }
 
-/// Adds the edits of one entry of a folder: that of a file, or those of the files below a folder.
+/// Adds the edits of what stands below a folder, or where no edit comes of it, the edit that makes the folder: then neither a file nor a
+/// folder stands in it.
+#[cycle(walk)]
+fn walk_below<F: Folders>(
+    alloc: Global,
+    folders: &mut F,
+    place: Place,
+    gathered: &mut Gathered,
+    sights: &mut Sights,
+) -> Result<(), ReadTree>
+    requires { gathered.old.read ≤ MOST_PUT_BYTES }
+    ensures walk { (t : FolderTree) → F.tree folders.old ≡ Some t
+        → Walks (met_or_made place.path (met_below t (MOST_NAMES - length place.path) place.path (string_bytes place.text))) gathered.old.edits.items gathered.old.read result gathered.new.edits.items gathered.new.read }
+    ensures tells { (t : FolderTree) → F.tree folders.old ≡ Some t
+        → Tells (marks_below t (MOST_NAMES - length place.path) place.path (string_bytes place.text)) (look_in sights.old) gathered.old.read result (look_in sights.new) gathered.new.read (at_in sights.new.at) }
+    ensures large { (root : Bytes) → string_bytes place.text ≡ text_below root place.path → (look_in sights.old).large ≡ first_large root gathered.old.edits.items
+        → OnOk result ((look_in sights.new).large ≡ first_large root gathered.new.edits.items) }
+    ensures named { (root : Bytes) → string_bytes place.text ≡ text_below root place.path → text_at root sights.old.at ≡ string_bytes place.text
+        → IsErrOf result ReadTree.FolderFault → IsRefused (F.refused folders.new) (text_at root sights.new.at) }
+    ensures fault { IsErrOf result ReadTree.FolderFault → MayFail (Rose (F.faults folders.old) (F.faults folders.new)) (F.tree folders.old) (λ t. is_folder_at t (string_bytes place.text) ≡ false) }
+    ensures owed { (t : FolderTree) → F.tree folders.old ≡ Some t → is_folder_at t (string_bytes place.text) ≡ true → F.strayed folders.new ≡ F.strayed folders.old }
+    ensures same { F.tree folders.new ≡ F.tree folders.old }
+    ensures later { F.faults folders.old ≤ F.faults folders.new }
+{
+    let met_before = gathered.edits.len();
+    walk_folder(alloc, folders, &place, gathered, sights)?;
+    if gathered.edits.len() > met_before {
+        return Ok(());
+    }
+    Ok(gathered.make(place.path)?)
+}
+
+/// Adds the edits of one entry of a folder: that of a file, or those of a folder and of what stands below it.
 #[cycle(walk)]
 fn walk_entry<F: Folders>(
     alloc: Global,
@@ -266,18 +307,19 @@ fn walk_entry<F: Folders>(
         EntryKind::Folder => {
             sights.reach(alloc, &place.path, &entry.name)?;
             let folder = place.below(alloc, &entry.name)?;
-            walk_folder(alloc, folders, &folder, gathered, sights)
+            walk_below(alloc, folders, folder, gathered, sights)
         }
         EntryKind::Other => Ok(sights.pass(alloc, &place.path, &entry.name)?),
     }
 }
 
-/// Reads a folder of the outside as edits: one `Put` for each file below `root`, in the order of paths, with the names
-/// from `root` on as its path. The bytes of a file aren't copied again.
+/// Reads a folder of the outside as edits: one `Put` for each file below `root`, and one `MakeFolder` for each folder below it
+/// in which neither a file nor a folder stands, in the order of paths, with the names from `root` on as the path. The bytes of
+/// a file aren't copied again.
 ///
 /// `root` is listed, and below it the path text of a file or a folder is its folder's text, `/` and its name. The entries of
 /// a folder are taken by the bytes of their names, a folder's content at its place. Links and other kinds are passed over,
-/// so that a folder in which nothing else stands gives no edit. Of a file one byte more than
+/// so that a folder in which nothing else stands is made. Of a file one byte more than
 /// [`MOST_CONTENT`] is read at most. After the file at which more than [`MOST_PUT_BYTES`] are read in all, the walk ends.
 ///
 /// The walk refuses the first entry that it can't take, and then alone. It is `TooDeep` where sixteen names lead to its folder

@@ -15,7 +15,7 @@ use std::alloc::{AllocError, Global};
 /// What a folder holds, as publishing takes it.
 #[derive(Drop)]
 pub struct Surveyed {
-    /// One `Put` for each file, in the order of paths.
+    /// One `Put` for each file, and one `MakeFolder` for each folder in which neither a file nor a folder stands, in the order of paths.
     pub edits: Vec<Edit>,
     /// What was passed over, links and other kinds, in the order of paths.
     pub left: Vec<Standing>,

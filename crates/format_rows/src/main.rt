@@ -21,7 +21,7 @@ use std::alloc::Global;
 use std::io;
 use test_rows::{Calls, Line, Row, RowFault, answer_rows};
 
-/// The calls of the formats, crate by crate, and the tree of files that edits change from row to row.
+/// The calls of the formats, crate by crate, and the tree that edits change from row to row.
 #[derive(Drop)]
 struct Formats {
     tree: Tree,

@@ -1,7 +1,7 @@
-//! Texts of paths, trees of files, look-ups and edits.
+//! Texts of paths, trees of files and kept folders, look-ups and edits.
 
 use oc_bytes::Blob;
-use path_tree::{Edit, Edits, Lookup, Name, Path, Tree, apply, print_name};
+use path_tree::{Edit, Edits, Entry, Lookup, Name, Path, Tree, apply, print_name};
 use std::alloc::Global;
 use test_rows::{Line, Row, RowFault};
 
@@ -14,7 +14,8 @@ pub(crate) fn call(alloc: Global, row: &Row<'_>, tree: &mut Tree) -> Option<Line
         "path-above" => Some(asked(alloc, row, Question::Above)),
         "tree-new" => Some(emptied(alloc, row, tree)),
         "tree-apply" => Some(applied(alloc, row, tree)),
-        "tree-files" => Some(listed(alloc, row.line(), tree)),
+        "tree-files" => Some(files(alloc, row.line(), tree)),
+        "tree-folders" => Some(folders(row.line(), tree)),
         "tree-look" => Some(looked_up(alloc, row, tree)),
         _ => None,
     }
@@ -89,7 +90,7 @@ fn above(row: &Row<'_>, path: &Path) -> Line {
     }
 }
 
-/// `tree-apply EDIT..`: the files of the tree after edits, or why they are refused.
+/// `tree-apply EDIT..`: the files and kept folders of the tree after edits, or why they are refused.
 fn applied(alloc: Global, row: &Row<'_>, tree: &mut Tree) -> Line {
     match apply(alloc, tree, edits(alloc, row).list()) {
         Ok(next) => {
@@ -100,7 +101,7 @@ fn applied(alloc: Global, row: &Row<'_>, tree: &mut Tree) -> Line {
     }
 }
 
-/// `tree-new`: the tree has no file from now on.
+/// `tree-new`: the tree has no file and no kept folder from now on.
 fn emptied(alloc: Global, row: &Row<'_>, tree: &mut Tree) -> Line {
     *tree = Tree::empty(alloc);
     listed(alloc, row.line(), tree)
@@ -117,8 +118,15 @@ fn edits(alloc: Global, row: &Row<'_>) -> Edits {
     Edits::new(edits)
 }
 
-/// An edit: a path and what is put there after `=`, or a path that is removed.
+/// An edit: a path and what is put there after `=`, or a path whose file is removed; after `+` the path of a folder that is made, and
+/// after `-` that of one that is removed.
 fn edit(alloc: Global, text: &str) -> Result<Edit, RowFault> {
+    if let Some(place) = text.strip_prefix('+') {
+        return Ok(Edit::MakeFolder(path_of(alloc, place)?));
+    }
+    if let Some(place) = text.strip_prefix('-') {
+        return Ok(Edit::RemoveFolder(path_of(alloc, place)?));
+    }
     match text.split_once('=') {
         Some((place, content)) => put(alloc, place, content),
         None => Ok(Edit::Remove(path_of(alloc, text)?)),
@@ -138,8 +146,23 @@ fn path_of(alloc: Global, text: &str) -> Result<Path, RowFault> {
     }
 }
 
-/// `tree-files`: the path of each file, and its bytes after `=`.
+/// What a tree maps paths to: the path of each file, and its bytes after `=`, and the path of each kept folder with `/` behind it.
 fn listed(alloc: Global, mut line: Line, tree: &Tree) -> Line {
+    for (path, entry) in tree.entries() {
+        line = entry_text(alloc, line.between(" ").made("", path.print()), entry);
+    }
+    line.or("no files")
+}
+
+fn entry_text(alloc: Global, line: Line, entry: &Entry) -> Line {
+    match entry {
+        Entry::File(content) => line.made("=", print_name(alloc, content.bytes())),
+        Entry::Folder => line.text("/"),
+    }
+}
+
+/// `tree-files`: the path of each file, and its bytes after `=`.
+fn files(alloc: Global, mut line: Line, tree: &Tree) -> Line {
     for i in 0..tree.len() {
         let (path, content) = tree.file(i);
         line = line
@@ -148,6 +171,14 @@ fn listed(alloc: Global, mut line: Line, tree: &Tree) -> Line {
             .made("=", print_name(alloc, content.bytes()));
     }
     line.or("no files")
+}
+
+/// `tree-folders`: the path of each kept folder.
+fn folders(mut line: Line, tree: &Tree) -> Line {
+    for i in 0..tree.made_len() {
+        line = line.between(" ").made("", tree.made(i).print());
+    }
+    line.or("no folders")
 }
 
 /// `tree-look PATH`: a file's bytes, or a folder's names.

@@ -73,10 +73,7 @@ pub record IsFine (layout : Layout) : Type 0 where
   pub sizes : All (λ m. length m.1 ≤ 16842752) layout
 
 byte_spots : (c : ℕ) (t : Tree) (objects : List Placed) → Made c t objects → All (λ o. IsByteSpot o.spot) objects
-byte_spots c t objects made =
-    let tree = made.sound.tree in
-    let names : All (λ e. All (λ n. IsBytes n × (length n ≤ 254)) e.0) t = λ i d lt. (λ j n l. (((tree.paths i d lt).0.names j n l).in_byte, ((tree.paths i d lt).0.names j n l).at_most)) in
-    all_unmap IsByteSpot (λ o. o.spot) objects (subst (All IsByteSpot) (sym made.sound.spots) (tree_octets t names tree.contents))
+byte_spots c t objects made = all_unmap IsByteSpot (λ o. o.spot) objects (subst (All IsByteSpot) (sym made.sound.spots) (tree_octets t made.sound.tree))
 
 filled_of : (c : ℕ) (t : Tree) (objects : List Placed) → Made c t objects → Filled t objects
 filled_of c t objects made = record { tree = made.sound.tree; within = made.within; spots = made.sound.spots; placement = made.placement }

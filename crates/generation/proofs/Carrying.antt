@@ -21,13 +21,13 @@ abbrev pub seen : ℕ → List Placed → Placed → Thing
 seen c objects o = go o.spot.content where
   go : Option Bytes → Thing
   go (Some b) = AFile b
-  go None = AFolder (map binding_of (entries_of c objects o.spot.path))
+  go None = AFolder (map binding_of (entries_of c objects o.spot.number))
 
 abbrev pub spelled : ℕ → List Placed → Placed → Spelled
 spelled c objects o = go o.spot.content where
   go : Option Bytes → Spelled
   go (Some b) = SpelledFile (key_bytes o.key) b
-  go None = SpelledFolder (folder_kind_of o.spot.path) (key_bytes o.key) (entries_of c objects o.spot.path)
+  go None = SpelledFolder (folder_kind_of o.spot.path) (key_bytes o.key) (entries_of c objects o.spot.number)
 
 spelled_is : (c : ℕ) (objects : List Placed) (o : Placed) → spelled_bytes (spelled c objects o) ≡ object_bytes c objects o
 spelled_is c objects o = go o.spot.content refl where
@@ -118,6 +118,10 @@ pub in_all : (P : Placed → Type 0) (xs : List Placed) (o : Placed) → All P x
 in_all P [] o all has = absurd has
 in_all P (x ∷ xs) o all (inl is) = subst P is (all 0 x (omega arith))
 in_all P (x ∷ xs) o all (inr has) = in_all P xs o (λ i d lt. all (suc i) d (omega (arith, lt))) has
+
+pub all_in : (P : Placed → Type 0) (xs : List Placed) → ((o : Placed) → In o xs → P o) → All P xs
+all_in P [] h = λ k d lt. absurd (omega (arith, lt))
+all_in P (x ∷ xs) h = All-cons P x xs (h x (inl refl)) (all_in P xs (λ o has. h o (inr has)))
 
 or_parts : (a b : Bool) → (a || b) ≡ false → (a ≡ false) × (b ≡ false)
 or_parts true b e = cc

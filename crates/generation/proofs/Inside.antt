@@ -1,12 +1,12 @@
 -- Every module reads to its end, and every binding leads into a listed module.
-use Rattle.std.proofs.Common.{◌≡◌, ◌≢◌, ℕ, zero, suc, ◌+◌, ◌≤◌, Bool, true, false, ◌==◌, List, [], ◌∷◌, length, map, Option, Some, None, cond, refl, sym, ◌∙◌, ap, subst, arith, inl, inr}
+use Rattle.std.proofs.Common.{◌≡◌, ◌≢◌, ℕ, zero, suc, ◌+◌, ◌≤◌, Bool, true, false, ◌==◌, List, [], ◌∷◌, length, map, Option, Some, None, cond, refl, sym, ◌∙◌, ap, subst, arith}
 use Rattle.std.specs.Prelude.{IsTrue}
 use Rattle.std.specs.Option.{is_none}
 use Rattle.std.specs.List.{All, list_any, range_with_len, filter, filter_map}
 use Rattle.std.proofs.lemmas.Bool.Decides.{nat_tests}
 use Rattle.std.proofs.lemmas.Option.{same_Some}
 use Rattle.std.proofs.lemmas.List.Elements.{All-cons}
-use Rattle.path_tree.specs.Paths.{Bytes, PathNames}
+use Rattle.path_tree.specs.Paths.{Bytes}
 use Rattle.path_tree.specs.Trees.{Tree}
 use Rattle.ior_tap.specs.Iors as iors
 use Rattle.ior_tap.specs.declared.Location.{Location}
@@ -15,12 +15,12 @@ use Rattle.biop_object.specs.Names.{Layout, module_in}
 use Rattle.biop_object.specs.Objects.{Object, IsFile, IsFolder, BindingFields, binding_of}
 use Rattle.biop_object.specs.ObjectReading.{objects_of, reads_to_end}
 use Rattle.biop_object.specs.Spelled.{spelled_object, spelled_objects, SpellingsReadBack}
-use Rattle.generation.specs.Publication.{child_name}
+use Rattle.generation.specs.Publication.{is_child}
 use Rattle.generation.specs.Layouts.{Placed, location_of, bound_of, entries_of, is_in, module_bytes, module_if_used, layout_of, greatest}
 use Rattle.generation.specs.Groups.{group_of}
 use Rattle.generation.specs.Lawful.{IsInside, Carries}
-use Rattle.generation.proofs.Carrying.{spelled, In, Sound, module_found, module_index, in_all}
-use Rattle.generation.proofs.Walking.{paths_named}
+use Rattle.generation.proofs.Carrying.{spelled, Sound, module_found, module_index, in_all, all_in}
+use Rattle.generation.proofs.Naming.{paths_named}
 
 from_range : (c : ℕ) (objects : List Placed) (a n m : ℕ) (bytes : Bytes) → module_in (filter_map (module_if_used c objects) (range_with_len a n)) m ≡ Some bytes → bytes ≡ module_bytes c objects m
 from_range c objects a zero m bytes e = cc
@@ -40,10 +40,6 @@ to_end law c t objects sound m bytes e =
     subst (λ b. IsTrue (reads_to_end b)) (sym (listed_bytes c objects m bytes e)) (subst (λ i. IsTrue (is_none i.1)) (sym (module_index law c t objects sound m)) refl)
 
 -- ---- bindings
-
-pub all_in : (P : Placed → Type 0) (xs : List Placed) → ((o : Placed) → In o xs → P o) → All P xs
-all_in P [] h = λ k d lt. absurd (omega (arith, lt))
-all_in P (x ∷ xs) h = All-cons P x xs (h x (inl refl)) (all_in P xs (λ o has. h o (inr has)))
 
 target_is : (x y : Location × List iors.TapFields) → Some x ≡ Some y → x ≡ y
 target_is x y e = same_Some x y e
@@ -71,14 +67,14 @@ binding_inside c layout k o there = record {
       ap identification_of (sym number) ∙ subst (λ (z : Location). 1 ≡ group_of z.module) place (first_group o.module_id there.1);
 }
 
-entries_inside : (c : ℕ) (layout : Layout) (os : List Placed) → All (IsListed layout) os → (p : PathNames)
-    → All (IsInside layout c) (map binding_of (entries_of c os p))
-entries_inside c layout [] there p = λ k d lt. absurd (omega (arith, lt))
-entries_inside c layout (o ∷ os) there p = go (child_name p o.spot.path) refl (entries_inside c layout os (λ i d lt. there (suc i) d (omega (arith, lt))) p) where
-  go : (k : Option Bytes) → child_name p o.spot.path ≡ k → All (IsInside layout c) (map binding_of (entries_of c os p)) → All (IsInside layout c) (map binding_of (entries_of c (o ∷ os) p))
-  go None e rest = rw e rest
-  go (Some k) e rest = rw e (All-cons (IsInside layout c) (binding_of (record { name = k; bound = bound_of o.spot.content; location = location_of c o })) (map binding_of (entries_of c os p))
-      (binding_inside c layout k o (there 0 o (omega arith))) rest)
+entries_inside : (c : ℕ) (layout : Layout) (os : List Placed) → All (IsListed layout) os → (folder : ℕ)
+    → All (IsInside layout c) (map binding_of (entries_of c os folder))
+entries_inside c layout [] there folder = λ k d lt. absurd (omega (arith, lt))
+entries_inside c layout (o ∷ os) there folder = go (is_child folder o.spot) refl (entries_inside c layout os (λ i d lt. there (suc i) d (omega (arith, lt))) folder) where
+  go : (b : Bool) → is_child folder o.spot ≡ b → All (IsInside layout c) (map binding_of (entries_of c os folder)) → All (IsInside layout c) (map binding_of (entries_of c (o ∷ os) folder))
+  go false e rest = rw e rest
+  go true e rest = rw e (All-cons (IsInside layout c) (binding_of (record { name = o.spot.name; bound = bound_of o.spot.content; location = location_of c o })) (map binding_of (entries_of c os folder))
+      (binding_inside c layout o.spot.name o (there 0 o (omega arith))) rest)
 
 -- what an object's bindings say
 abbrev pub BindsInside : Layout → ℕ → Object → Type 0
@@ -89,8 +85,8 @@ object_inside c layout objects there o at = go o.spot.content refl where
   go : (b : Option Bytes) → o.spot.content ≡ b → BindsInside layout c (spelled_object at (spelled c objects o))
   go (Some b) h = rw h (λ key bindings e. let s : IsFile (at + 44) (length b) ≡ IsFolder bindings = ap (λ x. x.shape) e in cc)
   go None h = rw h (λ key bindings e.
-      let s : IsFolder (map binding_of (entries_of c objects o.spot.path)) ≡ IsFolder bindings = ap (λ x. x.shape) e in
-      subst (All (IsInside layout c)) (same (map binding_of (entries_of c objects o.spot.path)) bindings s) (entries_inside c layout objects there o.spot.path)) where
+      let s : IsFolder (map binding_of (entries_of c objects o.spot.number)) ≡ IsFolder bindings = ap (λ x. x.shape) e in
+      subst (All (IsInside layout c)) (same (map binding_of (entries_of c objects o.spot.number)) bindings s) (entries_inside c layout objects there o.spot.number)) where
         same : (a b : List BindingFields) → IsFolder a ≡ IsFolder b → a ≡ b
         same a b e = cc
 

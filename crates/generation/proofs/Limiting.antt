@@ -1,11 +1,12 @@
 -- Sizes of objects, and the first folder that is too large.
-use Rattle.std.proofs.Common.{◌≡◌, ℕ, zero, suc, ◌+◌, ◌<◌, Bool, true, false, List, [], ◌∷◌, length, drop, map, Option, Some, None, refl, sym, ◌∙◌, ap, add-one, arith, get_or}
+use Rattle.std.proofs.Common.{◌≡◌, ℕ, zero, suc, ◌+◌, ◌<◌, Bool, true, false, List, [], ◌∷◌, length, drop, map, Option, Some, None, Ok, refl, sym, ◌∙◌, ap, add-one, arith, get_or}
 use Rattle.std.specs.List.{find}
 use Rattle.std.proofs.lemmas.List.{get_or-map}
-use Rattle.path_tree.specs.Paths.{Bytes, PathNames}
+use Rattle.path_tree.specs.Paths.{Bytes}
 use Rattle.path_tree.specs.Trees.{Tree}
 use Rattle.generation.specs.declared.spots.Spot.{Spot}
-use Rattle.generation.specs.Publication.{Spot as SpotFields, size_of, gateway_spot, is_large_folder}
+use Rattle.generation.specs.Limits.{check_of, unless_passed}
+use Rattle.generation.specs.Publication.{Spot as SpotFields, size_of, gateway_spot, is_large_folder, Passed, limit_of}
 use Rattle.generation.specs.View.{view_spot, AreSpotsOf}
 
 pub len_map : {A B : Type 0} (f : A → B) (xs : List A) → length (map f xs) ≡ length xs
@@ -33,16 +34,17 @@ pub find_here : {A B : Type 0} (p : B → Bool) (f : A → B) (xs : List A) (i :
     → find p (map f (drop i xs)) ≡ Some (f (get_or xs i d))
 find_here p f xs i d lt passes = rw (drop_or xs i d lt, passes) refl
 
-no_large : (p : PathNames) (c : Option Bytes) → is_large_folder (gateway_spot ∷ []) (record { path = p; content = c }) ≡ false
-no_large p (Some b) = refl
-no_large [] None = refl
-no_large (m ∷ ms) None = refl
+no_large : (s : SpotFields) → is_large_folder (gateway_spot ∷ []) s ≡ false
+no_large s = go s.content where
+  go : (c : Option Bytes) → is_large_folder (gateway_spot ∷ []) (record s { content = c }) ≡ false
+  go (Some b) = refl
+  go None = refl
 
 -- the gateway of the empty tree isn't large
 pub some_file : (t : Tree) (spots : List Spot) (s : SpotFields) → AreSpotsOf t spots → is_large_folder (map (view_spot t) spots) s ≡ true → 0 < length t
 some_file [] spots s are e =
     let h : is_large_folder (gateway_spot ∷ []) s ≡ true = ap (λ all. is_large_folder all s) (sym are.each) ∙ e in
-    let g : is_large_folder (gateway_spot ∷ []) s ≡ false = no_large s.path s.content in
+    let g : is_large_folder (gateway_spot ∷ []) s ≡ false = no_large s in
     cc
 some_file (e ∷ es) spots s are h = omega arith
 
@@ -50,3 +52,12 @@ pub as_many : (t : Tree) (spots : List Spot) (sizes : List ℕ) (i : ℕ) → si
 as_many t spots sizes i e lt =
     let n : length sizes ≡ length spots = ap length e ∙ (len_map (size_of (map (view_spot t) spots)) (map (view_spot t) spots) ∙ len_map (view_spot t) spots) in
     omega (arith, n, lt)
+
+-- ---- a tree that is checked
+
+none_passed : (p : Option Passed) → unless_passed p ≡ Ok 0 → p ≡ None
+none_passed (Some p) e = cc
+none_passed None e = refl
+
+pub passes : (t : Tree) → check_of t ≡ Ok 0 → limit_of t ≡ None
+passes t e = none_passed (limit_of t) e

@@ -1,24 +1,21 @@
 -- Objects of one tree are found among those of another in one pass, since both stand in the order of paths.
-use Rattle.std.proofs.Common.{◌≡◌, ◌≢◌, ◌⊎◌, ℕ, zero, suc, ◌+◌, ◌<◌, ◌≤◌, Bool, true, false, ◌&&◌, List, [], ◌∷◌, ◌++◌, length, drop, map, Option, Some, None, cond, refl, sym, ◌∙◌, ap, subst, arith, add-one, get_or, inl, inr, append_assoc, append-nil}
+use Rattle.std.proofs.Common.{◌≡◌, ◌≢◌, ◌⊎◌, ℕ, zero, suc, ◌+◌, ◌<◌, ◌≤◌, Bool, true, false, List, [], ◌∷◌, ◌++◌, length, drop, map, Option, Some, None, cond, refl, sym, ◌∙◌, ap, subst, arith, add-one, get_or, inl, inr, append_assoc, append-nil}
 use Rattle.std.specs.List.{All}
 use Rattle.std.specs.Option.{option_map}
 use Rattle.std.specs.Ordering.{is_lt, ordering_reverse}
 use Rattle.std.specs.declared.cmp.Ordering.{Ordering}
 use Rattle.std.specs.declared.cmp.Ordering.TheVariants.{Less, Equal, Greater}
-use Rattle.std.specs.Cmp.{IsTotalOrder}
-use Rattle.std.proofs.lemmas.Cmp.{lists_total, nat_list_cmp_total}
 use Rattle.std.proofs.lemmas.List.Elements.{All-head, All-tail, All-cons}
-use Rattle.path_tree.specs.Paths.{Bytes, PathNames, name_cmp, path_cmp, same_path}
+use Rattle.path_tree.specs.Paths.{PathNames, path_cmp, same_path}
 use Rattle.path_tree.specs.Trees.{Tree}
 use Rattle.path_tree.proofs.CallerLemmas.{path_cmp-is, path_total, same_path-refl}
 use Rattle.generation.specs.Publication.{Spot, AreRising}
-use Rattle.generation.specs.Layouts.{Placed, placed_at, key_in, module_of, same_kind, is_same_spot}
+use Rattle.generation.specs.Layouts.{Placed, placed_at, key_in, module_of, is_same_spot}
 use Rattle.generation.specs.Inner.Merging.{from_path, first_same}
-use Rattle.generation.specs.View.{view_placed, view_spot, path_at, bytes_at}
+use Rattle.generation.specs.View.{view_placed, view_spot, bytes_at}
 use Rattle.generation.specs.declared.objects.Placed.{Placed as CodePlaced}
 use Rattle.generation.specs.declared.spots.Spot.{Spot as CodeSpot}
-use Rattle.generation.proofs.Treeing.{then_equal}
-use Rattle.generation.proofs.Rising.{paths_differ, less_differ}
+use Rattle.generation.proofs.Fronts.{paths_differ, less_differ}
 use Rattle.generation.proofs.Limiting.{drop_or}
 use Rattle.generation.proofs.Spotting.{kind_apart, kind_same}
 
@@ -169,10 +166,10 @@ one_object : (t u : Tree) (s : CodeSpot) (o : CodePlaced) (found : Option CodePl
     → option_map (view_placed t) found ≡ cond (is_same_spot (view_placed t o).spot (view_spot u s)) (Some (view_placed t o)) None
 one_object t u s o found e has lacks = elim (bools o.spot.whole s.whole) [
   | inl h ↦
-      let both : is_same_spot (view_placed t o).spot (view_spot u s) ≡ true = kind_same o.spot.whole s.whole _ (bytes_at t o.spot.file) (bytes_at u s.file) h ∙ same in
+      let both : is_same_spot (view_placed t o).spot (view_spot u s) ≡ true = kind_same o.spot.whole s.whole _ (bytes_at t o.spot.entry) (bytes_at u s.entry) h ∙ same in
       ap (option_map (view_placed t)) (has h) ∙ sym (ap (λ b. cond b (Some (view_placed t o)) None) both)
   | inr h ↦
-      let other : is_same_spot (view_placed t o).spot (view_spot u s) ≡ false = kind_apart o.spot.whole s.whole _ (bytes_at t o.spot.file) (bytes_at u s.file) h in
+      let other : is_same_spot (view_placed t o).spot (view_spot u s) ≡ false = kind_apart o.spot.whole s.whole _ (bytes_at t o.spot.entry) (bytes_at u s.entry) h in
       ap (option_map (view_placed t)) (lacks h) ∙ sym (ap (λ b. cond b (Some (view_placed t o)) None) other)
 ] where
   same : same_path (view_placed t o).spot.path (view_spot u s).path ≡ true

@@ -1,21 +1,19 @@
 -- What is written of objects are bytes.
-use Rattle.std.proofs.Common.{◌≡◌, ℕ, suc, ◌+◌, ◌-◌, ◌<◌, ◌≤◌, Bool, true, false, ◌&&◌, List, [], ◌∷◌, ◌++◌, length, Option, Some, None, cond, refl, subst, arith, nat_lt, lit<}
+use Rattle.std.proofs.Common.{◌≡◌, ℕ, suc, ◌<◌, ◌≤◌, Bool, true, false, ◌&&◌, List, [], ◌∷◌, ◌++◌, length, Option, Some, None, cond, refl, arith, nat_lt, lit<}
 use Rattle.std.specs.List.{All, filter, flat_map, list_all}
 use Rattle.std.proofs.lemmas.Bool.Decides.{nat_tests}
-use Rattle.std.proofs.lemmas.Option.{same_Some}
 use Rattle.std.proofs.lemmas.List.Elements.{All-cons, All-append}
 use Rattle.oc_bytes.specs.Numbers.{IsBytes, two_bytes, four_bytes, eight_bytes}
-use Rattle.path_tree.specs.Paths.{Bytes, PathNames, same_name}
-use Rattle.path_tree.specs.Trees.{Tree}
+use Rattle.path_tree.specs.Paths.{Bytes}
+use Rattle.path_tree.specs.Trees.{Tree, IsTree}
 use Rattle.ior_tap.specs.Iors as iors
 use Rattle.ior_tap.specs.declared.Location.{Location}
 use Rattle.biop_object.specs.Objects.{biop, file_kind, directory_kind, kind_of, file_spelling, binding_spelling, bound_tail, bound_kind}
 use Rattle.biop_object.specs.declared.written.FolderKind.{FolderKind}
 use Rattle.biop_object.specs.declared.written.FolderKind.TheVariants.{Directory, Gateway}
-use Rattle.generation.specs.Publication.{Spot, gateway_spot, spots_of, spots_after, child_name, folders_after, shared_folders}
+use Rattle.generation.specs.Publication.{Spot, spots_of, is_child}
 use Rattle.generation.specs.Layouts.{Placed, key_bytes, bound_of, entries_of, folder_kind_of, object_bytes, is_in, module_bytes}
-use Rattle.generation.proofs.Rising.{each_folder}
-use Rattle.generation.proofs.Soundness.{all_take}
+use Rattle.generation.proofs.Numbering.{all_valid, child_has}
 
 pub record Octets (xs : List ℕ) : Type 0 where
   pub all : IsBytes xs
@@ -73,27 +71,19 @@ tail None c m k = both (more (lit< tt) (location directory_kind c m k (tested di
 binding : (n : Bytes) (b : Option Bytes) (c m k : ℕ) → IsBytes n → length n ≤ 254 → Octets (binding_spelling (record { name = n; bound = bound_of b; location = record { carousel = c; «module» = m; key = key_bytes k } }))
 binding n b c m k ok small = both (both (more (lit< tt) (more (omega (arith, small)) (record { all = ok }))) (more (lit< tt) (more (lit< tt) (kind_ok b)))) (tail b c m k)
 
-child_bytes : (p r : PathNames) (k : Bytes) → All (λ n. IsBytes n × (length n ≤ 254)) r → child_name p r ≡ Some k → IsBytes k × (length k ≤ 254)
-child_bytes [] [] k all e = cc
-child_bytes [] (n ∷ []) k all e = subst (λ z. IsBytes z × (length z ≤ 254)) (same_Some n k e) (all 0 n (omega arith))
-child_bytes [] (n ∷ n' ∷ ns) k all e = cc
-child_bytes (m ∷ ms) [] k all e = cc
-child_bytes (m ∷ ms) (n ∷ ns) k all e = go (same_name m n) refl (λ h. child_bytes ms ns k (λ i d lt. all (suc i) d (omega (arith, lt))) h) where
-  go : (t : Bool) → same_name m n ≡ t → (child_name ms ns ≡ Some k → IsBytes k × (length k ≤ 254)) → IsBytes k × (length k ≤ 254)
-  go true h rest = rest (rw h at e)
-  go false h rest = let bad = rw h at e in cc
-
--- an object whose names and content are bytes
+-- an object whose name and content are bytes
 pub record IsByteSpot (s : Spot) : Type 0 where
-  pub names : All (λ n. IsBytes n × (length n ≤ 254)) s.path
+  pub name : (p : ℕ) → s.parent ≡ Some p → IsBytes s.name × (length s.name ≤ 254)
   pub content : (b : Bytes) → s.content ≡ Some b → IsBytes b
 
-entries : (c : ℕ) (p : PathNames) (os : List Placed) → All (λ o. IsByteSpot o.spot) os → Octets (flat_map binding_spelling (entries_of c os p))
-entries c p [] ok = none
-entries c p (o ∷ os) ok = go (child_name p o.spot.path) refl (entries c p os (λ i d lt. ok (suc i) d (omega (arith, lt)))) where
-  go : (k : Option Bytes) → child_name p o.spot.path ≡ k → Octets (flat_map binding_spelling (entries_of c os p)) → Octets (flat_map binding_spelling (entries_of c (o ∷ os) p))
-  go None e rest = rw e rest
-  go (Some k) e rest = let h = child_bytes p o.spot.path k (ok 0 o (omega arith)).names e in rw e (both (binding k o.spot.content c o.module_id o.key h.0 h.1) rest)
+entries : (c folder : ℕ) (os : List Placed) → All (λ o. IsByteSpot o.spot) os → Octets (flat_map binding_spelling (entries_of c os folder))
+entries c folder [] ok = none
+entries c folder (o ∷ os) ok = go (is_child folder o.spot) refl (entries c folder os (λ i d lt. ok (suc i) d (omega (arith, lt)))) where
+  go : (b : Bool) → is_child folder o.spot ≡ b → Octets (flat_map binding_spelling (entries_of c os folder)) → Octets (flat_map binding_spelling (entries_of c (o ∷ os) folder))
+  go false e rest = rw e rest
+  go true e rest =
+      let p = child_has folder o.spot e in
+      let h = (ok 0 o (omega arith)).name p.0 p.1 in rw e (both (binding o.spot.name o.spot.content c o.module_id o.key h.0 h.1) rest)
 
 folder_kind_ok : (kind : FolderKind) → Octets (kind_of kind)
 folder_kind_ok Directory = tested (kind_of Directory) refl
@@ -103,8 +93,8 @@ object : (c : ℕ) (objects : List Placed) → All (λ o. IsByteSpot o.spot) obj
 object c objects all o ok = go o.spot.content refl where
   go : (b : Option Bytes) → o.spot.content ≡ b → Octets (object_bytes c objects o)
   go (Some b) e = rw e (file o.key b (ok.content b e))
-  go None e = rw e (message (key_bytes o.key) (kind_of (folder_kind_of o.spot.path)) [] (two_bytes (length (entries_of c objects o.spot.path)) ++ flat_map binding_spelling (entries_of c objects o.spot.path))
-      (four o.key) (lit< tt) (folder_kind_ok (folder_kind_of o.spot.path)) none (both (two _) (entries c o.spot.path objects all)))
+  go None e = rw e (message (key_bytes o.key) (kind_of (folder_kind_of o.spot.path)) [] (two_bytes (length (entries_of c objects o.spot.number)) ++ flat_map binding_spelling (entries_of c objects o.spot.number))
+      (four o.key) (lit< tt) (folder_kind_ok (folder_kind_of o.spot.path)) none (both (two _) (entries c o.spot.number objects all)))
 
 pub module_octets : (c : ℕ) (objects : List Placed) → All (λ o. IsByteSpot o.spot) objects → (m : ℕ) → IsBytes (module_bytes c objects m)
 module_octets c objects all m = (go objects all).all where
@@ -115,15 +105,5 @@ module_octets c objects all m = (go objects all).all where
     step true here rest = both here rest
     step false here rest = rest
 
-byte_spots : (before : PathNames) (es : Tree) → All (λ e. All (λ n. IsBytes n × (length n ≤ 254)) e.0) es → All (λ e. IsBytes e.1) es → All IsByteSpot (spots_after before es)
-byte_spots before [] names contents = λ i d lt. absurd (omega (arith, lt))
-byte_spots before (e ∷ es) names contents =
-    let here = names 0 e (omega arith) in
-    let bytes = contents 0 e (omega arith) in
-    All-append IsByteSpot (folders_after before e.0) (record { path = e.0; content = Some e.1 } ∷ spots_after e.0 es)
-    (each_folder IsByteSpot e.0 (shared_folders before e.0 + 1) (length e.0 - 1 - shared_folders before e.0) (λ k l m. record { names = all_take (λ n. IsBytes n × (length n ≤ 254)) k e.0 here; content = λ b h. cc }))
-    (All-cons IsByteSpot (record { path = e.0; content = Some e.1 }) (spots_after e.0 es) (record { names = here; content = λ b h. subst IsBytes (same_Some e.1 b h) bytes })
-    (byte_spots e.0 es (λ i d lt. names (suc i) d (omega (arith, lt))) (λ i d lt. contents (suc i) d (omega (arith, lt)))))
-
-pub tree_octets : (t : Tree) → All (λ e. All (λ n. IsBytes n × (length n ≤ 254)) e.0) t → All (λ e. IsBytes e.1) t → All IsByteSpot (spots_of t)
-tree_octets t names contents = All-cons IsByteSpot gateway_spot (spots_after [] t) (record { names = λ i d lt. absurd (omega (arith, lt)); content = λ b h. cc }) (byte_spots [] t names contents)
+pub tree_octets : (t : Tree) → IsTree t → All IsByteSpot (spots_of t)
+tree_octets t tree i d lt = let h = all_valid t tree i d lt in record { name = λ p e. ((h.name p e).in_byte, (h.name p e).at_most); content = h.bytes }

@@ -1,13 +1,13 @@
 -- The objects of a generation: as many keys and modules as objects, and the sizes of their bytes.
-use Rattle.std.proofs.Common.{◌≡◌, ℕ, zero, suc, ◌+◌, ◌-◌, ◌≤◌, max, Bool, true, false, not, List, [], ◌∷◌, ◌++◌, length, map, Option, Some, None, cond, refl, sym, ◌∙◌, ap, subst, arith, get_or, length-append, append-nil, ◌==◌, nat_lt, nat_le, sum, inl, inr, ◌⊎◌, Result, Ok, Err, Vec, Global}
+use Rattle.std.proofs.Common.{◌≡◌, ℕ, zero, suc, ◌+◌, ◌-◌, ◌<◌, ◌≤◌, max, Bool, true, false, not, List, [], ◌∷◌, ◌++◌, length, map, Option, Some, None, cond, refl, sym, ◌∙◌, ap, subst, arith, get_or, length-append, append-nil, ◌==◌, nat_lt, nat_le, sum, inl, inr, ◌⊎◌, Result, Ok, Err, Vec, Global}
 use Rattle.std.specs.Prelude.{IfOk}
 use Rattle.std.specs.List.{All, find, sum_by, filter, filter_map, flat_map, list_any, range_with_len, fold, cons_option}
 use Rattle.std.proofs.lemmas.Bool.Decides.{nat_tests}
 use Rattle.std.proofs.lemmas.List.Sums.{sum_by-cons}
 use Rattle.std.proofs.lemmas.List.Elements.{All-cons, filter_map-append}
-use Rattle.std.proofs.lemmas.List.{map-append}
+use Rattle.std.proofs.lemmas.List.{map-append, get_or-map}
 use Rattle.generation.proofs.Keying.{range_more}
-use Rattle.path_tree.specs.Paths.{Bytes, PathNames}
+use Rattle.path_tree.specs.Paths.{Bytes}
 use Rattle.path_tree.specs.Trees.{Tree, IsTree}
 use Rattle.biop_object.specs.Objects.{folder_spelling, binding_spelling, bound_tail, bound_kind}
 use Rattle.biop_object.specs.declared.written.FolderKind.{FolderKind}
@@ -17,10 +17,12 @@ use Rattle.oc_bytes.specs.Outcome.{cap_at_u64, cap_at_u32}
 use Rattle.module_packer.specs.Placement.{modules_needed, IsPlacement}
 use Rattle.generation.specs.declared.spots.Spot.{Spot as CodeSpot}
 use Rattle.generation.specs.declared.objects.Placed.{Placed as CodePlaced}
-use Rattle.generation.specs.Publication.{Spot, size_of, spots_of, sizes_of, binding_size, binding_rest, child_name, is_large_folder, large_folder, limit_of, or_else, over, Passed, Objects, Total, Modules}
+use Rattle.generation.specs.Publication.{Spot, size_of, spots_of, sizes_of, binding_size, binding_rest, is_child, is_large_folder, large_folder, limit_of, or_else, over, Passed, Objects, Total, Modules}
 use Rattle.generation.specs.Layouts.{Placed, placed_all, fill_keys, free_keys, taken_in, old_keys, keys_of, written_in, entries_of, object_bytes, key_bytes, location_of, bound_of, folder_kind_of, is_in, module_bytes, module_if_used, layout_of, greatest}
-use Rattle.generation.specs.View.{view_spot, view_placed, placed_from, IsSpotIn, AreReady}
+use Rattle.generation.specs.Inner.Linking.{IsBelow}
+use Rattle.generation.specs.View.{view_spot, view_placed, placed_from, IsSpotIn, AreFoldered, AreReady}
 use Rattle.generation.proofs.Limiting.{len_map}
+use Rattle.generation.proofs.Numbering.{number_at, all_numbered, all_in_folders}
 
 -- ---- keys
 
@@ -144,28 +146,31 @@ placed_valid t (s ∷ ss) (k ∷ ks) (m ∷ ms) all = All-cons (λ o. IsSpotIn t
 
 -- ---- sizes
 
-binding_length : (c : ℕ) (p : PathNames) (o : Placed) (n : Bytes) → child_name p o.spot.path ≡ Some n
-    → length (binding_spelling (record { name = n; bound = bound_of o.spot.content; location = location_of c o })) ≡ length n + binding_rest o.spot.content
-binding_length c p o n e = go o.spot.content where
+binding_length : (c : ℕ) (o : Placed)
+    → length (binding_spelling (record { name = o.spot.name; bound = bound_of o.spot.content; location = location_of c o })) ≡ length o.spot.name + binding_rest o.spot.content
+binding_length c o = go o.spot.content where
+  n : Bytes
+  n = o.spot.name
+
   go : (content : Option Bytes) → length (binding_spelling (record { name = n; bound = bound_of content; location = location_of c o })) ≡ length n + binding_rest content
   go (Some b) = omega (arith, length-append (n ++ (0 ∷ 4 ∷ bound_kind (bound_of (Some b)))) (bound_tail (bound_of (Some b)) (location_of c o)), length-append n (0 ∷ 4 ∷ bound_kind (bound_of (Some b))))
   go None = omega (arith, length-append (n ++ (0 ∷ 4 ∷ bound_kind (bound_of None))) (bound_tail (bound_of None) (location_of c o)), length-append n (0 ∷ 4 ∷ bound_kind (bound_of None)))
 
-entries_length : (c : ℕ) (p : PathNames) (objects : List Placed) → length (flat_map binding_spelling (entries_of c objects p)) ≡ sum_by (binding_size p) (map (λ o. o.spot) objects)
-entries_length c p [] = refl
-entries_length c p (o ∷ os) = go (child_name p o.spot.path) refl (entries_length c p os) ∙ sym (sum_by-cons (binding_size p) o.spot (map (λ o. o.spot) os)) where
-  go : (n : Option Bytes) → child_name p o.spot.path ≡ n → length (flat_map binding_spelling (entries_of c os p)) ≡ sum_by (binding_size p) (map (λ o. o.spot) os)
-      → length (flat_map binding_spelling (filter_map (written_in c p) (o ∷ os))) ≡ binding_size p o.spot + sum_by (binding_size p) (map (λ o. o.spot) os)
-  go (Some n) e h = rw e (length-append (binding_spelling (record { name = n; bound = bound_of o.spot.content; location = location_of c o })) (flat_map binding_spelling (entries_of c os p))
-      ∙ omega (arith, h, binding_length c p o n e))
-  go None e h = rw e (omega (arith, h))
+entries_length : (c folder : ℕ) (objects : List Placed) → length (flat_map binding_spelling (entries_of c objects folder)) ≡ sum_by (binding_size folder) (map (λ o. o.spot) objects)
+entries_length c folder [] = refl
+entries_length c folder (o ∷ os) = go (is_child folder o.spot) refl (entries_length c folder os) ∙ sym (sum_by-cons (binding_size folder) o.spot (map (λ o. o.spot) os)) where
+  go : (b : Bool) → is_child folder o.spot ≡ b → length (flat_map binding_spelling (entries_of c os folder)) ≡ sum_by (binding_size folder) (map (λ o. o.spot) os)
+      → length (flat_map binding_spelling (filter_map (written_in c folder) (o ∷ os))) ≡ binding_size folder o.spot + sum_by (binding_size folder) (map (λ o. o.spot) os)
+  go true e h = rw e (length-append (binding_spelling (record { name = o.spot.name; bound = bound_of o.spot.content; location = location_of c o })) (flat_map binding_spelling (entries_of c os folder))
+      ∙ omega (arith, h, binding_length c o))
+  go false e h = rw e (omega (arith, h))
 
 pub length-object_bytes : (c : ℕ) (objects : List Placed) (o : Placed) → length (object_bytes c objects o) ≡ size_of (map (λ o. o.spot) objects) o.spot
 length-object_bytes c objects o = go o.spot.content refl where
   go : (content : Option Bytes) → o.spot.content ≡ content → length (object_bytes c objects o) ≡ size_of (map (λ o. o.spot) objects) o.spot
   go (Some b) e = rw e (omega arith)
-  go None e = rw e (folder_length (folder_kind_of o.spot.path) ∙ ap (λ n. 34 + n) (entries_length c o.spot.path objects)) where
-    folder_length : (kind : FolderKind) → length (folder_spelling kind (key_bytes o.key) (entries_of c objects o.spot.path)) ≡ 34 + length (flat_map binding_spelling (entries_of c objects o.spot.path))
+  go None e = rw e (folder_length (folder_kind_of o.spot.path) ∙ ap (λ n. 34 + n) (entries_length c o.spot.number objects)) where
+    folder_length : (kind : FolderKind) → length (folder_spelling kind (key_bytes o.key) (entries_of c objects o.spot.number)) ≡ 34 + length (flat_map binding_spelling (entries_of c objects o.spot.number))
     folder_length Directory = omega arith
     folder_length Gateway = omega arith
 
@@ -218,7 +223,7 @@ all_unmap P f (x ∷ xs) all = All-cons (λ x. P (f x)) x xs (all 0 (f x) (omega
 
 pub folder_small : (spots : List Spot) (s : Spot) → s.content ≡ None → is_large_folder spots s ≡ false → size_of spots s ≤ 1048576
 folder_small spots s e small = go s.content e small where
-  go : (c : Option Bytes) → c ≡ None → is_large_folder spots (record { path = s.path; content = c }) ≡ false → size_of spots (record { path = s.path; content = c }) ≤ 1048576
+  go : (c : Option Bytes) → c ≡ None → is_large_folder spots (record s { content = c }) ≡ false → size_of spots (record s { content = c }) ≤ 1048576
   go (Some b) e small = cc
   go None e small = at_most 1048576 _ small
 
@@ -280,6 +285,24 @@ pub ids_same : {A : Type 0} (f : ℕ → Option (ℕ × Bytes)) (v : A → ℕ �
     → None ≡ f k → map v xs ≡ filter_map f (range_with_len 1 (k + 1 - 1))
 ids_same f v k xs le so_far is = sym (ids_before f k le ∙ rw (← is, ← so_far) (append-nil (map v xs)))
 
+-- the objects of a tree name folders among them
+pub are_foldered : (t : Tree) (objects : List CodePlaced) → map (λ o. o.spot) (map (view_placed t) objects) ≡ spots_of t → AreFoldered objects
+are_foldered t objects spots =
+    let n : length (spots_of t) ≡ length objects = ap length (sym spots) ∙ (len_map (λ o. o.spot) (map (view_placed t) objects) ∙ len_map (view_placed t) objects) in
+    let at : (i : ℕ) (d : CodePlaced) → i < length objects → get_or (spots_of t) i (view_spot t d.spot) ≡ view_spot t (get_or objects i d).spot = λ i d lt.
+    ap (λ ss. get_or ss i (view_spot t d.spot)) (sym spots)
+    ∙ (get_or-map (λ o. o.spot) (map (view_placed t) objects) i (view_placed t d) (view_spot t d.spot) (omega (arith, lt, len_map (view_placed t) objects))
+    ∙ ap (λ (o : Placed). o.spot) (get_or-map (view_placed t) objects i d (view_placed t d) lt)) in
+    record {
+      numbers = λ i d lt. ap (λ s. s.number) (sym (at i d lt)) ∙ (number_at 0 (spots_of t) (all_numbered t) i (view_spot t d.spot) (omega (arith, lt, n)) ∙ omega arith);
+      parents = λ i d lt. below (get_or objects i d).spot.parent (λ p e.
+          let h = all_in_folders t i (view_spot t d.spot) (omega (arith, lt, n)) p (ap (λ s. s.parent) (at i d lt) ∙ e) in omega (arith, h.0, n));
+    }
+  where
+    below : (o : Option ℕ) → ((p : ℕ) → o ≡ Some p → p < length objects) → IsBelow (length objects) o
+    below (Some p) h = h p refl
+    below None h = tt
+
 pub are_ready : (c : ℕ) (t : Tree) (objects : List CodePlaced) → IsTree t → limit_of t ≡ None → All (λ o. IsSpotIn t o.spot) objects
     → map (λ o. o.spot) (map (view_placed t) objects) ≡ spots_of t
     → All (λ m. (1 ≤ m) × (m ≤ 139)) (map (λ o. o.module_id) (map (view_placed t) objects)) → AreReady c t objects
@@ -292,6 +315,7 @@ are_ready c t objects tree limit valid spots numbers =
     record {
       tree = tree;
       spots = valid;
+      foldered = are_foldered t objects spots;
       folders = λ k d lt whole.
           let o = get_or objects k d in
           let small : is_large_folder (spots_of t) (view_placed t o).spot ≡ false =

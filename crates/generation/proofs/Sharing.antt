@@ -1,57 +1,66 @@
 -- Modules whose objects are as before have the same bytes.
-use Rattle.std.proofs.Common.{◌≡◌, ◌≢◌, ℕ, zero, suc, ◌+◌, ◌<◌, ◌≤◌, Bool, true, false, ◌&&◌, ◌||◌, not, ◌==◌, List, [], ◌∷◌, ◌++◌, length, take, drop, map, Option, Some, None, Ok, cond, refl, sym, ◌∙◌, ap, subst, arith, add-one, get_or, set, append_assoc, ◌⊎◌, inl, inr}
+use Rattle.std.proofs.Common.{◌≡◌, ◌≢◌, ℕ, zero, suc, ◌+◌, ◌<◌, ◌≤◌, Bool, true, false, ◌||◌, not, ◌==◌, List, [], ◌∷◌, ◌++◌, length, take, drop, map, Some, None, Ok, cond, refl, sym, ◌∙◌, ap, subst, arith, add-one, get_or, set, ◌⊎◌, inl, inr}
 use Rattle.std.specs.Prelude.{slice_get}
-use Rattle.std.specs.List.{All, filter, flat_map, list_any}
+use Rattle.std.specs.List.{All, AllByRecursion, filter, list_any}
 use Rattle.std.specs.Option.{option_map, is_none}
 use Rattle.std.specs.Ordering.{is_eq}
 use Rattle.std.specs.declared.cmp.Ordering.{Ordering}
 use Rattle.std.specs.declared.cmp.Ordering.TheVariants.{Less, Equal, Greater}
 use Rattle.std.proofs.lemmas.Bool.Decides.{nat_tests}
 use Rattle.std.proofs.lemmas.Option.{same_Some}
-use Rattle.std.proofs.lemmas.List.{take_more}
 use Rattle.std.proofs.lemmas.List.Elements.{All-push, All-head, All-tail}
 use Rattle.path_tree.specs.Paths.{Bytes, PathNames, path_cmp, same_name, same_path}
-use Rattle.path_tree.specs.Trees.{Tree, IsTree, content_at}
+use Rattle.path_tree.specs.Trees.{Tree, IsTree, file_in, entry_at, content_at}
+use Rattle.path_tree.specs.declared.entry.Entry.TheVariants as entries
 use Rattle.path_tree.specs.Edits.{apply_all, path_in, OthersStay}
 use Rattle.path_tree.specs.declared.tree.Edit.{Edit}
-use Rattle.path_tree.proofs.CallerLemmas.{path_cmp-is, same_name-refl, same_path-refl}
+use Rattle.path_tree.proofs.CallerLemmas.{path_cmp-is, same_name-refl, same_path-refl, Item, Apart, Rises, rises_tree}
 use Rattle.biop_object.specs.Names.{Layout, module_in}
-use Rattle.generation.specs.Layouts.{Placed, key_bytes, object_bytes, is_in, module_bytes, layout_of, same_module, count_in, count_after, counts_after}
+use Rattle.generation.specs.Layouts.{Placed, key_bytes, object_bytes, module_bytes, layout_of, same_module, count_in, count_after, counts_after}
 use Rattle.generation.specs.Inner.Stays.{AreAsBefore, part_bytes, SameModules, AreTheirs}
-use Rattle.generation.specs.View.{view_placed, view_spot, view_listed, path_at, bytes_at, IsSpotIn, IsMarked, AreMarked, counted_by}
+use Rattle.generation.specs.View.{view_placed, view_spot, view_listed, path_at, bytes_at, is_file_at, IsSpotIn, IsMarked, AreMarked, counted_by}
 use Rattle.generation.specs.declared.made.Listed.{Listed}
 use Rattle.generation.specs.declared.objects.Placed.{Placed as CodePlaced}
 use Rattle.generation.specs.declared.spots.Spot.{Spot as CodeSpot}
 use Rattle.biop_object.specs.Objects.{file_spelling}
-use Rattle.generation.proofs.Children.{Later, Ordered, ordered_from}
-use Rattle.generation.proofs.Rising.{paths_differ, less_differ}
+use Rattle.generation.proofs.Fronts.{paths_differ, less_differ}
 use Rattle.generation.proofs.Limiting.{drop_or}
 use Rattle.generation.proofs.Inside.{listed_bytes}
 
--- ---- a tree's files by number
+-- ---- a tree's entries by number
 
-later_at : (q : PathNames) (es : Tree) (i : ℕ) → Later q es → i < length es → path_cmp q (path_at es i) ≡ Less
-later_at q [] i later lt = absurd (omega (arith, lt))
-later_at q (e ∷ es) zero later lt = later.0
-later_at q (e ∷ es) (suc i) later lt = later_at q es i later.2 (omega (arith, lt))
+after_at : (e : Item) (es : Tree) (i : ℕ) → AllByRecursion (Apart e) es → i < length es → path_cmp e.0 (path_at es i) ≡ Less
+after_at e [] i later lt = absurd (omega (arith, lt))
+after_at e (f ∷ fs) zero later lt = later.0.0
+after_at e (f ∷ fs) (suc i) later lt = after_at e fs i later.1 (omega (arith, lt))
 
-here_in : (t : Tree) (i : ℕ) → Ordered t → i < length t → content_at t (path_at t i) ≡ Some (bytes_at t i)
-here_in [] i ordered lt = absurd (omega (arith, lt))
-here_in (e ∷ es) zero ordered lt = rw (same_path-refl e.0) refl
-here_in (e ∷ es) (suc i) ordered lt =
-    let less = later_at e.0 es i ordered.0 (omega (arith, lt)) in
+-- what the path of an entry maps to
+here_in : (t : Tree) (i : ℕ) (d : Item) → Rises t → i < length t → entry_at t (path_at t i) ≡ Some (get_or t i d).1
+here_in [] i d r lt = absurd (omega (arith, lt))
+here_in (e ∷ es) zero d r lt = rw (same_path-refl e.0) refl
+here_in (e ∷ es) (suc i) d r lt =
+    let less = after_at e es i r.1.0 (omega (arith, lt)) in
     let apart : same_path (path_at es i) e.0 ≡ false = paths_differ (path_at es i) e.0 (λ h. less_differ e.0 (path_at es i) less (sym h)) in
-    rw apart (here_in es i ordered.1 (omega (arith, lt)))
+    rw apart (here_in es i d r.1.1 (omega (arith, lt)))
 
-pub content_here : (t : Tree) (i : ℕ) → IsTree t → i < length t → content_at t (path_at t i) ≡ Some (bytes_at t i)
-content_here t i tree lt = here_in t i (ordered_from t tree.in_order tree.apart) lt
+file_here : (t : Tree) (i : ℕ) (d : Item) → i < length t → is_file_at t i ≡ true → file_in (Some (get_or t i d).1) ≡ Some (bytes_at t i)
+file_here [] i d lt file = absurd (omega (arith, lt))
+file_here ((p, entries.File b) ∷ es) zero d lt file = refl
+file_here ((p, entries.Folder) ∷ es) zero d lt file = cc
+file_here (e ∷ es) (suc i) d lt file = file_here es i d (omega (arith, lt)) file
 
-once_in : (t : Tree) (i j : ℕ) → Ordered t → i < length t → j < length t → path_at t i ≡ path_at t j → i ≡ j
-once_in [] i j ordered li lj e = absurd (omega (arith, li))
-once_in (x ∷ xs) zero zero ordered li lj e = refl
-once_in (x ∷ xs) zero (suc j) ordered li lj e = absurd (less_differ x.0 (path_at xs j) (later_at x.0 xs j ordered.0 (omega (arith, lj))) e)
-once_in (x ∷ xs) (suc i) zero ordered li lj e = absurd (less_differ x.0 (path_at xs i) (later_at x.0 xs i ordered.0 (omega (arith, li))) (sym e))
-once_in (x ∷ xs) (suc i) (suc j) ordered li lj e = ap suc (once_in xs i j ordered.1 (omega (arith, li)) (omega (arith, lj)) e)
+no_item : Item
+no_item = ([], entries.Folder)
+
+pub content_here : (t : Tree) (i : ℕ) → IsTree t → i < length t → is_file_at t i ≡ true → content_at t (path_at t i) ≡ Some (bytes_at t i)
+content_here t i tree lt file = ap file_in (here_in t i no_item (rises_tree t tree) lt) ∙ file_here t i no_item lt file
+
+once_in : (t : Tree) (i j : ℕ) → Rises t → i < length t → j < length t → path_at t i ≡ path_at t j → i ≡ j
+once_in [] i j r li lj e = absurd (omega (arith, li))
+once_in (x ∷ xs) zero zero r li lj e = refl
+once_in (x ∷ xs) zero (suc j) r li lj e = absurd (less_differ x.0 (path_at xs j) (after_at x xs j r.1.0 (omega (arith, lj))) e)
+once_in (x ∷ xs) (suc i) zero r li lj e = absurd (less_differ x.0 (path_at xs i) (after_at x xs i r.1.0 (omega (arith, li))) (sym e))
+once_in (x ∷ xs) (suc i) (suc j) r li lj e = ap suc (once_in xs i j r.1.1 (omega (arith, li)) (omega (arith, lj)) e)
 
 -- a number that was found is that of the path
 pub path_found : (t : Tree) (p : PathNames) (i : ℕ) → option_map (λ e. e.0) (slice_get t i) ≡ Some p → (i < length t) × (path_at t i ≡ p)
@@ -59,9 +68,9 @@ path_found [] p i e = cc
 path_found (x ∷ xs) p zero e = (omega arith, same_Some x.0 p e)
 path_found (x ∷ xs) p (suc i) e = let h = path_found xs p i e in (omega (arith, h.0), h.1)
 
--- ---- which files edits name
+-- ---- which entries edits name
 
--- the files that aren't flagged are named by none of these edits
+-- the entries that aren't flagged are named by none of these edits
 abbrev pub AreNamed : Tree → List Bool → List Edit → Type 0
 AreNamed t flags edits = (i : ℕ) → i < length t → get_or flags i true ≡ false → All (λ e. same_path (path_at t i) (path_in e) ≡ false) edits
 
@@ -81,41 +90,41 @@ pub one_named : (t : Tree) (flags : List Bool) (edits : List Edit) (e : Edit) (f
 one_named t flags edits e file tree is named = λ i lt still.
     let found = path_found t (path_in e) file is in
     let h = off flags file i still in
-    let once : path_at t i ≡ path_in e → i ≡ file = λ same. once_in t i file (ordered_from t tree.in_order tree.apart) lt found.0 (same ∙ sym found.1) in
+    let once : path_at t i ≡ path_in e → i ≡ file = λ same. once_in t i file (rises_tree t tree) lt found.0 (same ∙ sym found.1) in
     All-push (λ x. same_path (path_at t i) (path_in x) ≡ false) edits e (named i lt h.1) (paths_differ (path_at t i) (path_in e) (λ same. h.0 (once same)))
 
-pub no_file_named : (t : Tree) (flags : List Bool) (edits : List Edit) (e : Edit) → IsTree t → content_at t (path_in e) ≡ None → AreNamed t flags edits → AreNamed t flags (edits ++ e ∷ [])
-no_file_named t flags edits e tree none named = λ i lt still.
+pub none_there : (t : Tree) (flags : List Bool) (edits : List Edit) (e : Edit) → IsTree t → entry_at t (path_in e) ≡ None → AreNamed t flags edits → AreNamed t flags (edits ++ e ∷ [])
+none_there t flags edits e tree none named = λ i lt still.
     All-push (λ x. same_path (path_at t i) (path_in x) ≡ false) edits e (named i lt still)
-    (paths_differ (path_at t i) (path_in e) (λ same. let bad : Some (bytes_at t i) ≡ None = sym (content_here t i tree lt) ∙ (ap (content_at t) same ∙ none) in cc))
+    (paths_differ (path_at t i) (path_in e) (λ same. let bad : Some (get_or t i no_item).1 ≡ None = sym (here_in t i no_item (rises_tree t tree) lt) ∙ (ap (entry_at t) same ∙ none) in cc))
 
 pub as_before : OthersStay → (t : Tree) (flags : List Bool) (edits : List Edit) → IsTree t → AreNamed t flags edits → (old : Tree) → apply_all old edits ≡ Ok t → AreAsBefore old t flags
-as_before law t flags edits tree named old applied = λ i lt still. sym (law old t edits (path_at t i) applied (named i lt still)) ∙ content_here t i tree lt
+as_before law t flags edits tree named old applied = λ i lt file still. ap file_in (sym (law old t edits (path_at t i) applied (named i lt still))) ∙ content_here t i tree lt file
 
 -- ---- one file
 
-file_bytes : (c : ℕ) (all : List Placed) (t : Tree) (o : CodePlaced) → o.spot.whole ≡ true → object_bytes c all (view_placed t o) ≡ file_spelling (key_bytes o.key) (bytes_at t o.spot.file)
+file_bytes : (c : ℕ) (all : List Placed) (t : Tree) (o : CodePlaced) → o.spot.whole ≡ true → object_bytes c all (view_placed t o) ≡ file_spelling (key_bytes o.key) (bytes_at t o.spot.entry)
 file_bytes c all t o whole = rw whole refl
 
 take_all : {A : Type 0} (xs : List A) → take (length xs) xs ≡ xs
 take_all [] = refl
 take_all (x ∷ xs) = ap (λ ys. x ∷ ys) (take_all xs)
 
-file_path : (t : Tree) (s : CodeSpot) → IsSpotIn t s → s.whole ≡ true → (view_spot t s).path ≡ path_at t s.file
-file_path t s valid whole = ap (λ n. take n (path_at t s.file)) (valid.whole whole).1 ∙ take_all (path_at t s.file)
+file_path : (t : Tree) (s : CodeSpot) → IsSpotIn t s → s.whole ≡ true → (view_spot t s).path ≡ path_at t s.entry
+file_path t s valid whole = ap (λ n. take n (path_at t s.entry)) (valid.whole whole).1 ∙ take_all (path_at t s.entry)
 
 pub same_file : (old t : Tree) (b o : CodePlaced) (flags : List Bool) → IsTree old → IsSpotIn old b.spot → IsSpotIn t o.spot → AreAsBefore old t flags
-    → b.spot.whole ≡ true → o.spot.whole ≡ true → b.key ≡ o.key → get_or flags o.spot.file true ≡ false
+    → b.spot.whole ≡ true → o.spot.whole ≡ true → b.key ≡ o.key → get_or flags o.spot.entry true ≡ false
     → path_cmp (view_spot old b.spot).path (view_spot t o.spot).path ≡ Equal
     → (c : ℕ) (olds news : List Placed) → object_bytes c olds (view_placed old b) ≡ object_bytes c news (view_placed t o)
 same_file old t b o flags tree bv ov known bw ow key still same c olds news =
-    let paths : path_at old b.spot.file ≡ path_at t o.spot.file =
+    let paths : path_at old b.spot.entry ≡ path_at t o.spot.entry =
     sym (file_path old b.spot bv bw) ∙ (path_cmp-is (view_spot old b.spot).path (view_spot t o.spot).path same ∙ file_path t o.spot ov ow) in
-    let bytes : bytes_at old b.spot.file ≡ bytes_at t o.spot.file =
-    same_Some (bytes_at old b.spot.file) (bytes_at t o.spot.file)
-    (sym (content_here old b.spot.file tree (bv.whole bw).0) ∙ (ap (content_at old) paths ∙ known o.spot.file (ov.whole ow).0 still)) in
+    let bytes : bytes_at old b.spot.entry ≡ bytes_at t o.spot.entry =
+    same_Some (bytes_at old b.spot.entry) (bytes_at t o.spot.entry)
+    (sym (content_here old b.spot.entry tree (bv.whole bw).0 (bv.whole bw).2) ∙ (ap (content_at old) paths ∙ known o.spot.entry (ov.whole ow).0 (ov.whole ow).2 still)) in
     file_bytes c olds old b bw
-    ∙ (ap (λ k. file_spelling (key_bytes k) (bytes_at old b.spot.file)) key
+    ∙ (ap (λ k. file_spelling (key_bytes k) (bytes_at old b.spot.entry)) key
     ∙ (ap (file_spelling (key_bytes o.key)) bytes
     ∙ sym (file_bytes c news t o ow)))
 

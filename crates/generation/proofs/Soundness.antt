@@ -1,92 +1,59 @@
 -- The objects that a tree gives after those of another are sound.
-use Rattle.std.proofs.Common.{◌≡◌, ℕ, zero, suc, ◌+◌, ◌-◌, ◌<◌, ◌≤◌, Bool, true, false, List, [], ◌∷◌, length, map, take, Option, Some, None, refl, sym, ◌∙◌, ap, subst, arith, get_or, inl}
+use Rattle.std.proofs.Common.{◌≡◌, ℕ, suc, ◌<◌, ◌≤◌, Bool, true, false, List, [], ◌∷◌, length, map, Option, Some, None, refl, sym, ◌∙◌, ap, subst, arith, get_or, inl}
 use Rattle.std.specs.Prelude.{slice_get}
 use Rattle.std.specs.List.{All}
 use Rattle.std.proofs.lemmas.Option.{same_Some}
-use Rattle.std.proofs.lemmas.List.Elements.{All-cons, All-append}
-use Rattle.path_tree.specs.Paths.{Bytes, PathNames, same_name, IsName}
+use Rattle.std.proofs.lemmas.List.Elements.{All-cons}
+use Rattle.path_tree.specs.Paths.{Bytes}
 use Rattle.path_tree.specs.Trees.{Tree, IsTree}
+use Rattle.path_tree.specs.Nestings.{nested}
 use Rattle.biop_object.specs.Objects.{folder_spelling}
 use Rattle.biop_object.specs.Spelled.{IsSpellable, IsSpellableEntry}
 use Rattle.module_packer.specs.Placement.{IsPlacement}
 use Rattle.module_packer.specs.Kept.{KeptIsAPlacement}
-use Rattle.generation.specs.Publication.{Spot, gateway_spot, spots_of, spots_after, sizes_of, size_of, child_name, folders_after, shared_folders, limit_of, is_large_folder}
+use Rattle.generation.specs.Publication.{Spot, gateway_spot, spots_of, spots_in, sizes_of, size_of, is_child, limit_of, is_large_folder}
 use Rattle.generation.specs.Layouts.{Placed, modules_for, placed_all, placed_at, key_in, old_keys, taken_in, free_keys, fill_keys, keys_of, key_bytes, entries_of, folder_kind_of, object_bytes, is_same_spot}
 use Rattle.generation.specs.View.{AreOld}
 use Rattle.generation.proofs.Limiting.{len_map}
 use Rattle.generation.proofs.Staying.{placement_for, old_after}
 use Rattle.generation.proofs.Placing.{Within, within_limits, length-keys_of, placed_spots, placed_modules, placed_keys, length-object_bytes, all_unmap, folder_small, find_none}
-use Rattle.generation.proofs.Rising.{rising_all, each_folder}
+use Rattle.generation.proofs.Numbering.{rising_all, all_valid, IsValidSpot, child_has}
 use Rattle.generation.proofs.Keyed.{Distinct, keys_distinct, keys_small}
 use Rattle.generation.proofs.Carrying.{spelled, In, Sound, AreSmall}
-
--- ---- names and sizes of objects
-
-pub all_take : {A : Type 0} (P : A → Type 0) (k : ℕ) (xs : List A) → All P xs → All P (take k xs)
-all_take P zero xs all = λ i d lt. absurd (omega (arith, lt))
-all_take P (suc k) [] all = λ i d lt. absurd (omega (arith, lt))
-all_take P (suc k) (x ∷ xs) all = All-cons P x (take k xs) (all 0 x (omega arith)) (all_take P k xs (λ i d lt. all (suc i) d (omega (arith, lt))))
-
-names_valid : (before : PathNames) (es : Tree) → All (λ e. All IsName e.0) es → All (λ s. All IsName s.path) (spots_after before es)
-names_valid before [] all = λ i d lt. absurd (omega (arith, lt))
-names_valid before (e ∷ es) all =
-    let here = all 0 e (omega arith) in
-    All-append (λ s. All IsName s.path) (folders_after before e.0) (record { path = e.0; content = Some e.1 } ∷ spots_after e.0 es)
-    (each_folder (λ s. All IsName s.path) e.0 (shared_folders before e.0 + 1) (length e.0 - 1 - shared_folders before e.0) (λ k l m. all_take IsName k e.0 here))
-    (All-cons (λ s. All IsName s.path) (record { path = e.0; content = Some e.1 }) (spots_after e.0 es) here (names_valid e.0 es (λ i d lt. all (suc i) d (omega (arith, lt)))))
 
 abbrev pub IsSized : Spot → Type 0
 IsSized s = (b : Bytes) → s.content ≡ Some b → length b ≤ 16777216
 
-sizes_valid : (before : PathNames) (es : Tree) → All (λ e. length e.1 ≤ 16777216) es → All IsSized (spots_after before es)
-sizes_valid before [] all = λ i d lt. absurd (omega (arith, lt))
-sizes_valid before (e ∷ es) all =
-    let here : length e.1 ≤ 16777216 = all 0 e (omega arith) in
-    All-append IsSized (folders_after before e.0) (record { path = e.0; content = Some e.1 } ∷ spots_after e.0 es)
-    (each_folder IsSized e.0 (shared_folders before e.0 + 1) (length e.0 - 1 - shared_folders before e.0) (λ k l m b h. cc))
-    (All-cons IsSized (record { path = e.0; content = Some e.1 }) (spots_after e.0 es) (λ b h. subst (λ z. length z ≤ 16777216) (same_Some e.1 b h) here) (sizes_valid e.0 es (λ i d lt. all (suc i) d (omega (arith, lt)))))
-
-all_names : (t : Tree) → IsTree t → All (λ s. All IsName s.path) (spots_of t)
-all_names t tree = All-cons (λ s. All IsName s.path) gateway_spot (spots_after [] t) (λ i d lt. absurd (omega (arith, lt))) (names_valid [] t (λ i d lt. (tree.paths i d lt).0.names))
-
 pub all_sizes : (t : Tree) → IsTree t → All IsSized (spots_of t)
-all_sizes t tree = All-cons IsSized gateway_spot (spots_after [] t) (λ b h. cc) (sizes_valid [] t tree.sizes)
+all_sizes t tree i d lt = (all_valid t tree i d lt).small
 
 -- ---- entries
 
-child_valid : (p r : PathNames) (k : Bytes) → All IsName r → child_name p r ≡ Some k → (1 ≤ length k) × (length k ≤ 254)
-child_valid [] [] k all e = cc
-child_valid [] (n ∷ []) k all e = let h = all 0 n (omega arith) in let is = same_Some n k e in (subst (λ z. 1 ≤ length z) is h.at_least, subst (λ z. length z ≤ 254) is h.at_most)
-child_valid [] (n ∷ n' ∷ ns) k all e = cc
-child_valid (m ∷ ms) [] k all e = cc
-child_valid (m ∷ ms) (n ∷ ns) k all e = go (same_name m n) refl (λ h. child_valid ms ns k (λ i d lt. all (suc i) d (omega (arith, lt))) h) where
-  go : (t : Bool) → same_name m n ≡ t → (child_name ms ns ≡ Some k → (1 ≤ length k) × (length k ≤ 254)) → (1 ≤ length k) × (length k ≤ 254)
-  go true h rest = rest (rw h at e)
-  go false h rest = let bad = rw h at e in cc
-
-entries_valid : (c : ℕ) (p : PathNames) (os : List Placed) → c < 4294967296 → All (λ o. All IsName o.spot.path) os → All (λ o. (1 ≤ o.module_id) × (o.module_id ≤ 139)) os → All IsSpellableEntry (entries_of c os p)
-entries_valid c p [] small names ids = λ i d lt. absurd (omega (arith, lt))
-entries_valid c p (o ∷ os) small names ids =
-    go (child_name p o.spot.path) refl (entries_valid c p os small (λ i d lt. names (suc i) d (omega (arith, lt))) (λ i d lt. ids (suc i) d (omega (arith, lt)))) where
+entries_valid : (c folder : ℕ) (os : List Placed) → c < 4294967296 → All (λ o. IsValidSpot o.spot) os → All (λ o. (1 ≤ o.module_id) × (o.module_id ≤ 139)) os → All IsSpellableEntry (entries_of c os folder)
+entries_valid c folder [] small valid ids = λ i d lt. absurd (omega (arith, lt))
+entries_valid c folder (o ∷ os) small valid ids =
+    go (is_child folder o.spot) refl (entries_valid c folder os small (λ i d lt. valid (suc i) d (omega (arith, lt))) (λ i d lt. ids (suc i) d (omega (arith, lt)))) where
       id : o.module_id ≤ 139
       id = (ids 0 o (omega arith)).1
 
-      go : (k : Option Bytes) → child_name p o.spot.path ≡ k → All IsSpellableEntry (entries_of c os p) → All IsSpellableEntry (entries_of c (o ∷ os) p)
-      go None e rest = rw e rest
-      go (Some k) e rest = rw e (All-cons IsSpellableEntry _ (entries_of c os p)
-          (record { name = child_valid p o.spot.path k (names 0 o (omega arith)) e; location = (refl, small, omega (arith, id)) }) rest)
+      go : (b : Bool) → is_child folder o.spot ≡ b → All IsSpellableEntry (entries_of c os folder) → All IsSpellableEntry (entries_of c (o ∷ os) folder)
+      go false e rest = rw e rest
+      go true e rest =
+          let p = child_has folder o.spot e in
+          let h = (valid 0 o (omega arith)).name p.0 p.1 in
+          rw e (All-cons IsSpellableEntry _ (entries_of c os folder) (record { name = (h.at_least, h.at_most); location = (refl, small, omega (arith, id)) }) rest)
 
-entries_few : (c : ℕ) (p : PathNames) (os : List Placed) → length (entries_of c os p) ≤ length os
-entries_few c p [] = omega arith
-entries_few c p (o ∷ os) = go (child_name p o.spot.path) refl (entries_few c p os) where
-  go : (k : Option Bytes) → child_name p o.spot.path ≡ k → length (entries_of c os p) ≤ length os → length (entries_of c (o ∷ os) p) ≤ suc (length os)
-  go None e h = rw e (omega (arith, h))
-  go (Some k) e h = rw e (omega (arith, h))
+entries_few : (c folder : ℕ) (os : List Placed) → length (entries_of c os folder) ≤ length os
+entries_few c folder [] = omega arith
+entries_few c folder (o ∷ os) = go (is_child folder o.spot) refl (entries_few c folder os) where
+  go : (b : Bool) → is_child folder o.spot ≡ b → length (entries_of c os folder) ≤ length os → length (entries_of c (o ∷ os) folder) ≤ suc (length os)
+  go false e h = rw e (omega (arith, h))
+  go true e h = rw e (omega (arith, h))
 
 -- ---- an object can be spelled
 
 spellable : (c : ℕ) (t : Tree) (objects : List Placed) → c < 4294967296 → Within t → map (λ o. o.spot) objects ≡ spots_of t
-    → All (λ o. All IsName o.spot.path) objects → All (λ o. (1 ≤ o.module_id) × (o.module_id ≤ 139)) objects
+    → All (λ o. IsValidSpot o.spot) objects → All (λ o. (1 ≤ o.module_id) × (o.module_id ≤ 139)) objects
     → (o : Placed) → IsSized o.spot → is_large_folder (spots_of t) o.spot ≡ false → IsSpellable (spelled c objects o)
 spellable c t objects small within spots names ids o sized fits = go o.spot.content refl where
   count : length objects ≤ 8192
@@ -96,8 +63,8 @@ spellable c t objects small within spots names ids o sized fits = go o.spot.cont
   go (Some b) e = rw e (refl, sized b e)
   go None e =
       let size : length (object_bytes c objects o) ≤ 1048576 = rw (length-object_bytes c objects o, spots) (folder_small (spots_of t) o.spot e fits) in
-      let bytes : length (folder_spelling (folder_kind_of o.spot.path) (key_bytes o.key) (entries_of c objects o.spot.path)) ≤ 1048576 = rw e at size in
-      rw e (refl, omega (arith, entries_few c o.spot.path objects, count), bytes, entries_valid c o.spot.path objects small names ids)
+      let bytes : length (folder_spelling (folder_kind_of o.spot.path) (key_bytes o.key) (entries_of c objects o.spot.number)) ≤ 1048576 = rw e at size in
+      rw e (refl, omega (arith, entries_few c o.spot.number objects, count), bytes, entries_valid c o.spot.number objects small names ids)
 
 -- ---- the objects of a tree after others
 
@@ -146,13 +113,13 @@ made_of law c t old small tree limit b =
     let dk : Distinct (map (λ o. o.key) objects) = subst Distinct (sym ek) (keys_distinct old spots b.keys (rising_all t tree)) in
     let sk : AreSmall objects = all_unmap (λ k. k < 8194) (λ o. o.key) objects (subst (All (λ k. k < 8194)) (sym ek) (keys_small old spots b.small within.few)) in
     let ids : All (λ o. (1 ≤ o.module_id) × (o.module_id ≤ 139)) objects = all_unmap (λ m. (1 ≤ m) × (m ≤ 139)) (λ o. o.module_id) objects (subst (All (λ m. (1 ≤ m) × (m ≤ 139))) (sym em) placement.numbers) in
-    let names : All (λ o. All IsName o.spot.path) objects = all_unmap (λ s. All IsName s.path) (λ o. o.spot) objects (subst (All (λ s. All IsName s.path)) (sym es) (all_names t tree)) in
+    let names : All (λ o. IsValidSpot o.spot) objects = all_unmap IsValidSpot (λ o. o.spot) objects (subst (All IsValidSpot) (sym es) (all_valid t tree)) in
     let sized : All (λ o. IsSized o.spot) objects = all_unmap IsSized (λ o. o.spot) objects (subst (All IsSized) (sym es) (all_sizes t tree)) in
     let fits : All (λ o. is_large_folder spots o.spot ≡ false) objects = all_unmap (λ s. is_large_folder spots s ≡ false) (λ o. o.spot) objects (subst (All (λ s. is_large_folder spots s ≡ false)) (sym es) (find_none (is_large_folder spots) spots within.folders)) in
-    let k1 = gateway_key old b (spots_after [] t) (free_keys (taken_in (old_keys old spots)) (length spots)) in
+    let k1 = gateway_key old b (spots_in 0 1 (nested t)) (free_keys (taken_in (old_keys old spots)) (length spots)) in
     let m1 = first_one ms placement.first in
     let g : Placed = record { spot = gateway_spot; key = 1; module_id = 1 } in
-    let rest = placed_all (spots_after [] t) k1.0 m1.0 in
+    let rest = placed_all (spots_in 0 1 (nested t)) k1.0 m1.0 in
     let first : objects ≡ g ∷ rest = ap (λ k. placed_all spots k ms) k1.1 ∙ ap (λ m. placed_all spots (1 ∷ k1.0) m) m1.1 in
     record {
       sound = record {

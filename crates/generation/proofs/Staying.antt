@@ -1,19 +1,20 @@
 -- Where the objects of a tree stay after those of another.
-use Rattle.std.proofs.Common.{◌≡◌, ℕ, ◌≤◌, Bool, true, false, List, [], ◌∷◌, length, map, Option, Some, None, cond, refl, sym, ◌∙◌, ap, subst, arith, Result, Ok, Err, Vec, Global}
+use Rattle.std.proofs.Common.{get_or, ◌≡◌, ℕ, ◌≤◌, Bool, true, false, List, [], ◌∷◌, length, map, Option, Some, None, cond, refl, sym, ◌∙◌, ap, subst, arith, Result, Ok, Err, Vec, Global}
 use Rattle.std.specs.Prelude.{slice_get, IfOk}
 use Rattle.std.specs.List.{All, zip}
 use Rattle.std.proofs.lemmas.Option.{same_Some}
 use Rattle.std.proofs.lemmas.List.Elements.{All-nil, All-cons, All-head, All-tail, All-map}
 use Rattle.path_tree.specs.Trees.{Tree, IsTree}
+use Rattle.path_tree.specs.Nestings.{nested}
 use Rattle.module_packer.specs.Placement.{modules_needed, IsPlacement}
 use Rattle.module_packer.specs.Kept.{Placed as Sized, sizes_in, kept_modules, AreObjects, KeptIsAPlacement}
 use Rattle.generation.specs.declared.objects.Placed.{Placed as CodePlaced}
-use Rattle.generation.specs.Publication.{Spot, gateway_spot, spots_of, spots_after, sizes_of, size_of, limit_of, AreRising}
+use Rattle.generation.specs.Publication.{Spot, gateway_spot, spots_of, spots_in, sizes_of, size_of, limit_of, AreRising}
 use Rattle.generation.specs.Layouts.{Placed, placed_all, placed_at, key_in, module_of, old_keys, old_modules, keys_of, modules_for, is_same_spot}
 use Rattle.generation.specs.View.{AreOld, view_placed}
 use Rattle.generation.proofs.Limiting.{len_map}
 use Rattle.generation.proofs.Placing.{within_limits, length-keys_of, placed_spots}
-use Rattle.generation.proofs.Rising.{rising_all}
+use Rattle.generation.proofs.Numbering.{rising_all}
 
 -- ---- sizes with old modules
 
@@ -50,7 +51,7 @@ are_objects old t are few =
       few = subst (λ sizes. modules_needed sizes ≤ 139) (sym (sizes_are old t)) few;
       first = are.gateway;
       old = old_zip Was (sizes_of t) (old_modules old (spots_of t))
-          (All-map Was (λ s. module_of (placed_at old s)) (spots_of t) (λ k d lt m e. module_found (λ n. (1 ≤ n) × (n ≤ 139)) old _ are.ids m e));
+          (All-map Was (λ s. module_of (placed_at old s)) (spots_of t) (λ k d lt m e. module_found (λ n. (1 ≤ n) × (n ≤ 139)) old (get_or (spots_of t) k d) are.ids m e));
     }
 
 -- where the objects stay or go is a placement
@@ -74,7 +75,7 @@ pub old_after : (t : Tree) (keys ms : List ℕ) → IsTree t → map (λ o. o.sp
 old_after t keys ms tree are placement = record {
   rising = subst AreRising (sym are) (rising_all t tree);
   ids = all_placed (λ m. (1 ≤ m) × (m ≤ 139)) (spots_of t) keys ms placement.numbers;
-  gateway = first_placed (spots_after [] t) keys ms placement.first;
+  gateway = first_placed (spots_in 0 1 (nested t)) keys ms placement.first;
 }
 
 pub old_arm : {E : Type 0} (r : Result (Vec CodePlaced Global) E) (t : Tree) (old : List Placed) (ms : List ℕ) → IsTree t → IsPlacement 139 (sizes_of t) ms
@@ -91,12 +92,17 @@ few_old t old spots keys limit es ek =
     let within = within_limits t limit in omega (arith, within.few, ap length ek, len_map (λ s. key_in (placed_at old s)) spots, ap length es)
 
 -- the sizes and the old modules are those of the tree's objects
-pub read_objects : (t : Tree) (old : List Placed) (spots others : List Spot) (sizes : List ℕ) (olds : List (Option ℕ)) → spots ≡ spots_of t → others ≡ spots_of t → sizes ≡ map (size_of spots) spots → olds ≡ old_modules old others
+pub read_objects : (t : Tree) (old : List Placed) (spots : List Spot) (sizes : List ℕ) (olds : List (Option ℕ)) → spots ≡ spots_of t → sizes ≡ sizes_of t → olds ≡ old_modules old spots
     → zip sizes olds ≡ zip (sizes_of t) (old_modules old (spots_of t))
-read_objects t old spots others sizes olds es et ez eo = ap (λ n. zip n olds) (ez ∙ ap (λ s. map (size_of s) s) es) ∙ ap (λ o. zip (sizes_of t) o) (eo ∙ ap (old_modules old) et)
+read_objects t old spots sizes olds es ez eo = ap (λ n. zip n olds) ez ∙ ap (λ o. zip (sizes_of t) o) (eo ∙ ap (old_modules old) es)
 
 pub placed_for : (t : Tree) (old : List Placed) (objects : List Sized) (ms : List ℕ) → objects ≡ zip (sizes_of t) (old_modules old (spots_of t)) → ms ≡ kept_modules 139 objects → IsPlacement 139 (sizes_in objects) ms
     → (ms ≡ modules_for old t) × IsPlacement 139 (sizes_of t) (modules_for old t)
 placed_for t old objects ms er em placement =
     let same : ms ≡ modules_for old t = em ∙ ap (kept_modules 139) er in
     (same, subst (IsPlacement 139 (sizes_of t)) same (subst (λ sizes. IsPlacement 139 sizes ms) (ap sizes_in er ∙ sizes_are old t) placement))
+
+-- the same of what is read of them
+pub placed_read : (t : Tree) (old : List Placed) (sizes : List ℕ) (olds : List (Option ℕ)) (ms : List ℕ) → zip sizes olds ≡ zip (sizes_of t) (old_modules old (spots_of t))
+    → ms ≡ kept_modules 139 (zip sizes olds) → IsPlacement 139 (sizes_in (zip sizes olds)) ms → (ms ≡ modules_for old t) × IsPlacement 139 (sizes_of t) (modules_for old t)
+placed_read t old sizes olds ms er em placement = placed_for t old (zip sizes olds) ms er em placement

@@ -1,7 +1,6 @@
 -- What is written of a generation: bindings, modules, messages.
 use Rattle.std.proofs.Common.{◌≡◌, ℕ, zero, suc, ◌+◌, ◌-◌, ◌*◌, ◌%◌, ◌<◌, ◌≤◌, min, Bool, true, false, List, [], ◌∷◌, ◌++◌, length, take, drop, map, Option, Some, None, cond, ◌==◌, refl, sym, subst, ◌∙◌, ap, arith, get_or, append-nil, length-append, length-drop, length-take, Vec, Global, Result, inl, inr, lit≤}
 use Rattle.std.specs.List.{All, filter_map, flat_map}
-use Rattle.std.specs.Arc.{arc_value}
 use Rattle.std.specs.Prelude.{IfOk}
 use Rattle.std.proofs.lemmas.Bool.{cases_lt}
 use Rattle.std.proofs.lemmas.List.Elements.{filter_map-append, All-map}
@@ -46,7 +45,7 @@ entries_more f v xs i d e w lt so_far some =
 -- ---- modules
 
 pub small_module : (modules : List Listed) (i : ℕ) (d : Listed) → All (λ m. length m.1 ≤ 268435456) (map view_listed modules) → i < length modules
-    → length (arc_value (get_or modules i d).module) ≤ 268435456
+    → length (get_or modules i d).bytes ≤ 268435456
 small_module [] i d all lt = absurd (omega (arith, lt))
 small_module (m ∷ ms) zero d all lt = all 0 (view_listed d) (omega arith)
 small_module (m ∷ ms) (suc i) d all lt = small_module ms i d (λ k e l. all (suc k) e (omega (arith, l))) (omega (arith, lt))

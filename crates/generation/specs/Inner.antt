@@ -1,3 +1,5 @@
 -- What private functions and invariants are stated in; no public contract names it.
+pub mod Linking
 pub mod Merging
+pub mod Segments
 pub mod Stays

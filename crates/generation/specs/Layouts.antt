@@ -23,7 +23,7 @@ use Rattle.cycle_planner.specs.Cycle.{Line}
 use Rattle.cycle_planner.specs.declared.Item.{Item}
 use Rattle.cycle_planner.specs.declared.Item.TheVariants.{Dsi, Dii, Block}
 use Rattle.generation.specs.Groups.{group_in, transaction_of}
-use Rattle.generation.specs.Publication.{Spot, gateway_spot, spots_of, sizes_of, child_name}
+use Rattle.generation.specs.Publication.{Spot, gateway_spot, spots_of, sizes_of, is_child}
 use Rattle.dsi_dii.specs.declared.TheConstants.{BLOCK_SIZE, MOST_MODULES}
 
 -- an object with its key and its module
@@ -98,15 +98,13 @@ bound_of (Some b) = bounds.File (length b)
 bound_of None = bounds.Folder
 
 -- an object's binding in a folder, where it lies right in it
-abbrev pub written_in : ℕ → PathNames → Placed → Option Written
-written_in carousel p o = go (child_name p o.spot.path) where
-  go : Option Bytes → Option Written
-  go (Some n) = Some (record { name = n; bound = bound_of o.spot.content; location = location_of carousel o })
-  go None = None
+abbrev pub written_in : ℕ → ℕ → Placed → Option Written
+written_in carousel folder o =
+    if is_child folder o.spot then Some (record { name = o.spot.name; bound = bound_of o.spot.content; location = location_of carousel o }) else None
 
--- the bindings of a folder, in name order, since objects stand by path
-abbrev pub entries_of : ℕ → List Placed → PathNames → List Written
-entries_of carousel objects p = filter_map (written_in carousel p) objects
+-- the bindings of the folder of a number, in name order, since objects stand by path
+abbrev pub entries_of : ℕ → List Placed → ℕ → List Written
+entries_of carousel objects folder = filter_map (written_in carousel folder) objects
 
 abbrev pub folder_kind_of : PathNames → FolderKind
 folder_kind_of [] = Gateway
@@ -116,7 +114,7 @@ abbrev pub object_bytes : ℕ → List Placed → Placed → Bytes
 object_bytes carousel objects o = go o.spot.content where
   go : Option Bytes → Bytes
   go (Some b) = file_spelling (key_bytes o.key) b
-  go None = folder_spelling (folder_kind_of o.spot.path) (key_bytes o.key) (entries_of carousel objects o.spot.path)
+  go None = folder_spelling (folder_kind_of o.spot.path) (key_bytes o.key) (entries_of carousel objects o.spot.number)
 
 abbrev pub greatest : List ℕ → ℕ
 greatest ns = fold max 0 ns

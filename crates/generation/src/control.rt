@@ -104,7 +104,7 @@ fn module_lines(
     for listed in modules {
         lines.push(ModuleLine {
             id: listed.id,
-            size: listed.module.bytes().len() as u32,
+            size: listed.bytes.bytes().len() as u32,
             version: (count_of(counts, listed.id) % 256) as u8,
             compressed: false,
         })?;

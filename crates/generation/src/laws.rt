@@ -2,7 +2,16 @@
 ghost use Rattle.std.specs.Prelude.{List};
 ghost use Rattle.biop_object.specs.Names.{Layout};
 ghost use Rattle.generation.specs.Kept.{GenerationsAreOfTheLists, LayoutsAreInOneGroup, LayoutsAreLawful};
+ghost use Rattle.generation.specs.Standing.{ObjectsAreWhatStands};
 ghost use Rattle.generation.specs.Lawful.{EqualCountsMeanEqualBytes, EqualVersionsMeanEqualBytes};
+
+/// The objects of a tree are the gateway, one for each folder, and one for each file: they stand in the order of paths, and
+/// there is one at a path exactly where something stands there. A folder is the same object whether it is kept or only
+/// leads on. The number of each is its place among them, and all but the gateway have the number of the folder that they
+/// stand right in.
+pub fn objects_are_what_stands()
+    ensures { ObjectsAreWhatStands }
+{}
 
 /// The layouts of a list of trees that can be published are lawful for these trees, generation 0 having the empty tree:
 /// in each of them every path names, from the gateway on, just what stands there in the tree, each module reads to its

@@ -18,6 +18,7 @@ mod keys;
 mod laws;
 mod limit;
 mod limits;
+mod links;
 mod listing;
 mod made;
 mod objects;
@@ -26,9 +27,9 @@ mod unchanged;
 
 pub use laws::{
     equal_counts_mean_equal_bytes, equal_versions_mean_equal_bytes, generations_are_of_the_lists,
-    layouts_are_lawful,
+    layouts_are_lawful, objects_are_what_stands,
 };
-pub use limit::{Limit, MOST_OBJECTS, check, large_folder_size};
+pub use limit::{Limit, MOST_OBJECTS, Publishable, check, checked, large_folder_size};
 pub use limits::limits_are_numbers;
 pub use listing::{Object, ObjectKind};
 pub use made::Generation;

@@ -1,21 +1,22 @@
 //! The sizes of objects, and the limits of a generation.
-ghost use Rattle.std.specs.Prelude.{◌≡◌, ◌≤◌, ◌<◌, ◌+◌, List, None, Some, length, map, sum, IfOk, Ok, Err};
-ghost use Rattle.std.specs.List.{All, sum_by, find};
+ghost use Rattle.std.specs.Prelude.{◌≡◌, ◌≤◌, ◌<◌, ◌+◌, List, [], None, Some, length, map, sum, IfOk, Ok, Err};
+ghost use Rattle.std.specs.List.{All, find};
 ghost use Rattle.oc_bytes.specs.Outcome.{Gives};
 ghost use Rattle.generation.specs.Limits.{check_of, limit_cause, unless_passed};
 ghost use Rattle.std.specs.Option.{option_map};
 ghost use Rattle.generation.specs.Sizes.{large_size};
-ghost use Rattle.generation.specs.Publication.{Spot as SpotFields, size_of as size_in, is_large_folder, large_folder, binding_size as binding_in, binding_rest as rest_of};
+ghost use Rattle.generation.specs.Publication.{Spot as SpotFields, size_of as size_in, is_large_folder, large_folder, binding_rest as rest_of, limit_of};
 ghost use Rattle.path_tree.specs.Trees.{Tree, IsTree};
-ghost use Rattle.generation.specs.View.{view_spot, IsSpotIn, AreSpotsOf};
+ghost use Rattle.generation.specs.View.{view_spot, IsSpotIn, AreSpotsOf, IsWeighed};
 
-use crate::spots::{Spot, child_name, content_of, path_of, spots};
+use crate::spots::{Spot, content_of, name_of, path_of, spots};
 use biop_object::{FILE_BINDING, FILE_FRONT, FOLDER_BINDING, FOLDER_FRONT, MOST_FOLDER_SIZE};
 use dsi_dii::{MOST_MODULES, MOST_TOTAL_SIZE};
 use module_packer::need;
 use oc_bytes::NoMemory;
 use path_tree::{Path, Tree};
 use std::alloc::{AllocError, Global};
+use std::marker::Model;
 use thiserror::Error;
 
 /// The most objects of a generation: the gateway, folders and files. This project's own limit.
@@ -55,6 +56,61 @@ impl From<AllocError> for Limit {
 pub fn check(alloc: Global, tree: &Tree) -> Result<(), Limit>
     ensures { Gives (λ _. 0) limit_cause result (check_of tree.now) }
 {
+    weigh(alloc, tree)?;
+    Ok(())
+}
+
+/// A tree that passes no limit, with its objects and their sizes, so that a generation can be made of it without working
+/// them out again. Contracts see the tree alone.
+#[derive(Drop)]
+pub struct Publishable {
+    pub(crate) tree: Tree,
+    pub(crate) weighed: Weighed,
+}
+
+impl Model for Publishable {
+    ghost use Rattle.path_tree.specs.Trees.{Tree};
+    ghost use Rattle.generation.specs.View.{IsChecked};
+
+    ghost Value = { Tree };
+
+    ghost view = { λ c. c.tree };
+
+    ghost invariant = { IsChecked };
+}
+
+impl Publishable {
+    /// The tree.
+    pub fn tree(&self) -> &Tree
+        ensures tree { result.now ≡ self.now }
+        ensures within { limit_of self.now ≡ None }
+    {
+        &self.tree
+    }
+}
+
+/// The tree with what `check` works out, or the first limit that it passes, as `check` answers it. A refused tree is
+/// given up.
+pub fn checked(alloc: Global, tree: Tree) -> Result<Publishable, Limit>
+    ensures limit { Gives (λ _. 0) limit_cause result (check_of tree) }
+    ensures tree { IfOk result (λ c. c ≡ tree) }
+{
+    let weighed = weigh(alloc, &tree)?;
+    Ok(Publishable { tree, weighed })
+}
+
+/// The objects of a tree with their sizes.
+#[derive(Drop)]
+pub(crate) struct Weighed {
+    pub(crate) spots: Vec<Spot>,
+    pub(crate) sizes: Vec<u32>,
+}
+
+/// The objects of a tree with their sizes, or the first limit that the tree passes.
+pub(crate) fn weigh(alloc: Global, tree: &Tree) -> Result<Weighed, Limit>
+    ensures limit { Gives (λ _. 0) limit_cause result (check_of tree.now) }
+    ensures weighed { IfOk result (IsWeighed tree.now) }
+{
     let spots = spots(alloc, tree)?;
     if spots.len() > MOST_OBJECTS {
         return Err(Limit::TooManyObjects(u32::try_from(spots.len()).unwrap_or(u32::MAX)));
@@ -69,7 +125,17 @@ pub fn check(alloc: Global, tree: &Tree) -> Result<(), Limit>
     if modules > MOST_MODULES {
         return Err(Limit::TooManyModules(modules));
     }
-    Ok(())
+    Ok(Weighed { spots, sizes })
+}
+
+/// The objects of a tree that passes no limit, with their sizes.
+pub(crate) fn measure(alloc: Global, tree: &Tree) -> Result<Weighed, NoMemory>
+    requires { limit_of tree.now ≡ None }
+    ensures { IfOk result (IsWeighed tree.now) }
+{
+    let spots = spots(alloc, tree)?;
+    let sizes = sizes(alloc, tree, &spots)?;
+    Ok(Weighed { spots, sizes })
 }
 
 /// How many bytes the object of a tree's first folder has that has more than [`MOST_FOLDER_SIZE`]: what passes the limit where `check`
@@ -123,82 +189,69 @@ fn is_large(spot: Spot, size: u32) -> bool
     !spot.whole && size > MOST_FOLDER_SIZE
 }
 
-/// The path of an object. That of the gateway is a prefix of any file's path.
+/// The path of an object. That of the gateway is a prefix of any entry's path.
 fn front_of(tree: &Tree, spot: Spot) -> Result<Path, NoMemory>
     requires some { 0 < length tree.now }
     requires valid { IsSpotIn tree.now spot }
     ensures { IfOk result (λ p. p ≡ (view_spot tree.now spot).path) }
 {
-    let file = if spot.names == 0 { 0 } else { spot.file };
-    path_of(tree, file).above(spot.names)
+    let entry = if spot.names == 0 { 0 } else { spot.entry };
+    path_of(tree, entry).above(spot.names)
 }
 
-/// The sizes of a tree's objects, in their order.
-pub(crate) fn sizes(alloc: Global, tree: &Tree, spots: &[Spot]) -> Result<Vec<u32>, NoMemory>
+/// The sizes of a tree's objects, in their order: each object adds its binding to the folder that it stands in.
+fn sizes(alloc: Global, tree: &Tree, spots: &[Spot]) -> Result<Vec<u32>, NoMemory>
     requires spots { AreSpotsOf tree.now spots.now }
     requires few { length spots.now ≤ MOST_OBJECTS }
     ensures { IfOk result (λ v. v.items ≡ map (size_in (map (view_spot tree.now) spots.now)) (map (view_spot tree.now) spots.now)) }
 {
-    let mut sizes = Vec::new(alloc);
+    let mut sizes = own_sizes(alloc, tree, spots)?;
     for spot in spots {
-        sizes.push(size_of(tree, spots, *spot))?;
+        if let Some(folder) = spot.parent {
+            sizes[folder] += binding_size(tree, *spot);
+        }
     }
     Ok(sizes)
 }
 
-/// How many bytes an object has.
-fn size_of(tree: &Tree, spots: &[Spot], spot: Spot) -> u32
-    requires tree { IsTree tree.now }
-    requires spots { All (IsSpotIn tree.now) spots.now }
-    requires spot { IsSpotIn tree.now spot }
-    requires few { length spots.now ≤ MOST_OBJECTS }
-    ensures { result ≡ size_in (map (view_spot tree.now) spots.now) (view_spot tree.now spot) }
+/// The sizes of a tree's objects without bindings.
+fn own_sizes(alloc: Global, tree: &Tree, spots: &[Spot]) -> Result<Vec<u32>, NoMemory>
+    requires { All (IsSpotIn tree.now) spots.now }
+    ensures { IfOk result (λ v. v.items ≡ map (size_in []) (map (view_spot tree.now) spots.now)) }
+{
+    let mut sizes = Vec::with_capacity(alloc, spots.len())?;
+    for spot in spots {
+        sizes.push(own_size(tree, *spot))?;
+    }
+    Ok(sizes)
+}
+
+/// How many bytes an object has without bindings.
+fn own_size(tree: &Tree, spot: Spot) -> u32
+    requires { IsSpotIn tree.now spot }
+    ensures { result ≡ size_in [] (view_spot tree.now spot) }
 {
     if spot.whole {
-        FILE_FRONT + content_of(tree, spot.file).len() as u32
+        FILE_FRONT + content_of(tree, spot.entry).len() as u32
     } else {
-        folder_size(tree, spots, spot)
+        FOLDER_FRONT
     }
 }
 
-fn folder_size(tree: &Tree, spots: &[Spot], folder: Spot) -> u32
+/// What the binding of an object other than the gateway takes in its folder.
+fn binding_size(tree: &Tree, spot: Spot) -> u32
     requires tree { IsTree tree.now }
-    requires spots { All (IsSpotIn tree.now) spots.now }
-    requires folder { IsSpotIn tree.now folder }
-    requires few { length spots.now ≤ MOST_OBJECTS }
-    ensures { result ≡ FOLDER_FRONT + sum_by (binding_in (view_spot tree.now folder).path) (map (view_spot tree.now) spots.now) }
-{
-    let mut size = FOLDER_FRONT;
-    for spot in spots {
-        size += binding_size(tree, folder, *spot);
-    }
-    size
-}
-
-/// What an object's binding takes in a folder: nothing where the object doesn't lie right in it.
-fn binding_size(tree: &Tree, folder: Spot, spot: Spot) -> u32
-    requires tree { IsTree tree.now }
-    requires folder { IsSpotIn tree.now folder }
     requires spot { IsSpotIn tree.now spot }
-    ensures size { result ≡ binding_in (view_spot tree.now folder).path (view_spot tree.now spot) }
+    requires named { 1 ≤ spot.names }
+    ensures size { result ≡ length (view_spot tree.now spot).name + rest_of (view_spot tree.now spot).content }
     ensures small { result ≤ 336 }
 {
-    match child_name(tree, folder, spot) {
-        None => 0,
-        Some(name) => name.len() as u32 + binding_rest(spot),
-    }
-}
-
-/// What a binding takes beside the name.
-fn binding_rest(spot: Spot) -> u32
-    ensures rest { (t : Tree) → result ≡ rest_of (view_spot t spot).content }
-    ensures small { result ≤ FILE_BINDING }
-{
-    if spot.whole {
+    let rest = if spot.whole {
         FILE_BINDING
     } else {
         FOLDER_BINDING
-    }
+    };
+    name_of(tree, spot).len() as u32 + rest
 }
 
 fn total(sizes: &[u32]) -> u64

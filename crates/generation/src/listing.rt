@@ -66,13 +66,13 @@ fn spot_kind(tree: &Tree, spot: Spot) -> ObjectKind
     ensures { result ≡ kind_of (view_spot tree.now spot).content }
 {
     if spot.whole {
-        ObjectKind::File(content_of(tree, spot.file).len())
+        ObjectKind::File(content_of(tree, spot.entry).len())
     } else {
         ObjectKind::Folder
     }
 }
 
-/// The path of an object. The gateway's is the root, also in a tree without files.
+/// The path of an object. The gateway's is the root, also in a tree in which nothing stands.
 fn spot_path(alloc: Global, tree: &Tree, spot: Spot) -> Result<Path, NoMemory>
     requires { IsSpotIn tree.now spot }
     ensures { IfOk result (λ p. p ≡ (view_spot tree.now spot).path) }
@@ -80,7 +80,7 @@ fn spot_path(alloc: Global, tree: &Tree, spot: Spot) -> Result<Path, NoMemory>
     if spot.names == 0 {
         return root(alloc);
     }
-    path_of(tree, spot.file).above(spot.names)
+    path_of(tree, spot.entry).above(spot.names)
 }
 
 fn root(alloc: Global) -> Result<Path, NoMemory>

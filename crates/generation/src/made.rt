@@ -1,6 +1,5 @@
-ghost use Rattle.std.specs.Prelude.{◌≡◌, ◌==◌, ◌<◌, ◌≤◌, ◌+◌, ◌++◌, ◌∷◌, [], List, ℕ, None, Some, Ok, map, length, get_or, true, false, IfOk, IfSome};
+ghost use Rattle.std.specs.Prelude.{◌≡◌, ◌==◌, ◌<◌, ◌≤◌, ◌+◌, ◌++◌, ◌∷◌, [], List, ℕ, None, Some, Ok, map, length, get_or, true, false, IfOk, IfSome, IsSome, OnErr};
 ghost use Rattle.std.specs.List.{All, Contains, filter, list_any};
-ghost use Rattle.std.specs.Arc.{arc_value};
 ghost use Rattle.std.specs.Option.{option_map, is_none};
 ghost use Rattle.path_tree.specs.Edits.{apply_all};
 ghost use Rattle.path_tree.specs.Trees.{Tree};
@@ -12,32 +11,33 @@ ghost use Rattle.generation.specs.Kept.{StandsFor};
 ghost use Rattle.generation.specs.Publication.{limit_of, spots_of};
 ghost use Rattle.generation.specs.Objects.{object_of};
 ghost use Rattle.generation.specs.Inner.Stays.{AreAsBefore, AreTheirs};
-ghost use Rattle.generation.specs.View.{view_listed, view_placed, AreReady, AreOld, IsMarked, AreMarked, IsSpotIn, counted_by};
+ghost use Rattle.generation.specs.Inner.Linking.{AreLinks};
+ghost use Rattle.generation.specs.View.{IsWeighed, view_listed, view_placed, AreReady, AreOld, IsMarked, AreMarked, IsSpotIn, counted_by};
 ghost use Rattle.dsi_dii.specs.declared.TheConstants.{LAST_GENERATION, MOST_TOTAL_SIZE};
 
 use crate::control::{block_of_module, dii_section, dsi_section};
 use crate::former::{former_of, modules};
 use crate::keys::keys;
-use crate::limit::sizes;
+use crate::limit::{Publishable, Weighed, measure};
+use crate::links::{Members, link_members};
 use crate::listing::{Object, list_objects};
-use crate::objects::{Placed, module_bytes, place_all};
-use crate::spots::{Spot, is_equal, spots};
-use crate::unchanged::{modules_that_stay, named_files};
+use crate::objects::{Placed, folders, module_bytes, place_all};
+use crate::spots::{Spot, is_equal};
+use crate::unchanged::{modules_that_stay, named_entries};
 use biop_object::Module;
 use cycle_planner::Item;
 use ddb_block::block_count;
 use dsi_dii::BLOCK_SIZE;
-use oc_bytes::NoMemory;
+use oc_bytes::{Blob, NoMemory};
 use path_tree::{Edit, Tree};
 use std::alloc::Global;
 use std::marker::Model;
-use std::sync::Arc;
 
-/// A module under its id.
+/// The bytes of a module under its id.
 #[derive(Drop)]
 pub(crate) struct Listed {
     pub(crate) id: u16,
-    pub(crate) module: Arc<Module>,
+    pub(crate) bytes: Blob,
     /// Whether the generation before listed the id with the same bytes.
     pub(crate) stays: bool,
 }
@@ -82,15 +82,12 @@ impl Generation {
     {
         let tree = Tree::empty(alloc);
         let gateway = Placed {
-            spot: Spot {
-                file: 0,
-                names: 0,
-                whole: false,
-            },
+            spot: Spot::GATEWAY,
             key: 1,
             module: 1,
         };
-        let objects = objects_after(alloc, &[gateway], &tree, &tree)?;
+        let weighed = measure(alloc, &tree)?;
+        let objects = objects_after(alloc, &[gateway], &tree, &tree, &weighed)?;
         let modules = modules_of(alloc, carousel, &tree, &objects, &[], &[])?;
         let lines = lines_of_modules(alloc, &modules)?;
         Ok(Generation {
@@ -116,34 +113,48 @@ impl Generation {
         ensures stands { IfOk result (λ g. (trees : List Tree) → StandsFor self.now trees → StandsFor g (trees ++ tree ∷ [])) }
         ensures exact { IfOk result (λ g. g ≡ next_of self.now tree) }
     {
-        self.renewed(tree, &[])
+        let weighed = measure(self.alloc, &tree)?;
+        self.renewed(tree, &weighed, &[])
+    }
+
+    /// The generation that `next` makes of a tree that `checked` let pass, whose objects and sizes aren't worked out again.
+    /// This generation's number has to be below [`dsi_dii::LAST_GENERATION`]. The only refusal is out of memory.
+    pub fn next_checked(&self, tree: Publishable) -> Result<Generation, NoMemory>
+        requires number { self.now.number < LAST_GENERATION }
+        ensures stands { IfOk result (λ g. (trees : List Tree) → StandsFor self.now trees → StandsFor g (trees ++ tree ∷ [])) }
+        ensures exact { IfOk result (λ g. g ≡ next_of self.now tree) }
+    {
+        let Publishable { tree, weighed } = tree;
+        self.renewed(tree, &weighed, &[])
     }
 
     /// The generation after this one, with the tree that the edits make of this one's.
     ///
-    /// It is the generation that `next` makes of that tree, for less work: where a module has the same files as here, in the
-    /// same order, and no edit names any of them, its bytes are neither made nor compared. The tree has to pass `check`, and
-    /// this generation's number has to be below [`dsi_dii::LAST_GENERATION`]. The only refusal is out of memory.
-    pub fn next_after(&self, tree: Tree, edits: &[Edit]) -> Result<Generation, NoMemory>
-        requires tree { limit_of tree ≡ None }
+    /// It is the generation that `next` makes of that tree, for less work: the objects and their sizes are those that
+    /// `checked` worked out, and where a module has the same files as here, in the same order, and no edit names any of
+    /// them, its bytes are neither made nor compared. This generation's number has to be below
+    /// [`dsi_dii::LAST_GENERATION`]. The only refusal is out of memory.
+    pub fn next_after(&self, tree: Publishable, edits: &[Edit]) -> Result<Generation, NoMemory>
         requires number { self.now.number < LAST_GENERATION }
         requires edits { apply_all self.now.tree edits.now ≡ Ok tree }
         ensures stands { IfOk result (λ g. (trees : List Tree) → StandsFor self.now trees → StandsFor g (trees ++ tree ∷ [])) }
         ensures exact { IfOk result (λ g. g ≡ next_of self.now tree) }
     {
-        let named = named_files(self.alloc, &tree, edits)?;
-        self.renewed(tree, &named)
+        let Publishable { tree, weighed } = tree;
+        let named = named_entries(self.alloc, &tree, edits)?;
+        self.renewed(tree, &weighed, &named)
     }
 
     /// The generation after this one. A file of the tree that has a flag which is off is as before.
-    fn renewed(&self, tree: Tree, flags: &[bool]) -> Result<Generation, NoMemory>
+    fn renewed(&self, tree: Tree, weighed: &Weighed, flags: &[bool]) -> Result<Generation, NoMemory>
         requires tree { limit_of tree ≡ None }
+        requires weighed { IsWeighed tree weighed.now }
         requires number { self.now.number < LAST_GENERATION }
         requires flags { AreAsBefore self.now.tree tree flags.now }
         ensures stands { IfOk result (λ g. (trees : List Tree) → StandsFor self.now trees → StandsFor g (trees ++ tree ∷ [])) }
         ensures exact { IfOk result (λ g. g ≡ next_of self.now tree) }
     {
-        let objects = objects_after(self.alloc, &self.objects, &self.tree, &tree)?;
+        let objects = objects_after(self.alloc, &self.objects, &self.tree, &tree, weighed)?;
         let staying = modules_that_stay(
             self.alloc,
             &self.objects,
@@ -204,11 +215,28 @@ impl Generation {
         &self.lines
     }
 
-    /// The module of an id, or none where the generation doesn't list the id.
-    pub fn module(&self, id: u16) -> Option<&Arc<Module>>
-        ensures { option_map (λ a. arc_value a.now) result ≡ module_in self.now.layout id }
+    /// The bytes of the module of an id, or none where the generation doesn't list the id.
+    pub fn module_bytes(&self, id: u16) -> Option<&[u8]>
+        ensures { option_map (λ bytes. bytes.now) result ≡ module_in self.now.layout id }
     {
-        find_module(&self.modules, id)
+        let bytes = find_module(&self.modules, id)?;
+        Some(bytes.bytes())
+    }
+
+    /// The module of an id with its index, which is made of the kept bytes at each call, or none where the generation
+    /// doesn't list the id. The only refusal is out of memory, and comes only where it lists the id.
+    pub fn module(&self, id: u16) -> Result<Option<Module>, NoMemory>
+        ensures reads { IfOk result (λ m. m ≡ module_in self.now.layout id) }
+        ensures no_memory { OnErr result (IsSome (module_in self.now.layout id)) }
+    {
+        let Some(bytes) = self.module_bytes(id) else {
+            return Ok(None);
+        };
+        let bytes = Vec::from_slice(self.alloc, bytes)?;
+        match Module::read(self.alloc, bytes) {
+            Ok(module) => Ok(Some(module)),
+            Err((fault, _)) => Err(fault),
+        }
     }
 
     /// How often the module of an id was new or had other bytes, up to this generation. The module's version in the DII
@@ -253,8 +281,10 @@ fn objects_after(
     old: &[Placed],
     old_tree: &Tree,
     tree: &Tree,
+    weighed: &Weighed,
 ) -> Result<Vec<Placed>, NoMemory>
     requires tree { limit_of tree.now ≡ None }
+    requires weighed { IsWeighed tree.now weighed.now }
     requires spots { All (λ o. IsSpotIn old_tree.now o.spot) old.now }
     requires old { AreOld (map (view_placed old_tree.now) old.now) }
     ensures objects { IfOk result (λ v. map (view_placed tree.now) v.items
@@ -263,12 +293,10 @@ fn objects_after(
     ensures old { IfOk result (λ v. AreOld (map (view_placed tree.now) v.items)) }
     ensures lines { IfOk result (λ v. (carousel : ℕ) → AreLines (lines_in (layout_of carousel (map (view_placed tree.now) v.items)))) }
 {
-    let spots = spots(alloc, tree)?;
-    let sizes = sizes(alloc, tree, &spots)?;
-    let former = former_of(alloc, old, old_tree, &spots, tree)?;
-    let modules = modules(alloc, &sizes, &former.modules)?;
+    let former = former_of(alloc, old, old_tree, &weighed.spots, tree)?;
+    let modules = modules(alloc, &weighed.sizes, &former.modules)?;
     let keys = keys(alloc, &former.keys)?;
-    place_all(alloc, &spots, &keys, &modules)
+    place_all(alloc, &weighed.spots, &keys, &modules)
 }
 
 /// The modules of objects, each shared with the one of its id before where that has the same bytes. A module whose flag
@@ -286,9 +314,13 @@ fn modules_of(
     ensures layout { IfOk result (λ v. map view_listed v.items ≡ layout_of carousel (map (view_placed tree.now) objects.now)) }
     ensures stays { IfOk result (λ v. AreMarked (map view_listed before.now) v.items) }
 {
+    let folders = folders(alloc, objects)?;
+    let children = link_members(alloc, &folders, objects.len())?;
     let mut modules = Vec::new(alloc);
     for id in 1..last_module(objects) + 1 {
-        if let Some(listed) = listed_at(alloc, carousel, tree, objects, before, staying, id)? {
+        if let Some(listed) = listed_at(
+            alloc, carousel, tree, objects, &children, before, staying, id,
+        )? {
             modules.push(listed)?;
         }
     }
@@ -319,11 +351,13 @@ fn listed_at(
     carousel: u32,
     tree: &Tree,
     objects: &[Placed],
+    children: &Members,
     before: &[Listed],
     staying: &[bool],
     id: u16,
 ) -> Result<Option<Listed>, NoMemory>
     requires ready { AreReady carousel tree.now objects.now }
+    requires children { AreLinks (map (λ o. o.spot.parent) objects.now) (length objects.now) children.now.first.items children.now.next.items }
     requires staying { AreTheirs carousel (map (view_placed tree.now) objects.now) (map view_listed before.now) staying.now }
     ensures listed { IfOk result (λ l. option_map view_listed l ≡ module_if_used carousel (map (view_placed tree.now) objects.now) id) }
     ensures stays { IfOk result (λ l. IfSome l (IsMarked (map view_listed before.now))) }
@@ -331,20 +365,20 @@ fn listed_at(
     if !is_used(objects, id) {
         return Ok(None);
     }
-    if let Some(module) = staying_module(before, staying, id) {
+    if let Some(bytes) = staying_module(before, staying, id) {
         return Ok(Some(Listed {
             id,
-            module: Arc::try_clone(module)?,
+            bytes: bytes.share()?,
             stays: true,
         }));
     }
-    let bytes = module_bytes(alloc, carousel, tree, objects, id)?;
+    let bytes = module_bytes(alloc, carousel, tree, objects, children, id)?;
     Ok(Some(module_after(alloc, before, id, bytes)?))
 }
 
 /// The module of an id before, if it is known to stay.
-fn staying_module<'a>(before: &'a [Listed], staying: &[bool], id: u16) -> Option<&'a Arc<Module>>
-    ensures { IfSome result (λ a. (get_or staying.now id false ≡ true) × (module_in (map view_listed before.now) id ≡ Some (arc_value a.now))) }
+fn staying_module<'a>(before: &'a [Listed], staying: &[bool], id: u16) -> Option<&'a Blob>
+    ensures { IfSome result (λ b. (get_or staying.now id false ≡ true) × (module_in (map view_listed before.now) id ≡ Some b.now)) }
 {
     if is_on(staying, usize::from(id)) {
         find_module(before, id)
@@ -370,39 +404,29 @@ fn module_after(
     ensures listed { IfOk result (λ l. view_listed l ≡ (id, bytes.items)) }
     ensures stays { IfOk result (IsMarked (map view_listed before.now)) }
 {
-    if let Some(module) = find_module(before, id) {
-        if is_equal(module.bytes(), &bytes) {
+    if let Some(before) = find_module(before, id) {
+        if is_equal(before.bytes(), &bytes) {
             return Ok(Listed {
                 id,
-                module: Arc::try_clone(module)?,
+                bytes: before.share()?,
                 stays: true,
             });
         }
     }
     Ok(Listed {
         id,
-        module: new_module(alloc, bytes)?,
+        bytes: Blob::new(alloc, bytes)?,
         stays: false,
     })
 }
 
-/// A module that has these bytes.
-fn new_module(alloc: Global, bytes: Vec<u8>) -> Result<Arc<Module>, NoMemory>
-    ensures { IfOk result (λ m. arc_value m ≡ bytes.items) }
-{
-    match Module::read(alloc, bytes) {
-        Ok(module) => Ok(Arc::new(alloc, module)?),
-        Err((fault, _)) => Err(fault),
-    }
-}
-
-/// The module of an id among these.
-pub(crate) fn find_module(modules: &[Listed], id: u16) -> Option<&Arc<Module>>
-    ensures { option_map (λ a. arc_value a.now) result ≡ module_in (map view_listed modules.now) id }
+/// The bytes of the module of an id among these.
+pub(crate) fn find_module(modules: &[Listed], id: u16) -> Option<&Blob>
+    ensures { option_map (λ b. b.now) result ≡ module_in (map view_listed modules.now) id }
 {
     for listed in modules {
         if listed.id == id {
-            return Some(&listed.module);
+            return Some(&listed.bytes);
         }
     }
     None
@@ -458,7 +482,7 @@ fn lines_of_modules(alloc: Global, modules: &[Listed]) -> Result<Vec<(u16, u32)>
     for listed in modules {
         lines.push((
             listed.id,
-            block_count(listed.module.bytes().len() as u32, BLOCK_SIZE),
+            block_count(listed.bytes.bytes().len() as u32, BLOCK_SIZE),
         ))?;
     }
     Ok(lines)

@@ -1,13 +1,15 @@
 //! The objects with their keys and modules, and their bytes.
-ghost use Rattle.std.specs.Prelude.{◌≡◌, ◌≤◌, ◌<◌, ◌+◌, ◌++◌, None, Some, Option, length, map, IfOk, IfSome, OnOk, false};
+ghost use Rattle.std.specs.Prelude.{◌≡◌, ◌≤◌, ◌<◌, ◌++◌, length, map, IfOk, OnOk, false};
 ghost use Rattle.std.specs.List.{All};
 ghost use Rattle.path_tree.specs.Trees.{IsTree};
-ghost use Rattle.generation.specs.Layouts.{location_of, written_in, entries_of, object_bytes as bytes_of, module_bytes as bytes_in, key_bytes, bound_of};
+ghost use Rattle.generation.specs.Inner.Linking.{AreLinks};
+ghost use Rattle.generation.specs.Layouts.{location_of, entries_of, object_bytes as bytes_of, module_bytes as bytes_in, key_bytes, bound_of};
 ghost use Rattle.generation.specs.View.{view_spot, view_placed, IsSpotIn, placed_from, AreReady, kind_in};
 ghost use Rattle.biop_object.specs.Objects.{folder_spelling, IsEntry};
 ghost use Rattle.biop_object.specs.declared.written.TheConstants.{MOST_FOLDER_SIZE};
 
-use crate::spots::{Spot, child_name, content_of};
+use crate::links::Members;
+use crate::spots::{Spot, content_of, name_of};
 use biop_object::{Bound, FolderKind, ObjectFault, Written, encode_file, encode_folder};
 use ior_tap::{Key, Location};
 use oc_bytes::NoMemory;
@@ -52,65 +54,51 @@ fn key_of(alloc: Global, key: u32) -> Result<Key, NoMemory>
     Ok(Key::new(bytes))
 }
 
-/// The bindings of a folder: the objects that lie right in it.
+/// The folder that each object stands in, by number.
+pub(crate) fn folders(alloc: Global, objects: &[Placed]) -> Result<Vec<Option<usize>>, NoMemory>
+    ensures { IfOk result (λ v. v.items ≡ map (λ o. o.spot.parent) objects.now) }
+{
+    objects
+        .iter()
+        .map(|object| object.spot.parent)
+        .collect(alloc)
+}
+
+/// The bindings of the folder of a number: the objects that stand right in it, which are linked.
 fn entries(
     alloc: Global,
     carousel: u32,
     tree: &Tree,
     objects: &[Placed],
-    folder: Spot,
+    children: &Members,
+    folder: usize,
 ) -> Result<Vec<Written>, NoMemory>
     requires tree { IsTree tree.now }
     requires objects { All (λ o. IsSpotIn tree.now o.spot) objects.now }
-    requires folder { IsSpotIn tree.now folder }
+    requires children { AreLinks (map (λ o. o.spot.parent) objects.now) (length objects.now) children.now.first.items children.now.next.items }
+    requires folder { folder < length objects.now }
     ensures valid { IfOk result (λ v. All IsEntry v.items) }
-    ensures entries { IfOk result (λ v. v.items ≡ entries_of carousel (map (view_placed tree.now) objects.now) (view_spot tree.now folder).path) }
+    ensures entries { IfOk result (λ v. v.items ≡ entries_of carousel (map (view_placed tree.now) objects.now) folder) }
 {
     let mut entries = Vec::new(alloc);
-    for object in objects {
-        if let Some(entry) = entry(alloc, carousel, tree, folder, *object)? {
-            entries.push(entry)?;
-        }
+    let mut child = children.first[folder];
+    while let Some(number) = child {
+        entries.push(written(alloc, carousel, tree, objects[number])?)?;
+        child = children.next[number];
     }
     Ok(entries)
 }
 
-/// The binding of an object in a folder, where it lies right in it.
-fn entry(
-    alloc: Global,
-    carousel: u32,
-    tree: &Tree,
-    folder: Spot,
-    object: Placed,
-) -> Result<Option<Written>, NoMemory>
-    requires tree { IsTree tree.now }
-    requires folder { IsSpotIn tree.now folder }
-    requires object { IsSpotIn tree.now object.spot }
-    ensures valid { IfOk result (λ w. IfSome w IsEntry) }
-    ensures entry { IfOk result (λ w. w ≡ written_in carousel (view_spot tree.now folder).path (view_placed tree.now object)) }
-{
-    match child_name(tree, folder, object.spot) {
-        Some(name) => Ok(Some(written(alloc, carousel, tree, object, name)?)),
-        None => Ok(None),
-    }
-}
-
-/// The binding of an object under a name.
-fn written(
-    alloc: Global,
-    carousel: u32,
-    tree: &Tree,
-    object: Placed,
-    name: &[u8],
-) -> Result<Written, NoMemory>
+/// The binding of an object other than the gateway.
+fn written(alloc: Global, carousel: u32, tree: &Tree, object: Placed) -> Result<Written, NoMemory>
     requires tree { IsTree tree.now }
     requires object { IsSpotIn tree.now object.spot }
-    requires name { (1 ≤ length name.now) × (length name.now ≤ 254) }
+    requires named { 1 ≤ object.spot.names }
     ensures valid { IfOk result IsEntry }
-    ensures written { IfOk result (λ w. w ≡ record { name = name.now; bound = bound_of (view_spot tree.now object.spot).content; location = location_of carousel (view_placed tree.now object) }) }
+    ensures written { IfOk result (λ w. w ≡ record { name = (view_spot tree.now object.spot).name; bound = bound_of (view_spot tree.now object.spot).content; location = location_of carousel (view_placed tree.now object) }) }
 {
     let bound = if object.spot.whole {
-        Bound::File(content_of(tree, object.spot.file).len() as u64)
+        Bound::File(content_of(tree, object.spot.entry).len() as u64)
     } else {
         Bound::Folder
     };
@@ -120,7 +108,7 @@ fn written(
         module: object.module,
         key,
     };
-    let name = Name::new(name.to_vec(alloc)?);
+    let name = Name::new(name_of(tree, object.spot).to_vec(alloc)?);
     Ok(Written {
         name,
         bound,
@@ -134,19 +122,22 @@ fn object_bytes(
     carousel: u32,
     tree: &Tree,
     objects: &[Placed],
+    children: &Members,
     object: Placed,
 ) -> Result<Vec<u8>, NoMemory>
     requires tree { IsTree tree.now }
     requires objects { All (λ o. IsSpotIn tree.now o.spot) objects.now }
+    requires children { AreLinks (map (λ o. o.spot.parent) objects.now) (length objects.now) children.now.first.items children.now.next.items }
     requires object { IsSpotIn tree.now object.spot }
+    requires number { object.spot.number < length objects.now }
     requires small { object.spot.whole ≡ false → length (bytes_of carousel (map (view_placed tree.now) objects.now) (view_placed tree.now object)) ≤ MOST_FOLDER_SIZE }
     ensures { IfOk result (λ v. v.items ≡ bytes_of carousel (map (view_placed tree.now) objects.now) (view_placed tree.now object)) }
 {
     let key = key_of(alloc, object.key)?;
     if object.spot.whole {
-        return encode_file(alloc, &key, content_of(tree, object.spot.file));
+        return encode_file(alloc, &key, content_of(tree, object.spot.entry));
     }
-    let entries = entries(alloc, carousel, tree, objects, object.spot)?;
+    let entries = entries(alloc, carousel, tree, objects, children, object.spot.number)?;
     folder_bytes(alloc, object.spot.names, &key, &entries)
 }
 
@@ -180,9 +171,11 @@ pub(crate) fn module_bytes(
     carousel: u32,
     tree: &Tree,
     objects: &[Placed],
+    children: &Members,
     id: u16,
 ) -> Result<Vec<u8>, NoMemory>
-    requires { AreReady carousel tree.now objects.now }
+    requires ready { AreReady carousel tree.now objects.now }
+    requires children { AreLinks (map (λ o. o.spot.parent) objects.now) (length objects.now) children.now.first.items children.now.next.items }
     ensures { IfOk result (λ v. v.items ≡ bytes_in carousel (map (view_placed tree.now) objects.now) id) }
 {
     let mut bytes = Vec::new(alloc);
@@ -190,7 +183,7 @@ pub(crate) fn module_bytes(
         if object.module == id {
             append(
                 &mut bytes,
-                object_bytes(alloc, carousel, tree, objects, *object)?,
+                object_bytes(alloc, carousel, tree, objects, children, *object)?,
             )?;
         }
     }

@@ -1,111 +1,184 @@
 //! The objects of a tree, in order, without a copy of their paths.
-ghost use Rattle.std.specs.Prelude.{◌≡◌, ◌≤◌, ◌<◌, ◌+◌, ◌-◌, ◌∷◌, ◌++◌, [], None, Some, Option, length, map, take, true, IfOk, OnOk, IfSome};
+ghost use Rattle.std.specs.Prelude.{◌≡◌, ◌≤◌, ◌<◌, ◌+◌, ◌++◌, length, map, take, false, IfOk, OnOk};
 ghost use Rattle.std.specs.List.{All};
-ghost use Rattle.std.specs.Option.{option_map};
-ghost use Rattle.path_tree.specs.Paths.{path_cmp, same_name, same_path, Bytes};
+ghost use Rattle.path_tree.specs.Nestings.{nested};
+ghost use Rattle.path_tree.specs.Paths.{path_cmp, same_name};
 ghost use Rattle.path_tree.specs.Trees.{IsTree};
-ghost use Rattle.generation.specs.Publication.{spots_of, shared_folders, folders_after, child_name as name_in};
-ghost use Rattle.generation.specs.View.{view_spot, path_at, bytes_at, before_of, IsSpotIn};
+ghost use Rattle.path_tree.specs.declared.text.TheConstants.{MOST_NAMES};
 ghost use Rattle.path_tree.specs.declared.tree.TheConstants.{MOST_CONTENT};
+ghost use Rattle.generation.specs.Publication.{spots_in, spots_of};
+ghost use Rattle.generation.specs.Inner.Segments.{IsFolderAt, HaveName, segment, stripped, within, name_at, first_inside as inside_of, first_spot as object_at};
+ghost use Rattle.generation.specs.View.{view_spot, path_at, bytes_at, IsSpotIn};
 
 use oc_bytes::NoMemory;
-use path_tree::{Path, Tree};
+use path_tree::{Entry, Path, Tree};
 use std::alloc::Global;
 use std::cmp::Ordering;
 
-/// An object of a tree: the first names of the path of one of the tree's files, and whether it is that file itself.
-/// The gateway is no names of any path.
+/// An object of a tree: the first names of the path of one of the tree's entries, and whether it is that entry's file.
+/// The gateway is no names of any path. Each object has its number, counted from 0 at the gateway, and the number of the
+/// folder that it stands in.
 #[derive(Clone, Copy, Debug, PartialEq, Eq)]
 pub(crate) struct Spot {
-    pub(crate) file: usize,
+    pub(crate) entry: usize,
     pub(crate) names: usize,
     pub(crate) whole: bool,
+    pub(crate) number: usize,
+    pub(crate) parent: Option<usize>,
 }
 
-/// The objects of a tree: the gateway first, and then by path.
+impl Spot {
+    /// The gateway of any tree.
+    pub(crate) const GATEWAY: Spot = Spot {
+        entry: 0,
+        names: 0,
+        whole: false,
+        number: 0,
+        parent: None,
+    };
+}
+
+/// The objects of a tree: the gateway first, and then by path, in one pass.
 pub(crate) fn spots(alloc: Global, tree: &Tree) -> Result<Vec<Spot>, NoMemory>
     ensures spots { IfOk result (λ v. map (view_spot tree.now) v.items ≡ spots_of tree.now) }
     ensures valid { IfOk result (λ v. All (IsSpotIn tree.now) v.items) }
     ensures tree { IfOk result (λ _. IsTree tree.now) }
 {
+    let entries = tree.entries();
     let mut spots = Vec::new(alloc);
-    spots.push(Spot {
-        file: 0,
-        names: 0,
-        whole: false,
-    })?;
-    for file in 0..tree.len() {
-        push_spots(tree, file, &mut spots)?;
-    }
+    spots.push(Spot::GATEWAY)?;
+    push_folder(entries, 0, entries.len(), 0, 0, &mut spots)?;
     Ok(spots)
 }
 
-/// The path of a tree's file.
-pub(crate) fn path_of(tree: &Tree, file: usize) -> &Path
-    requires { file < length tree.now }
-    ensures { result.now ≡ path_at tree.now file }
+/// Appends what stands in a folder, by path: each object, and after a folder what stands in it. The folder has the number
+/// `parent`, and the entries below it are those from one number up to another; their paths begin with `depth` names, those
+/// of the folder.
+fn push_folder(
+    entries: &[(Path, Entry)],
+    from: usize,
+    to: usize,
+    depth: usize,
+    parent: usize,
+    spots: &mut Vec<Spot>,
+) -> Result<(), NoMemory>
+    requires tree { IsTree entries.now }
+    requires folder { IsFolderAt entries.now from to depth }
+    requires valid { All (IsSpotIn entries.now) spots.old.items }
+    ensures spots { OnOk result (map (view_spot entries.now) spots.new.items ≡ map (view_spot entries.now) spots.old.items
+        ++ map (within (take depth (path_at entries.now from))) (spots_in parent (length spots.old.items) (nested (stripped depth (segment entries.now from to))))) }
+    ensures valid { OnOk result (All (IsSpotIn entries.now) spots.new.items) }
 {
-    let (path, _) = tree.file(file);
-    path
-}
-
-/// The bytes of a tree's file.
-pub(crate) fn content_of(tree: &Tree, file: usize) -> &[u8]
-    requires file { file < length tree.now }
-    requires tree { IsTree tree.now }
-    ensures bytes { result.now ≡ bytes_at tree.now file }
-    ensures small { length result.now ≤ MOST_CONTENT }
-{
-    let (_, content) = tree.file(file);
-    content.bytes()
-}
-
-/// Appends a file, and before it the folders above it that weren't above the file before it.
-fn push_spots(tree: &Tree, file: usize, spots: &mut Vec<Spot>) -> Result<(), NoMemory>
-    requires file { file < length tree.now }
-    requires valid { All (IsSpotIn tree.now) spots.old.items }
-    ensures spots { OnOk result (map (view_spot tree.now) spots.new.items ≡ map (view_spot tree.now) spots.old.items
-        ++ (folders_after (before_of tree.now file) (path_at tree.now file) ++ record { path = path_at tree.now file; content = Some (bytes_at tree.now file) } ∷ [])) }
-    ensures valid { OnOk result (All (IsSpotIn tree.now) spots.new.items) }
-{
-    let path = path_of(tree, file);
-    let shared = shared_before(tree, file);
-    for above in shared..path.len().saturating_sub(1) {
-        spots.push(Spot {
-            file,
-            names: above + 1,
-            whole: false,
-        })?;
+    let mut at = from;
+    while at < to {
+        let end = end_of(entries, at, to, depth);
+        let number = spots.len();
+        let spot = first_spot(entries, at, depth, number, parent);
+        spots.push(spot)?;
+        let inside = first_inside(entries, at, depth);
+        push_folder(entries, inside, end, depth + 1, number, spots)?;
+        at = end;
     }
-    spots.push(Spot {
-        file,
-        names: path.len(),
-        whole: true,
-    })?;
     Ok(())
 }
 
-/// How many folders other than the root lie above both a file and the one before it.
-fn shared_before(tree: &Tree, file: usize) -> usize
-    requires { file < length tree.now }
-    ensures { result ≡ shared_folders (before_of tree.now file) (path_at tree.now file) }
+/// The object of the first names of an entry's path, one more than the depth: the entry itself, or a folder above it.
+fn first_spot(
+    entries: &[(Path, Entry)],
+    at: usize,
+    depth: usize,
+    number: usize,
+    parent: usize,
+) -> Spot
+    requires few { depth < MOST_NAMES }
+    requires within { at < length entries.now }
+    requires name { depth < length (path_at entries.now at) }
+    ensures valid { IsSpotIn entries.now result }
+    ensures spot { view_spot entries.now result ≡ object_at entries.now at depth number parent }
+    ensures names { result.names ≡ depth + 1 }
 {
-    if file == 0 {
-        return 0;
+    let (path, entry) = &entries[at];
+    Spot {
+        entry: at,
+        names: depth + 1,
+        whole: path.len() == depth + 1 && entry.is_file(),
+        number,
+        parent: Some(parent),
     }
-    shared(path_of(tree, file - 1), path_of(tree, file))
 }
 
-fn shared(before: &Path, path: &Path) -> usize
-    ensures { result ≡ shared_folders before.now path.now }
+/// The number of the first entry that lies below an object whose first entry has the number `at`: the entry after it, where
+/// that entry is the object's own.
+fn first_inside(entries: &[(Path, Entry)], at: usize, depth: usize) -> usize
+    requires few { depth < MOST_NAMES }
+    requires within { at < length entries.now }
+    requires name { depth < length (path_at entries.now at) }
+    ensures { result ≡ inside_of entries.now at depth }
 {
-    let most = before.len().saturating_sub(1).min(path.len());
-    for i in 0..most {
-        if !is_equal(before.name(i), path.name(i)) {
-            return i;
+    if entries[at].0.len() == depth + 1 {
+        at + 1
+    } else {
+        at
+    }
+}
+
+/// The number of the first entry from `at` on that has another name at the depth than the entry at `at`, or `to`.
+fn end_of(entries: &[(Path, Entry)], at: usize, to: usize, depth: usize) -> usize
+    requires at { at < to }
+    requires folder { IsFolderAt entries.now at to depth }
+    ensures after { at < result }
+    ensures within { result ≤ to }
+    ensures same { HaveName entries.now at result depth (name_at entries.now at depth) }
+    ensures other { result < to → same_name (name_at entries.now at depth) (name_at entries.now result depth) ≡ false }
+{
+    for end in at + 1..to {
+        if !has_same_name(entries, at, end, depth) {
+            return end;
         }
     }
-    most
+    to
+}
+
+/// Whether the paths of two entries have the same name at a depth.
+fn has_same_name(entries: &[(Path, Entry)], one: usize, other: usize, depth: usize) -> bool
+    requires one_within { one < length entries.now }
+    requires other_within { other < length entries.now }
+    requires one_name { depth < length (path_at entries.now one) }
+    requires other_name { depth < length (path_at entries.now other) }
+    ensures { result ≡ same_name (name_at entries.now one depth) (name_at entries.now other depth) }
+{
+    is_equal(entries[one].0.name(depth), entries[other].0.name(depth))
+}
+
+/// The path of one of a tree's entries.
+pub(crate) fn path_of(tree: &Tree, entry: usize) -> &Path
+    requires { entry < length tree.now }
+    ensures { result.now ≡ path_at tree.now entry }
+{
+    &tree.entries()[entry].0
+}
+
+/// The bytes of one of a tree's entries; a kept folder has none.
+pub(crate) fn content_of(tree: &Tree, entry: usize) -> &[u8]
+    requires entry { entry < length tree.now }
+    ensures bytes { result.now ≡ bytes_at tree.now entry }
+    ensures small { length result.now ≤ MOST_CONTENT }
+{
+    match &tree.entries()[entry].1 {
+        Entry::File(content) => content.bytes(),
+        Entry::Folder => &[],
+    }
+}
+
+/// The name of an object other than the gateway.
+pub(crate) fn name_of(tree: &Tree, spot: Spot) -> &[u8]
+    requires tree { IsTree tree.now }
+    requires spot { IsSpotIn tree.now spot }
+    requires named { 1 ≤ spot.names }
+    ensures name { result.now ≡ (view_spot tree.now spot).name }
+    ensures range { (1 ≤ length result.now) × (length result.now ≤ 254) }
+{
+    path_of(tree, spot.entry).name(spot.names - 1)
 }
 
 /// Whether two texts of bytes are the same.
@@ -113,50 +186,6 @@ pub(crate) fn is_equal(a: &[u8], b: &[u8]) -> bool
     ensures { result ≡ same_name a.now b.now }
 {
     a == b
-}
-
-/// Whether two paths begin with the same names.
-fn is_same_front(a: &Path, b: &Path, names: usize) -> bool
-    requires left { names ≤ length a.now }
-    requires right { names ≤ length b.now }
-    ensures { result ≡ same_path (take names a.now) (take names b.now) }
-{
-    for i in 0..names {
-        if !is_equal(a.name(i), b.name(i)) {
-            return false;
-        }
-    }
-    true
-}
-
-/// Whether the path of a tree's file begins with an object's names.
-fn begins_with(tree: &Tree, file: usize, above: Spot) -> bool
-    requires above { above.names ≤ length (path_at tree.now above.file) }
-    requires below { above.names ≤ length (path_at tree.now file) }
-    ensures { result ≡ same_path (take above.names (path_at tree.now above.file)) (take above.names (path_at tree.now file)) }
-{
-    if above.names == 0 {
-        return true;
-    }
-    is_same_front(path_of(tree, above.file), path_of(tree, file), above.names)
-}
-
-/// The name of an object in a folder, where it lies right in it.
-pub(crate) fn child_name<'a>(tree: &'a Tree, folder: Spot, spot: Spot) -> Option<&'a [u8]>
-    requires tree { IsTree tree.now }
-    requires folder { IsSpotIn tree.now folder }
-    requires spot { IsSpotIn tree.now spot }
-    ensures name { option_map (λ n. n.now) result ≡ name_in (view_spot tree.now folder).path (view_spot tree.now spot).path }
-    ensures range { IfSome result (λ n. (1 ≤ length n.now) × (length n.now ≤ 254)) }
-{
-    if spot.names == 0 || folder.names != spot.names - 1 {
-        return None;
-    }
-    if !begins_with(tree, spot.file, folder) {
-        return None;
-    }
-    let path = path_of(tree, spot.file);
-    Some(path.name(folder.names))
 }
 
 /// How the path of an object stands to the path of another in the order of paths, each of its own tree.
@@ -169,9 +198,9 @@ pub(crate) fn compare(a_tree: &Tree, a: Spot, b_tree: &Tree, b: Spot) -> Orderin
         return a.names.cmp(&b.names);
     }
     compare_fronts(
-        path_of(a_tree, a.file),
+        path_of(a_tree, a.entry),
         a.names,
-        path_of(b_tree, b.file),
+        path_of(b_tree, b.entry),
         b.names,
     )
 }

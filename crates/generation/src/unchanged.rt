@@ -16,15 +16,19 @@ use oc_bytes::NoMemory;
 use path_tree::{Edit, Tree, others_stay};
 use std::alloc::Global;
 
-/// Of each of a tree's files, whether one of the edits names its path.
-pub(crate) fn named_files(alloc: Global, tree: &Tree, edits: &[Edit]) -> Result<Vec<bool>, NoMemory>
+/// Of each of a tree's entries, whether one of the edits names its path.
+pub(crate) fn named_entries(
+    alloc: Global,
+    tree: &Tree,
+    edits: &[Edit],
+) -> Result<Vec<bool>, NoMemory>
     ensures { IfOk result (λ v. (old : TreeFiles) → apply_all old edits.now ≡ Ok tree.now → AreAsBefore old tree.now v.items) }
 {
     others_stay();
-    let mut named = vec![in alloc; false; tree.len()]?;
+    let mut named = vec![in alloc; false; tree.entries().len()]?;
     for edit in edits {
-        if let Some(file) = tree.find(edit.path()) {
-            named[file] = true;
+        if let Some(entry) = tree.find(edit.path()) {
+            named[entry] = true;
         }
     }
     Ok(named)
@@ -127,15 +131,15 @@ fn is_same_file(
     if !before.spot.whole || !object.spot.whole || before.key != object.key {
         return false;
     }
-    if is_named(named, object.spot.file) {
+    if is_named(named, object.spot.entry) {
         return false;
     }
     compare(old_tree, before.spot, tree, object.spot).is_eq()
 }
 
-/// Whether a file may have changed: it is flagged, or it has no flag.
-fn is_named(named: &[bool], file: usize) -> bool
-    ensures { result ≡ get_or named.now file true }
+/// Whether an entry may have changed: it is flagged, or it has no flag.
+fn is_named(named: &[bool], entry: usize) -> bool
+    ensures { result ≡ get_or named.now entry true }
 {
-    file >= named.len() || named[file]
+    entry >= named.len() || named[entry]
 }

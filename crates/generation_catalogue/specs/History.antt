@@ -7,7 +7,7 @@ use Rattle.oc_bytes.specs.Outcome.{cap_at_u64}
 use Rattle.path_tree.specs.Trees.{Tree}
 use Rattle.path_tree.specs.Edits.{apply_all}
 use Rattle.path_tree.specs.declared.tree.Edit.{Edit}
-use Rattle.path_tree.specs.declared.tree.Edit.TheVariants.{Put, Remove}
+use Rattle.path_tree.specs.declared.tree.Edit.TheVariants.{Put, Remove, MakeFolder, RemoveFolder}
 use Rattle.path_tree.specs.declared.tree.EditFault.{EditFault}
 use Rattle.generation.specs.Publication as limits
 use Rattle.cycle_planner.specs.Cycle.{cycle_of}
@@ -33,6 +33,8 @@ pub record CatalogueState : Type 0 where
 abbrev pub put_size : Edit → ℕ
 put_size (Put p b) = length b
 put_size (Remove p) = 0
+put_size (MakeFolder p) = 0
+put_size (RemoveFolder p) = 0
 
 abbrev pub put_bytes : List Edit → ℕ
 put_bytes edits = sum_by put_size edits

@@ -13,7 +13,7 @@ ghost use Rattle.cycle_planner.specs.declared.TheConstants.{MOST_DRAWN};
 use crate::entry::{Batch, CommitFault, DrawFault, Entry, Refusal};
 use cycle_planner::{GREATEST_ID, Item, Weigh, cycle_len, item_at};
 use dsi_dii::LAST_GENERATION;
-use generation::{Generation, check};
+use generation::{Generation, checked};
 use oc_bytes::NoMemory;
 use path_tree::{Edit, Edits, apply};
 use std::alloc::Global;
@@ -118,8 +118,8 @@ impl Journal {
             return Err(CommitFault::Refused(Refusal::JournalFull(total)));
         }
         let tree = apply(self.alloc, self.current.tree(), edits)?;
-        check(self.alloc, &tree)?;
-        Ok(self.current.next_after(tree, edits)?)
+        let publishable = checked(self.alloc, tree)?;
+        Ok(self.current.next_after(publishable, edits)?)
     }
 
     /// The bytes that the entries and these edits put, or the greatest `u64`.
@@ -279,6 +279,6 @@ fn size_put(edit: &Edit) -> u64
 {
     match edit {
         Edit::Put(_, blob) => blob.bytes().len() as u64,
-        Edit::Remove(_) => 0,
+        Edit::Remove(_) | Edit::MakeFolder(_) | Edit::RemoveFolder(_) => 0,
     }
 }

@@ -5,18 +5,8 @@ ghost use Rattle.carousel_world.specs.World.{commit_reply};
 use carousel_world::Reply;
 use generation_catalogue::Refusal;
 use oc_bytes::NoMemory;
-use path_tree::{Edit, Edits};
+use path_tree::Edits;
 use std::alloc::Global;
-
-/// The same edit again.
-fn edit_again(edit: &Edit) -> Result<Edit, NoMemory>
-    ensures { IfOk result (λ e. e ≡ edit.now) }
-{
-    Ok(match edit {
-        Edit::Put(path, content) => Edit::Put(path.share()?, content.share()?),
-        Edit::Remove(path) => Edit::Remove(path.share()?),
-    })
-}
 
 /// The same edits again.
 pub(crate) fn edits_again(alloc: Global, edits: &Edits) -> Result<Edits, NoMemory>
@@ -25,7 +15,7 @@ pub(crate) fn edits_again(alloc: Global, edits: &Edits) -> Result<Edits, NoMemor
     let given = edits.list();
     let mut list = Vec::with_capacity(alloc, given.len())?;
     for edit in given {
-        list.push(edit_again(edit)?)?;
+        list.push(edit.share()?)?;
     }
     Ok(Edits::new(list))
 }

@@ -1,92 +1,105 @@
 -- What the code's searches tell of an edit, of a look-up and of a list of edits.
-use Rattle.std.proofs.Common.{◌≡◌, ◌≢◌, ℕ, suc, ◌+◌, ◌-◌, ◌<◌, ◌≤◌, Bool, true, false, nat_lt, cond, List, [], ◌∷◌, length, drop, take, get_or, set, Some, None, Ok, Err, is_some, refl, ap, sym, ◌∙◌, subst, drop-cons, add-one, add-zero, length-drop, get_or-drop, arith}
-use Rattle.std.specs.List.{list_any, insert, remove}
+use Rattle.std.proofs.Common.{◌≡◌, ◌≢◌, ℕ, suc, ◌+◌, ◌-◌, ◌<◌, ◌≤◌, true, false, List, [], ◌∷◌, length, drop, take, get_or, set, Option, Some, None, Ok, Err, is_some, refl, ap, sym, ◌∙◌, subst, cond, inl, inr, ◌⊎◌, drop-cons, add-one, length-drop, arith}
+use Rattle.std.specs.List.{insert, remove}
 use Rattle.std.specs.BTreeMap.{insert_entry}
 use Rattle.std.specs.Map.{remove_entry}
-use Rattle.std.proofs.lemmas.Bool.{ltb-false}
 use Rattle.std.proofs.lemmas.List.{drop_all}
-use Rattle.oc_bytes.specs.Numbers.{IsBytes}
-use Rattle.path_tree.specs.Paths.{Bytes, PathNames, path_cmp, same_path, is_below, IsPath}
-use Rattle.path_tree.specs.Trees.{Tree, IsTree, File, Folder, NoSuch, content_at, is_folder, is_through_file, names_below, node_at}
-use Rattle.path_tree.specs.Edits.{fault_of, after_edit, apply_from}
-use Rattle.path_tree.specs.Inner.Places.{place_in, first_is, last_is_above}
+use Rattle.std.specs.Option.{option_map}
+use Rattle.path_tree.specs.Paths.{PathNames, path_cmp, same_path, is_root}
+use Rattle.path_tree.specs.Trees.{Tree, IsTree, File, Folder, NoSuch, file_in, is_kept, entry_at, content_at, leads_on, is_folder, is_through_file, names_below, node_at}
+use Rattle.path_tree.specs.Edits.{fault_of, after_edit, apply_from, path_in}
+use Rattle.path_tree.specs.Inner.Places.{place_in, first_at, beyond, first_is_below, last_is_above}
+use Rattle.path_tree.specs.declared.entry.Entry.{Entry}
 use Rattle.path_tree.specs.declared.tree.Edit.{Edit}
-use Rattle.path_tree.specs.declared.tree.Edit.TheVariants.{Put}
+use Rattle.path_tree.specs.declared.tree.Edit.TheVariants.{Remove, RemoveFolder}
 use Rattle.path_tree.specs.declared.tree.EditFault.{EditFault}
-use Rattle.path_tree.specs.declared.tree.EditFault.TheVariants.{FolderThere, ThroughFile, FileTooLarge}
-use Rattle.path_tree.proofs.Places.{rest_is, rises_tree, first_content, content_at-place, is_some-first_content, above-place, insert-place, replace-place, remove-place, tree_insert}
+use Rattle.path_tree.specs.declared.tree.EditFault.TheVariants.{NoSuchFile, NoSuchFolder, NotEmpty}
+use Rattle.path_tree.proofs.Rising.{rises_tree}
+use Rattle.path_tree.proofs.Places.{rest_is, first_is, entry_at-place, leads-place, above-place, insert-place, replace-place, remove-place}
 
--- the files from a path's place on, as a slice of them is seen
+-- the entries from a path's place on, as a slice of them is seen
 abbrev pub rest_at : Tree → ℕ → Tree
 rest_at t place = take (length t - place) (drop place t)
 
 pub above-cut : (t : Tree) (p : PathNames) (place : ℕ) → IsTree t → place ≡ place_in t p → is_through_file t p ≡ last_is_above (take place t) p
 above-cut t p place h is = above-place t p (rises_tree t h) ∙ ap (λ n. last_is_above (take n t) p) (sym is)
 
-first-cut : (t : Tree) (p : PathNames) (place : ℕ) (b : Bool) → place ≡ place_in t p → first_is (rest_at t place) p ≡ b → first_is (drop (place_in t p) t) p ≡ b
-first-cut t p place b is e = ap (λ n. first_is (drop n t) p) (sym is) ∙ ap (λ l. first_is l p) (sym (rest_is place t)) ∙ e
+pub entry-cut : (t : Tree) (p : PathNames) (place : ℕ) → IsTree t → place ≡ place_in t p → entry_at t p ≡ first_at (rest_at t place) p
+entry-cut t p place h is = entry_at-place t p (rises_tree t h) ∙ ap (λ n. first_at (drop n t) p) (sym is) ∙ ap (λ l. first_at l p) (sym (rest_is place t))
 
-pub there-cut : (t : Tree) (p : PathNames) (place : ℕ) → IsTree t → place ≡ place_in t p → is_some (content_at t p) ≡ first_is (rest_at t place) p
-there-cut t p place h is =
-    ap is_some (content_at-place t p (rises_tree t h)) ∙ is_some-first_content (drop (place_in t p) t) p
-    ∙ ap (λ n. first_is (drop n t) p) (sym is) ∙ ap (λ l. first_is l p) (sym (rest_is place t))
+pub leads-cut : (t : Tree) (p : PathNames) (place : ℕ) → IsTree t → place ≡ place_in t p → leads_on t p ≡ first_is_below (beyond (rest_at t place) p) p
+leads-cut t p place h is =
+    leads-place t p (rises_tree t h) ∙ ap (λ n. first_is_below (beyond (drop n t) p) p) (sym is)
+    ∙ ap (λ l. first_is_below (beyond l p) p) (sym (rest_is place t))
 
-pub insert-cut : (t : Tree) (p : PathNames) (b : Bytes) (place : ℕ) → place ≡ place_in t p → first_is (rest_at t place) p ≡ false → insert t place (p, b) ≡ insert_entry path_cmp t p b
-insert-cut t p b place is e = ap (λ n. insert t n (p, b)) is ∙ insert-place t p b (first-cut t p place false is e)
+first-cut : (t : Tree) (p : PathNames) (place : ℕ) → place ≡ place_in t p → first_is (drop (place_in t p) t) p ≡ first_is (rest_at t place) p
+first-cut t p place is = ap (λ n. first_is (drop n t) p) (sym is) ∙ ap (λ l. first_is l p) (sym (rest_is place t))
 
-pub replace-cut : (t : Tree) (p : PathNames) (b : Bytes) (place : ℕ) → place ≡ place_in t p → first_is (rest_at t place) p ≡ true → set t place (p, b) ≡ insert_entry path_cmp t p b
-replace-cut t p b place is e = ap (λ n. set t n (p, b)) is ∙ replace-place t p b (first-cut t p place true is e)
+pub insert-cut : (t : Tree) (p : PathNames) (x : Entry) (place : ℕ) → place ≡ place_in t p → first_is (rest_at t place) p ≡ false → insert t place (p, x) ≡ insert_entry path_cmp t p x
+insert-cut t p x place is e = ap (λ n. insert t n (p, x)) is ∙ insert-place t p x (first-cut t p place is ∙ e)
+
+pub replace-cut : (t : Tree) (p : PathNames) (x : Entry) (place : ℕ) → place ≡ place_in t p → first_is (rest_at t place) p ≡ true → set t place (p, x) ≡ insert_entry path_cmp t p x
+replace-cut t p x place is e = ap (λ n. set t n (p, x)) is ∙ replace-place t p x (first-cut t p place is ∙ e)
 
 pub remove-cut : (t : Tree) (p : PathNames) (place : ℕ) → place ≡ place_in t p → first_is (rest_at t place) p ≡ true → remove t place ≡ remove_entry (same_path p) t
-remove-cut t p place is e = ap (remove t) is ∙ remove-place t p (first-cut t p place true is e)
+remove-cut t p place is e = ap (remove t) is ∙ remove-place t p (first-cut t p place is ∙ e)
 
--- a path's place, where its file stands, is one of the files'
+-- a path's place, where an entry stands at it, is one of the entries'
 pub within-cut : (t : Tree) (p : PathNames) (place : ℕ) → first_is (rest_at t place) p ≡ true → place < length t
 within-cut t p place e = go (drop place t) refl (ap (λ l. first_is l p) (sym (rest_is place t)) ∙ e) where
   go : (l : Tree) → drop place t ≡ l → first_is l p ≡ true → place < length t
   go [] is e = cc
   go (f ∷ fs) is e = omega (arith, length-drop place t, ap length is)
 
--- ---- an edit that is made leaves a tree
+pub mapped_some : {A B : Type 0} (f : A → B) (o : Option A) → is_some (option_map f o) ≡ is_some o
+mapped_some f (Some x) = refl
+mapped_some f None = refl
 
-root_is_folder : (t : Tree) (p : PathNames) → is_folder t p ≡ false → (p ≢ []) × (list_any (λ e. is_below p e.0) t ≡ false)
-root_is_folder t [] e = cc
-root_is_folder t (n ∷ ns) e = (λ same. cc, e)
+-- ---- what an edit that isn't refused takes out
 
-pub tree_put : (t : Tree) (p : PathNames) (b : Bytes) → IsTree t → IsPath p → IsBytes b → fault_of t (Put p b) ≡ None → IsTree (insert_entry path_cmp t p b)
-tree_put t p b h path content none = go (is_folder t p) (is_through_file t p) (nat_lt 16777216 (length b)) refl refl refl none where
-  go : (f a l : Bool) → is_folder t p ≡ f → is_through_file t p ≡ a → nat_lt 16777216 (length b) ≡ l → cond f (Some FolderThere) (cond a (Some ThroughFile) (cond l (Some FileTooLarge) None)) ≡ None → IsTree (insert_entry path_cmp t p b)
-  go true a l x y z none = cc
-  go false true l x y z none = cc
-  go false false true x y z none = cc
-  go false false false x y z none = let root = root_is_folder t p x in tree_insert t p b h path root.0 content (ltb-false 16777216 (length b) z) root.1 y
+abbrev pub TakesOut : Edit → Type 0
+TakesOut e = ((p : PathNames) × (e ≡ Remove p)) ⊎ ((p : PathNames) × (e ≡ RemoveFolder p))
+
+file_there : (t : Tree) (p : PathNames) → fault_of t (Remove p) ≡ None → is_some (entry_at t p) ≡ true
+file_there t p none = go (entry_at t p) none where
+  go : (e : Option Entry) → cond (is_some (file_in e)) None (Some NoSuchFile) ≡ None → is_some e ≡ true
+  go (Some x) none = refl
+  go None none = cc
+
+folder_there : (t : Tree) (p : PathNames) → fault_of t (RemoveFolder p) ≡ None → is_some (entry_at t p) ≡ true
+folder_there t p none = go (entry_at t p) none where
+  go : (e : Option Entry) → cond (is_kept e) (cond (leads_on t p) (Some NotEmpty) None) (Some NoSuchFolder) ≡ None → is_some e ≡ true
+  go (Some x) none = refl
+  go None none = cc
+
+pub taken_there : (t : Tree) (e : Edit) (place : ℕ) → IsTree t → place ≡ place_in t (path_in e) → fault_of t e ≡ None → TakesOut e → first_is (rest_at t place) (path_in e) ≡ true
+taken_there t e place h is none (inl (p, same)) = ap is_some (sym (entry-cut t (path_in e) place h is)) ∙ (ap (λ x. is_some (entry_at t (path_in x))) same ∙ file_there t p (ap (fault_of t) (sym same) ∙ none))
+taken_there t e place h is none (inr (p, same)) = ap is_some (sym (entry-cut t (path_in e) place h is)) ∙ (ap (λ x. is_some (entry_at t (path_in x))) same ∙ folder_there t p (ap (fault_of t) (sym same) ∙ none))
+
+pub taken_within : (t : Tree) (e : Edit) (place : ℕ) → IsTree t → place ≡ place_in t (path_in e) → fault_of t e ≡ None → TakesOut e → place < length t
+taken_within t e place h is none out = within-cut t (path_in e) place (taken_there t e place h is none out)
+
+after_taken : (t : Tree) (e : Edit) → TakesOut e → remove_entry (same_path (path_in e)) t ≡ after_edit t e
+after_taken t e (inl (p, same)) = ap (λ x. remove_entry (same_path (path_in x)) t) same ∙ ap (after_edit t) (sym same)
+after_taken t e (inr (p, same)) = ap (λ x. remove_entry (same_path (path_in x)) t) same ∙ ap (after_edit t) (sym same)
+
+pub taken_out : (t : Tree) (e : Edit) (place : ℕ) → IsTree t → place ≡ place_in t (path_in e) → fault_of t e ≡ None → TakesOut e → remove t place ≡ after_edit t e
+taken_out t e place h is none out = remove-cut t (path_in e) place is (taken_there t e place h is none out) ∙ after_taken t e out
 
 -- ---- what stands at a path
 
-head_is : (l : Tree) (p : PathNames) (d : PathNames × Bytes) → first_is l p ≡ true → first_content l p ≡ Some (get_or l 0 d).1
-head_is [] p d e = cc
-head_is (f ∷ fs) p d e = rw e refl
+pub node-file : (t : Tree) (p : PathNames) (b : List ℕ) → content_at t p ≡ Some b → File b ≡ node_at t p
+node-file t p b is = rw is refl
 
-pub node-file : (t : Tree) (p : PathNames) (place : ℕ) (d : PathNames × Bytes) → IsTree t → place ≡ place_in t p → first_is (rest_at t place) p ≡ true → File (get_or t place d).1 ≡ node_at t p
-node-file t p place d h is e =
-    let first = first-cut t p place true is e in
-    let content : content_at t p ≡ Some (get_or t place d).1 =
-    content_at-place t p (rises_tree t h) ∙ head_is (drop (place_in t p) t) p d first
-    ∙ ap (λ n. Some (get_or (drop n t) 0 d).1) (sym is) ∙ ap (λ (f : PathNames × Bytes). Some f.1) (get_or-drop place t 0 d ∙ ap (λ n. get_or t n d) (add-zero place)) in
-    rw content refl
+pub node-folder : (t : Tree) (p : PathNames) → content_at t p ≡ None → is_folder t p ≡ true → node_at t p ≡ Folder (names_below t p)
+node-folder t p none f = rw (none, f) refl
 
-none_is : (l : Tree) (p : PathNames) → first_is l p ≡ false → first_content l p ≡ None
-none_is [] p e = refl
-none_is (f ∷ fs) p e = rw e refl
+pub node-none : (t : Tree) (p : PathNames) → content_at t p ≡ None → is_folder t p ≡ false → node_at t p ≡ NoSuch
+node-none t p none f = rw (none, f) refl
 
-pub no_content : (t : Tree) (p : PathNames) (place : ℕ) → IsTree t → place ≡ place_in t p → first_is (rest_at t place) p ≡ false → content_at t p ≡ None
-no_content t p place h is e = content_at-place t p (rises_tree t h) ∙ none_is (drop (place_in t p) t) p (first-cut t p place false is e)
-
-pub node-folder : (t : Tree) (p : PathNames) (place : ℕ) → IsTree t → place ≡ place_in t p → first_is (rest_at t place) p ≡ false → is_folder t p ≡ true → node_at t p ≡ Folder (names_below t p)
-node-folder t p place h is e f = rw (no_content t p place h is e, f) refl
-
-pub node-none : (t : Tree) (p : PathNames) (place : ℕ) → IsTree t → place ≡ place_in t p → first_is (rest_at t place) p ≡ false → is_folder t p ≡ false → node_at t p ≡ NoSuch
-node-none t p place h is e f = rw (no_content t p place h is e, f) refl
+pub not_root : (p : PathNames) → length p ≢ 0 → is_root p ≡ false
+not_root [] ne = absurd (ne refl)
+not_root (n ∷ ns) ne = refl
 
 -- ---- a list of edits
 

@@ -4,7 +4,9 @@ pub mod Pieces
 pub mod Read
 pub mod Printed
 pub mod Order
+pub mod Rising
 pub mod Places
+pub mod Keeping
 pub mod Listing
 pub mod Changes
 pub mod Names
@@ -12,3 +14,9 @@ pub mod Named
 pub mod Others
 pub mod Checked
 pub mod There
+pub mod Counting
+pub mod Same
+pub mod Walks
+pub mod Bridge
+pub mod Splitting
+pub mod Rows

@@ -1,13 +1,13 @@
--- The names in a folder, from the files after its place.
-use Rattle.std.proofs.Common.{◌≡◌, ◌⊎◌, ℕ, suc, ◌+◌, ◌-◌, ◌<◌, ◌≤◌, true, false, List, [], ◌∷◌, ◌++◌, length, drop, take, get_or, Some, None, refl, ap, sym, inl, inr, drop-cons, add-one, arith}
-use Rattle.std.specs.declared.cmp.Ordering.TheVariants.{Less}
-use Rattle.std.specs.List.{AllByRecursion, dedup, dedup_from, filter_map, cons_option}
+-- The names in a folder, from the entries after its place.
+use Rattle.std.proofs.Common.{◌≡◌, ◌≢◌, ◌⊎◌, ℕ, zero, suc, Bool, Option, cond, ◌+◌, ◌-◌, ◌<◌, ◌≤◌, true, false, List, [], ◌∷◌, ◌++◌, length, drop, take, get_or, Some, None, refl, ap, sym, ◌∙◌, inl, inr, drop-cons, add-one, arith}
+use Rattle.std.specs.List.{AllByRecursion, dedup, dedup_from, cons_option}
 use Rattle.std.proofs.lemmas.List.{drop_all}
-use Rattle.path_tree.specs.Paths.{Bytes, PathNames, path_cmp, same_name, is_below, next_name}
-use Rattle.path_tree.specs.Trees.{Tree, IsTree, names_below}
-use Rattle.path_tree.specs.Inner.Places.{is_before, place_in, count_below, last_name_is, with_name}
+use Rattle.path_tree.specs.Paths.{Bytes, PathNames, same_name, same_path, is_below, next_name}
+use Rattle.path_tree.specs.Trees.{Tree, IsTree, next_names, names_below}
+use Rattle.path_tree.specs.Inner.Places.{is_before, place_in, beyond, behind, count_below, last_name_is, with_name}
 use Rattle.path_tree.proofs.Order.{true_or_false, next_name-none}
-use Rattle.path_tree.proofs.Places.{File, Rises, rises_tree, each_weaker, place-before, place-behind, behind, later, before_not_below, none_below, rest_is}
+use Rattle.path_tree.proofs.Rising.{Item, Rises, rises_tree}
+use Rattle.path_tree.proofs.Places.{AllAfter, at_or_after, later, all_after, behind-before, behind-place, before_not_below, not_below_itself, none_below, rest_is}
 
 -- the names that are kept so far, and then what the rest adds to them
 abbrev pub joined : List Bytes → List Bytes → List Bytes
@@ -31,10 +31,10 @@ joined-end (k ∷ []) = refl
 joined-end (k ∷ j ∷ js) = ap (λ l. k ∷ l) (joined-end (j ∷ js))
 
 abbrev pub names_in : PathNames → Tree → List Bytes
-names_in p t = filter_map (λ e. next_name p e.0) t
+names_in p t = next_names t p
 
--- one file more
-pub listed_none : (p : PathNames) (t : Tree) (i : ℕ) (d : File) (names : List Bytes) → i < length t → next_name p (get_or t i d).0 ≡ None → joined names (names_in p (drop i t)) ≡ joined names (names_in p (drop (i + 1) t))
+-- one entry more
+pub listed_none : (p : PathNames) (t : Tree) (i : ℕ) (d : Item) (names : List Bytes) → i < length t → next_name p (get_or t i d).0 ≡ None → joined names (names_in p (drop i t)) ≡ joined names (names_in p (drop (i + 1) t))
 listed_none p t i d names within e = rw (drop-cons t i d within, e, add-one) refl
 
 joined-with_name : (names : List Bytes) (n : Bytes) (rest : List Bytes) → joined names (n ∷ rest) ≡ joined (with_name names n) rest
@@ -43,13 +43,25 @@ joined-with_name names n rest = go (true_or_false (last_name_is names n)) where
   go (inl is) = rw is (joined-kept names n rest is)
   go (inr isnt) = rw isnt (joined-new names n rest isnt)
 
-pub listed_some : (p : PathNames) (t : Tree) (i : ℕ) (d : File) (names : List Bytes) (n : Bytes) → i < length t → next_name p (get_or t i d).0 ≡ Some n → joined names (names_in p (drop i t)) ≡ joined (with_name names n) (names_in p (drop (i + 1) t))
+pub listed_some : (p : PathNames) (t : Tree) (i : ℕ) (d : Item) (names : List Bytes) (n : Bytes) → i < length t → next_name p (get_or t i d).0 ≡ Some n → joined names (names_in p (drop i t)) ≡ joined (with_name names n) (names_in p (drop (i + 1) t))
 listed_some p t i d names n within e = rw (drop-cons t i d within, e, add-one) (joined-with_name names n (names_in p (drop (suc i) t)))
 
 pub listed_end : (p : PathNames) (t : Tree) (i : ℕ) (names : List Bytes) → length t ≤ i → joined names (names_in p (drop i t)) ≡ names
 listed_end p t i names out = rw (drop_all i t out) (joined-end names)
 
--- ---- the files that matter
+-- an entry that gives a name
+pub some_name : (p : PathNames) (t : Tree) (i : ℕ) (d : Item) (n : Bytes) → i < length t → next_name p (get_or t i d).0 ≡ Some n → names_in p t ≢ []
+some_name p [] i d n within e = absurd (omega (arith, within))
+some_name p (x ∷ xs) zero d n within e = first (next_name p x.0) e where
+  first : (o : Option Bytes) → o ≡ Some n → cons_option o (names_in p xs) ≢ []
+  first None is = cc
+  first (Some m) is = λ none. cc
+some_name p (x ∷ xs) (suc i) d n within e = later_one (next_name p x.0) (some_name p xs i d n (omega (arith, within)) e) where
+  later_one : (o : Option Bytes) → names_in p xs ≢ [] → cons_option o (names_in p xs) ≢ []
+  later_one None some = some
+  later_one (Some m) some = λ none. cc
+
+-- ---- the entries that matter
 
 no_names : (p : PathNames) (t : Tree) → AllByRecursion (λ e. is_below p e.0 ≡ false) t → names_in p t ≡ []
 no_names p [] h = refl
@@ -58,25 +70,48 @@ no_names p (e ∷ es) h = rw (next_name-none p e.0 h.0) (no_names p es h.1)
 one_more : (n : ℕ) → 1 + n ≡ suc n
 one_more n = omega arith
 
-run : (p : PathNames) (t : Tree) → Rises t → AllByRecursion (λ e. (e.0 ≡ p) ⊎ (path_cmp p e.0 ≡ Less)) t → names_in p t ≡ names_in p (take (count_below t p) t)
-run p [] r sides = refl
-run p (e ∷ es) r sides = go (true_or_false (is_below p e.0)) (run p es r.1 sides.1) where
+run : (p : PathNames) (t : Tree) → Rises t → AllAfter p t → names_in p t ≡ names_in p (take (count_below t p) t)
+run p [] r after = refl
+run p (e ∷ es) r after = go (true_or_false (is_below p e.0)) (run p es r.1.1 after.1) where
   go : (is_below p e.0 ≡ true) ⊎ (is_below p e.0 ≡ false) → names_in p es ≡ names_in p (take (count_below es p) es) → names_in p (e ∷ es) ≡ names_in p (take (count_below (e ∷ es) p) (e ∷ es))
   go (inl is) rest = rw (is, one_more (count_below es p)) (ap (cons_option (next_name p e.0)) rest)
-  go (inr isnt) rest = rw (isnt, next_name-none p e.0 isnt) (no_names p es (none_below p e es sides.0 isnt r.0))
+  go (inr isnt) rest = rw (isnt, next_name-none p e.0 isnt) (no_names p es (none_below p e es after.0 isnt r.1.0))
 
-names-place : (p : PathNames) (t : Tree) → Rises t → names_in p t ≡ names_in p (take (count_below (drop (place_in t p) t) p) (drop (place_in t p) t))
+abbrev cut : PathNames → Tree → Tree
+cut p t = take (count_below t p) t
+
+names-place : (p : PathNames) (t : Tree) → Rises t → names_in p t ≡ names_in p (cut p (behind t p))
 names-place p [] r = refl
-names-place p (e ∷ es) r = go (true_or_false (is_before p e)) (names-place p es r.1) where
-  go : (is_before p e ≡ true) ⊎ (is_before p e ≡ false) → names_in p es ≡ names_in p (take (count_below (drop (place_in es p) es) p) (drop (place_in es p) es)) → names_in p (e ∷ es) ≡ names_in p (take (count_below (drop (place_in (e ∷ es) p) (e ∷ es)) p) (drop (place_in (e ∷ es) p) (e ∷ es)))
-  go (inl is) rest = rw (place-before p e es is, next_name-none p e.0 (before_not_below p e.0 is)) rest
-  go (inr isnt) rest =
-      let side = behind p e.0 isnt in
-      rw (place-behind p e es isnt) (run p (e ∷ es) r (side, each_weaker es (λ f less. inr less) (later p e es side r.0)))
+names-place p (e ∷ es) r = go (true_or_false (is_before p e)) (names-place p es r.1.1) where
+  there : is_before p e ≡ false → (same_path p e.0 ≡ true) ⊎ (same_path p e.0 ≡ false) → names_in p (e ∷ es) ≡ names_in p (cut p (cond (same_path p e.0) es (e ∷ es)))
+  there isnt (inl same) = rw (same, next_name-none p e.0 (not_below_itself p e.0 same)) (run p es r.1.1 (later p e es (at_or_after p e.0 isnt) r.1.0))
+  there isnt (inr other) = rw other (run p (e ∷ es) r (all_after p e es isnt other r.1.0))
 
-pub names_below-place : (t : Tree) (p : PathNames) → IsTree t → names_below t p ≡ dedup same_name (names_in p (take (count_below (drop (place_in t p) t) p) (drop (place_in t p) t)))
+  go : (is_before p e ≡ true) ⊎ (is_before p e ≡ false) → names_in p es ≡ names_in p (cut p (behind es p)) → names_in p (e ∷ es) ≡ names_in p (cut p (behind (e ∷ es) p))
+  go (inl is) rest = rw (behind-before p e es is, next_name-none p e.0 (before_not_below p e.0 is)) rest
+  go (inr isnt) rest = rw (behind-place p e es isnt) (there isnt (true_or_false (same_path p e.0)))
+
+pub names_below-place : (t : Tree) (p : PathNames) → IsTree t → names_below t p ≡ dedup same_name (names_in p (cut p (behind t p)))
 names_below-place t p h = ap (dedup same_name) (names-place p t (rises_tree t h))
 
--- the same, as the code cuts the files out
-pub names_below-cut : (t : Tree) (p : PathNames) (place count : ℕ) → IsTree t → place ≡ place_in t p → count ≡ count_below (take (length t - place) (drop place t)) p → dedup same_name (names_in p (take count (take (length t - place) (drop place t)))) ≡ names_below t p
-names_below-cut t p place count h is n = rw (n, rest_is place t, is) (sym (names_below-place t p h))
+-- the same, as the code cuts the entries out
+pub names_below-cut : (t : Tree) (p : PathNames) (place count : ℕ) (rest : Tree) → IsTree t → place ≡ place_in t p → rest ≡ beyond (take (length t - place) (drop place t)) p → count ≡ count_below rest p
+    → dedup same_name (names_in p (take count rest)) ≡ names_below t p
+names_below-cut t p place count rest h is r n = rw (n, r, rest_is place t, is) (sym (names_below-place t p h))
+
+-- ---- the names of a folder in which something stands
+
+some_from : (k : Bytes) (ns : List Bytes) → dedup_from same_name k ns ≢ []
+some_from k [] = λ none. cc
+some_from k (n ∷ ns) = go (same_name n k) (some_from k ns) where
+  go : (b : Bool) → dedup_from same_name k ns ≢ [] → cond b (dedup_from same_name k ns) (k ∷ dedup_from same_name n ns) ≢ []
+  go true rest = rest
+  go false rest = λ none. cc
+
+once_some : (ns : List Bytes) → ns ≢ [] → dedup same_name ns ≢ []
+once_some [] some = some
+once_some (n ∷ ns) some = some_from n ns
+
+pub names_below-some : (t : Tree) (p : PathNames) (place count : ℕ) (rest : Tree) → IsTree t → place ≡ place_in t p → rest ≡ beyond (take (length t - place) (drop place t)) p → count ≡ count_below rest p
+    → names_in p (take count rest) ≢ [] → names_below t p ≢ []
+names_below-some t p place count rest h is r n some = λ none. once_some (names_in p (take count rest)) some (names_below-cut t p place count rest h is r n ∙ none)

@@ -11,7 +11,7 @@ use Rattle.std.proofs.lemmas.Cmp.{nat_list_eq_equiv}
 use Rattle.path_tree.specs.Paths.{Bytes, PathNames, name_cmp, path_cmp, same_name, next_name}
 use Rattle.path_tree.specs.Trees.{Tree, IsTree, names_below, IsListing}
 use Rattle.path_tree.proofs.Order.{true_or_false, same_name-is, same_name-refl, name_total, name_cmp-is, name_cmp-refl}
-use Rattle.path_tree.proofs.Places.{File, Rises, Apart, rises_tree}
+use Rattle.path_tree.proofs.Rising.{Item, Rises, Apart, rises_tree}
 use Rattle.path_tree.proofs.Listing.{names_in}
 
 -- a name that isn't less than another is it or stands after it
@@ -65,7 +65,7 @@ pairs (m ∷ ms) c i zero d up within = absurd (omega arith)
 pairs (m ∷ ms) c zero (suc j) d up within = All-from_recursion (λ n. name_cmp m n ≡ Less) ms c.0 j d (omega arith)
 pairs (m ∷ ms) c (suc i) (suc j) d up within = pairs ms c.1 i j d (omega arith) (omega arith)
 
--- ---- the names of files in the order of paths rise
+-- ---- the names of entries in the order of paths rise
 
 first_less : (o r : Ordering) → ordering_then o r ≡ Less → is_lt (ordering_reverse o) ≡ false
 first_less Less r e = refl
@@ -96,7 +96,7 @@ next-rises (k ∷ ks) (a ∷ as') (b ∷ bs) m n less e f =
     let rest : path_cmp as' bs ≡ Less = sym (ap (λ o. ordering_then o (path_cmp as' bs)) same) ∙ less in
     next-rises ks as' bs m n rest in_a.1 in_b.1
 
-rises_after : (p : PathNames) (e : File) (m : Bytes) (es : Tree) → next_name p e.0 ≡ Some m → AllByRecursion (Apart e) es → AllByRecursion (λ n. is_lt (name_cmp n m) ≡ false) (names_in p es)
+rises_after : (p : PathNames) (e : Item) (m : Bytes) (es : Tree) → next_name p e.0 ≡ Some m → AllByRecursion (Apart e) es → AllByRecursion (λ n. is_lt (name_cmp n m) ≡ false) (names_in p es)
 rises_after p e m [] is h = tt
 rises_after p e m (f ∷ fs) is h = go (next_name p f.0) refl (rises_after p e m fs is h.1) where
   go : (o : Option Bytes) → next_name p f.0 ≡ o → AllByRecursion (λ n. is_lt (name_cmp n m) ≡ false) (names_in p fs) → AllByRecursion (λ n. is_lt (name_cmp n m) ≡ false) (cons_option o (names_in p fs))
@@ -105,14 +105,14 @@ rises_after p e m (f ∷ fs) is h = go (next_name p f.0) refl (rises_after p e m
 
 names_in-rise : (p : PathNames) (t : Tree) → Rises t → Rising (names_in p t)
 names_in-rise p [] r = tt
-names_in-rise p (e ∷ es) r = go (next_name p e.0) refl (names_in-rise p es r.1) where
+names_in-rise p (e ∷ es) r = go (next_name p e.0) refl (names_in-rise p es r.1.1) where
   go : (o : Option Bytes) → next_name p e.0 ≡ o → Rising (names_in p es) → Rising (cons_option o (names_in p es))
   go None there rest = rest
-  go (Some m) there rest = (rises_after p e m es there r.0, rest)
+  go (Some m) there rest = (rises_after p e m es there r.1.0, rest)
 
 -- ---- which names they are
 
-only_more : (P : File → Type 0) (e : File) (es : Tree) → Any P es → Any P (e ∷ es)
+only_more : (P : Item → Type 0) (e : Item) (es : Tree) → Any P es → Any P (e ∷ es)
 only_more P e es (k, x, within, is, holds) = (suc k, x, omega arith, is, holds)
 
 only_names : (p : PathNames) (t : Tree) (n : Bytes) → Contains (names_in p t) n → Any (λ e. next_name p e.0 ≡ Some n) t
@@ -126,8 +126,8 @@ only_names p (e ∷ es) n c = go (next_name p e.0) refl (only_names p es n) c wh
 every_name : (p : PathNames) (t : Tree) (n : Bytes) → Any (λ e. next_name p e.0 ≡ Some n) t → Contains (names_in p t) n
 every_name p [] n (k, x, within, is, holds) = absurd (omega arith)
 every_name p (e ∷ es) n a = go (next_name p e.0) refl (every_name p es n) a where
-  first : (x : File) → e ≡ x → next_name p x.0 ≡ Some n → next_name p e.0 ≡ Some n
-  first x is holds = subst (λ (y : File). next_name p y.0 ≡ Some n) (sym is) holds
+  first : (x : Item) → e ≡ x → next_name p x.0 ≡ Some n → next_name p e.0 ≡ Some n
+  first x is holds = subst (λ (y : Item). next_name p y.0 ≡ Some n) (sym is) holds
 
   go : (o : Option Bytes) → next_name p e.0 ≡ o → (Any (λ f. next_name p f.0 ≡ Some n) es → Contains (names_in p es) n) → Any (λ f. next_name p f.0 ≡ Some n) (e ∷ es) → Contains (cons_option o (names_in p es)) n
   go None there rest (zero, x, within, is, holds) = let found = first x is holds in cc

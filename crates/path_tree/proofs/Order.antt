@@ -1,10 +1,10 @@
 -- The order of paths, and which lie below which.
-use Rattle.std.proofs.Common.{◌≡◌, ◌⊎◌, ℕ, suc, zero, ◌+◌, ◌<◌, ◌≤◌, min, Bool, true, false, ◌&&◌, nat_eq, [], ◌∷◌, length, drop, get_or, Some, None, cond, refl, ap, sym, ◌∙◌, subst, inl, inr, drop-cons, add-one, arith}
+use Rattle.std.proofs.Common.{◌≡◌, ◌⊎◌, ℕ, suc, zero, ◌+◌, ◌<◌, ◌≤◌, min, Bool, true, false, ◌&&◌, [], ◌∷◌, length, drop, get_or, Some, None, cond, refl, sym, ◌∙◌, subst, inl, inr, drop-cons, add-one, arith}
 use Rattle.std.specs.declared.cmp.Ordering.{Ordering}
 use Rattle.std.specs.declared.cmp.Ordering.TheVariants.{Less, Equal, Greater}
 use Rattle.std.specs.Ordering.{nat_cmp, is_eq, ordering_then}
 use Rattle.std.specs.Cmp.{IsTotalOrder}
-use Rattle.std.specs.Cmp.Lexicographic.{pointwise, same_text}
+use Rattle.std.specs.Cmp.Lexicographic.{same_text}
 use Rattle.std.specs.FinMap.{slice_cmp-IsAntisymmetric}
 use Rattle.std.proofs.lemmas.Cmp.{lists_total, nat_list_cmp_total, nat_list_eq_equiv}
 use Rattle.std.proofs.Math.Bool.{and-false}

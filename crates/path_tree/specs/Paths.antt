@@ -26,6 +26,10 @@ same_name = pointwise nat_eq
 abbrev pub same_path : PathNames → PathNames → Bool
 same_path = pointwise same_name
 
+abbrev pub is_root : PathNames → Bool
+is_root [] = true
+is_root (n ∷ ns) = false
+
 -- the second path lies below the first
 abbrev pub is_below : PathNames → PathNames → Bool
 is_below [] [] = false

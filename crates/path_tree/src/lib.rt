@@ -1,4 +1,4 @@
-//! Paths and their texts, trees of files, and edits of trees.
+//! Paths and their texts, trees of files and kept folders, and edits of trees.
 //!
 //! ```
 //! use oc_bytes::Blob;
@@ -13,15 +13,20 @@
 //! ```
 #![tactic(auto)]
 
-mod files;
+mod entries;
+mod entry;
+mod laws;
 mod limits;
 mod path;
 mod text;
 mod tree;
 
+pub use entry::Entry;
+pub use laws::{
+    files_stay_the_same, lookups_stay_the_same, nestings_are_their_entries, others_stay,
+    trees_are_nestings,
+};
 pub use limits::limits_are_numbers;
 pub use path::{Name, Path, PathFault};
 pub use text::{MOST_NAMES, print_name};
-pub use tree::{
-    ApplyFault, Edit, EditFault, Edits, Lookup, MOST_CONTENT, Tree, apply, others_stay,
-};
+pub use tree::{ApplyFault, Edit, EditFault, Edits, Lookup, MOST_CONTENT, Tree, apply};

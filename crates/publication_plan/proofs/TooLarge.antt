@@ -1,12 +1,12 @@
 -- The first file that is too large is the one that a commit names.
 use Rattle.std.proofs.Common.{◌≡◌, ℕ, zero, suc, ◌+◌, ◌≤◌, Bool, true, false, cond, List, [], ◌∷◌, length, Option, Some, None, Result, Ok, Err, refl, ◌∙◌, sym, ap, arith, zero-add}
-use Rattle.std.specs.Prelude.{is_some, nat_lt}
+use Rattle.std.specs.Prelude.{is_some, nat_lt, ◌||◌}
 use Rattle.oc_bytes.specs.Outcome.{cap_at_u64}
-use Rattle.path_tree.specs.Paths.{Bytes}
+use Rattle.path_tree.specs.Paths.{Bytes, is_root}
 use Rattle.path_tree.specs.Edits.{after_edit, apply_all, apply_from, fault_of, unless}
-use Rattle.path_tree.specs.Trees.{Tree, content_at, is_folder, is_through_file}
+use Rattle.path_tree.specs.Trees.{Tree, content_at, entry_at, is_folder, is_kept, is_through_file, leads_on}
 use Rattle.path_tree.specs.declared.tree.Edit.{Edit}
-use Rattle.path_tree.specs.declared.tree.Edit.TheVariants.{Put, Remove}
+use Rattle.path_tree.specs.declared.tree.Edit.TheVariants.{Put, Remove, MakeFolder, RemoveFolder}
 use Rattle.path_tree.specs.declared.tree.EditFault.{EditFault}
 use Rattle.path_tree.specs.declared.tree.EditFault.TheVariants as edits
 use Rattle.generation.specs.Publication as limits
@@ -45,6 +45,17 @@ is_large root t (Remove p) es e = by (content_at t p) e where
   by : (o : Option Bytes) → cond (is_some o) None (Some edits.NoSuchFile) ≡ Some edits.FileTooLarge → first_large root es ≡ Some (text_below root p)
   by (Some b) h = cc
   by None h = cc
+is_large root t (MakeFolder p) es e = by (is_root p || is_kept (entry_at t p)) (is_some (content_at t p)) (is_through_file t p) e where
+  by : (x y z : Bool) → cond x (Some edits.FolderThere) (cond y (Some edits.FileThere) (cond z (Some edits.ThroughFile) None)) ≡ Some edits.FileTooLarge → first_large root es ≡ Some (text_below root p)
+  by true y z h = cc
+  by false true z h = cc
+  by false false true h = cc
+  by false false false h = cc
+is_large root t (RemoveFolder p) es e = by (is_kept (entry_at t p)) (leads_on t p) e where
+  by : (x y : Bool) → cond x (cond y (Some edits.NotEmpty) None) (Some edits.NoSuchFolder) ≡ Some edits.FileTooLarge → first_large root es ≡ Some (text_below root p)
+  by true true h = cc
+  by true false h = cc
+  by false y h = cc
 
 -- an edit that isn't refused
 isnt_large : (root : Bytes) (t : Tree) (d : Edit) (es : List Edit) → fault_of t d ≡ None → first_large root (d ∷ es) ≡ first_large root es
@@ -56,6 +67,8 @@ isnt_large root t (Put p b) es e = by (is_folder t p) (is_through_file t p) (nat
   by false true true h = cc
   by false false true h = cc
 isnt_large root t (Remove p) es e = refl
+isnt_large root t (MakeFolder p) es e = refl
+isnt_large root t (RemoveFolder p) es e = refl
 
 first_is : (root : Bytes) (at k : ℕ) (t : Tree) (es : List Edit) → apply_from at t es ≡ Err (at + k, edits.FileTooLarge) → first_large root es ≡ Some (text_below root (refused_path es (refusals.Edit k edits.FileTooLarge)))
 first_is root at k t [] e = cc

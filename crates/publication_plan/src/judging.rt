@@ -7,14 +7,14 @@ ghost use Rattle.generation_catalogue.specs.Requests.{commit_cause};
 ghost use Rattle.publication_plan.specs.Plans.{first_outcome};
 ghost use Rattle.publication_plan.specs.Inner.Judging.{IsAccepted};
 
-use generation::check;
+use generation::{Publishable, checked};
 use generation_catalogue::{CommitFault, MOST_PUT_BYTES, Refusal};
 use path_tree::{Edit, Tree, apply};
 use std::alloc::Global;
 
-/// The tree that these edits make of the tree without files, where a commit of them on a new carousel is accepted; else the commit's
+/// The tree that these edits make of the one in which nothing stands, where a commit of them on a new carousel is accepted; else the commit's
 /// refusal.
-pub(crate) fn judge(alloc: Global, edits: &[Edit]) -> Result<Tree, CommitFault>
+pub(crate) fn judge(alloc: Global, edits: &[Edit]) -> Result<Publishable, CommitFault>
     ensures accepted { IfOk result (IsAccepted edits.now) }
     ensures refused { IfErr result (λ f. MatchOption (commit_cause f) ⊤ (λ r. (carousel : ℕ) → first_outcome carousel edits.now ≡ Err r)) }
 {
@@ -23,8 +23,7 @@ pub(crate) fn judge(alloc: Global, edits: &[Edit]) -> Result<Tree, CommitFault>
         return Err(CommitFault::Refused(Refusal::JournalFull(total)));
     }
     let tree = apply(alloc, &Tree::empty(alloc), edits)?;
-    check(alloc, &tree)?;
-    Ok(tree)
+    Ok(checked(alloc, tree)?)
 }
 
 /// The bytes that these edits put, or the greatest `u64`.
@@ -43,6 +42,6 @@ fn size_put(edit: &Edit) -> u64
 {
     match edit {
         Edit::Put(_, content) => content.bytes().len() as u64,
-        Edit::Remove(_) => 0,
+        Edit::Remove(_) | Edit::MakeFolder(_) | Edit::RemoveFolder(_) => 0,
     }
 }

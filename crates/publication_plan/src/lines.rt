@@ -7,7 +7,6 @@ ghost use Rattle.std.specs.String.{string_bytes};
 ghost use Rattle.biop_object.specs.Names.{module_in};
 ghost use Rattle.path_tree.specs.Trees.{node_at};
 ghost use Rattle.generation.specs.Layouts.{lines_of};
-ghost use Rattle.generation.specs.Objects.{object_of};
 ghost use Rattle.section_stream.specs.Packing.{IsSectionLike};
 ghost use Rattle.folder_store.specs.Surveys.{names_at, view_standing};
 ghost use Rattle.publication_plan.specs.Telling.{count_of, cycle_line, cycle_sections, entry_lines, four_fields, hidden_text, is_hidden, is_hidden_name, kind_line, kind_text, left_first, left_line, module_line, object_line, plan_text, stands_before};
@@ -235,8 +234,8 @@ fn module_text(
 fn module_size(generation: &Generation, id: u16) -> usize
     ensures { result ≡ length (unwrap_or (module_in generation.now.layout id) []) }
 {
-    match generation.module(id) {
-        Some(module) => module.bytes().len(),
+    match generation.module_bytes(id) {
+        Some(bytes) => bytes.len(),
         None => 0,
     }
 }

@@ -16,10 +16,10 @@ use crate::refusing::{
 use carousel_world::publications_can_be_packed;
 use cycle_planner::Weigh;
 use folder_store::{FolderFault, Folders, ReadTree, SurveyFault, Surveyed, place_text, survey};
-use generation::{Generation, generations_are_of_the_lists};
+use generation::{Generation, Publishable, generations_are_of_the_lists};
 use generation_catalogue::{CommitFault, Refusal};
 use oc_bytes::NoMemory;
-use path_tree::{MOST_NAMES, Tree};
+use path_tree::MOST_NAMES;
 use shell_streams::{Output, OutputFault};
 use std::alloc::{AllocError, Global};
 
@@ -123,7 +123,7 @@ fn tell_tree(
     carousel: u32,
     bitrate: u32,
     weigh: &Weigh,
-    tree: Tree,
+    tree: Publishable,
     survey: &Surveyed,
 ) -> Result<String, NoMemory>
     requires rate { 1 ≤ bitrate }

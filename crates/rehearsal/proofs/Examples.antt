@@ -28,6 +28,11 @@ each_editor : events_from none_pending (acts_by (lines.Put 1 a (49 ∷ []) ∷ l
     Commit 1 (edits.Put a (49 ∷ []) ∷ edits.Remove b ∷ []) ∷ Commit 2 (edits.Put b [] ∷ []) ∷ Commit 1 (edits.Put a (250 ∷ 1 ∷ 8 ∷ []) ∷ []) ∷ Commit 1 [] ∷ []
 each_editor = refl
 
+-- a folder is made and removed by edits like the others
+folders_wait : events_from none_pending (acts_by (lines.MakeFolder 1 a ∷ lines.RemoveFolder 2 a ∷ lines.Put 1 b [] ∷ lines.Commit 2 ∷ lines.Commit 1 ∷ lines.MakeFolder 1 b ∷ [])) ≡
+    Commit 2 (edits.RemoveFolder a ∷ []) ∷ Commit 1 (edits.MakeFolder a ∷ edits.Put b [] ∷ []) ∷ []
+folders_wait = refl
+
 settles : events_from none_pending (acts_by (lines.Draw 5 (Lose ∷ []) ∷ lines.Settle ∷ lines.Open 3 a ∷ [])) ≡
     Draw 5 (Lose ∷ []) ∷ Draw 1048576 [] ∷ Draw 1048576 [] ∷ Open 3 a ∷ []
 settles = refl

@@ -34,6 +34,8 @@ abbrev pub pending_after : Pending → Act → Pending
 pending_after p (lines.Put editor path content) = with_edit p editor (edits.Put path content)
 pending_after p (lines.Fill editor path size from) = with_edit p editor (edits.Put path (filled_bytes size from))
 pending_after p (lines.Remove editor path) = with_edit p editor (edits.Remove path)
+pending_after p (lines.MakeFolder editor path) = with_edit p editor (edits.MakeFolder path)
+pending_after p (lines.RemoveFolder editor path) = with_edit p editor (edits.RemoveFolder path)
 pending_after p (lines.Commit editor) = without p editor
 pending_after p _ = p
 

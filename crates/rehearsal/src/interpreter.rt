@@ -86,6 +86,14 @@ impl Interpreter {
                 self.add(editor, Edit::Remove(path))?;
                 Ok(None)
             }
+            Task::MakeFolder(editor, path) => {
+                self.add(editor, Edit::MakeFolder(path))?;
+                Ok(None)
+            }
+            Task::RemoveFolder(editor, path) => {
+                self.add(editor, Edit::RemoveFolder(path))?;
+                Ok(None)
+            }
             Task::Commit(editor) => Ok(Some(Happening::Commit(editor, self.take(editor)))),
             Task::Draw(asked, fates) => Ok(Some(Happening::Draw(asked, fates))),
             Task::Open(reader, path) => Ok(Some(Happening::Open(reader, path))),

@@ -109,6 +109,8 @@ no_task_settles : (t : Task) → is_settle (act_of t) ≡ false
 no_task_settles (tasks.Put editor path content) = refl
 no_task_settles (tasks.Fill editor path size from) = refl
 no_task_settles (tasks.Remove editor path) = refl
+no_task_settles (tasks.MakeFolder editor path) = refl
+no_task_settles (tasks.RemoveFolder editor path) = refl
 no_task_settles (tasks.Commit editor) = refl
 no_task_settles (tasks.Draw asked fates) = refl
 no_task_settles (tasks.Open reader path) = refl
@@ -155,6 +157,8 @@ module _ (editors readers : List ℕ) where
   one p (acts.Put editor path content) m = All-nil Named
   one p (acts.Fill editor path size from) m = All-nil Named
   one p (acts.Remove editor path) m = All-nil Named
+  one p (acts.MakeFolder editor path) m = All-nil Named
+  one p (acts.RemoveFolder editor path) m = All-nil Named
   one p (acts.Commit editor) m = All-cons Named (Commit editor (p editor)) [] m (All-nil Named)
   one p (acts.Draw asked fates) m = All-cons Named (Draw asked fates) [] tt (All-nil Named)
   one p (acts.Open reader path) m = All-cons Named (Open reader path) [] m (All-nil Named)

@@ -22,6 +22,8 @@ module _ (editors readers : List ℕ) where
   no_commit editor lacks p (acts.Put e path content) m = refl
   no_commit editor lacks p (acts.Fill e path size from) m = refl
   no_commit editor lacks p (acts.Remove e path) m = refl
+  no_commit editor lacks p (acts.MakeFolder e path) m = refl
+  no_commit editor lacks p (acts.RemoveFolder e path) m = refl
   no_commit editor lacks p (acts.Commit e) m = ap (λ (b : Bool). (if b then p e ∷ [] else []) ++ []) (ne_eqb e editor (not_among editors editor e lacks m))
   no_commit editor lacks p (acts.Draw asked fates) m = refl
   no_commit editor lacks p (acts.Open reader path) m = refl
@@ -45,6 +47,8 @@ module _ (editors readers : List ℕ) where
     none_asked above p stage (acts.Put e path content) m rest h = h above
     none_asked above p stage (acts.Fill e path size from) m rest h = h above
     none_asked above p stage (acts.Remove e path) m rest h = h above
+    none_asked above p stage (acts.MakeFolder e path) m rest h = h above
+    none_asked above p stage (acts.RemoveFolder e path) m rest h = h above
     none_asked above p stage (acts.Commit e) m rest h = h above
     none_asked above p stage (acts.Draw asked fates) m rest h = h (suc above)
     none_asked above p stage (acts.Open r path) m rest h =

@@ -7,7 +7,7 @@ use Rattle.ts_packet.specs.declared.Fate.TheVariants.{Keep, Lose, Flip}
 use Rattle.session_script.specs.declared.line.Part.TheVariants.{Opening, Running, Closing}
 use Rattle.session_script.specs.declared.script.LineCause.TheVariants.{Unknown, Order, BadNumber, BadPath, BadHex, BadFate, Missing, Extra}
 use Rattle.session_script.specs.declared.script.Stage.TheVariants.{Before, During, After}
-use Rattle.session_script.specs.Scripts.{Put, Fill, Remove, Commit, Draw, Open, Settle}
+use Rattle.session_script.specs.Scripts.{Put, Fill, Remove, MakeFolder, RemoveFolder, Commit, Draw, Open, Settle}
 use Rattle.session_script.specs.Grammar.{Passed, Does, Ends, line_by, meaning_of}
 
 x : PathNames
@@ -32,6 +32,23 @@ fills = refl
 
 fills_too_much : line_by Opening (codes "fill 1 / 16777218 255") ≡ Err BadNumber
 fills_too_much = refl
+
+makes_a_folder : line_by Running (codes "mkdir 3 /x") ≡ Ok (Does (MakeFolder 3 x))
+unfolding x
+makes_a_folder = refl
+
+removes_a_folder : line_by Opening (codes "rmdir 64 /x") ≡ Ok (Does (RemoveFolder 64 x))
+unfolding x
+removes_a_folder = refl
+
+a_folder_with_bytes : line_by Opening (codes "mkdir 3 /x -") ≡ Err Extra
+a_folder_with_bytes = refl
+
+a_folder_of_nobody : line_by Opening (codes "rmdir /x") ≡ Err BadNumber
+a_folder_of_nobody = refl
+
+no_folder_at_the_end : line_by Closing (codes "mkdir 3 /x") ≡ Err Order
+no_folder_at_the_end = refl
 
 draws : line_by Opening (codes "draw 1048576 k1 d2 f1503") ≡ Ok (Does (Draw 1048576 (Keep ∷ Lose ∷ Lose ∷ Flip 1503 ∷ [])))
 draws = refl

@@ -9,7 +9,7 @@ use Rattle.path_tree.specs.Paths.{Bytes}
 use Rattle.session_script.specs.declared.script.LineCause.{LineCause}
 use Rattle.session_script.specs.declared.script.Stage.{Stage}
 use Rattle.session_script.specs.declared.script.Stage.TheVariants.{After}
-use Rattle.session_script.specs.Scripts.{Act, Put, Fill, Remove, Commit, Draw, Open, Settle, LineFields, Fields}
+use Rattle.session_script.specs.Scripts.{Act, Put, Fill, Remove, MakeFolder, RemoveFolder, Commit, Draw, Open, Settle, LineFields, Fields}
 use Rattle.session_script.specs.Ranges.{IsMentioned, AreListed}
 use Rattle.session_script.specs.Grammar.{Saying, Passed, Starts, Does, Ends, ◌>>=◌, sayings, lines_in, editor_of, reader_of, who, first_mentions, stage_above, lines_from, script_of, meaning_of}
 
@@ -51,6 +51,8 @@ act_mentioned : (editors readers : List ℕ) (act : Act) → ((n : ℕ) → edit
 act_mentioned editors readers (Put editor path content) e r = in_contains editor editors (e editor refl)
 act_mentioned editors readers (Fill editor path size from) e r = in_contains editor editors (e editor refl)
 act_mentioned editors readers (Remove editor path) e r = in_contains editor editors (e editor refl)
+act_mentioned editors readers (MakeFolder editor path) e r = in_contains editor editors (e editor refl)
+act_mentioned editors readers (RemoveFolder editor path) e r = in_contains editor editors (e editor refl)
 act_mentioned editors readers (Commit editor) e r = in_contains editor editors (e editor refl)
 act_mentioned editors readers (Draw asked fates) e r = tt
 act_mentioned editors readers (Open reader path) e r = in_contains reader readers (r reader refl)

@@ -6,17 +6,17 @@ use Rattle.std.proofs.lemmas.Bool.{and_parts, eqb-true, eqb-false, ne_eqb}
 use Rattle.std.proofs.lemmas.List.Elements.{All-nil, All-cons, All-push, All-filter}
 use Rattle.std.proofs.lemmas.Map.Steps.{length-le_from_distinct_below}
 use Rattle.oc_bytes.specs.Decimals.{is_decimal, decimal_value, decimal_in}
-use Rattle.path_tree.specs.Paths.{Bytes}
+use Rattle.path_tree.specs.Paths.{Bytes, PathNames}
 use Rattle.ts_packet.specs.declared.Fate.{Fate}
 use Rattle.session_script.specs.declared.keyword.Keyword.{Keyword}
 use Rattle.session_script.specs.declared.keyword.Keyword.TheVariants as keywords
 use Rattle.session_script.specs.declared.line.Part.{Part}
 use Rattle.session_script.specs.declared.script.LineCause.{LineCause}
 use Rattle.session_script.specs.declared.script.LineCause.TheVariants.{Order, BadNumber, BadPath, BadHex, BadFate}
-use Rattle.session_script.specs.Scripts.{Act, Put, Fill, Remove, Commit, Draw, Open, Settle, Fields}
+use Rattle.session_script.specs.Scripts.{Act, Put, Fill, Remove, MakeFolder, RemoveFolder, Commit, Draw, Open, Settle, Fields}
 use Rattle.session_script.specs.Keywords.{keyword_of}
 use Rattle.session_script.specs.Values.{actor_of, path_in, content_in, all_fates, if_within_limit, fates_of}
-use Rattle.session_script.specs.Grammar.{Saying, Passed, Starts, Does, Ends, ◌>>=◌, or_cause, word_by, no_more, put_by, fill_by, remove_by, commit_by, draw_by, open_by, as_saying, said_by, may_stand, in_order, in_words, words_in, line_by, lines_in, part_of, or_bad_line, sayings, who, editor_of, reader_of, first_mentions, lines_from, script_of, meaning_of}
+use Rattle.session_script.specs.Grammar.{Saying, Passed, Starts, Does, Ends, ◌>>=◌, or_cause, word_by, no_more, put_by, fill_by, named_by, commit_by, draw_by, as_saying, said_by, may_stand, in_order, in_words, words_in, line_by, lines_in, part_of, or_bad_line, sayings, who, editor_of, reader_of, first_mentions, lines_from, script_of, meaning_of}
 use Rattle.session_script.specs.Ranges.{IsActor, IsInRange, AreActors, IsInRanges}
 
 -- ---- numbers in words
@@ -77,11 +77,11 @@ fill_range words act h =
     let below : d.0.0 < 256 = omega (arith, from.1) in
     subst IsInRange (ended (Fill a.0.0 b.0.0 c.0.0 d.0.0) act d.0.1 d.2) (actor_range words a.0 a.1, size.1, below)
 
-remove_range : (words : List Bytes) (act : Act) → remove_by words ≡ Ok act → IsInRange act
-remove_range words act h =
-    let a = went (word_by actor_of BadNumber words) _ act h in
-    let b = went (word_by path_in BadPath a.0.1) _ act a.2 in
-    subst IsInRange (ended (Remove a.0.0 b.0.0) act b.0.1 b.2) (actor_range words a.0 a.1)
+named_range : (words : List Bytes) (named : ℕ × PathNames) → named_by words ≡ Ok named → IsActor named.0
+named_range words named h =
+    let a = went (word_by actor_of BadNumber words) _ named h in
+    let b = went (word_by path_in BadPath a.0.1) _ named a.2 in
+    subst (λ (n : ℕ × PathNames). IsActor n.0) (ended (a.0.0, b.0.0) named b.0.1 b.2) (actor_range words a.0 a.1)
 
 commit_range : (words : List Bytes) (act : Act) → commit_by words ≡ Ok act → IsInRange act
 commit_range words act h =
@@ -114,12 +114,6 @@ draw_range words act h =
     let fates = had BadFate [] (fates_of a.0.1) b.0 b.1 in
     subst IsInRange (same_act (Draw a.0.0 b.0.0) act b.2) (asked.0, asked.1, few_fates (all_fates a.0.1) b.0.0 fates)
 
-open_range : (words : List Bytes) (act : Act) → open_by words ≡ Ok act → IsInRange act
-open_range words act h =
-    let a = went (word_by actor_of BadNumber words) _ act h in
-    let b = went (word_by path_in BadPath a.0.1) _ act a.2 in
-    subst IsInRange (ended (Open a.0.0 b.0.0) act b.0.1 b.2) (actor_range words a.0 a.1)
-
 -- ---- lines
 
 abbrev SaysInRange : Saying → Type 0
@@ -128,24 +122,22 @@ SaysInRange Starts = Unit {0}
 SaysInRange (Does act) = IsInRange act
 SaysInRange (Ends act) = IsInRange act
 
-does_range : (r : Result Act LineCause) (s : Saying) → ((act : Act) → r ≡ Ok act → IsInRange act) → as_saying Does r ≡ Ok s → SaysInRange s
-does_range (Ok act) s f h = let e : Does act ≡ s = cc in subst SaysInRange e (f act refl)
-does_range (Err fault) s f h = cc
-
-ends_range : (r : Result Act LineCause) (s : Saying) → ((act : Act) → r ≡ Ok act → IsInRange act) → as_saying Ends r ≡ Ok s → SaysInRange s
-ends_range (Ok act) s f h = let e : Ends act ≡ s = cc in subst SaysInRange e (f act refl)
-ends_range (Err fault) s f h = cc
+says_range : {A : Type 0} (says : A → Saying) (r : Result A LineCause) (s : Saying) → ((x : A) → r ≡ Ok x → SaysInRange (says x)) → as_saying says r ≡ Ok s → SaysInRange s
+says_range says (Ok x) s f h = let e : says x ≡ s = cc in subst SaysInRange e (f x refl)
+says_range says (Err fault) s f h = cc
 
 said_range : (keyword : Keyword) (words : List Bytes) (s : Saying) → said_by keyword words ≡ Ok s → SaysInRange s
-said_range keywords.Put words s h = does_range (put_by words) s (put_range words) h
-said_range keywords.Fill words s h = does_range (fill_by words) s (fill_range words) h
-said_range keywords.Remove words s h = does_range (remove_by words) s (remove_range words) h
-said_range keywords.Commit words s h = does_range (commit_by words) s (commit_range words) h
-said_range keywords.Draw words s h = does_range (draw_by words) s (draw_range words) h
-said_range keywords.Open words s h = does_range (open_by words) s (open_range words) h
+said_range keywords.Put words s h = says_range Does (put_by words) s (put_range words) h
+said_range keywords.Fill words s h = says_range Does (fill_by words) s (fill_range words) h
+said_range keywords.Remove words s h = says_range (λ named. Does (Remove named.0 named.1)) (named_by words) s (named_range words) h
+said_range keywords.MakeFolder words s h = says_range (λ named. Does (MakeFolder named.0 named.1)) (named_by words) s (named_range words) h
+said_range keywords.RemoveFolder words s h = says_range (λ named. Does (RemoveFolder named.0 named.1)) (named_by words) s (named_range words) h
+said_range keywords.Commit words s h = says_range Does (commit_by words) s (commit_range words) h
+said_range keywords.Draw words s h = says_range Does (draw_by words) s (draw_range words) h
+said_range keywords.Open words s h = says_range (λ named. Does (Open named.0 named.1)) (named_by words) s (named_range words) h
 said_range keywords.Start words s h = subst SaysInRange (ended Starts s words h) tt
 said_range keywords.Settle words s h = subst SaysInRange (ended (Ends Settle) s words h) tt
-said_range keywords.Finale words s h = ends_range (open_by words) s (open_range words) h
+said_range keywords.Finale words s h = says_range (λ named. Ends (Open named.0 named.1)) (named_by words) s (named_range words) h
 
 stood : (b : Bool) (r : Result Saying LineCause) (s : Saying) → cond b r (Err Order) ≡ Ok s → r ≡ Ok s
 stood true r s h = h
@@ -270,6 +262,8 @@ editor_in_range : NamesActors editor_of
 editor_in_range (Put editor path content) n e h = some_actor editor n e h
 editor_in_range (Fill editor path size from) n e h = some_actor editor n e h.0
 editor_in_range (Remove editor path) n e h = some_actor editor n e h
+editor_in_range (MakeFolder editor path) n e h = some_actor editor n e h
+editor_in_range (RemoveFolder editor path) n e h = some_actor editor n e h
 editor_in_range (Commit editor) n e h = some_actor editor n e h
 editor_in_range (Draw asked fates) n e h = cc
 editor_in_range (Open reader path) n e h = cc
@@ -279,6 +273,8 @@ reader_in_range : NamesActors reader_of
 reader_in_range (Put editor path content) n e h = cc
 reader_in_range (Fill editor path size from) n e h = cc
 reader_in_range (Remove editor path) n e h = cc
+reader_in_range (MakeFolder editor path) n e h = cc
+reader_in_range (RemoveFolder editor path) n e h = cc
 reader_in_range (Commit editor) n e h = cc
 reader_in_range (Draw asked fates) n e h = cc
 reader_in_range (Open reader path) n e h = some_actor reader n e h

@@ -3,7 +3,7 @@ use Rattle.std.specs.Prelude.{ℕ, ◌+◌, Bool, true, false, ◌==◌, not, Li
 use Rattle.std.specs.List.{list_any, filter_map, slice_split}
 use Rattle.oc_bytes.specs.Outcome.{cap_at_u32}
 use Rattle.oc_bytes.specs.Decimals.{decimal_in}
-use Rattle.path_tree.specs.Paths.{Bytes}
+use Rattle.path_tree.specs.Paths.{Bytes, PathNames}
 use Rattle.session_script.specs.declared.keyword.Keyword.{Keyword}
 use Rattle.session_script.specs.declared.keyword.Keyword.TheVariants as keywords
 use Rattle.session_script.specs.declared.line.Part.{Part}
@@ -14,7 +14,7 @@ use Rattle.session_script.specs.declared.script.Stage.{Stage}
 use Rattle.session_script.specs.declared.script.Stage.TheVariants.{Before, During, After}
 use Rattle.session_script.specs.Keywords.{keyword_of}
 use Rattle.session_script.specs.Values.{actor_of, path_in, content_in, fates_of}
-use Rattle.session_script.specs.Scripts.{Fields, LineFields, Act, Put, Fill, Remove, Commit, Draw, Open, Settle}
+use Rattle.session_script.specs.Scripts.{Fields, LineFields, Act, Put, Fill, Remove, MakeFolder, RemoveFolder, Commit, Draw, Open, Settle}
 use Rattle.cycle_planner.specs.declared.TheConstants.{MOST_DRAWN}
 use Rattle.session_script.specs.declared.line.TheConstants.{MOST_FILLED}
 
@@ -60,11 +60,12 @@ fill_by words = do
   from ← word_by (decimal_in 0 255) BadNumber size.1
   no_more (Fill editor.0 path.0 size.0 from.0) from.1
 
-abbrev pub remove_by : List Bytes → Result Act LineCause
-remove_by words = do
-  editor ← word_by actor_of BadNumber words
-  path ← word_by path_in BadPath editor.1
-  no_more (Remove editor.0 path.0) path.1
+-- an editor or a reader, and a path
+abbrev pub named_by : List Bytes → Result (ℕ × PathNames) LineCause
+named_by words = do
+  actor ← word_by actor_of BadNumber words
+  path ← word_by path_in BadPath actor.1
+  no_more (actor.0, path.0) path.1
 
 abbrev pub commit_by : List Bytes → Result Act LineCause
 commit_by words = do
@@ -77,12 +78,6 @@ draw_by words = do
   fates ← or_cause BadFate [] (fates_of asked.1)
   Ok (Draw asked.0 fates.0)
 
-abbrev pub open_by : List Bytes → Result Act LineCause
-open_by words = do
-  reader ← word_by actor_of BadNumber words
-  path ← word_by path_in BadPath reader.1
-  no_more (Open reader.0 path.0) path.1
-
 abbrev pub as_saying : {A : Type 0} → (A → Saying) → Result A LineCause → Result Saying LineCause
 as_saying says (Ok x) = Ok (says x)
 as_saying says (Err fault) = Err fault
@@ -91,13 +86,15 @@ as_saying says (Err fault) = Err fault
 abbrev pub said_by : Keyword → List Bytes → Result Saying LineCause
 said_by keywords.Put words = as_saying Does (put_by words)
 said_by keywords.Fill words = as_saying Does (fill_by words)
-said_by keywords.Remove words = as_saying Does (remove_by words)
+said_by keywords.Remove words = as_saying (λ named. Does (Remove named.0 named.1)) (named_by words)
+said_by keywords.MakeFolder words = as_saying (λ named. Does (MakeFolder named.0 named.1)) (named_by words)
+said_by keywords.RemoveFolder words = as_saying (λ named. Does (RemoveFolder named.0 named.1)) (named_by words)
 said_by keywords.Commit words = as_saying Does (commit_by words)
 said_by keywords.Draw words = as_saying Does (draw_by words)
-said_by keywords.Open words = as_saying Does (open_by words)
+said_by keywords.Open words = as_saying (λ named. Does (Open named.0 named.1)) (named_by words)
 said_by keywords.Start words = no_more Starts words
 said_by keywords.Settle words = no_more (Ends Settle) words
-said_by keywords.Finale words = as_saying Ends (open_by words)
+said_by keywords.Finale words = as_saying (λ named. Ends (Open named.0 named.1)) (named_by words)
 
 -- ---- which lines may stand where
 
@@ -167,6 +164,8 @@ abbrev pub editor_of : Act → Option ℕ
 editor_of (Put editor path content) = Some editor
 editor_of (Fill editor path size from) = Some editor
 editor_of (Remove editor path) = Some editor
+editor_of (MakeFolder editor path) = Some editor
+editor_of (RemoveFolder editor path) = Some editor
 editor_of (Commit editor) = Some editor
 editor_of _ = None
 

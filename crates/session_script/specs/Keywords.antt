@@ -5,12 +5,13 @@ use Rattle.std.specs.List.{find}
 use Rattle.std.specs.Str.{bytes_eq}
 use Rattle.path_tree.specs.Paths.{Bytes}
 use Rattle.session_script.specs.declared.keyword.Keyword.{Keyword}
-use Rattle.session_script.specs.declared.keyword.Keyword.TheVariants.{Put, Fill, Remove, Commit, Draw, Open, Start, Settle, Finale}
+use Rattle.session_script.specs.declared.keyword.Keyword.TheVariants.{Put, Fill, Remove, MakeFolder, RemoveFolder, Commit, Draw, Open, Start, Settle, Finale}
 
 abbrev pub keywords : List (Bytes × Keyword)
 keywords =
-    (codes "put", Put) ∷ (codes "fill", Fill) ∷ (codes "remove", Remove) ∷ (codes "commit", Commit) ∷ (codes "draw", Draw)
-    ∷ (codes "open", Open) ∷ (codes "start", Start) ∷ (codes "settle", Settle) ∷ (codes "finale", Finale) ∷ []
+    (codes "put", Put) ∷ (codes "fill", Fill) ∷ (codes "remove", Remove) ∷ (codes "mkdir", MakeFolder) ∷ (codes "rmdir", RemoveFolder)
+    ∷ (codes "commit", Commit) ∷ (codes "draw", Draw) ∷ (codes "open", Open)
+    ∷ (codes "start", Start) ∷ (codes "settle", Settle) ∷ (codes "finale", Finale) ∷ []
 
 -- the keyword that a word is, byte for byte
 abbrev pub keyword_of : Bytes → Option Keyword

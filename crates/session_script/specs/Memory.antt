@@ -20,6 +20,8 @@ abbrev pub has_path : Keyword → Bool
 has_path keywords.Put = true
 has_path keywords.Fill = true
 has_path keywords.Remove = true
+has_path keywords.MakeFolder = true
+has_path keywords.RemoveFolder = true
 has_path keywords.Commit = false
 has_path keywords.Draw = false
 has_path keywords.Open = true

@@ -7,13 +7,15 @@ use Rattle.session_script.specs.declared.parts.Finale.{Finale}
 use Rattle.session_script.specs.declared.parts.Parts.{Parts}
 use Rattle.session_script.specs.declared.script.Stage.{Stage}
 use Rattle.session_script.specs.declared.script.Stage.TheVariants.{Before, During, After}
-use Rattle.session_script.specs.Scripts.{Act, LineFields, Fields, Put, Fill, Remove, Commit, Draw, Open, Settle}
+use Rattle.session_script.specs.Scripts.{Act, LineFields, Fields, Put, Fill, Remove, MakeFolder, RemoveFolder, Commit, Draw, Open, Settle}
 
 -- what a line with this task does: it never settles
 abbrev pub act_of : Task → Act
 act_of (tasks.Put editor path content) = Put editor path content
 act_of (tasks.Fill editor path size from) = Fill editor path size from
 act_of (tasks.Remove editor path) = Remove editor path
+act_of (tasks.MakeFolder editor path) = MakeFolder editor path
+act_of (tasks.RemoveFolder editor path) = RemoveFolder editor path
 act_of (tasks.Commit editor) = Commit editor
 act_of (tasks.Draw asked fates) = Draw asked fates.items
 act_of (tasks.Open reader path) = Open reader path

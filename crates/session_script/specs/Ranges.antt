@@ -1,7 +1,7 @@
 -- What holds of every script that a text gives.
 use Rattle.std.specs.Prelude.{ℕ, ◌≤◌, ◌<◌, nat_eq, List, length}
 use Rattle.std.specs.List.{All, Contains, IsDistinct}
-use Rattle.session_script.specs.Scripts.{Act, Put, Fill, Remove, Commit, Draw, Open, Settle, LineFields, Fields}
+use Rattle.session_script.specs.Scripts.{Act, Put, Fill, Remove, MakeFolder, RemoveFolder, Commit, Draw, Open, Settle, LineFields, Fields}
 use Rattle.cycle_planner.specs.declared.TheConstants.{MOST_DRAWN}
 use Rattle.session_script.specs.declared.line.TheConstants.{MOST_FILLED}
 use Rattle.session_script.specs.declared.values.TheConstants.{MOST_ACTORS, MOST_FATES}
@@ -14,6 +14,8 @@ abbrev pub IsInRange : Act → Type 0
 IsInRange (Put editor path content) = IsActor editor
 IsInRange (Fill editor path size from) = IsActor editor × (size ≤ MOST_FILLED) × (from < 256)
 IsInRange (Remove editor path) = IsActor editor
+IsInRange (MakeFolder editor path) = IsActor editor
+IsInRange (RemoveFolder editor path) = IsActor editor
 IsInRange (Commit editor) = IsActor editor
 IsInRange (Draw asked fates) = (1 ≤ asked) × (asked ≤ MOST_DRAWN) × (length fates ≤ MOST_FATES)
 IsInRange (Open reader path) = IsActor reader
@@ -35,6 +37,8 @@ abbrev pub IsMentioned : List ℕ → List ℕ → Act → Type 0
 IsMentioned editors readers (Put editor path content) = Contains editors editor
 IsMentioned editors readers (Fill editor path size from) = Contains editors editor
 IsMentioned editors readers (Remove editor path) = Contains editors editor
+IsMentioned editors readers (MakeFolder editor path) = Contains editors editor
+IsMentioned editors readers (RemoveFolder editor path) = Contains editors editor
 IsMentioned editors readers (Commit editor) = Contains editors editor
 IsMentioned editors readers (Draw asked fates) = Unit {0}
 IsMentioned editors readers (Open reader path) = Contains readers reader

@@ -15,6 +15,8 @@ pub data Act : Type 0 where
   Put : (editor : ℕ) → PathNames → Bytes → Act
   Fill : (editor : ℕ) → PathNames → (size from : ℕ) → Act
   Remove : (editor : ℕ) → PathNames → Act
+  MakeFolder : (editor : ℕ) → PathNames → Act
+  RemoveFolder : (editor : ℕ) → PathNames → Act
   Commit : (editor : ℕ) → Act
   Draw : (asked : ℕ) → List Fate → Act
   Open : (reader : ℕ) → PathNames → Act
@@ -34,6 +36,8 @@ abbrev pub view_action : Action → Act
 view_action (code.Put editor path content) = Put editor path content
 view_action (code.Fill editor path size from) = Fill editor path size from
 view_action (code.Remove editor path) = Remove editor path
+view_action (code.MakeFolder editor path) = MakeFolder editor path
+view_action (code.RemoveFolder editor path) = RemoveFolder editor path
 view_action (code.Commit editor) = Commit editor
 view_action (code.Draw asked fates) = Draw asked fates.items
 view_action (code.Open reader path) = Open reader path

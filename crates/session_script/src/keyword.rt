@@ -8,6 +8,8 @@ pub enum Keyword {
     Put,
     Fill,
     Remove,
+    MakeFolder,
+    RemoveFolder,
     Commit,
     Draw,
     Open,
@@ -27,6 +29,10 @@ impl Keyword {
             Some(Keyword::Fill)
         } else if is(word, "remove") {
             Some(Keyword::Remove)
+        } else if is(word, "mkdir") {
+            Some(Keyword::MakeFolder)
+        } else if is(word, "rmdir") {
+            Some(Keyword::RemoveFolder)
         } else if is(word, "commit") {
             Some(Keyword::Commit)
         } else if is(word, "draw") {

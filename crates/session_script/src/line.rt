@@ -1,9 +1,8 @@
 //! What one line says.
 ghost use Rattle.std.specs.Prelude.{◌≡◌, Err, true, is_ok, IfOk};
 ghost use Rattle.oc_bytes.specs.Outcome.{Gives};
-ghost use Rattle.session_script.specs.Scripts.{Open};
 ghost use Rattle.session_script.specs.Parts.{act_of};
-ghost use Rattle.session_script.specs.Grammar.{put_by, fill_by, remove_by, commit_by, draw_by, open_by, said_by, may_stand, in_words, line_by, Ends, Starts};
+ghost use Rattle.session_script.specs.Grammar.{put_by, fill_by, named_by, commit_by, draw_by, said_by, may_stand, in_words, line_by, Ends, Starts};
 ghost use Rattle.session_script.specs.Grammar as grammar;
 ghost use Rattle.session_script.specs.Memory.{reaches_path, asks_by, asks_in_words, line_asks};
 ghost use Rattle.session_script.specs.Steps.{words_left, line_cause, view_said, is_said_by, Suits};
@@ -71,17 +70,6 @@ fn fill(alloc: Global, mut words: Words) -> Result<Task, LineFault>
     Ok(Task::Fill(editor, path, size, from as u8))
 }
 
-/// `EDITOR PATH`
-fn remove(alloc: Global, mut words: Words) -> Result<Task, LineFault>
-    ensures gives { Gives act_of line_cause result (remove_by (words_left words.entry)) }
-    ensures memory { result ≡ Err LineFault.NoMemory → reaches_path (words_left words.entry) ≡ true }
-{
-    let editor = actor(&mut words)?;
-    let path = path(alloc, &mut words)?;
-    words.end()?;
-    Ok(Task::Remove(editor, path))
-}
-
 /// `EDITOR`
 fn commit(mut words: Words) -> Result<Task, LineFault>
     ensures gives { Gives act_of line_cause result (commit_by (words_left words.entry)) }
@@ -102,15 +90,15 @@ fn draw(alloc: Global, mut words: Words) -> Result<Task, LineFault>
     Ok(Task::Draw(asked, fates))
 }
 
-/// `READER PATH`
-fn opened(alloc: Global, mut words: Words) -> Result<(u32, Path), LineFault>
-    ensures gives { Gives (λ opened. Open opened.0 opened.1) line_cause result (open_by (words_left words.entry)) }
+/// `EDITOR PATH` or `READER PATH`
+fn named(alloc: Global, mut words: Words) -> Result<(u32, Path), LineFault>
+    ensures gives { Gives (λ named. (named.0, named.1)) line_cause result (named_by (words_left words.entry)) }
     ensures memory { result ≡ Err LineFault.NoMemory → reaches_path (words_left words.entry) ≡ true }
 {
-    let reader = actor(&mut words)?;
+    let actor = actor(&mut words)?;
     let path = path(alloc, &mut words)?;
     words.end()?;
-    Ok((reader, path))
+    Ok((actor, path))
 }
 
 /// What the words after a line's first one say.
@@ -122,11 +110,22 @@ fn say(alloc: Global, keyword: Keyword, mut words: Words) -> Result<Said, LineFa
     match keyword {
         Keyword::Put => Ok(Said::Does(put(alloc, words)?)),
         Keyword::Fill => Ok(Said::Does(fill(alloc, words)?)),
-        Keyword::Remove => Ok(Said::Does(remove(alloc, words)?)),
+        Keyword::Remove => {
+            let (editor, path) = named(alloc, words)?;
+            Ok(Said::Does(Task::Remove(editor, path)))
+        }
+        Keyword::MakeFolder => {
+            let (editor, path) = named(alloc, words)?;
+            Ok(Said::Does(Task::MakeFolder(editor, path)))
+        }
+        Keyword::RemoveFolder => {
+            let (editor, path) = named(alloc, words)?;
+            Ok(Said::Does(Task::RemoveFolder(editor, path)))
+        }
         Keyword::Commit => Ok(Said::Does(commit(words)?)),
         Keyword::Draw => Ok(Said::Does(draw(alloc, words)?)),
         Keyword::Open => {
-            let (reader, path) = opened(alloc, words)?;
+            let (reader, path) = named(alloc, words)?;
             Ok(Said::Does(Task::Open(reader, path)))
         }
         Keyword::Start => {
@@ -138,7 +137,7 @@ fn say(alloc: Global, keyword: Keyword, mut words: Words) -> Result<Said, LineFa
             Ok(Said::Settles)
         }
         Keyword::Finale => {
-            let (reader, path) = opened(alloc, words)?;
+            let (reader, path) = named(alloc, words)?;
             Ok(Said::Finale(reader, path))
         }
     }

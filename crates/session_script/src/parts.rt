@@ -18,6 +18,10 @@ pub enum Task {
     Fill(u32, Path, u32, u8),
     /// No file, for the editor's next commit.
     Remove(u32, Path),
+    /// A folder that is kept, for the editor's next commit.
+    MakeFolder(u32, Path),
+    /// No kept folder, for the editor's next commit.
+    RemoveFolder(u32, Path),
     /// All edits of the editor since its last commit are committed.
     Commit(u32),
     /// 1 to 1,048,576 sections are sent; packet i has the fate at place i modulo their number, which is 0 to 65,536. Where
@@ -40,6 +44,8 @@ impl Task {
             Task::Put(editor, ..)
             | Task::Fill(editor, ..)
             | Task::Remove(editor, _)
+            | Task::MakeFolder(editor, _)
+            | Task::RemoveFolder(editor, _)
             | Task::Commit(editor) => Some(*editor),
             Task::Draw(..) | Task::Open(..) => None,
         }
@@ -63,6 +69,8 @@ impl Task {
             Task::Put(editor, path, content) => Action::Put(editor, path, content),
             Task::Fill(editor, path, size, from) => Action::Fill(editor, path, size, from),
             Task::Remove(editor, path) => Action::Remove(editor, path),
+            Task::MakeFolder(editor, path) => Action::MakeFolder(editor, path),
+            Task::RemoveFolder(editor, path) => Action::RemoveFolder(editor, path),
             Task::Commit(editor) => Action::Commit(editor),
             Task::Draw(asked, fates) => Action::Draw(asked, fates),
             Task::Open(reader, path) => Action::Open(reader, path),

@@ -194,6 +194,8 @@ fn listed(alloc: Global, actors: &IndexSet<u32>) -> Result<Vec<u32>, NoMemory>
 /// | `put EDITOR PATH HEX` | an edit: a file of these bytes; HEX is `-` for none, else two hexadecimal digits of either case a byte |
 /// | `fill EDITOR PATH LENGTH FROM` | an edit: a file of LENGTH bytes, 0 to 16,777,217, made from FROM, 0 to 255 |
 /// | `remove EDITOR PATH` | an edit: no file |
+/// | `mkdir EDITOR PATH` | an edit: a folder that is kept, whether or not something stands in it |
+/// | `rmdir EDITOR PATH` | an edit: no kept folder |
 /// | `commit EDITOR` | the editor's edits since its last commit are committed |
 /// | `draw N FATE..` | N sections are sent, 1 to 1,048,576; `kCOUNT` keeps and `dCOUNT` loses COUNT packets, 1 to 65,536, and `fBIT` inverts one bit, 0 to 1,503, of one packet; at most 65,536 packets have a fate |
 /// | `open READER PATH` | a reader opens a path |

@@ -11,7 +11,7 @@ use ts_packet::Fate;
 /// Why a line doesn't fit. Of one line the first that holds counts, from the left to the right.
 #[derive(Clone, Copy, Debug, PartialEq, Eq)]
 pub enum LineCause {
-    /// The first word is none of the nine keywords.
+    /// The first word is none of the eleven keywords.
     Unknown,
     /// A line of this keyword may not stand here: a second `start` or `settle`, or another line than `finale` after
     /// `settle` or a `finale`.
@@ -105,6 +105,10 @@ pub enum Action {
     Fill(u32, Path, u32, u8),
     /// `remove EDITOR PATH`: no file, for the editor's next commit.
     Remove(u32, Path),
+    /// `mkdir EDITOR PATH`: a folder that is kept, whether or not something stands in it, for the editor's next commit.
+    MakeFolder(u32, Path),
+    /// `rmdir EDITOR PATH`: no kept folder, for the editor's next commit.
+    RemoveFolder(u32, Path),
     /// `commit EDITOR`: all edits of the editor since its last commit line.
     Commit(u32),
     /// `draw N FATE..`: 1 to 1,048,576 sections are sent; packet i has the fate at place i modulo their number, which is 0

@@ -1,4 +1,4 @@
--- What `air PID FOLDER CAROUSEL CYCLES` promises: whole cycles of a folder's files are written as packets of one PID. The folder is read before
+-- What `air PID FOLDER CAROUSEL CYCLES` promises: whole cycles of what a folder holds are written as packets of one PID. The folder is read before
 -- each of them, and another tree than that on the air is the carousel's next generation.
 use Rattle.std.specs.Prelude.{◌≡◌, ◌≤◌, ◌⊎◌, ℕ, ◌+◌, List, [], ◌∷◌, length, Option, Some, Result, Ok, Err}
 use Rattle.path_tree.specs.Trees.{Tree}
@@ -27,7 +27,7 @@ use Rattle.shell_commands.specs.declared.status.Status.TheVariants as status
 abbrev pub WereRead : Bytes → Over FolderTree → List Reading → Type 0
 WereRead folder folders readings = AreRead folder folders.before folders.after folders.faults folders.faults_after readings
 
--- The tree is that of the known folder's files, and what is sent is what `publish` sends of it in as many cycles.
+-- The tree is that of the known folder, and what is sent is what `publish` sends of it in as many cycles.
 pub record IsOfKnown (sent : Sent) (folder : Bytes) (tree : Tree) (rest : List Reading) (t : FolderTree) : Type 0 where
   pub tree_is : tree_of_folder folder sent.carousel t ≡ Some tree
   pub bytes : sent_bytes sent tree rest ≡ published_bytes sent.pid sent.carousel sent.weights (length rest + 1) tree

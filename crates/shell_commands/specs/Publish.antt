@@ -1,5 +1,6 @@
--- What `publish FOLDER CAROUSEL CYCLES` promises: the folder's files are one commit on generation 0, and whole cycles of generation 1 are
--- written as packets of one PID, in which each module comes as often as it weighs. The PID of `publish` is 256; here it is a parameter.
+-- What `publish FOLDER CAROUSEL CYCLES` promises: the folder's files and bare folders are one commit on generation 0, and whole cycles
+-- of generation 1 are written as packets of one PID, in which each module comes as often as it weighs. The PID of `publish` is 256;
+-- here it is a parameter.
 use Rattle.std.specs.Prelude.{◌≡◌, ◌⊎◌, ℕ, List, false, Option, Some}
 use Rattle.path_tree.specs.Trees.{Tree}
 use Rattle.generation.specs.Lawful.{IsPublishable}
@@ -14,8 +15,8 @@ use Rattle.shell_commands.specs.Publishing.{publish_end, tree_of_folder}
 use Rattle.shell_commands.specs.declared.status.Status.{Status}
 use Rattle.shell_commands.specs.declared.status.Status.TheVariants as status
 
--- A tree that can be published. Where the folders are known, it is that of the folder's files, which has a file of these bytes at a path
--- exactly where the folder has it at the path's text; and nothing refuses it.
+-- A tree that can be published. Where the folders are known, it is that of the folder, which has a file of these bytes at a path exactly where
+-- the folder has it at the path's text, and keeps a folder exactly where the folder has a bare one there; and nothing refuses it.
 pub record IsTreeOf (folder : Bytes) (carousel : ℕ) (told : Option FolderTree) (tree : Tree) : Type 0 where
   pub publishable : IsPublishable tree
   pub of_folder : (t : FolderTree) → told ≡ Some t → tree_of_folder folder carousel t ≡ Some tree

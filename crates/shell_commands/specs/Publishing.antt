@@ -48,6 +48,6 @@ abbrev pub tree_by : ℕ → Walked → Option Tree
 tree_by carousel (Ok edits) = accepted_tree (first_outcome carousel edits) (apply_all [] edits)
 tree_by carousel (Err fault) = None
 
--- the folder's files as a tree, where neither the walk nor the carousel refuses it
+-- the folder as a tree, where neither the walk nor the carousel refuses it
 abbrev pub tree_of_folder : (folder : Bytes) (carousel : ℕ) → FolderTree → Option Tree
 tree_of_folder folder carousel t = if is_folder_at t folder then tree_by carousel (edits_of t folder) else None

@@ -10,7 +10,7 @@ use folder_store::Folders;
 use shell_streams::Output;
 use std::alloc::Global;
 
-/// Keeps a folder on the air: writes whole cycles of its files as packets (ISO/IEC 13818-1, 2.4.3) on one PID, with continuity counters from 0,
+/// Keeps a folder on the air: writes whole cycles of what it holds as packets (ISO/IEC 13818-1, 2.4.3) on one PID, with continuity counters from 0,
 /// and reads the folder before each of them. Another tree than that of the generation on the air is the next generation, in which each object
 /// keeps its key and its module as far as there is room. One that can't be read or is refused leaves the generation on the air.
 ///

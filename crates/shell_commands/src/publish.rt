@@ -28,14 +28,14 @@ pub const PID: u16 = 256;
 /// Who commits the folder: the history has one entry, and nobody asks for it.
 const EDITOR: u32 = 1;
 
-/// Publishes a folder: its files become one commit on generation 0 of the carousel, and generation 1 is written as so many whole
-/// cycles of packets (ISO/IEC 13818-1, 2.4.3) on one PID, with continuity counters from 0. All cycles are one group of sections,
+/// Publishes a folder: its files and bare folders become one commit on generation 0 of the carousel, and generation 1 is written as so many
+/// whole cycles of packets (ISO/IEC 13818-1, 2.4.3) on one PID, with continuity counters from 0. All cycles are one group of sections,
 /// which stand back to back.
 ///
 /// `pid` is the PID of all packets, 0 to 8,191. `folder` is a path text of the folders, `carousel` the carousel's id, any 32-bit
 /// number, `cycles` is 1 to 1,000, and `weigh` says how often each module is sent in a cycle, which is 1 to 8 times. The answer is
-/// `FolderFault` where the folders fail or the folder isn't there, and `TreeRefused` exactly where the walk or the commit refuses the
-/// folder's files; then nothing is written. After `WriteFault` and `NoMemory` a prefix of the packets was written.
+/// `FolderFault` where the folders fail or the folder isn't there, and `TreeRefused` exactly where the walk or the commit refuses what
+/// the folder holds; then nothing is written. After `WriteFault` and `NoMemory` a prefix of the packets was written.
 pub fn publish<O: Output, F: Folders>(
     alloc: Global,
     pid: u16,
@@ -63,7 +63,7 @@ pub fn publish<O: Output, F: Folders>(
     }
 }
 
-/// Generation 1 of the carousel, made of the folder's files by one commit.
+/// Generation 1 of the carousel, made of the folder by one commit.
 pub fn first_generation<F: Folders>(
     alloc: Global,
     folder: &str,

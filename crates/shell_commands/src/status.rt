@@ -38,7 +38,7 @@ pub enum Status {
     /// The folders failed, or the folder that `publish`, `publish-on`, `publish-psi`, `air` or `plan` names is none. `extract`: the store failed, or
     /// something is in the way of what it writes.
     FolderFault,
-    /// `publish`, `publish-on`, `publish-psi`, `air`: the folder's files make no tree that can be sent. `air`: or the carousel has had all of its
+    /// `publish`, `publish-on`, `publish-psi`, `air`: the folder makes no tree that can be sent. `air`: or the carousel has had all of its
     /// generations.
     TreeRefused(TreeFault),
     /// The input goes on after the most that the command takes.

@@ -76,7 +76,7 @@ impl Commands {
         Ok(String::from_str(alloc, "set")?)
     }
 
-    /// `folder -`, `folder F/` and `folder F/a BYTES`: what stands in the folders.
+    /// `folder -`, `folder F/`, `folder F/a BYTES` and `folder F/a/ F/b BYTES`: what stands in the folders.
     fn set_folder(&mut self, alloc: Global, row: &Row<'_>) -> Result<String, RowFault> {
         self.folder = Folder::of_row(alloc, row)?;
         Ok(String::from_str(alloc, "set")?)

@@ -14,15 +14,18 @@ pub(crate) enum Folder {
     Empty,
     /// The folder F with the file `a` of these bytes.
     OneFile(Vec<u8>),
+    /// The folder F with the folder `a`, in which nothing is, and the file `b` of these bytes.
+    EmptyFolderAndFile(Vec<u8>),
 }
 
 impl Folder {
-    /// What the words `-`, `F/` and `F/a BYTES` say.
+    /// What the words `-`, `F/`, `F/a BYTES` and `F/a/ F/b BYTES` say.
     pub(crate) fn of_row(alloc: Global, row: &Row<'_>) -> Result<Folder, RowFault> {
         match row.word(0)? {
             "-" => Ok(Folder::Nothing),
             "F/" => Ok(Folder::Empty),
             "F/a" => Ok(Folder::OneFile(row.bytes(alloc, 1)?)),
+            "F/a/" => Ok(Folder::EmptyFolderAndFile(row.bytes(alloc, 2)?)),
             _ => Err(RowFault::BadRow),
         }
     }
@@ -33,6 +36,7 @@ impl Folder {
             Folder::Nothing => Ok(MemFolders::new(Vec::new(alloc), Vec::new(alloc))),
             Folder::Empty => empty_folder(alloc),
             Folder::OneFile(content) => one_file(alloc, content),
+            Folder::EmptyFolderAndFile(content) => empty_folder_and_file(alloc, content),
         }
     }
 }
@@ -50,6 +54,19 @@ fn one_file(alloc: Global, content: &[u8]) -> Result<MemFolders, AllocError> {
     let mut entries = Vec::new(alloc);
     entries.push((
         String::from_str(alloc, "F/a")?,
+        Blob::new(alloc, Vec::from_slice(alloc, content)?)?,
+    ))?;
+    Ok(MemFolders::new(entries, Vec::new(alloc)))
+}
+
+fn empty_folder_and_file(alloc: Global, content: &[u8]) -> Result<MemFolders, AllocError> {
+    let mut entries = Vec::new(alloc);
+    entries.push((
+        String::from_str(alloc, "F/a/")?,
+        Blob::new(alloc, Vec::new(alloc))?,
+    ))?;
+    entries.push((
+        String::from_str(alloc, "F/b")?,
         Blob::new(alloc, Vec::from_slice(alloc, content)?)?,
     ))?;
     Ok(MemFolders::new(entries, Vec::new(alloc)))

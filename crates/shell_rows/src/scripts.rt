@@ -108,6 +108,14 @@ fn action_text(alloc: Global, action: &Action) -> Result<String, AllocError> {
             let path = path.print()?;
             format!(in alloc; "remove {editor} {path}")
         }
+        Action::MakeFolder(editor, path) => {
+            let path = path.print()?;
+            format!(in alloc; "mkdir {editor} {path}")
+        }
+        Action::RemoveFolder(editor, path) => {
+            let path = path.print()?;
+            format!(in alloc; "rmdir {editor} {path}")
+        }
         Action::Commit(editor) => format!(in alloc; "commit {editor}"),
         Action::Draw(asked, fates) => {
             let fates = fates_text(alloc, fates)?;

@@ -185,6 +185,9 @@ fn fault_of(word: &str) -> Result<EditFault, RowFault> {
         "FolderThere" => Ok(EditFault::FolderThere),
         "ThroughFile" => Ok(EditFault::ThroughFile),
         "FileTooLarge" => Ok(EditFault::FileTooLarge),
+        "FileThere" => Ok(EditFault::FileThere),
+        "NoSuchFolder" => Ok(EditFault::NoSuchFolder),
+        "NotEmpty" => Ok(EditFault::NotEmpty),
         _ => Err(RowFault::BadRow),
     }
 }

@@ -29,6 +29,14 @@ const FIRST_BEFORE: &[u8] =
 const SECOND_BEFORE: &[u8] =
     b"commit 2 generation 2\ncommit 1 refused edit 0 no-such-file\ndraw 2 0 3\ndraw 2 0 3\nopen 1 2 /x no-such\n";
 
+/// An editor makes a folder, which no file takes the place of, and takes it out; below `start` another one, and one in a third.
+const FOLDERS: &[u8] =
+    b"mkdir 1 /d\ncommit 1\ndraw 1048576\nopen 1 /d\nput 1 /d 31\ncommit 1\nrmdir 1 /d\ncommit 1\nstart\nmkdir 1 /e\nrmdir 1 /e\nmkdir 1 /d/e\ncommit 1\nsettle\nfinale 1 /\nfinale 1 /d/e\n";
+
+/// What is written of it: the one editor's commits are in their order.
+const FOLDERS_REPORT: &[u8] =
+    b"commit 1 generation 1\ndraw 1 0 3\nopen 1 1 /d folder 0\ncommit 1 refused edit 0 folder-there\ncommit 1 generation 2\ncommit 1 generation 3\ndraw 3 0 3\ndraw 3 0 3\nopen 1 3 / folder 1 d\nopen 1 3 /d/e folder 0\n";
+
 /// Two editors, the feeder and two readers with a step each.
 const MEETING: &[u8] = b"commit 1\ncommit 2\ndraw 3\nopen 1 /\nopen 2 /\n";
 
@@ -134,6 +142,7 @@ fn scripts_are_played(rt: HostRuntime) -> Result<(), Fail> {
     assert!(rt; is_worked(played.sink.written()));
 
     assert!(rt; is_played(&rt, alloc, "session", b"", 0, b"")?);
+    assert!(rt; is_played(&rt, alloc, "session", FOLDERS, 0, FOLDERS_REPORT)?);
     let bad_line = b"put 1 /x 31\ncommit 1\nopen 1 x\n";
     assert!(rt; is_played(&rt, alloc, "session", bad_line, 3, b"")?);
     assert!(rt; is_played(&rt, alloc, "session 1", WORKED, 2, b"")?);

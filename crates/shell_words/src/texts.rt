@@ -81,5 +81,8 @@ fn fault_text(fault: EditFault) -> &'static str
         EditFault::FolderThere => "folder-there",
         EditFault::ThroughFile => "through-file",
         EditFault::FileTooLarge => "file-too-large",
+        EditFault::FileThere => "file-there",
+        EditFault::NoSuchFolder => "no-such-folder",
+        EditFault::NotEmpty => "not-empty",
     }
 }

@@ -22,7 +22,7 @@ pub enum Command {
     Record(u16),
     /// `list PID`: every path, out of the packets of a PID, 0 to 8,190.
     List(u16),
-    /// `publish FOLDER CAROUSEL CYCLES`: the packets of a folder's files. The folder's name, of at least one byte, the
+    /// `publish FOLDER CAROUSEL CYCLES`: the packets of a folder's files and empty folders. The folder's name, of at least one byte, the
     /// id of the carousel, any 32-bit number, and how many cycles are sent, 1 to 1,000.
     Publish(String, u32, u32),
     /// `rehearse`: the events of a script, one after another.
@@ -36,10 +36,10 @@ pub enum Command {
     /// `open-id CAROUSEL PATH..`: the answers to one or more paths, out of the packets of the carousel of this id, any 32-bit
     /// number.
     OpenId(u32, Vec<Path>),
-    /// `publish-psi FOLDER CAROUSEL CYCLES`: the packets of a folder's files, and the tables that name the carousel. The values
+    /// `publish-psi FOLDER CAROUSEL CYCLES`: the packets of a folder's files and empty folders, and the tables that name the carousel. The values
     /// are those of `publish`.
     PublishPsi(String, u32, u32),
-    /// `publish-on PID FOLDER CAROUSEL CYCLES`: the packets of a folder's files on a PID, 0 to 8,190. The other values are those of
+    /// `publish-on PID FOLDER CAROUSEL CYCLES`: the packets of a folder's files and empty folders on a PID, 0 to 8,190. The other values are those of
     /// `publish`.
     PublishOn(u16, String, u32, u32),
     /// `mounts TABLE PATH..`: the answers to one or more paths, out of the packets of several carousels. One or more of their names, 1 to

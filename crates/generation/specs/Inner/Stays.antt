@@ -5,11 +5,11 @@ use Rattle.path_tree.specs.Paths.{Bytes}
 use Rattle.path_tree.specs.Trees.{Tree, content_at}
 use Rattle.biop_object.specs.Names.{Layout, module_in}
 use Rattle.generation.specs.Layouts.{Placed, object_bytes, is_in, module_bytes}
-use Rattle.generation.specs.View.{path_at, bytes_at}
+use Rattle.generation.specs.View.{path_at, bytes_at, is_file_at}
 
 -- a file that isn't flagged has the bytes that stood at its path before
 abbrev pub AreAsBefore : Tree → Tree → List Bool → Type 0
-AreAsBefore old new flags = (i : ℕ) → i < length new → get_or flags i true ≡ false → content_at old (path_at new i) ≡ Some (bytes_at new i)
+AreAsBefore old new flags = (i : ℕ) → i < length new → is_file_at new i ≡ true → get_or flags i true ≡ false → content_at old (path_at new i) ≡ Some (bytes_at new i)
 
 -- what some of a generation's objects give to a module
 abbrev pub part_bytes : ℕ → List Placed → List Placed → ℕ → Bytes

@@ -4,5 +4,5 @@ use Rattle.oc_bytes.specs.Outcome.{cap_at_u64}
 use Rattle.folder_playout.specs.Notices.{one_if_gone}
 use Rattle.folder_playout.proofs.notices.files_that_are_gone.Given as goal
 
-abbrev pub invariant-loop-file : goal.invariant-loop-file
-invariant-loop-file l = l.total ≡ cap_at_u64 (sum_by (one_if_gone l.now) (take l.file-index l.before))
+abbrev pub invariant-loop-entry : goal.invariant-loop-entry
+invariant-loop-entry l = l.total ≡ cap_at_u64 (sum_by (one_if_gone l.now) (take l.entry-index l.before))

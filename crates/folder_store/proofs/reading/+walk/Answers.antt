@@ -1,14 +1,16 @@
-use Rattle.std.proofs.Common.{◌≡◌, ◌-◌, ◌++◌, [], ◌∷◌, Some, Err, false, length, sym, ap, ◌∙◌, subst, arith}
+use Rattle.std.proofs.Common.{◌≡◌, ◌≤◌, ◌-◌, ◌++◌, [], ◌∷◌, Some, Err, false, length, sym, ap, ◌∙◌, subst, arith}
 use Rattle.std.specs.String.{string_bytes}
+use Rattle.std.proofs.lemmas.Bool.{le-ltb}
 use Rattle.std.proofs.lemmas.Result.{err_from_is_err_and}
 use Rattle.folder_store.specs.declared.reading.ReadTree.TheVariants as refusals
 use Rattle.folder_store.specs.Folders.{FolderTree, IsRefused, is_folder_at, kind_of}
 use Rattle.folder_store.specs.Gathering.{kind_at, met_one}
-use Rattle.folder_store.proofs.Walking.{full_goes, file_walks, folder_walks, place_ends, found, entry_goes, entry_ends, folder_goes, entry_fault, kind_there, file_not_other, folder_not_other, refused_is}
-use Rattle.folder_store.specs.Surveys.{Look, at_in, names_to}
+use Rattle.folder_store.proofs.Walking.{full_goes, file_walks, folder_walks, below_ends, met_goes, made_goes, place_ends, found, entry_goes, entry_ends, folder_goes, entry_fault, kind_there, file_not_other, folder_not_other, refused_is}
+use Rattle.folder_store.specs.Surveys.{Look, at_in, first_large, names_to}
+use Rattle.folder_store.specs.Walk.{met_below}
 use Rattle.folder_store.specs.Inner.Sighting.{look_in}
 use Rattle.folder_store.proofs.Marking.{entry_stops, entry_told, file_tells, folder_tells, folder_told}
-use Rattle.folder_store.proofs.Refusing.{place_below}
+use Rattle.folder_store.proofs.Refusing.{place_below, large_made}
 use Rattle.folder_store.proofs.reading.+walk.Goals as goal
 
 pub walk_entry-returns-then-is_full-clause-walk : goal.walk_entry-returns-then-is_full-clause-walk
@@ -57,19 +59,19 @@ pub walk_entry-returns-in_ok-folder-in-Folder-clause-walk :
     goal.walk_entry-returns-in_ok-folder-in-Folder-clause-walk
 walk_entry-returns-in_ok-folder-in-Folder-clause-walk g t c = λ tree e told there kind.
     folder_walks tree c.args.place.now.path c.in_ok-folder-in-Folder.folder.path (string_bytes c.args.place.now.text) (string_bytes c.args.entry.now.name) (string_bytes c.in_ok-folder-in-Folder.folder.text) e
-    c.args.gathered.now.edits.items c.walk_folder.new.gathered.edits.items c.args.gathered.now.read c.walk_folder.new.gathered.read c.walk_folder.result
+    c.args.gathered.now.edits.items c.walk_below.new.gathered.edits.items c.args.gathered.now.read c.walk_below.new.gathered.read c.walk_below.result
     (kind ∙ c.in-Folder.is) c.in_ok-folder-in-Folder.ensures.room (rw c.deref-in-Folder-2.ensures at c.in_ok-folder-in-Folder.ensures.name)
     (rw c.deref-in-Folder-2.ensures at c.in_ok-folder-in-Folder.ensures.path) (rw c.deref-in-Folder-2.ensures at c.in_ok-folder-in-Folder.ensures.text)
-    (c.walk_folder.ensures.walk tree told)
+    (c.walk_below.ensures.walk tree told)
 
 pub walk_entry-returns-in_ok-folder-in-Folder-clause-tells :
     goal.walk_entry-returns-in_ok-folder-in-Folder-clause-tells
 walk_entry-returns-in_ok-folder-in-Folder-clause-tells g t c = λ tree e told there kind.
     folder_tells tree c.args.place.now.path c.in_ok-folder-in-Folder.folder.path (string_bytes c.args.place.now.text) (string_bytes c.args.entry.now.name) (string_bytes c.in_ok-folder-in-Folder.folder.text) e
-    (look_in c.args.sights.now) (look_in c.walk_folder.new.sights) c.args.gathered.now.read c.walk_folder.new.gathered.read c.walk_folder.result (at_in c.walk_folder.new.sights.at)
+    (look_in c.args.sights.now) (look_in c.walk_below.new.sights) c.args.gathered.now.read c.walk_below.new.gathered.read c.walk_below.result (at_in c.walk_below.new.sights.at)
     (kind ∙ c.in-Folder.is) c.in_ok-folder-in-Folder.ensures.room (rw c.deref-in-Folder-2.ensures at c.in_ok-folder-in-Folder.ensures.name)
     (rw c.deref-in-Folder-2.ensures at c.in_ok-folder-in-Folder.ensures.path) (rw c.deref-in-Folder-2.ensures at c.in_ok-folder-in-Folder.ensures.text)
-    (rw c.in_ok-reach-in-Folder.ensures.look at (c.walk_folder.ensures.tells tree told))
+    (rw c.in_ok-reach-in-Folder.ensures.look at (c.walk_below.ensures.tells tree told))
 
 pub walk_folder-returns-in_err-walk_entry-clause-walk :
     goal.walk_folder-returns-in_err-walk_entry-clause-walk
@@ -117,7 +119,7 @@ walk_entry-returns-in_ok-file-in-File-clause-named g t c = λ root text_is faile
 pub walk_entry-returns-in_ok-folder-in-Folder-clause-large :
     goal.walk_entry-returns-in_ok-folder-in-Folder-clause-large
 walk_entry-returns-in_ok-folder-in-Folder-clause-large g t c = λ root text_is before.
-    c.walk_folder.ensures.large root
+    c.walk_below.ensures.large root
     (place_below root (string_bytes c.args.place.now.text) (string_bytes c.in_ok-folder-in-Folder.folder.text) c.args.place.now.path c.in_ok-folder-in-Folder.folder.path (string_bytes c.args.entry.now.name) text_is
     (rw c.deref-in-Folder-2.ensures at c.in_ok-folder-in-Folder.ensures.text) (rw c.deref-in-Folder-2.ensures at c.in_ok-folder-in-Folder.ensures.path))
     (ap (λ (k : Look). k.large) c.in_ok-reach-in-Folder.ensures.look ∙ before)
@@ -127,7 +129,7 @@ pub walk_entry-returns-in_ok-folder-in-Folder-clause-named :
 walk_entry-returns-in_ok-folder-in-Folder-clause-named g t c = λ root text_is failed.
     let text = rw c.deref-in-Folder-2.ensures at c.in_ok-folder-in-Folder.ensures.text in
     let path = rw c.deref-in-Folder-2.ensures at c.in_ok-folder-in-Folder.ensures.path in
-    c.walk_folder.ensures.named root
+    c.walk_below.ensures.named root
     (place_below root (string_bytes c.args.place.now.text) (string_bytes c.in_ok-folder-in-Folder.folder.text) c.args.place.now.path c.in_ok-folder-in-Folder.folder.path (string_bytes c.args.entry.now.name) text_is text path)
     (sym (place_below root (string_bytes c.args.place.now.text) (string_bytes c.in_ok-folder-in-Folder.folder.text) c.args.place.now.path _ (string_bytes c.args.entry.now.name) text_is text
     (rw c.deref-in-Folder.ensures at c.in_ok-reach-in-Folder.ensures.names)))
@@ -212,3 +214,49 @@ walk_folder-returns-clause-tells g t c = λ tree told.
     let listing = rw c.deref.ensures at (c.in_ok-entries.ensures.entries tree told) in
     folder_told tree (16 - length c.args.place.now.path) c.args.place.now.path (string_bytes c.args.place.now.text) c.in_ok-entries.entries.items c.loop-entry.entry-index (look_in c.args.sights.now) (look_in c.loop-entry.sights)
     c.args.gathered.now.read c.loop-entry.gathered.read (at_in c.loop-entry.sights.at) listing (omega (arith, ap length c.deref-entry-items.ensures.value)) (inv.tells tree told)
+
+-- what breaks a rule below the folder
+pub walk_below-returns-in_err-walk_folder-clause-walk : goal.walk_below-returns-in_err-walk_folder-clause-walk
+walk_below-returns-in_err-walk_folder-clause-walk g t c = λ tree told rest.
+    let p = err_from_is_err_and c.from_residual.result c.from_residual.ensures.1 in
+    rw (p.1, p.2)
+    (below_ends c.args.place.path (met_below tree (16 - length c.args.place.path) c.args.place.path (string_bytes c.args.place.text)) c.args.gathered.now.edits.items c.args.gathered.now.read c.in_err-walk_folder.field-0.0
+    (c.in_err-walk_folder.ensures.walk tree told) rest)
+
+-- some edit came
+pub walk_below-returns-then-len-met_before-clause-walk : goal.walk_below-returns-then-len-met_before-clause-walk
+walk_below-returns-then-len-met_before-clause-walk g t c = λ tree told.
+    let more : (length c.walk_folder.new.gathered.edits.items ≡ length c.args.gathered.now.edits.items) → ⊥ =
+    λ same. absurd (omega (arith, same, c.if-len-met_before.true, c.len.ensures, c.len-met_before.ensures, c.walk_folder.new.gathered.edits.ok.0, c.args.gathered.now.edits.ok.0)) in
+    met_goes c.args.place.path (met_below tree (16 - length c.args.place.path) c.args.place.path (string_bytes c.args.place.text)) c.args.gathered.now.edits.items c.walk_folder.new.gathered.edits.items
+    c.args.gathered.now.read c.walk_folder.new.gathered.read more (c.in_ok-walk_folder.ensures.walk tree told)
+
+-- none came: the folder is made
+pub walk_below-returns-clause-walk : goal.walk_below-returns-clause-walk
+walk_below-returns-clause-walk g t c = λ tree told.
+    let same : length c.walk_folder.new.gathered.edits.items ≤ length c.args.gathered.now.edits.items =
+    omega (arith, c.if-len-met_before.false, c.len.ensures, c.len-met_before.ensures, c.walk_folder.new.gathered.edits.ok.0, c.args.gathered.now.edits.ok.0) in
+    made_goes c.args.place.path (met_below tree (16 - length c.args.place.path) c.args.place.path (string_bytes c.args.place.text)) c.args.gathered.now.edits.items c.walk_folder.new.gathered.edits.items c.make.new.self.edits.items
+    c.args.gathered.now.read c.walk_folder.new.gathered.read c.make.new.self.read (le-ltb 536870912 c.args.gathered.now.read c.requires) same (c.in_ok-walk_folder.ensures.walk tree told) c.in_ok-make.ensures.edits c.in_ok-make.ensures.read
+
+pub walk_below-returns-clause-large : goal.walk_below-returns-clause-large
+walk_below-returns-clause-large g t c = λ root text_is before.
+    c.in_ok-walk_folder.ensures.large root text_is before
+    ∙ (large_made root c.args.place.path c.walk_folder.new.gathered.edits.items ∙ ap (first_large root) (sym c.in_ok-make.ensures.edits))
+
+pub walk_below-returns-in_err-walk_folder-clause-tells : goal.walk_below-returns-in_err-walk_folder-clause-tells
+walk_below-returns-in_err-walk_folder-clause-tells g t c = λ tree told.
+    let p = err_from_is_err_and c.from_residual.result c.from_residual.ensures.1 in
+    rw (p.1, p.2) (c.in_err-walk_folder.ensures.tells tree told)
+
+pub walk_below-returns-in_err-walk_folder-clause-named : goal.walk_below-returns-in_err-walk_folder-clause-named
+walk_below-returns-in_err-walk_folder-clause-named g t c = λ root text_is at failed.
+    let p = err_from_is_err_and c.from_residual.result c.from_residual.ensures.1 in
+    let is : c.in_err-walk_folder.field-0.0 ≡ refusals.FolderFault = refused_is p.0 c.in_err-walk_folder.field-0.0 refusals.FolderFault c.from_residual.result p.1 p.2 failed in
+    c.in_err-walk_folder.ensures.named root text_is at (ap Err is)
+
+pub walk_below-returns-in_err-walk_folder-clause-fault : goal.walk_below-returns-in_err-walk_folder-clause-fault
+walk_below-returns-in_err-walk_folder-clause-fault g t c = λ failed.
+    let p = err_from_is_err_and c.from_residual.result c.from_residual.ensures.1 in
+    let is : c.in_err-walk_folder.field-0.0 ≡ refusals.FolderFault = refused_is p.0 c.in_err-walk_folder.field-0.0 refusals.FolderFault c.from_residual.result p.1 p.2 failed in
+    c.in_err-walk_folder.ensures.fault (ap Err is)

@@ -12,10 +12,13 @@ use Rattle.folder_store.proofs.Walking.{Goes}
 use Rattle.folder_store.proofs.reading.+walk.Given as goal
 
 abbrev pub decreases-walk_entry : goal.decreases-walk_entry
-decreases-walk_entry g l = 2 * (16 - length l.place.now.path)
+decreases-walk_entry g l = 3 * (16 - length l.place.now.path)
 
 abbrev pub decreases-walk_folder : goal.decreases-walk_folder
-decreases-walk_folder g l = 2 * (16 - length l.place.now.path) + 1
+decreases-walk_folder g l = 3 * (16 - length l.place.now.path) + 1
+
+abbrev pub decreases-walk_below : goal.decreases-walk_below
+decreases-walk_below g l = 3 * (16 - length l.place.path) + 2
 
 abbrev pub invariant-walk_folder-loop-entry : goal.invariant-walk_folder-loop-entry
 invariant-walk_folder-loop-entry g l = record {

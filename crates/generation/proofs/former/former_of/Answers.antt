@@ -1,4 +1,4 @@
-use Rattle.std.proofs.Common.{sym, ◌∙◌, ap, subst, map, false, arith}
+use Rattle.std.proofs.Common.{None, sym, ◌∙◌, ap, subst, map, false, arith}
 use Rattle.generation.specs.declared.spots.Spot.{Spot}
 use Rattle.generation.specs.Publication.{AreRising}
 use Rattle.generation.specs.Layouts.{key_in, module_of, old_keys, old_modules}
@@ -12,7 +12,7 @@ loop-spot-preserved c =
     let u = c.args.tree.now in
     let left = map (view_placed t) c.loop-spot.left.now in
     let i = c.loop-spot.spot-index in
-    let d : Spot = record { file = 0; names = 0; whole = false } in
+    let d : Spot = record { entry = 0; names = 0; whole = false; number = 0; parent = None } in
     let s = c.args.spots.now in
     record {
       valid = c.seek-object.ensures.valid;

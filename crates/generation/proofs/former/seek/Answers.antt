@@ -1,4 +1,4 @@
-use Rattle.std.proofs.Common.{◌≡◌, sym, ap, ◌∙◌, map, drop, false, arith}
+use Rattle.std.proofs.Common.{None, ◌≡◌, sym, ap, ◌∙◌, map, drop, false, arith}
 use Rattle.std.specs.Ordering.{is_lt}
 use Rattle.generation.specs.declared.objects.Placed.{Placed}
 use Rattle.generation.specs.Inner.Merging.{from_path, first_same}
@@ -11,7 +11,7 @@ returns-in-Equal-clause-object c =
     let t = c.args.old_tree.now in
     let s = view_spot c.args.tree.now c.args.spot in
     let i = c.loop-passed.passed in
-    let d : Placed = record { spot = record { file = 0; names = 0; whole = false }; key = 0; «module» = 0 } in
+    let d : Placed = record { spot = record { entry = 0; names = 0; whole = false; number = 0; parent = None }; key = 0; «module» = 0 } in
     let order = sym c.compare.ensures ∙ c.in-Equal.is in
     let here : from_path s.path (map (view_placed t) c.args.old.now) ≡ map (view_placed t) (drop i c.args.old.now) =
     c.loop-passed.invariant ∙ stops t s.path c.args.old.now i d (omega arith) (ap is_lt order) in
@@ -23,7 +23,7 @@ returns-in-Greater-clause-object c =
     let t = c.args.old_tree.now in
     let s = view_spot c.args.tree.now c.args.spot in
     let i = c.loop-passed.passed in
-    let d : Placed = record { spot = record { file = 0; names = 0; whole = false }; key = 0; «module» = 0 } in
+    let d : Placed = record { spot = record { entry = 0; names = 0; whole = false; number = 0; parent = None }; key = 0; «module» = 0 } in
     let order = sym c.compare.ensures ∙ c.in-Greater.is in
     let here : from_path s.path (map (view_placed t) c.args.old.now) ≡ map (view_placed t) (drop i c.args.old.now) =
     c.loop-passed.invariant ∙ stops t s.path c.args.old.now i d (omega arith) (ap is_lt order) in

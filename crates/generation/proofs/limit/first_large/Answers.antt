@@ -1,4 +1,4 @@
-use Rattle.std.proofs.Common.{arith, sym, ap, ◌∙◌, map, false, Some}
+use Rattle.std.proofs.Common.{None, arith, sym, ap, ◌∙◌, map, false, Some}
 use Rattle.std.specs.Option.{option_map}
 use Rattle.generation.specs.declared.spots.Spot.{Spot}
 use Rattle.generation.specs.Publication.{is_large_folder, size_of}
@@ -9,14 +9,14 @@ use Rattle.generation.proofs.limit.first_large.Goals as goal
 pub loop-index-preserved : goal.loop-index-preserved
 loop-index-preserved c = λ t sizes.
     let all = map (view_spot t) c.args.spots.now in
-    let d : Spot = record { file = 0; names = 0; whole = false } in
+    let d : Spot = record { entry = 0; names = 0; whole = false; number = 0; parent = None } in
     let sized = size_at t all c.args.spots.now c.args.sizes.now c.loop-index.index d sizes (omega arith) in
     c.loop-index.invariant t sizes ∙ find_more (is_large_folder all) (view_spot t) c.args.spots.now c.loop-index.index d (as_many t c.args.spots.now c.args.sizes.now c.loop-index.index sizes (omega arith)) (sym (c.is_large.ensures t all sized) ∙ c.if-is_large.false)
 
 pub returns-then-is_large : goal.returns-then-is_large
 returns-then-is_large c = λ t sizes.
     let all = map (view_spot t) c.args.spots.now in
-    let d : Spot = record { file = 0; names = 0; whole = false } in
+    let d : Spot = record { entry = 0; names = 0; whole = false; number = 0; parent = None } in
     let sized = size_at t all c.args.spots.now c.args.sizes.now c.loop-index.index d sizes (omega arith) in
     let here = c.loop-index.invariant t sizes ∙ find_here (is_large_folder all) (view_spot t) c.args.spots.now c.loop-index.index d (as_many t c.args.spots.now c.args.sizes.now c.loop-index.index sizes (omega arith)) (sym (c.is_large.ensures t all sized) ∙ c.if-is_large.true) in
     ap Some sized ∙ sym (ap (option_map (size_of all)) here)

@@ -6,12 +6,12 @@ use Rattle.generation.proofs.limit.front_of.Goals.{then-spot-eq0, else-spot-eq0}
 
 pub path_of-requires : goal.path_of-requires
 path_of-requires c = elim c.if-spot-eq0.branch [
-  | then-spot-eq0 w ↦ omega (arith, w.file-is)
-  | else-spot-eq0 w ↦ rw w.file-is (path_at_within c.args.tree.now c.args.spot.file (omega arith))
+  | then-spot-eq0 w ↦ omega (arith, w.entry-is)
+  | else-spot-eq0 w ↦ rw w.entry-is (path_at_within c.args.tree.now c.args.spot.entry (omega arith))
 ]
 
 pub above-requires : goal.above-requires
 above-requires c = elim c.if-spot-eq0.branch [
   | then-spot-eq0 w ↦ omega arith
-  | else-spot-eq0 w ↦ omega (arith, c.requires.valid.names, ap length c.path_of.ensures, ap (λ f. length (path_at c.args.tree.now f)) w.file-is)
+  | else-spot-eq0 w ↦ omega (arith, c.requires.valid.names, ap length c.path_of.ensures, ap (λ f. length (path_at c.args.tree.now f)) w.entry-is)
 ]

@@ -4,4 +4,4 @@ use Rattle.generation.specs.View.{view_spot}
 use Rattle.generation.proofs.limit.sizes.Given as goal
 
 abbrev pub invariant-loop-spot : goal.invariant-loop-spot
-invariant-loop-spot l = l.sizes.items ≡ map (size_of (map (view_spot l.tree) l.spots)) (map (view_spot l.tree) (take l.spot-index l.spots))
+invariant-loop-spot l = l.sizes.items ≡ map (size_of (map (view_spot l.tree) (take l.spot-index l.spots))) (map (view_spot l.tree) l.spots)

@@ -1,5 +1,4 @@
 use Rattle.std.proofs.Common.{◌≡◌, sym, ◌∙◌, ap, map, Some}
-use Rattle.std.specs.Arc.{arc_value}
 use Rattle.generation.specs.View.{view_placed, view_listed}
 use Rattle.generation.proofs.Placing.{used_seen, listed_some, listed_none}
 use Rattle.generation.proofs.Sharing.{marked_here}
@@ -14,15 +13,15 @@ returns-clause-listed c =
 
 pub returns-in-Some-clause-listed : goal.returns-in-Some-clause-listed
 returns-in-Some-clause-listed c =
-    let is : arc_value c.in_ok-try_clone.field-0 ≡ arc_value c.in-Some.«module».now = cc (c.in_ok-try_clone.ensures) in
-    listed_some c.args.carousel (map (view_placed c.args.tree.now) c.args.objects.now) c.args.id (arc_value c.in_ok-try_clone.field-0)
+    let is : c.in_ok-share.field-0 ≡ c.in-Some.bytes.now = cc (c.in_ok-share.ensures) in
+    listed_some c.args.carousel (map (view_placed c.args.tree.now) c.args.objects.now) c.args.id c.in_ok-share.field-0
     (sym (used_seen c.args.tree.now c.args.objects.now c.args.id) ∙ (sym c.is_used.ensures ∙ c.if-not-is_used.false))
-    (is ∙ c.requires.staying c.args.id (arc_value c.in-Some.«module».now) c.in-Some.ensures.0 c.in-Some.ensures.1)
+    (is ∙ c.requires.staying c.args.id c.in-Some.bytes.now c.in-Some.ensures.0 c.in-Some.ensures.1)
 
 pub returns-in-Some-clause-stays : goal.returns-in-Some-clause-stays
 returns-in-Some-clause-stays c =
-    let is : arc_value c.in_ok-try_clone.field-0 ≡ arc_value c.in-Some.«module».now = cc (c.in_ok-try_clone.ensures) in
-    marked_here (map view_listed c.args.before.now) c.args.id (arc_value c.in_ok-try_clone.field-0) (arc_value c.in-Some.«module».now) c.in-Some.ensures.1 is
+    let is : c.in_ok-share.field-0 ≡ c.in-Some.bytes.now = cc (c.in_ok-share.ensures) in
+    marked_here (map view_listed c.args.before.now) c.args.id c.in_ok-share.field-0 c.in-Some.bytes.now c.in-Some.ensures.1 is
 
 pub returns-then-not-is_used-clause-listed : goal.returns-then-not-is_used-clause-listed
 returns-then-not-is_used-clause-listed c = listed_none c.args.carousel (map (view_placed c.args.tree.now) c.args.objects.now) c.args.id

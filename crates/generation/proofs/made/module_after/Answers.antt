@@ -1,5 +1,4 @@
 use Rattle.std.proofs.Common.{◌≡◌, sym, ◌∙◌, ap, map}
-use Rattle.std.specs.Arc.{arc_value}
 use Rattle.path_tree.proofs.CallerLemmas.{same_name-is}
 use Rattle.generation.specs.View.{view_listed}
 use Rattle.generation.proofs.Sharing.{marked_here}
@@ -7,11 +6,11 @@ use Rattle.generation.proofs.made.module_after.Goals as goal
 
 pub returns-then-is_equal-clause-listed : goal.returns-then-is_equal-clause-listed
 returns-then-is_equal-clause-listed c =
-    let same = same_name-is c.bytes.result.now c.deref-in-Some.result.now (sym c.is_equal.ensures ∙ c.if-is_equal.true) in
-    let is : arc_value c.in_ok-try_clone.field-0 ≡ c.args.bytes.items = cc (c.in_ok-try_clone.ensures, c.bytes.ensures, c.deref.ensures, c.deref-in-Some.ensures.value, same) in
+    let same = same_name-is c.bytes.result.now c.deref.result.now (sym c.is_equal.ensures ∙ c.if-is_equal.true) in
+    let is : c.in_ok-share.field-0 ≡ c.args.bytes.items = cc (c.in_ok-share.ensures, c.bytes.ensures, c.deref.ensures.value, same) in
     ap (λ b. (c.args.id, b)) is
 
 pub returns-then-is_equal-clause-stays : goal.returns-then-is_equal-clause-stays
 returns-then-is_equal-clause-stays c =
-    let is : arc_value c.in_ok-try_clone.field-0 ≡ arc_value c.in-Some.«module».now = cc (c.in_ok-try_clone.ensures) in
-    marked_here (map view_listed c.args.before.now) c.args.id (arc_value c.in_ok-try_clone.field-0) (arc_value c.in-Some.«module».now) (sym c.in-Some.ensures) is
+    let is : c.in_ok-share.field-0 ≡ c.in-Some.before.now = cc (c.in_ok-share.ensures) in
+    marked_here (map view_listed c.args.before.now) c.args.id c.in_ok-share.field-0 c.in-Some.before.now (sym c.in-Some.ensures) is

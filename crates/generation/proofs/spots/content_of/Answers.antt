@@ -1,9 +1,9 @@
-use Rattle.std.proofs.Common.{sym, ◌∙◌}
-use Rattle.generation.proofs.Spotting.{bytes_at_is, content_small}
+use Rattle.std.proofs.Common.{◌∙◌}
+use Rattle.generation.proofs.Spotting.{bytes_lent, none_lent}
 use Rattle.generation.proofs.spots.content_of.Goals as goal
 
-pub returns-clause-bytes : goal.returns-clause-bytes
-returns-clause-bytes c = c.bytes.ensures ∙ sym (bytes_at_is c.args.tree.now c.args.file c.file.result.0.now c.file.result.1.now c.file.ensures)
+pub returns-in-File-clause-bytes : goal.returns-in-File-clause-bytes
+returns-in-File-clause-bytes c = c.bytes.ensures ∙ bytes_lent c.entries.result.now c.args.tree.now c.args.entry _ c.in-File.content c.entries.ensures.entries c.requires.entry c.in-File.is
 
-pub returns-clause-small : goal.returns-clause-small
-returns-clause-small c = rw (c.bytes.ensures ∙ sym (bytes_at_is c.args.tree.now c.args.file c.file.result.0.now c.file.result.1.now c.file.ensures)) (content_small c.args.tree.now c.args.file c.requires.tree.sizes)
+pub returns-in-Folder-clause-bytes : goal.returns-in-Folder-clause-bytes
+returns-in-Folder-clause-bytes c = none_lent c.entries.result.now c.args.tree.now c.args.entry _ c.entries.ensures.entries c.requires.entry c.in-Folder.is

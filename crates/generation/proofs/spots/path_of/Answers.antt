@@ -1,6 +1,5 @@
-use Rattle.std.proofs.Common.{sym}
-use Rattle.generation.proofs.Spotting.{path_at_is}
+use Rattle.generation.proofs.Spotting.{path_lent}
 use Rattle.generation.proofs.spots.path_of.Goals as goal
 
 pub returns : goal.returns
-returns c = sym (path_at_is c.args.tree.now c.args.file c.file.result.0.now c.file.result.1.now c.file.ensures)
+returns c = path_lent c.entries.result.now c.args.tree.now c.args.entry _ c.entries.ensures.entries c.requires

@@ -1,4 +1,4 @@
-use Rattle.std.proofs.Common.{◌≡◌, ◌+◌, sym, ◌∙◌, subst, map, drop, false, arith}
+use Rattle.std.proofs.Common.{None, ◌≡◌, ◌+◌, sym, ◌∙◌, subst, map, drop, false, arith}
 use Rattle.generation.specs.declared.objects.Placed.{Placed}
 use Rattle.generation.specs.Inner.Stays.{part_bytes}
 use Rattle.generation.specs.View.{view_placed}
@@ -15,7 +15,7 @@ loop-object-preserved c =
     let os = c.args.objects.now in
     let i = c.loop-object.object-index in
     let id = c.args.id in
-    let d : Placed = record { spot = record { file = 0; names = 0; whole = false }; key = 0; «module» = 0 } in
+    let d : Placed = record { spot = record { entry = 0; names = 0; whole = false; number = 0; parent = None }; key = 0; «module» = 0 } in
     elim c.if-object-id.branch [
       | then-object-id+in-Some w ↦ record {
         valid = rw w.left-is w.in-Some.ensures.valid;

@@ -5,6 +5,6 @@ use Rattle.path_tree.proofs.tree.apply.Given as goal
 
 abbrev pub invariant-loop-place : goal.invariant-loop-place
 invariant-loop-place l = record {
-  tree : IsTree l.files.items;
-  so_far : apply_all l.tree l.edits ≡ apply_from l.place l.files.items (drop l.place l.edits);
+  tree : IsTree l.entries.items;
+  so_far : apply_all l.tree l.edits ≡ apply_from l.place l.entries.items (drop l.place l.edits);
 }

@@ -3,7 +3,7 @@ use Rattle.std.specs.List.{All}
 use Rattle.generation.specs.Layouts.{modules_for, next_of, layout_of, lines_in, keys_of, placed_all, counts_after, generation_of, greatest}
 use Rattle.generation.specs.Publication.{spots_of}
 use Rattle.cycle_planner.specs.Cycle.{AreLines}
-use Rattle.generation.specs.Inner.Stays.{AreAsBefore, SameModules, AreTheirs}
+use Rattle.generation.specs.Inner.Stays.{AreAsBefore, SameModules}
 use Rattle.generation.specs.View.{AreReady, AreMarked, IsSpotIn, view_generation, view_listed, view_placed}
 use Rattle.generation.proofs.Limiting.{len_map}
 use Rattle.generation.proofs.Making.{next_is, stands_next, small_counts}

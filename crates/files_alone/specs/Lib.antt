@@ -1,0 +1,5 @@
+pub mod Objects
+pub mod Generations
+pub mod Histories
+pub mod Requests
+pub mod Laws

@@ -1,0 +1,5 @@
+use Rattle.generation.proofs.Standing.{objects_stand}
+use Rattle.generation.proofs.laws.objects_are_what_stands.Goals as goal
+
+pub returns : goal.returns
+returns c = objects_stand

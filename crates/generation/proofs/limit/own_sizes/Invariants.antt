@@ -1,0 +1,7 @@
+use Rattle.std.proofs.Common.{◌≡◌, [], take, map}
+use Rattle.generation.specs.Publication.{size_of}
+use Rattle.generation.specs.View.{view_spot}
+use Rattle.generation.proofs.limit.own_sizes.Given as goal
+
+abbrev pub invariant-loop-spot : goal.invariant-loop-spot
+invariant-loop-spot l = l.sizes.items ≡ map (size_of []) (map (view_spot l.tree) (take l.spot-index l.spots))

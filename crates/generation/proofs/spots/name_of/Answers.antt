@@ -1,0 +1,15 @@
+use Rattle.std.proofs.Common.{arith}
+use Rattle.generation.specs.View.{path_at}
+use Rattle.generation.proofs.Spotting.{path_at_within, path_valid, last_lent, valid_lent}
+use Rattle.generation.proofs.spots.name_of.Goals as goal
+
+pub path_of-requires : goal.path_of-requires
+path_of-requires c = path_at_within c.args.tree.now c.args.spot.entry (omega (arith, c.requires.spot.names, c.requires.named))
+
+pub returns-clause-name : goal.returns-clause-name
+returns-clause-name c =
+    last_lent c.path_of.result.now (path_at c.args.tree.now c.args.spot.entry) _ c.args.spot.names c.name.result.now c.path_of.ensures c.name.ensures (omega (arith, c.requires.named))
+
+pub returns-clause-range : goal.returns-clause-range
+returns-clause-range c =
+    valid_lent c.path_of.result.now (path_at c.args.tree.now c.args.spot.entry) _ c.name.result.now c.path_of.ensures (path_valid c.args.tree.now c.args.spot.entry c.requires.tree.paths) c.name.ensures

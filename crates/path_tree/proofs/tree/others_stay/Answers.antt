@@ -1,5 +1,0 @@
-use Rattle.path_tree.proofs.Others.{others}
-use Rattle.path_tree.proofs.tree.others_stay.Goals as goal
-
-pub returns : goal.returns
-returns c = others
