@@ -27,6 +27,9 @@ pub record Opening : Type 0 where
   pub reserved : ℕ
   pub adaptation_length : ℕ
 
+abbrev pub opening_with : (transaction reserved adaptation_length : ℕ) → Opening
+opening_with t r a = record { transaction = t; reserved = r; adaptation_length = a }
+
 abbrev pub opening : ℕ → Grammar Opening
 opening id =
     field (this one 0x11) (λ o. 0x11) λ protocol.
@@ -36,6 +39,14 @@ opening id =
     field (number one) (λ o. o.reserved) λ reserved.
     field (number one) (λ o. o.adaptation_length) λ adaptation_length.
     gives (record { transaction = transaction; reserved = reserved; adaptation_length = adaptation_length })
+
+-- after the opening: its transaction, and the cursor over the body
+unfoldable pub body_at : (transaction adaptation_length : ℕ) → Cursor → Reading ℕ
+body_at transaction adaptation_length c = do
+  size ← number_at 2 c
+  fitting ← if_holds c (nat_le adaptation_length size.0 && nat_le size.0 (length size.1.rest)) size
+  adaptation ← bytes_at adaptation_length fitting.1
+  Ok (transaction, within (size.0 - adaptation_length) adaptation.1)
 
 -- the transaction, and the cursor over the body
 unfoldable pub message_at : ℕ → Cursor → Reading ℕ

@@ -2,10 +2,11 @@
 
 ghost use Rattle.std.specs.Prelude.{◌≡◌, ◌+◌, ◌<◌, ℕ, List, Ok, length, slice_index};
 ghost use Rattle.oc_bytes.specs.Cursor.{Cursor, from_start};
+ghost use Rattle.oc_bytes.specs.Grammar.{read};
 ghost use Rattle.oc_bytes.specs.Outcome.{Gives};
 ghost use Rattle.oc_bytes.specs.Cause.{place_of};
 ghost use Rattle.ddb_block.specs.Message as spellings;
-ghost use Rattle.ddb_block.specs.Message.{IsMessage, prefix_of, message_at};
+ghost use Rattle.ddb_block.specs.Message.{IsMessage, opening, opening_with, body_at, prefix_of, message_at};
 
 use oc_bytes::{Cut, Fields};
 
@@ -21,23 +22,30 @@ pub fn header_bytes(id: u16, transaction: u32, size: u16) -> [u8; 12]
     ]
 }
 
-/// Reads the header of a download message: its transaction, and the fields of its body. The adaptation is passed over, and
-/// so is what follows the message.
-///
-/// Places are counted from the payload's first byte. [`Cut`] has the place of the first field that is cut, or that breaks its
-/// rule: protocolDiscriminator is 0x11, dsmccType 0x03 and messageId `id`; messageLength is at least adaptationLength and
-/// at most the number of bytes after it.
-#[tactic(auto, unfolding(crate::specs::Message::message_at, oc_bytes::specs::Grammar::read))]
-pub fn message(payload: &[u8], id: u16) -> Result<(u32, Fields<'_>), Cut>
-    ensures { Gives (λ x. x) place_of result (message_at id (from_start payload.now)) }
+/// Reads the fields before messageLength: the transaction, the reserved byte and adaptationLength.
+#[tactic(auto, unfolding(oc_bytes::specs::Grammar::read))]
+fn opening_of(fields: &mut Fields<'_>, id: u16) -> Result<(u32, u8, u8), Cut>
+    ensures { Gives (λ x. (opening_with x.0 x.1 x.2, fields.new)) place_of result (read (opening id) fields.old) }
 {
-    let mut fields = Fields::new(payload);
     fields.this_u8(0x11)?;
     fields.this_u8(0x03)?;
     fields.this_u16(id)?;
     let transaction = fields.u32()?;
-    fields.u8()?;
-    let adaptation = usize::from(fields.u8()?);
+    let reserved = fields.u8()?;
+    let adaptation = fields.u8()?;
+    Ok((transaction, reserved, adaptation))
+}
+
+/// Reads what follows an opening: its transaction again, and the fields of the body.
+#[tactic(auto, unfolding(crate::specs::Message::body_at))]
+fn body_of<'a>(
+    fields: &mut Fields<'a>,
+    transaction: u32,
+    adaptation: u8,
+) -> Result<(u32, Fields<'a>), Cut>
+    ensures { Gives (λ x. x) place_of result (body_at transaction adaptation fields.old) }
+{
+    let adaptation = usize::from(adaptation);
     let place = fields.place();
     let length = usize::from(fields.u16()?);
     if length < adaptation || length > fields.rest().len() {
@@ -46,6 +54,21 @@ pub fn message(payload: &[u8], id: u16) -> Result<(u32, Fields<'_>), Cut>
     fields.take(adaptation)?;
     let body = fields.part(length - adaptation)?;
     Ok((transaction, body))
+}
+
+/// Reads the header of a download message: its transaction, and the fields of its body. The adaptation is passed over, and
+/// so is what follows the message.
+///
+/// Places are counted from the payload's first byte. [`Cut`] has the place of the first field that is cut, or that breaks its
+/// rule: protocolDiscriminator is 0x11, dsmccType 0x03 and messageId `id`; messageLength is at least adaptationLength and
+/// at most the number of bytes after it.
+#[tactic(auto, unfolding(crate::specs::Message::message_at, crate::specs::Message::body_at))]
+pub fn message(payload: &[u8], id: u16) -> Result<(u32, Fields<'_>), Cut>
+    ensures { Gives (λ x. x) place_of result (message_at id (from_start payload.now)) }
+{
+    let mut fields = Fields::new(payload);
+    let (transaction, _reserved, adaptation) = opening_of(&mut fields, id)?;
+    body_of(&mut fields, transaction, adaptation)
 }
 
 /// What holds of each message, whoever wrote it: what the relation says is read, what is read the relation says, and each

@@ -8,7 +8,7 @@ ghost use Rattle.folder_store.specs.Folders.{IsRefused};
 use crate::folders::{EntryKind, FolderEntry, FolderFault, Folders, kept_text};
 use oc_bytes::{Failed, Source, StdSource};
 use std::alloc::Global;
-use std::fs::{File, FileType, OpenFile};
+use std::fs::{DirEntry, File, FileType, OpenFile, ReadDir};
 use std::io::{Error, ErrorKind};
 use std::rt::Files;
 use std::{fs, io};
@@ -136,14 +136,31 @@ fn list_once<R: Files + Clone + Drop>(
     alloc: Global,
     path: &str,
 ) -> io::Result<Vec<FolderEntry>> {
+    let entries = fs::read_dir(&(rt, alloc), path)?;
+    told_entries(alloc, entries)
+}
+
+/// All entries of a folder that was opened.
+fn told_entries<F: Files + Clone + Drop>(
+    alloc: Global,
+    entries: ReadDir<F>,
+) -> io::Result<Vec<FolderEntry>> {
     let mut found = Vec::new(alloc);
-    for entry in fs::read_dir(&(rt, alloc), path)? {
-        let entry = entry?;
-        let kind = kind_of(entry.file_type()?);
-        let name = String::from_str(alloc, entry.file_name())?;
-        found.push(FolderEntry { name, kind })?;
+    for entry in entries {
+        found.push(told_entry(alloc, entry)?)?;
     }
     Ok(found)
+}
+
+/// An entry's name and kind, unless the system failed to tell it.
+fn told_entry<F: Files + Drop>(
+    alloc: Global,
+    entry: io::Result<DirEntry<F>>,
+) -> io::Result<FolderEntry> {
+    let entry = entry?;
+    let kind = kind_of(entry.file_type()?);
+    let name = String::from_str(alloc, entry.file_name())?;
+    Ok(FolderEntry { name, kind })
 }
 
 fn kind_of(file_type: FileType) -> EntryKind {

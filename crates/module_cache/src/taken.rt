@@ -27,17 +27,17 @@ pub enum Taken {
 
 impl fmt::Display for Taken {
     fn fmt<W: fmt::Write>(&self, f: &mut fmt::Formatter<W>) -> fmt::Result {
-        match self {
-            Taken::NoDii => write!(f, "no DII is held"),
-            Taken::OtherDownload => write!(f, "it has another downloadId"),
-            Taken::Unlisted => write!(f, "its module isn't listed"),
-            Taken::OtherVersion => write!(f, "its module is listed in another version"),
-            Taken::Compressed => write!(f, "its module is compressed"),
-            Taken::WrongPlace => write!(f, "its module has no block of this number"),
-            Taken::WrongLength => write!(f, "it hasn't the length of its place"),
-            Taken::Again => write!(f, "it is there already"),
-            Taken::New => write!(f, "it is new"),
-        }
+        f.write_str(match self {
+            Taken::NoDii => "no DII is held",
+            Taken::OtherDownload => "it has another downloadId",
+            Taken::Unlisted => "its module isn't listed",
+            Taken::OtherVersion => "its module is listed in another version",
+            Taken::Compressed => "its module is compressed",
+            Taken::WrongPlace => "its module has no block of this number",
+            Taken::WrongLength => "it hasn't the length of its place",
+            Taken::Again => "it is there already",
+            Taken::New => "it is new",
+        })
     }
 }
 

@@ -2,8 +2,10 @@
 use Rattle.std.proofs.Common.{◌≡◌, ℕ, zero, suc, arith, ◌+◌, ◌<◌, ◌≤◌, List, [], ◌∷◌, ◌++◌, get_or, length, take, drop, Result, Ok, Err, refl, ◌∙◌, sym, ap, append-nil, append_assoc}
 use Rattle.std.proofs.lemmas.List.{take_all, take-append-drop, take_more, flat_map_more}
 use Rattle.std.proofs.lemmas.Grind.{flat_map-append}
-use Rattle.std.specs.List.{flat_map}
+use Rattle.std.specs.List.{flat_map, fold}
+use Rattle.std.specs.Prelude.{IfOk}
 use Rattle.std.specs.Fmt.{decimal}
+use Rattle.shell_words.specs.Texts.{line}
 use Rattle.reception_report.specs.Telling.{with_field}
 use Rattle.path_tree.specs.Paths.{Bytes}
 use Rattle.shell_streams.specs.Sending.{OutputState, HasPut, Puts}
@@ -58,3 +60,28 @@ pub get_any : {X : Type 0} (xs : List X) (i : ℕ) (d e : X) → i < length xs �
 get_any [] i d e h = absurd (omega arith)
 get_any (x ∷ xs) zero d e h = refl
 get_any (x ∷ xs) (suc i) d e h = get_any xs i d e (omega arith)
+
+-- ---- names with their numbers
+
+fold_more : {X : Type 0} (f : Bytes → X → Bytes) (start : Bytes) (xs : List X) (x : X) → f (fold f start xs) x ≡ fold f start (xs ++ x ∷ [])
+fold_more f start [] x = refl
+fold_more f start (y ∷ ys) x = fold_more f (f start y) ys x
+
+-- one name more
+pub field_more : {X : Type 0} (xs : List X) (name : X → Bytes) (number : X → ℕ) (start : Bytes) (i : ℕ) (d : X) (old new : Bytes) → i < length xs
+    → old ≡ fold (λ t x. with_field t (name x) (number x)) start (take i xs) → new ≡ old ++ name (get_or xs i d) ++ 32 ∷ decimal (number (get_or xs i d))
+    → new ≡ fold (λ t x. with_field t (name x) (number x)) start (take (i + 1) xs)
+field_more {X} xs name number start i d old new h so_far here =
+    let f : Bytes → X → Bytes = λ t x. with_field t (name x) (number x) in
+    field_next old new (fold f start (take i xs)) (name (get_or xs i d)) (number (get_or xs i d)) (number (get_or xs i d)) here refl so_far
+    ∙ fold_more f start (take i xs) (get_or xs i d) ∙ ap (fold f start) (sym (take_more xs i d h))
+
+-- a line after which nothing follows
+pub line_alone : {T E : Type 0} (f : T → Bytes) (r : Result T E) (a : Bytes) → IfOk r (λ x. f x ≡ line (a ++ [])) → IfOk r (λ x. f x ≡ line a)
+line_alone f (Ok x) a e = e ∙ ap line (append-nil a)
+line_alone f (Err e) a h = tt
+
+-- a line whose end has two parts
+pub line_of_parts : {T E : Type 0} (f : T → Bytes) (r : Result T E) (a b c : Bytes) → IfOk r (λ x. f x ≡ line (a ++ (b ++ c))) → IfOk r (λ x. f x ≡ line (a ++ b ++ c))
+line_of_parts f (Ok x) a b c e = e ∙ ap line (sym (append_assoc a b c))
+line_of_parts f (Err e) a b c h = tt

@@ -1,12 +1,14 @@
 //! The lines of a report.
 
-ghost use Rattle.std.specs.Prelude.{◌≡◌, ◌++◌, ◌∷◌, List, length, option_map, IfOk, OnOk};
+ghost use Rattle.std.specs.Prelude.{◌≡◌, ◌++◌, ◌∷◌, [], List, codes, length, option_map, IfOk, OnOk};
 ghost use Rattle.std.specs.Fmt.{decimal};
-ghost use Rattle.std.specs.List.{flat_map};
+ghost use Rattle.std.specs.List.{flat_map, fold};
 ghost use Rattle.std.specs.String.{string_bytes};
+ghost use Rattle.hex.specs.Hex.{encode_lower};
 ghost use Rattle.oc_bytes.specs.Outcome.{cap_at_u64};
 ghost use Rattle.path_tree.specs.Paths.{Bytes};
 ghost use Rattle.path_resolver.specs.Shots.{held_of, view_gateway};
+ghost use Rattle.shell_words.specs.Texts.{line};
 ghost use Rattle.reception_report.specs.Outcomes.{CountsAre};
 ghost use Rattle.reception_report.specs.Telling as telling;
 
@@ -25,24 +27,52 @@ use std::alloc::Global;
 pub(crate) fn counts_line(alloc: Global, counts: &Counts) -> Result<String, NoMemory>
     ensures { IfOk result (λ text. string_bytes text ≡ telling.counts_line counts.now) }
 {
+    numbers_line(
+        alloc,
+        &[
+            ("packets", counts.packets),
+            (" no-sync", counts.no_sync),
+            (" errored", counts.errored),
+            (" scrambled", counts.scrambled),
+            (" reserved", counts.reserved),
+            (" bad-field", counts.bad_field),
+            (" other-pid", counts.other_pid),
+            (" no-payload", counts.no_payload),
+            (" duplicates", counts.duplicates),
+            (" jumps", counts.jumps),
+            (" orphans", counts.orphans),
+            (" bad-pointer", counts.bad_pointer),
+            (" cut", counts.cut),
+            (" oversize", counts.oversize),
+            (" short-tail", counts.short_tail),
+        ],
+        "",
+    )
+}
+
+/// The line of names with their numbers, one after another, and of what follows them.
+pub(crate) fn numbers_line(
+    alloc: Global,
+    numbers: &[(&str, u64)],
+    rest: &str,
+) -> Result<String, NoMemory>
+    ensures { IfOk result (λ text. string_bytes text ≡ line (fold (λ text n. telling.with_field text n.0.now n.1) [] numbers.now ++ rest.now)) }
+{
     let mut text = String::new(alloc);
-    push_number(alloc, &mut text, "packets", counts.packets)?;
-    push_number(alloc, &mut text, " no-sync", counts.no_sync)?;
-    push_number(alloc, &mut text, " errored", counts.errored)?;
-    push_number(alloc, &mut text, " scrambled", counts.scrambled)?;
-    push_number(alloc, &mut text, " reserved", counts.reserved)?;
-    push_number(alloc, &mut text, " bad-field", counts.bad_field)?;
-    push_number(alloc, &mut text, " other-pid", counts.other_pid)?;
-    push_number(alloc, &mut text, " no-payload", counts.no_payload)?;
-    push_number(alloc, &mut text, " duplicates", counts.duplicates)?;
-    push_number(alloc, &mut text, " jumps", counts.jumps)?;
-    push_number(alloc, &mut text, " orphans", counts.orphans)?;
-    push_number(alloc, &mut text, " bad-pointer", counts.bad_pointer)?;
-    push_number(alloc, &mut text, " cut", counts.cut)?;
-    push_number(alloc, &mut text, " oversize", counts.oversize)?;
-    push_number(alloc, &mut text, " short-tail", counts.short_tail)?;
+    push_numbers(alloc, &mut text, numbers)?;
+    text.push_str(rest)?;
     text.push_str("\n")?;
     Ok(text)
+}
+
+/// Adds names with their numbers, one after another.
+fn push_numbers(alloc: Global, text: &mut String, numbers: &[(&str, u64)]) -> Result<(), NoMemory>
+    ensures { OnOk result (string_bytes text.new ≡ fold (λ text n. telling.with_field text n.0.now n.1) (string_bytes text.old) numbers.now) }
+{
+    for row in numbers {
+        push_number(alloc, text, row.0, row.1)?;
+    }
+    Ok(())
 }
 
 /// Adds a name, a space and a number.
@@ -114,19 +144,22 @@ pub(crate) fn gateway_line(alloc: Global, gateway: &Option<Gateway>) -> Result<S
 fn located(alloc: Global, location: &Location) -> Result<String, NoMemory>
     ensures { IfOk result (λ text. string_bytes text ≡ telling.located location.now) }
 {
-    let key = hex::encode(alloc, location.key.bytes())?;
-    let mut text = String::new(alloc);
-    push_number(
+    let key = key_text(alloc, location.key.bytes())?;
+    numbers_line(
         alloc,
-        &mut text,
-        "gateway carousel",
-        u64::from(location.carousel),
-    )?;
-    push_number(alloc, &mut text, " module", u64::from(location.module))?;
-    text.push_str(" key ")?;
-    text.push_str(key.as_str())?;
-    text.push_str("\n")?;
-    Ok(text)
+        &[
+            ("gateway carousel", u64::from(location.carousel)),
+            (" module", u64::from(location.module)),
+        ],
+        key.as_str(),
+    )
+}
+
+fn key_text(alloc: Global, key: &[u8]) -> Result<String, NoMemory>
+    ensures { IfOk result (λ text. string_bytes text ≡ codes " key " ++ encode_lower key.now) }
+{
+    let key = hex::encode(alloc, key)?;
+    format!(in alloc; " key {key}")
 }
 
 /// The line of the label and the epoch.
@@ -144,24 +177,17 @@ pub(crate) fn dii_line(alloc: Global, tuned: &Tuned) -> Result<String, NoMemory>
     ensures { IfOk result (λ text. string_bytes text ≡ telling.dii_line tuned.now) }
 {
     let modules = tuned.lines().len() as u64;
-    let mut text = String::new(alloc);
-    push_number(
+    numbers_line(
         alloc,
-        &mut text,
-        "dii identification",
-        u64::from(tuned.identification()),
-    )?;
-    push_number(alloc, &mut text, " version", u64::from(tuned.version()))?;
-    push_number(alloc, &mut text, " download", u64::from(tuned.download()))?;
-    push_number(
-        alloc,
-        &mut text,
-        " block-size",
-        u64::from(tuned.block_size()),
-    )?;
-    push_number(alloc, &mut text, " modules", modules)?;
-    text.push_str("\n")?;
-    Ok(text)
+        &[
+            ("dii identification", u64::from(tuned.identification())),
+            (" version", u64::from(tuned.version())),
+            (" download", u64::from(tuned.download())),
+            (" block-size", u64::from(tuned.block_size())),
+            (" modules", modules),
+        ],
+        "",
+    )
 }
 
 /// The line of a path, with its answer and its module.

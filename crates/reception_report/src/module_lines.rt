@@ -5,7 +5,7 @@ ghost use Rattle.std.specs.String.{string_bytes};
 ghost use Rattle.reception_report.specs.Missing as missing;
 ghost use Rattle.reception_report.specs.Telling as telling;
 
-use crate::lines::push_number;
+use crate::lines::numbers_line;
 use module_cache::{Line, Slot, Stored};
 use oc_bytes::NoMemory;
 use std::alloc::Global;
@@ -15,25 +15,17 @@ pub(crate) fn module_line(alloc: Global, line: &Line) -> Result<String, NoMemory
     ensures { IfOk result (λ text. string_bytes text ≡ telling.module_line line.now) }
 {
     let there = there_text(alloc, &line.stored)?;
-    let mut text = String::new(alloc);
-    push_number(alloc, &mut text, "module", u64::from(line.line.id))?;
-    push_number(alloc, &mut text, " version", u64::from(line.line.version))?;
-    push_number(alloc, &mut text, " size", u64::from(line.line.size))?;
-    push_number(
+    numbers_line(
         alloc,
-        &mut text,
-        " blocks",
-        u64::from(count_there(&line.stored)),
-    )?;
-    push_number(
-        alloc,
-        &mut text,
-        " of",
-        u64::from(line.stored.block_count()),
-    )?;
-    text.push_str(there.as_str())?;
-    text.push_str("\n")?;
-    Ok(text)
+        &[
+            ("module", u64::from(line.line.id)),
+            (" version", u64::from(line.line.version)),
+            (" size", u64::from(line.line.size)),
+            (" blocks", u64::from(count_there(&line.stored))),
+            (" of", u64::from(line.stored.block_count())),
+        ],
+        there.as_str(),
+    )
 }
 
 /// How many blocks of a module are there.

@@ -2,6 +2,7 @@ ghost use Rattle.std.specs.Prelude.{◌++◌, ◌∷◌, [], List, ℕ, IfOk, On
 ghost use Rattle.std.specs.List.{All};
 ghost use Rattle.session_script.specs.declared.parts.TaskLine.{TaskLine as TaskLines};
 ghost use Rattle.session_script.specs.declared.script.Stage.{Stage};
+ghost use Rattle.session_script.specs.declared.script.Stage.TheVariants.{Before, During};
 ghost use Rattle.session_script.specs.Scripts.{Fields, LineFields};
 ghost use Rattle.session_script.specs.Parts.{act_of, task_line, settle_lines, finale_line, script_of_parts};
 ghost use Rattle.session_script.specs.Ranges.{IsActor, IsInRange, IsInRanges};
@@ -44,18 +45,8 @@ pub fn rehearse<O: Output>(
     ensures { Rehearses result (O.state out.old) (O.state out.new) weigh.weights (script_of_parts parts) }
 {
     every_run_meets_the_headline();
-    let Parts {
-        before,
-        during,
-        settle,
-        finales,
-        ..
-    } = parts;
     let mut rehearsal = Rehearsal::new(alloc, weigh)?;
-    rehearsal.run_all(before, out)?;
-    rehearsal.run_all(during, out)?;
-    rehearsal.settle_so(settle, out)?;
-    rehearsal.open_all(finales, out)?;
+    rehearsal.run_parts(parts, out)?;
     out.flush()
 }
 
@@ -68,7 +59,7 @@ struct Rehearsal {
 }
 
 impl Rehearsal {
-    ghost use Rattle.rehearsal.specs.Inner.Steps.{Stands, Runs, HasRun, GoesOn};
+    ghost use Rattle.rehearsal.specs.Inner.Steps.{Stands, Runs, HasRun, GoesOn, Tells};
 
     /// One in which no line was run.
     fn new(alloc: Global, weigh: Weigh) -> Result<Rehearsal, NoMemory>
@@ -81,6 +72,58 @@ impl Rehearsal {
             world,
             interpreter: Interpreter::new(alloc),
         })
+    }
+
+    /// Runs the lines of a script, where none was run. After a fault the rehearsal is of no use any more.
+    fn run_parts<O: Output>(&mut self, parts: Parts, out: &mut O) -> Result<(), OutputFault>
+        requires { IsInRanges (script_of_parts parts) }
+        ensures { (weights : List ℕ) (first : OutputState)
+            → HasRun self.old weights (script_of_parts parts).lines (script_of_parts parts).lines first (O.state out.old)
+            → GoesOn result self.new weights (script_of_parts parts) [] first (O.state out.new) }
+    {
+        let Parts {
+            before,
+            during,
+            settle,
+            finales,
+            ..
+        } = parts;
+        self.run_tasks(before, during, out)?;
+        self.run_end(settle, finales, out)
+    }
+
+    /// Runs the tasks above `start` and those below it, which come next. After a fault the rehearsal is of no use any more.
+    fn run_tasks<O: Output>(
+        &mut self,
+        before: Vec<TaskLine>,
+        during: Vec<TaskLine>,
+        out: &mut O,
+    ) -> Result<(), OutputFault>
+        requires before { All (λ (line : TaskLines). IsInRange (act_of line.task)) before.items }
+        requires during { All (λ (line : TaskLines). IsInRange (act_of line.task)) during.items }
+        ensures { (weights : List ℕ) (script : Fields) (left : List LineFields) (first : OutputState)
+            → HasRun self.old weights script.lines (map (task_line Before) before.items ++ (map (task_line During) during.items ++ left)) first (O.state out.old)
+            → GoesOn result self.new weights script left first (O.state out.new) }
+    {
+        self.run_all(before, out)?;
+        self.run_all(during, out)
+    }
+
+    /// Settles, where there is a line that says so, and opens these paths, which come next, and last. After a fault the rehearsal is of no
+    /// use any more.
+    fn run_end<O: Output>(
+        &mut self,
+        settle: Option<u32>,
+        finales: Vec<Finale>,
+        out: &mut O,
+    ) -> Result<(), OutputFault>
+        requires { All (λ last. IsActor last.reader) finales.items }
+        ensures { (weights : List ℕ) (script : Fields) (first : OutputState)
+            → HasRun self.old weights script.lines (settle_lines settle ++ map finale_line finales.items) first (O.state out.old)
+            → GoesOn result self.new weights script [] first (O.state out.new) }
+    {
+        self.settle_so(settle, out)?;
+        self.open_all(finales, out)
     }
 
     /// Runs these tasks, which come next. After a fault the rehearsal is of no use any more.
@@ -174,8 +217,25 @@ impl Rehearsal {
             → Stands self.new weights (before ++ events.view event ∷ []) p) }
     {
         let subject = Subject::of(self.alloc, &event)?;
+        self.answer(event, &subject, out)
+    }
+
+    /// Makes an event happen, of which the line says this, and puts the line.
+    fn answer<O: Output>(
+        &mut self,
+        event: Event,
+        subject: &Subject,
+        out: &mut O,
+    ) -> Result<(), OutputFault>
+        requires range { InRange (events.view event) }
+        requires tells { Tells subject.now (events.view event) }
+        ensures runs { (weights : List ℕ) (before : List Step) (p : Pending) → Stands self.old weights before p
+            → Runs result (O.state out.old) (O.state out.new) weights before (events.view event ∷ []) }
+        ensures stands { OnOk result ((weights : List ℕ) (before : List Step) (p : Pending) → Stands self.old weights before p
+            → Stands self.new weights (before ++ events.view event ∷ []) p) }
+    {
         let reply = self.world.step(event)?;
         self.world.keeps_the_headline();
-        put_line(self.alloc, &subject, &reply, out)
+        put_line(self.alloc, subject, &reply, out)
     }
 }

@@ -46,7 +46,9 @@ ok path = Ok path
 pub root_is : (path : PathNames) → path_of (47 ∷ []) ≡ Ok path → path ≡ []
 root_is path h = let e : ok [] ≡ ok path = h in cc
 
-pub path_of_file : (e k : ℕ) (root folder : PathNames) (a b : Bytes) → root ≡ [] → folder ≡ root ++ a ∷ [] → a ≡ codes "e" ++ decimal e → b ≡ codes "f" ++ decimal k
-    → folder ++ b ∷ [] ≡ file_path e k
+pub path_of_folder : (e : ℕ) (root : PathNames) (a : Bytes) → root ≡ [] → a ≡ codes "e" ++ decimal e → root ++ a ∷ [] ≡ (codes "e" ++ decimal e) ∷ []
+path_of_folder e root a r first = rw (r, first) refl
+
+pub path_of_file : (e k : ℕ) (folder : PathNames) (b : Bytes) → folder ≡ (codes "e" ++ decimal e) ∷ [] → b ≡ codes "f" ++ decimal k → folder ++ b ∷ [] ≡ file_path e k
 unfolding file_path
-path_of_file e k root folder a b r f first second = rw (f, r, first, second) refl
+path_of_file e k folder b f second = rw (f, second) refl

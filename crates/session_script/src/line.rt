@@ -1,8 +1,7 @@
 //! What one line says.
 ghost use Rattle.std.specs.Prelude.{◌≡◌, Err, true, is_ok, IfOk};
 ghost use Rattle.oc_bytes.specs.Outcome.{Gives};
-ghost use Rattle.session_script.specs.Parts.{act_of};
-ghost use Rattle.session_script.specs.Grammar.{put_by, fill_by, named_by, commit_by, draw_by, said_by, may_stand, in_words, line_by, Ends, Starts};
+ghost use Rattle.session_script.specs.Grammar.{named_by, draw_by, said_by, may_stand, in_words, line_by, Ends, Starts};
 ghost use Rattle.session_script.specs.Grammar as grammar;
 ghost use Rattle.session_script.specs.Memory.{reaches_path, asks_by, asks_in_words, line_asks};
 ghost use Rattle.session_script.specs.Steps.{words_left, line_cause, view_said, is_said_by, Suits};
@@ -46,48 +45,52 @@ pub enum Said {
 }
 
 /// `EDITOR PATH HEX`
-fn put(alloc: Global, mut words: Words) -> Result<Task, LineFault>
-    ensures gives { Gives act_of line_cause result (put_by (words_left words.entry)) }
+fn put(alloc: Global, mut words: Words) -> Result<Said, LineFault>
+    ensures gives { Gives view_said line_cause result (said_by Keyword.Put (words_left words.entry)) }
     ensures memory { result ≡ Err LineFault.NoMemory → reaches_path (words_left words.entry) ≡ true }
+    ensures kind { IfOk result (λ said. is_said_by Keyword.Put said ≡ true) }
 {
     let editor = actor(&mut words)?;
     let path = path(alloc, &mut words)?;
     let content = content(alloc, &mut words)?;
     words.end()?;
-    Ok(Task::Put(editor, path, content))
+    Ok(Said::Does(Task::Put(editor, path, content)))
 }
 
 /// `EDITOR PATH LENGTH FROM`
-fn fill(alloc: Global, mut words: Words) -> Result<Task, LineFault>
-    ensures gives { Gives act_of line_cause result (fill_by (words_left words.entry)) }
+fn fill(alloc: Global, mut words: Words) -> Result<Said, LineFault>
+    ensures gives { Gives view_said line_cause result (said_by Keyword.Fill (words_left words.entry)) }
     ensures memory { result ≡ Err LineFault.NoMemory → reaches_path (words_left words.entry) ≡ true }
+    ensures kind { IfOk result (λ said. is_said_by Keyword.Fill said ≡ true) }
 {
     let editor = actor(&mut words)?;
     let path = path(alloc, &mut words)?;
     let size = number(&mut words, 0, MOST_FILLED)?;
     let from = number(&mut words, 0, 255)?;
     words.end()?;
-    Ok(Task::Fill(editor, path, size, from as u8))
+    Ok(Said::Does(Task::Fill(editor, path, size, from as u8)))
 }
 
 /// `EDITOR`
-fn commit(mut words: Words) -> Result<Task, LineFault>
-    ensures gives { Gives act_of line_cause result (commit_by (words_left words.entry)) }
+fn commit(mut words: Words) -> Result<Said, LineFault>
+    ensures gives { Gives view_said line_cause result (said_by Keyword.Commit (words_left words.entry)) }
     ensures plain { result ≡ Err LineFault.NoMemory → ⊥ }
+    ensures kind { IfOk result (λ said. is_said_by Keyword.Commit said ≡ true) }
 {
     let editor = actor(&mut words)?;
     words.end()?;
-    Ok(Task::Commit(editor))
+    Ok(Said::Does(Task::Commit(editor)))
 }
 
 /// `N FATE..`
-fn draw(alloc: Global, mut words: Words) -> Result<Task, LineFault>
-    ensures gives { Gives act_of line_cause result (draw_by (words_left words.entry)) }
+fn draw(alloc: Global, mut words: Words) -> Result<Said, LineFault>
+    ensures gives { Gives view_said line_cause result (said_by Keyword.Draw (words_left words.entry)) }
     ensures memory { result ≡ Err LineFault.NoMemory → is_ok (draw_by (words_left words.entry)) ≡ true }
+    ensures kind { IfOk result (λ said. is_said_by Keyword.Draw said ≡ true) }
 {
     let asked = number(&mut words, 1, MOST_DRAWN)?;
     let fates = fates(alloc, words)?;
-    Ok(Task::Draw(asked, fates))
+    Ok(Said::Does(Task::Draw(asked, fates)))
 }
 
 /// `EDITOR PATH` or `READER PATH`
@@ -108,8 +111,8 @@ fn say(alloc: Global, keyword: Keyword, mut words: Words) -> Result<Said, LineFa
     ensures kind { IfOk result (λ said. is_said_by keyword said ≡ true) }
 {
     match keyword {
-        Keyword::Put => Ok(Said::Does(put(alloc, words)?)),
-        Keyword::Fill => Ok(Said::Does(fill(alloc, words)?)),
+        Keyword::Put => put(alloc, words),
+        Keyword::Fill => fill(alloc, words),
         Keyword::Remove => {
             let (editor, path) = named(alloc, words)?;
             Ok(Said::Does(Task::Remove(editor, path)))
@@ -122,8 +125,8 @@ fn say(alloc: Global, keyword: Keyword, mut words: Words) -> Result<Said, LineFa
             let (editor, path) = named(alloc, words)?;
             Ok(Said::Does(Task::RemoveFolder(editor, path)))
         }
-        Keyword::Commit => Ok(Said::Does(commit(words)?)),
-        Keyword::Draw => Ok(Said::Does(draw(alloc, words)?)),
+        Keyword::Commit => commit(words),
+        Keyword::Draw => draw(alloc, words),
         Keyword::Open => {
             let (reader, path) = named(alloc, words)?;
             Ok(Said::Does(Task::Open(reader, path)))

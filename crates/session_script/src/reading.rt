@@ -4,8 +4,8 @@ ghost use Rattle.oc_bytes.specs.Outcome.{Gives};
 ghost use Rattle.session_script.specs.Inner.Mentions.{with_mention};
 ghost use Rattle.session_script.specs.Scripts.{cause};
 ghost use Rattle.session_script.specs.Scripts as scripts;
-ghost use Rattle.session_script.specs.Parts.{script_of_parts};
-ghost use Rattle.session_script.specs.Grammar.{meaning_of};
+ghost use Rattle.session_script.specs.Parts.{act_of, script_of_parts};
+ghost use Rattle.session_script.specs.Grammar.{editor_of, meaning_of, reader_of};
 ghost use Rattle.session_script.specs.Memory.{AsksForMemory};
 ghost use Rattle.session_script.specs.Ranges.{AreListed, IsInRanges};
 
@@ -113,8 +113,7 @@ impl Reading {
         requires { self.old.part ≡ Closing → ⊥ }
         ensures { OnOk result (IsShaped self.old → Adds self.old self.new (Does (act_of task))) }
     {
-        mention(&mut self.editors, task.editor())?;
-        mention(&mut self.readers, task.reader())?;
+        mention_actor(&mut self.editors, &mut self.readers, &task)?;
         self.during.push(TaskLine {
             number: self.number,
             task,
@@ -141,25 +140,47 @@ impl Reading {
         ensures parts { IfOk result (λ parts. script_of_parts parts ≡ record { editors = self.editors.keys; readers = self.readers.keys; lines = lines_read self }) }
         ensures memory { OnErr result (0 < length self.editors.keys + length self.readers.keys) }
     {
-        let Reading {
-            alloc,
+        let (editors, readers) = self.actors()?;
+        Ok(self.into_parts(editors, readers))
+    }
+
+    /// The editors and the readers, in their order.
+    fn actors(&self) -> Result<(Vec<u32>, Vec<u32>), NoMemory>
+        ensures editors { IfOk result (λ lists. lists.0.items ≡ self.now.editors.keys) }
+        ensures readers { IfOk result (λ lists. lists.1.items ≡ self.now.readers.keys) }
+        ensures memory { OnErr result (0 < length self.now.editors.keys + length self.now.readers.keys) }
+    {
+        let editors = listed(self.alloc, &self.editors)?;
+        let readers = listed(self.alloc, &self.readers)?;
+        Ok((editors, readers))
+    }
+
+    /// The parts of these editors and readers.
+    fn into_parts(self, editors: Vec<u32>, readers: Vec<u32>) -> Parts
+        ensures { script_of_parts result ≡ record { editors = editors.items; readers = readers.items; lines = lines_read self } }
+    {
+        Parts {
             editors,
             readers,
-            before,
-            during,
-            settle,
-            finales,
-            ..
-        } = self;
-        Ok(Parts {
-            editors: listed(alloc, &editors)?,
-            readers: listed(alloc, &readers)?,
-            before,
-            during,
-            settle,
-            finales,
-        })
+            before: self.before,
+            during: self.during,
+            settle: self.settle,
+            finales: self.finales,
+        }
     }
+}
+
+/// Puts the editor or the reader whose task it is last, unless it is there.
+fn mention_actor(
+    editors: &mut IndexSet<u32>,
+    readers: &mut IndexSet<u32>,
+    task: &Task,
+) -> Result<(), NoMemory>
+    ensures editors { OnOk result (editors.new.keys ≡ with_mention (editor_of (act_of task.now)) editors.old.keys) }
+    ensures readers { OnOk result (readers.new.keys ≡ with_mention (reader_of (act_of task.now)) readers.old.keys) }
+{
+    mention(editors, task.editor())?;
+    mention(readers, task.reader())
 }
 
 /// Puts an actor last that isn't there.

@@ -37,16 +37,16 @@ impl fmt::Display for LineCause {
     ghost output = { λ c. Some (cause_text c) };
 
     fn fmt<W: fmt::Write>(&self, f: &mut fmt::Formatter<W>) -> fmt::Result {
-        match self {
-            LineCause::Unknown => write!(f, "unknown word"),
-            LineCause::Order => write!(f, "out of order"),
-            LineCause::BadNumber => write!(f, "bad number"),
-            LineCause::BadPath => write!(f, "bad path"),
-            LineCause::BadHex => write!(f, "bad hex"),
-            LineCause::BadFate => write!(f, "bad fate"),
-            LineCause::Missing => write!(f, "word missing"),
-            LineCause::Extra => write!(f, "extra word"),
-        }
+        f.write_str(match self {
+            LineCause::Unknown => "unknown word",
+            LineCause::Order => "out of order",
+            LineCause::BadNumber => "bad number",
+            LineCause::BadPath => "bad path",
+            LineCause::BadHex => "bad hex",
+            LineCause::BadFate => "bad fate",
+            LineCause::Missing => "word missing",
+            LineCause::Extra => "extra word",
+        })
     }
 }
 

@@ -1,6 +1,7 @@
 //! What the actors of a generated script are asked for.
-ghost use Rattle.std.specs.Prelude.{◌≡◌, ◌++◌, ◌∷◌, ◌≤◌, ◌<◌, true, [], map, length, IfOk, OnOk};
+ghost use Rattle.std.specs.Prelude.{◌≡◌, ◌++◌, ◌∷◌, ◌≤◌, ◌<◌, true, [], map, length, codes, IfOk, OnOk};
 ghost use Rattle.std.specs.List.{flat_map};
+ghost use Rattle.std.specs.Fmt.{decimal};
 ghost use Rattle.path_tree.specs.Texts.{is_name};
 ghost use Rattle.session_script.specs.Scripts.{Open};
 ghost use Rattle.session_script.specs.Parts.{act_of};
@@ -50,13 +51,21 @@ fn file_path(alloc: Global, editor: u32, file: u32) -> Result<Path, NoMemory>
     requires file { file < 32 }
     ensures { IfOk result (λ path. path ≡ specs.file_path editor file) }
 {
+    let folder = folder_path(alloc, editor)?;
+    let name = format!(in alloc; "f{file}")?;
+    entry(&folder, name.as_str())
+}
+
+/// The path of an editor's folder.
+fn folder_path(alloc: Global, editor: u32) -> Result<Path, NoMemory>
+    requires { editor ≤ 16 }
+    ensures { IfOk result (λ path. path ≡ (codes "e" ++ decimal editor) ∷ []) }
+{
     let Ok(root) = Path::parse(alloc, b"/") else {
         return Err(AllocError);
     };
-    let folder = format!(in alloc; "e{editor}")?;
-    let name = format!(in alloc; "f{file}")?;
-    let folder = entry(&root, folder.as_str())?;
-    entry(&folder, name.as_str())
+    let name = format!(in alloc; "e{editor}")?;
+    entry(&root, name.as_str())
 }
 
 /// An editor puts one of its files.

@@ -44,15 +44,7 @@ pub fn board<S: Numbered, R: Wait>(
         front,
         most,
     };
-    let (posted, spare) = (shown.share()?, shown.share()?);
-    let Ok(mut viewers) = Vec::with_capacity(alloc, readers as usize) else {
-        return Err(AllocError);
-    };
-    let writer = Desk::new(alloc, posted, spare, readers.max(1) as usize)?;
-    let Some(writer) = named(rt, writer) else {
-        return Err(AllocError);
-    };
-    let Some(writer) = seat_all(rt, writer, &shown, readers, &mut viewers) else {
+    let Ok((writer, viewers)) = seated(rt, alloc, &shown, readers) else {
         return Err(AllocError);
     };
     let shower = Shower {
@@ -63,6 +55,49 @@ pub fn board<S: Numbered, R: Wait>(
         spent: false,
     };
     Ok((shower, viewers))
+}
+
+/// The writer of a board that shows `shown`, and its viewers.
+fn seated<S: Numbered, R: Wait>(
+    rt: &R,
+    alloc: Global,
+    shown: &Shown<S>,
+    readers: u32,
+) -> Result<(Desk<S>, Vec<Viewer<S>>), AllocError>
+    requires { readers ≤ 64 }
+    ensures shown { IfOk result (λ made. (made.0.desk.shown.value.front.seen ≡ shown.now.front.seen) × (made.0.desk.shown.value.most ≡ shown.now.most)) }
+    ensures idle { IfOk result (λ made. drop made.0.behind made.0.log.items ≡ []) }
+    ensures count { IfOk result (λ made. length made.1.items ≡ readers) }
+    ensures viewers { IfOk result (λ made. Each (IsSeated shown.now.front shown.now.most) made.1.items) }
+{
+    let Ok(mut viewers) = Vec::with_capacity(alloc, readers as usize) else {
+        return Err(AllocError);
+    };
+    let writer = desk(rt, alloc, shown, readers)?;
+    let Some(writer) = seat_all(rt, writer, shown, readers, &mut viewers) else {
+        return Err(AllocError);
+    };
+    Ok((writer, viewers))
+}
+
+/// The writer of a board that shows `shown`, with the board's name.
+fn desk<S: Numbered, R: Wait>(
+    rt: &R,
+    alloc: Global,
+    shown: &Shown<S>,
+    readers: u32,
+) -> Result<Desk<S>, AllocError>
+    requires { readers ≤ 64 }
+    ensures name { IfOk result (λ w. view w.desk.place ≡ name_of w.desk.shown.value) }
+    ensures shown { IfOk result (λ w. (w.desk.shown.value.front.seen ≡ shown.now.front.seen) × (w.desk.shown.value.most ≡ shown.now.most)) }
+    ensures idle { IfOk result (λ w. drop w.behind w.log.items ≡ []) }
+{
+    let (posted, spare) = (shown.share()?, shown.share()?);
+    let writer = Desk::new(alloc, posted, spare, readers.max(1) as usize)?;
+    let Some(writer) = named(rt, writer) else {
+        return Err(AllocError);
+    };
+    Ok(writer)
 }
 
 /// A new book whose list has the first value.
