@@ -12,6 +12,8 @@ use crate::receiver::{PACKET, Path, crc, is_name};
 
 const BLOCK: usize = 4066;
 const ROOM: usize = 65_536;
+/// The module ids of a group, each of which has a DII of its own.
+const GROUP: usize = 139;
 const MOST_NAMES: usize = 16;
 const PAYLOAD: usize = 184;
 
@@ -97,6 +99,10 @@ fn place(objects: &mut [Object<'_>]) {
 
 // Objects as bytes
 
+fn group_of(module: usize) -> u32 {
+    1 + (module as u32 - 1) / GROUP as u32
+}
+
 fn reference(out: &mut Vec<u8>, kind: &[u8; 4], carousel: u32, module: usize, key: usize) {
     out.extend([0, 0, 0, 4]);
     out.extend(kind);
@@ -105,7 +111,9 @@ fn reference(out: &mut Vec<u8>, kind: &[u8; 4], carousel: u32, module: usize, ke
     out.extend((module as u16).to_be_bytes());
     out.extend([1, 0, 4]);
     out.extend((key as u32).to_be_bytes());
-    out.extend([0x49, 0x53, 0x4F, 0x40, 18, 1, 0, 0, 0, 0x16, 0, 1, 10, 0, 1, 0x80, 0, 0, 2, 0xFF, 0xFF, 0xFF, 0xFF]);
+    out.extend([0x49, 0x53, 0x4F, 0x40, 18, 1, 0, 0, 0, 0x16, 0, 1, 10, 0, 1]);
+    out.extend((0x8000_0000 + 2 * group_of(module)).to_be_bytes());
+    out.extend([0xFF; 4]);
 }
 
 fn message(out: &mut Vec<u8>, kind: &[u8; 4], key: usize, info: &[u8], body: usize) {
@@ -188,15 +196,16 @@ fn dsi(carousel: u32) -> Vec<u8> {
     section(0x3B, 0, [0xC1, 0, 0], 0x1006, 0x8000_0000, &body, &[])
 }
 
-fn dii(carousel: u32, modules: &[Vec<u8>]) -> Vec<u8> {
-    let number = 0x8001_0003u32;
+/// The DII of the group whose modules these are, the first of them under this id.
+fn dii(carousel: u32, first: usize, modules: &[Vec<u8>]) -> Vec<u8> {
+    let number = 0x8001_0001 + 2 * group_of(first);
     let mut body = Vec::new();
     body.extend(carousel.to_be_bytes());
     body.extend((BLOCK as u16).to_be_bytes());
     body.extend([0; 12]);
     body.extend((modules.len() as u16).to_be_bytes());
-    for (place, module) in modules.iter().enumerate() {
-        body.extend((place as u16 + 1).to_be_bytes());
+    for (id, module) in (first as u16..).zip(modules) {
+        body.extend(id.to_be_bytes());
         body.extend((module.len() as u32).to_be_bytes());
         body.extend([1, 21]);
         body.extend([0xFF; 8]);
@@ -274,6 +283,13 @@ impl<W: Write> Mux<W> {
     }
 }
 
+fn send_diis<W: Write>(mux: &mut Mux<W>, carousel: u32, modules: &[Vec<u8>]) -> io::Result<()> {
+    for (place, group) in modules.chunks(GROUP).enumerate() {
+        mux.send(&dii(carousel, 1 + place * GROUP, group))?;
+    }
+    Ok(())
+}
+
 fn send_blocks<W: Write>(mux: &mut Mux<W>, carousel: u32, id: u16, module: &[u8]) -> io::Result<()> {
     for number in 0..module.len().div_ceil(BLOCK) {
         mux.send(&block(carousel, id, number, module))?;
@@ -291,11 +307,11 @@ pub fn publish(folder: &str, carousel: u32, cycles: u32, out: impl Write) -> io:
     let mut mux = Mux { out, counter: 0, tail: 0, held: Vec::new() };
     for _ in 0..cycles {
         mux.send(&dsi(carousel))?;
-        mux.send(&dii(carousel, &modules))?;
+        send_diis(&mut mux, carousel, &modules)?;
         for (place, module) in modules.iter().enumerate() {
             send_blocks(&mut mux, carousel, place as u16 + 1, module)?;
         }
-        mux.send(&dii(carousel, &modules))?;
+        send_diis(&mut mux, carousel, &modules)?;
         send_blocks(&mut mux, carousel, 1, &modules[0])?;
     }
     mux.finish()

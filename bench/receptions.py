@@ -151,6 +151,7 @@ def edited(files, chance):
     return files
 
 
+# The modules of these receptions, which have one DII; many.py has those with several.
 ONE_GROUP = range(1, streams.MOST_LINES + 1)
 
 

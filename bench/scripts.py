@@ -238,6 +238,40 @@ def edits_at_random(number):
     return [*lines, b"settle", *(b"finale 1 " + path for path in (b"/", *paths))]
 
 
+# Scripts of files each of which has a module of its own, so many that several DIIs list them.
+
+def some_draws(chance):
+    """Draws of a generation's first items, in any of which packets may be lost, and mostly of the rest of its cycle."""
+    first = [b"draw %d" % chance.choice([1, 1, 1, 2, 3]) for _ in range(chance.choice([0, 2, 3, 4]))]
+    rest = chance.choice([[], [b"draw %d" % chance.randrange(1, 900)], [b"draw 1048576"], [b"draw 1048576 k%d d%d" % (chance.randrange(900, 9000), chance.choice([1, 16, 60]))]])
+    return [draw + chance.choice([b"", b"", b"", b" d60", b" k24 d1"]) for draw in first] + rest
+
+
+def in_groups(number):
+    """A script of commits of which each puts, changes or removes a few of these files; DIIs are lost on the way, and others aren't."""
+    chance = random.Random(f"groups {number}")
+    names = [b"/f%03d" % n for n in range(chance.choice([138, 139, 140, 141, 150, 277, 278, 279, 290]))]
+
+    def put(name):
+        return b"fill 1 %s %d %d" % (name, chance.choice([65_493, 65_493, 65_493, 65_492, 70_000, 10]), chance.randrange(256))
+
+    lines = [*(b"fill 1 %s 65493 %d" % (name, n % 256) for n, name in enumerate(names)), b"commit 1", b"draw 1048576", b"start"]
+    for _ in range(chance.choice([2, 4, 6])):
+        kind = chance.choice(["nothing", "nothing", "few", "few", "last go", "more"])
+        if kind == "few":
+            lines += [put(name) for name in chance.sample(names, chance.choice([1, 2, 5]))]
+        if kind == "last go":
+            gone = names[-chance.choice([1, 2, 11, 13]):]
+            lines += [b"remove 1 " + name for name in gone]
+            names = names[:-len(gone)]
+        if kind == "more":
+            more = [b"/g%03d%d" % (n, len(lines)) for n in range(chance.choice([1, 2, 12]))]
+            lines, names = [*lines, *map(put, more)], [*names, *more]
+        asked = [*chance.sample(names, 3), names[0], names[-1], b"/"]
+        lines += [b"commit 1", *(line for draw in some_draws(chance) for line in [draw, *(b"open 1 " + path for path in asked)])]
+    return [*lines, b"settle", *(b"finale 1 " + path for path in [b"/", *chance.sample(names, 5), names[-1]])]
+
+
 # Scripts at the limits. Each is large, or takes a while.
 
 def limits():
@@ -250,8 +284,8 @@ def limits():
     full = [*names[:3120], b"put 1 /d/%s -" % (b"y" * 140), b"commit 1"]
     over = [b"remove 1 /d/" + b"y" * 140, b"put 1 /d/%s -" % (b"y" * 141), b"commit 1"]
     yield "a folder", [*full, *over, *names, b"commit 1", b"draw 1048576 k400 d1", b"open 1 /d", b"draw 1048576", b"open 1 /d"]
-    modules = [b"fill 1 /%d 65493 %d" % (n, n % 256) for n in range(139)]
-    yield "modules", [*modules, b"commit 1", *modules[1:], b"commit 1", b"draw 1048576", b"open 1 /138"]
+    modules = [b"fill 1 /%d 65493 %d" % (n, n % 256) for n in range(2224)]
+    yield "modules", [*modules, b"commit 1", *modules[1:], b"commit 1", b"draw 1048576", b"open 1 /138", b"open 1 /2223"]
     yield "a file", [b"fill 1 /a 16777217 0", b"commit 1", b"fill 1 /a 16777216 0", b"commit 1", b"draw 1048576", b"finale 1 /a"]
     yield "generations", [*[b"commit 1"] * 16_384, b"draw 1", b"put 1 /a -", b"commit 1", b"draw 1048576", b"open 1 /"]
     # fifteen files of 16,777,216 bytes and one of 16,775,150 have 268,435,456 bytes with their headers

@@ -7,8 +7,8 @@ import shutil
 
 DEEP = [b"%d" % n for n in range(1, 17)]
 # Folders of files each of which fits: by the name, so many files, of so many bytes, and what their names end with.
-LARGE = {"modules": (139, 65_500, ""), "objects": (8_190, 0, ""), "names": (3_122, 0, "n" * 250)}
-VERY_LARGE = {"bytes": (16, 16_777_216, ""), "journal": (33, 16_777_216, "")}
+LARGE = {"objects": (8_190, 0, ""), "names": (3_122, 0, "n" * 250)}
+VERY_LARGE = {"modules": (2_224, 65_500, ""), "bytes": (16, 16_777_216, ""), "journal": (33, 16_777_216, "")}
 
 # Files and folders with other modes, and the path that can't be read then.
 DOORS = [("d/x", 0o000, "/d/x"), ("a", 0o200, "/a"), ("d", 0o000, "/d"), ("d", 0o444, "/d"), ("d", 0o311, "/d"), (".", 0o000, "/")]

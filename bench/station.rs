@@ -84,11 +84,11 @@ fn laid_out(carousel: u32, tree: &[(Path, Bytes)]) -> Vec<u8> {
         let name = path.last().unwrap();
         folder.extend([1, name.len() as u8 + 1]);
         folder.extend(name);
-        folder.extend(b"\0\x04fil\0\x01\0\0\0\x04fil\0\0\0\0\x01ISO\x06\0\0\0\x28\0\x02ISOP\x0A");
+        folder.extend(b"\0\x04fil\0\x01\0\0\0\x04fil\0\0\0\0\x01ISO\x06\0\0\0\x2B\0\x02ISOP\x0D");
         folder.extend(carousel.to_be_bytes());
         folder.extend(b"\0\x01\x01\0\x04");
         folder.extend(key.to_be_bytes());
-        folder.extend(b"ISO@\x12\x01\0\0\0\x16\0\x01\x0A\0\x01\x80\0\0\0\xFF\xFF\xFF\xFF\0\x08");
+        folder.extend(b"ISO@\x12\x01\0\0\0\x16\0\x01\x0A\0\x01\x80\0\0\x02\xFF\xFF\xFF\xFF\0\x08");
         folder.extend((bytes.len() as u64).to_be_bytes());
     }
     let mut module = Vec::new();

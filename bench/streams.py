@@ -26,8 +26,8 @@ BLOCK = 4066
 ROOM = 65536
 MOST_LINES = 139
 MOST_GROUPS = 16
-# What the program places objects in: the modules of one DII.
-MOST_MODULES = MOST_LINES
+# What the program places objects in: the modules of all DIIs.
+MOST_MODULES = MOST_LINES * MOST_GROUPS
 # What a tree has at the path of a kept folder.
 KEPT = None
 # The items of a cycle: the DSI, (DII, group) for each DII, and (module, block).

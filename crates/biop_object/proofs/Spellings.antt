@@ -109,8 +109,8 @@ bound_reads w kind info t e four_of small i =
     let reference : List ℕ = iors.spelling kind w.location in
     let id_length : length id ≡ length w.name + 1 = length-append w.name (0 ∷ []) in
     let whole = regroup_binding (1 ∷ (length w.name + 1) ∷ w.name) (0 ∷ []) (4 ∷ kind) (t ∷ reference) (two_bytes (length info)) info in
-    let form : iors.IsWritten (iors.written_form kind w.location) w.location = record { form = refl; four = four_of; key = e.location.0 } in
-    let target = written_reads kind w.location form (record { carousel = e.location.1; module_id = e.location.2 }) in
+    let form : iors.IsWritten (iors.written_form kind w.location) w.location = record { form = refl; four = four_of; key = e.location.0; listed = e.listed } in
+    let target = written_reads kind w.location form (record { carousel = e.location.1; module_id = omega (arith, e.listed.1) }) in
     subst (λ (s : List ℕ). Reads binding s (named w.name)) (sym whole)
     (put 1 (1 ∷ []) _ ((omega arith, refl), refl) (put id ((length w.name + 1) ∷ id) _ (omega (arith, id_length, e.name.1), ap (λ (n : ℕ). n ∷ id) (sym id_length))
     (put kind (4 ∷ kind) _ (omega (arith, four_of), ap (λ (n : ℕ). n ∷ kind) (sym four_of)) (put t (t ∷ []) _ (small, refl) (put (iors.written_form kind w.location) reference _ target
@@ -178,7 +178,7 @@ folder_body entries all few =
     put (length entries) (two_bytes (length entries)) (lines_of entries) (few, refl) (put_end (map binding_of entries) (lines_of entries) (record { count = length-map entries binding_of; each = lines_read entries all }) (refl, refl))
 
 are_entries : (entries : List Written) → All IsSpellableEntry entries → All IsEntry entries
-are_entries entries all i w lt = record { name = (all i w lt).name; key = (all i w lt).location.0 }
+are_entries entries all i w lt = record { name = (all i w lt).name; key = (all i w lt).location.0; listed = (all i w lt).listed }
 
 spellable_reads : (place : ℕ) (kind : FolderKind) (key : List ℕ) (entries : List Written) → length key ≡ 4 → All IsSpellableEntry entries → folder_size entries ≤ 1048576
     → ReadsObject place (folder_spelling kind key entries) (record { key = key; shape = IsFolder (map binding_of entries) })
@@ -192,7 +192,7 @@ spellable_reads place kind key entries k all small =
 pub folder_reads : (place : ℕ) (kind : FolderKind) (key : List ℕ) (entries : List Written) → length key ≡ 4 → All IsEntry entries → All (λ w. iors.IsLocation w.location) entries → folder_size entries ≤ 1048576
     → ReadsObject place (folder_spelling kind key entries) (record { key = key; shape = IsFolder (map binding_of entries) })
 folder_reads place kind key entries k all room small =
-    spellable_reads place kind key entries k (λ i w lt. record { name = (all i w lt).name; location = ((all i w lt).key, (room i w lt).carousel, (room i w lt).module_id) }) small
+    spellable_reads place kind key entries k (λ i w lt. record { name = (all i w lt).name; location = ((all i w lt).key, (room i w lt).carousel); listed = (all i w lt).listed }) small
 
 pub folder_is : (kind : FolderKind) (key : List ℕ) (entries : List Written) (size : ℕ) → length key ≡ 4 → All IsEntry entries → size ≡ folder_size entries
     → biop_prefix key (kind_of kind) [] (size - 32) ++ two_bytes (length entries) ++ lines_of entries ≡ folder_spelling kind key entries

@@ -2,6 +2,7 @@
 use Rattle.std.specs.Prelude.{◌≡◌, ◌≢◌, ℕ, ◌+◌, ◌<◌, ◌≤◌, List, [], ◌∷◌, ◌++◌, length, Option, Some, None, Bool, true, false, ◌||◌, ◌-◌, take, drop, if◌then◌else◌}
 use Rattle.std.specs.List.{flat_map, sum_by}
 use Rattle.oc_bytes.specs.Numbers.{two_bytes, four_bytes, eight_bytes}
+use Rattle.module_groups.specs.declared.TheConstants.{GREATEST_ID}
 use Rattle.ior_tap.specs.Iors as iors
 use Rattle.ior_tap.specs.declared.Location.{Location}
 use Rattle.biop_object.specs.declared.module.Binding.{Binding}
@@ -204,3 +205,4 @@ folder_size entries = FOLDER_FRONT + sum_by binding_size entries
 pub record IsEntry (w : Written) : Type 0 where
   pub name : (1 ≤ length w.name) × (length w.name ≤ 254)
   pub key : length w.location.key ≡ 4
+  pub listed : (1 ≤ w.location.module) × (w.location.module ≤ GREATEST_ID)

@@ -1,6 +1,7 @@
 -- Objects to be written, one after another, and what their spellings are read as.
 use Rattle.std.specs.Prelude.{◌≡◌, ℕ, ◌+◌, ◌<◌, ◌≤◌, List, [], ◌∷◌, length, map, None}
 use Rattle.std.specs.List.{All, flat_map}
+use Rattle.module_groups.specs.declared.TheConstants.{GREATEST_ID}
 use Rattle.biop_object.specs.declared.written.Written.{Written}
 use Rattle.biop_object.specs.declared.written.FolderKind.{FolderKind}
 use Rattle.biop_object.specs.Objects.{Object, IsFile, IsFolder, binding_of, file_spelling, folder_spelling}
@@ -29,7 +30,8 @@ spelled_objects at (s ∷ ss) = spelled_object at s ∷ spelled_objects (at + le
 
 pub record IsSpellableEntry (w : Written) : Type 0 where
   pub name : (1 ≤ length w.name) × (length w.name ≤ 254)
-  pub location : (length w.location.key ≡ 4) × (w.location.carousel < 4294967296) × (w.location.module < 65536)
+  pub location : (length w.location.key ≡ 4) × (w.location.carousel < 4294967296)
+  pub listed : (1 ≤ w.location.module) × (w.location.module ≤ GREATEST_ID)
 
 abbrev pub IsSpellable : Spelled → Type 0
 IsSpellable (AFile key content) = (length key ≡ 4) × (length content ≤ MOST_CONTENT)

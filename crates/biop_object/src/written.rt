@@ -3,6 +3,7 @@
 ghost use Rattle.std.specs.Prelude.{◌≡◌, ◌≤◌, ◌<◌, ◌+◌, ◌∷◌, [], ◌++◌, ℕ, length, map, take, IfOk, OnOk, MatchOption, IsErrOf};
 ghost use Rattle.std.specs.List.{All, flat_map};
 ghost use Rattle.ior_tap.specs.Iors.{IsLocation, spelling};
+ghost use Rattle.module_groups.specs.declared.TheConstants.{GREATEST_ID};
 ghost use Rattle.biop_object.specs.Objects.{ReadsObject, IsFile, IsFolder, IsEntry, binding_of, file_spelling, folder_spelling, biop_prefix, kind_of, binding_spelling, binding_size, folder_size};
 ghost use Rattle.biop_object.specs.declared.written.ObjectFault.TheVariants.{NoMemory as OutOfMemory};
 ghost use Rattle.path_tree.specs.declared.tree.TheConstants.{MOST_CONTENT};
@@ -63,7 +64,7 @@ pub struct Written {
     pub name: Name,
     /// What it leads to.
     pub bound: Bound,
-    /// Where that object lies; its key has 4 bytes.
+    /// Where that object lies; its key has 4 bytes, and its module is 1 to [`module_groups::GREATEST_ID`].
     pub location: Location,
 }
 
@@ -120,8 +121,9 @@ fn file_bytes(alloc: Global, key: &Key, content: &[u8]) -> Result<Vec<u8>, NoMem
 /// The one spelling of a folder as a BIOP message: [`FOLDER_FRONT`] bytes, and for each binding the bytes of its name and
 /// [`FILE_BINDING`] more for a file, [`FOLDER_BINDING`] more for a directory.
 ///
-/// The key has 4 bytes, each name 1 to 254, and the key of each location 4. The bindings stand in the order of the
-/// entries; the objectInfo is empty, no service context is written, and the sizes are exact. `TooLarge` comes exactly
+/// The key has 4 bytes, each name 1 to 254, and the key of each location 4; each location's module is 1 to
+/// [`module_groups::GREATEST_ID`]. The bindings stand in the order of the entries, each with the tap of its location's module; the
+/// objectInfo is empty, no service context is written, and the sizes are exact. `TooLarge` comes exactly
 /// where the message would have more than [`MOST_FOLDER_SIZE`] bytes, and memory is asked for only where it hasn't.
 /// (ISO/IEC 13818-6, clause 11.3.2.2; ETSI TR 101 202, clauses 4.7.4.1 and 4.7.4.3.)
 #[tactic(auto, using(crate::proofs::Spellings::folder_length, crate::proofs::Spellings::folder_reads))]
@@ -278,6 +280,7 @@ fn put_target(
 ) -> Result<(), NoMemory>
     requires kind { length kind.now ≡ 4 }
     requires key { length location.now.key ≡ 4 }
+    requires listed { (1 ≤ location.now.module) × (location.now.module ≤ GREATEST_ID) }
     ensures put { OnOk result (out.new ≡ out.old ++ kind.now ++ binding_type ∷ spelling kind.now location.now) }
     ensures room { OnOk result (IsLocation location.now) }
 {

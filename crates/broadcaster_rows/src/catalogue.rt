@@ -5,7 +5,7 @@ ghost use Rattle.std.specs.List.{All, Contains};
 ghost use Rattle.generation.specs.Layouts.{items_of};
 
 use crate::journals::outcome_text;
-use crate::texts::each;
+use crate::texts::{answered, each};
 use crate::words::edits;
 use cycle_planner::{GREATEST_ID, Item, MOST_DRAWN, Weigh};
 use generation::Generation;
@@ -63,11 +63,6 @@ fn deed(line: Line, row: &Row<'_>, place: usize, catalogue: &mut Catalogue) -> L
         "entry" => answered(line, entry(row, after, catalogue)),
         _ => line,
     }
-}
-
-/// Puts an answer in brackets behind what stands.
-fn answered(line: Line, answer: Line) -> Line {
-    line.between(" ").line("[", answer).text("]")
 }
 
 /// The editor and the edits of the commit that begins at a place.

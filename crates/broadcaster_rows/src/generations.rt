@@ -34,6 +34,7 @@ impl Generations {
             "generation-new" => Some(self.keep(row, Generation::first(alloc, row.long(0)))),
             "generation-files" => Some(self.put_edits(alloc, row, &files(alloc, row))),
             "generation-folders" => Some(self.put_edits(alloc, row, &folders(alloc, row))),
+            "generation-tree" => Some(self.put_edits(alloc, row, &edits(alloc, row, 0))),
             "generation-edit" => Some(self.edit(alloc, row)),
             "limit-folder" => Some(folder_limit(alloc, row)),
             "limit-modules" => Some(modules_limit(row)),

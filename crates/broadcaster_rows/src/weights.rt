@@ -1,14 +1,14 @@
-//! What is asked under weights: module 1 is sent twice a cycle, and every other one once.
-ghost use Rattle.std.specs.Prelude.{◌≡◌, ◌==◌, if◌then◌else◌};
+//! What is asked under weights: one of module 1, and one of every other module.
+ghost use Rattle.std.specs.Prelude.{◌≡◌, ◌≤◌, ◌==◌, if◌then◌else◌};
 
 use crate::generations::Generations;
 use crate::{cycle, world};
 use carousel_world::World;
-use cycle_planner::{GREATEST_ID, Weigh};
+use cycle_planner::{GREATEST_ID, GREATEST_WEIGHT, Weigh};
 use std::alloc::Global;
 use test_rows::{Line, Row, RowFault};
 
-/// What a row asks.
+/// What a row asks. Its first two words are the weight of module 1 and that of each other module, 1 to 8.
 #[derive(Clone, Copy, Drop)]
 enum Question {
     /// `cycle-length`: how many items the cycle has of the generation that was made last.
@@ -17,7 +17,7 @@ enum Question {
     Places,
     /// `cycle-walk`: the items of a walk through it, and `end` where it has no next one.
     Walk,
-    /// `world EDITOR PATH BYTES ITEMS READER`: what happens in a new world.
+    /// `world` and events: what happens in a new world.
     World,
 }
 
@@ -32,15 +32,29 @@ pub(crate) fn call(alloc: Global, row: &Row<'_>, generations: &Generations) -> O
     }
 }
 
+/// The weight that the word at a place says, or 1.
+fn weight(row: &Row<'_>, place: usize) -> u8
+    ensures { (1 ≤ result) × (result ≤ 8) }
+{
+    let weight = row.byte(place);
+    if weight < 1 || weight > GREATEST_WEIGHT {
+        row.fail(RowFault::BadRow);
+        return 1;
+    }
+    weight
+}
+
 /// The answer under the weights. What holds them doesn't leave this function, since it holds a boxed closure.
 fn weighed(alloc: Global, row: &Row<'_>, generations: &Generations, question: Question) -> Line {
-    let mut weights = [1; GREATEST_ID];
-    weights[0] = 2;
+    let first = weight(row, 0);
+    let others = weight(row, 1);
+    let mut weights = [others; GREATEST_ID];
+    weights[0] = first;
     let call = Box::new(
         alloc,
-        |id: u16| -> u8
-            ensures { result ≡ (if id == 1 then 2 else 1) }
-        { if id == 1 { 2 } else { 1 } },
+        move |id: u16| -> u8
+            ensures { result ≡ (if id == 1 then first else others) }
+        { if id == 1 { first } else { others } },
     );
     let Ok(call) = call else {
         return row.failed(RowFault::NoMemory);

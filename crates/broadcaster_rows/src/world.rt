@@ -4,26 +4,37 @@ ghost use Rattle.std.specs.List.{All};
 ghost use Rattle.carousel_world.specs.Events.{view};
 ghost use Rattle.carousel_world.specs.World.{InRange};
 
-use crate::texts::{Told, answer_text, each};
-use crate::words::{path, put};
-use carousel_world::{Event, Reply, World};
+use crate::texts::{Told, answer_text, answered, each};
+use crate::words::{edits, path};
+use carousel_world::{Event, Fate, Reply, World};
 use cycle_planner::MOST_DRAWN;
 use path_resolver::Answer;
 use path_tree::Edits;
 use std::alloc::{AllocError, Global};
 use test_rows::{Line, Row, RowFault};
 
-/// What the events of a row reply in a world: the editor, the path and the bytes of a commit, how many items are drawn then, and the
-/// reader who opens the path. The draw is in a list of its own.
+/// What each event of a row replies in a world: `commit` with an editor and edits, `draw` and `lose` with the number of items, and `open`
+/// with a reader and a path. Each packet of `lose` is lost. A draw is in a list of its own.
 pub(crate) fn replies(alloc: Global, row: &Row<'_>, world: &mut World) -> Line {
-    let committed = stepped(row, world, commit(alloc, row));
-    let drawn = ran(row, world, draws(alloc, row));
-    let opened = stepped(row, world, open(alloc, row));
-    row.line()
-        .line("[", committed)
-        .line("] [", drawn)
-        .line("] [", opened)
-        .text("]")
+    let mut line = row.line();
+    for place in 2..row.len() {
+        if let Some(reply) = reply(alloc, row, place, world) {
+            line = answered(line, reply);
+        }
+    }
+    line
+}
+
+/// What the event replies that begins at a place, if one does.
+fn reply(alloc: Global, row: &Row<'_>, place: usize, world: &mut World) -> Option<Line> {
+    let after = place.saturating_add(1);
+    match row.text(place) {
+        "commit" => Some(stepped(row, world, commit(alloc, row, after))),
+        "draw" => Some(ran(row, world, draws(alloc, row, after, false))),
+        "lose" => Some(ran(row, world, draws(alloc, row, after, true))),
+        "open" => Some(stepped(row, world, open(alloc, row, after))),
+        _ => None,
+    }
 }
 
 /// What an event replies.
@@ -60,46 +71,52 @@ fn replies_text(row: &Row<'_>, replies: Result<Vec<Reply>, AllocError>) -> Line 
     }
 }
 
-fn commit(alloc: Global, row: &Row<'_>) -> Result<Event, RowFault>
+fn commit(alloc: Global, row: &Row<'_>, place: usize) -> Result<Event, RowFault>
     ensures { IfOk result (λ e. InRange (view e)) }
 {
-    let editor = row.long(0);
+    let editor = row.long(place);
     if editor < 1 || editor > 64 {
         return Err(RowFault::BadRow);
     }
-    let edits = vec![in alloc; put(alloc, row, 1)?]?;
     Ok(Event::Commit {
         editor,
-        edits: Edits::new(edits),
+        edits: Edits::new(edits(alloc, row, place.saturating_add(1))),
     })
 }
 
-/// A list of one draw.
-fn draws(alloc: Global, row: &Row<'_>) -> Result<Vec<Event>, RowFault>
+/// A list of one draw, of which each packet is lost or none is.
+fn draws(alloc: Global, row: &Row<'_>, place: usize, is_lost: bool) -> Result<Vec<Event>, RowFault>
     ensures { IfOk result (λ es. All InRange (map view es.items)) }
 {
-    let asked = row.long(3);
+    let asked = row.long(place);
     if asked < 1 || asked > MOST_DRAWN {
         return Err(RowFault::BadRow);
     }
+    let fates = fates(alloc, row, is_lost);
     let mut events = Vec::new(alloc);
-    events.push(Event::Draw {
-        asked,
-        fates: Vec::new(alloc),
-    })?;
+    events.push(Event::Draw { asked, fates })?;
     Ok(events)
 }
 
-fn open(alloc: Global, row: &Row<'_>) -> Result<Event, RowFault>
+/// The fates of a draw's packets: that each is lost, or none.
+fn fates(alloc: Global, row: &Row<'_>, is_lost: bool) -> Vec<Fate> {
+    let mut fates = Vec::new(alloc);
+    if is_lost {
+        row.push(&mut fates, Fate::Lose);
+    }
+    fates
+}
+
+fn open(alloc: Global, row: &Row<'_>, place: usize) -> Result<Event, RowFault>
     ensures { IfOk result (λ e. InRange (view e)) }
 {
-    let reader = row.long(4);
+    let reader = row.long(place);
     if reader < 1 || reader > 64 {
         return Err(RowFault::BadRow);
     }
     Ok(Event::Open {
         reader,
-        path: path(alloc, row, 1)?,
+        path: path(alloc, row, place.saturating_add(1))?,
     })
 }
 

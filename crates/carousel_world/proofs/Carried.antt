@@ -1,5 +1,5 @@
 -- A reception in which a block is carried over a turn meets the premises.
-use Rattle.std.proofs.Common.{◌≡◌, ℕ, zero, suc, ◌<◌, true, false, List, [], ◌∷◌, take, Some, refl, ap, sym, subst, slice_get, slice_index_or, IsTrue, arith, lit<, lit≤}
+use Rattle.std.proofs.Common.{◌≡◌, ℕ, zero, suc, ◌<◌, true, false, List, [], ◌∷◌, take, Some, refl, ap, sym, ◌∙◌, subst, slice_get, slice_index_or, IsTrue, arith, lit<, lit≤}
 use Rattle.std.proofs.lemmas.Option.{same_Some}
 use Rattle.std.specs.List.{Contains}
 use Rattle.std.specs.Option.{unwrap_or}
@@ -7,6 +7,7 @@ use Rattle.std.proofs.lemmas.List.Elements.{All-nil, All-cons}
 use Rattle.path_tree.specs.Paths.{Bytes}
 use Rattle.path_tree.specs.Trees.{Tree}
 use Rattle.biop_object.specs.Names.{module_in}
+use Rattle.cycle_planner.specs.Cycle.{groups_from}
 use Rattle.cycle_planner.specs.declared.Item.{Item}
 use Rattle.cycle_planner.specs.declared.Item.TheVariants.{Dsi, Dii, Block}
 use Rattle.ddb_block.specs.Message.{message_at}
@@ -24,7 +25,7 @@ use Rattle.carousel_world.specs.Broadcasts.{Broadcast, IsAscribed}
 use Rattle.carousel_world.specs.Premises.{AcceptedAreSent, IsWhole}
 use Rattle.carousel_world.specs.Instances.{tree_of, seven, cycles_with, Reception, carried_of, same_file, IsPremised, Tells, CarryingIsPremised}
 use Rattle.carousel_world.proofs.Instances.{seven_publishable}
-use Rattle.carousel_world.proofs.Premised.{never_back_by, heard_by, its_blocks, one_round}
+use Rattle.carousel_world.proofs.Premised.{cycles_given, never_back_by, heard_by, its_blocks, one_round}
 use Rattle.carousel_world.proofs.Laid.{laid, same_laid}
 
 abbrev pub trees : List Tree
@@ -33,12 +34,16 @@ trees = tree_of seven ∷ tree_of seven ∷ []
 abbrev pub generations : List ℕ
 generations = 1 ∷ 2 ∷ 2 ∷ 2 ∷ []
 
--- what is sent, with the layouts written out
+-- what is sent, with the layouts and the items of a cycle written out
 abbrev pub given : Broadcast
-given = cycles_with (laid seven seven) trees generations
+given = cycles_given (laid seven seven) trees generations (Dsi ∷ Dii 1 ∷ Block 1 0 ∷ Block 1 1 ∷ [])
+
+are_cycles : cycles_with (laid seven seven) trees generations ≡ given
+unfolding groups_from
+are_cycles = refl
 
 same : given ≡ same_file
-same = ap (λ ls. cycles_with ls trees generations) (sym same_laid)
+same = sym are_cycles ∙ ap (λ ls. cycles_with ls trees generations) (sym same_laid)
 
 abbrev pub received : Reception
 received = carried_of given
@@ -132,7 +137,7 @@ both = record {
 premised : LayoutsAreLawful → IsPremised received 2
 premised lawful = record {
   never_back = never_back_by received.numbers refl;
-  heard = heard_by lawful (laid seven seven) trees generations all From same_laid both refl refl refl accepted_are_sent;
+  heard = heard_by lawful (laid seven seven) trees generations given all From same_laid both refl are_cycles refl refl accepted_are_sent;
   whole = whole;
 }
 

@@ -21,7 +21,7 @@ objects_with content =
 abbrev pub layout_with : List Placed → Layout
 layout_with objects = (1, flat_map (object_bytes 1 objects) objects) ∷ []
 
-abbrev pub state_of : ℕ → Tree → List Placed → List (ℕ × ℕ) → GenerationState
+abbrev pub state_of : ℕ → Tree → List Placed → List ℕ → GenerationState
 state_of number t objects counts = record { carousel = 1; number = number; tree = t; objects = objects; layout = layout_with objects; counts = counts }
 
 abbrev pub empty : GenerationState
@@ -29,7 +29,7 @@ empty = state_of 0 [] gateway_before []
 
 -- a generation with such a tree, whose module has changed so often
 abbrev pub generation_with : ℕ → Bytes → ℕ → GenerationState
-generation_with number content count = state_of number (tree_of content) (objects_with content) ((1, count) ∷ [])
+generation_with number content count = state_of number (tree_of content) (objects_with content) (0 ∷ count ∷ [])
 
 abbrev pub laid : Bytes → Bytes → List Layout
 laid a b = layout_with gateway_before ∷ layout_with (objects_with a) ∷ layout_with (objects_with b) ∷ []

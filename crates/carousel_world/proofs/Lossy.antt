@@ -9,6 +9,7 @@ use Rattle.path_tree.specs.Trees.{Tree}
 use Rattle.ts_packet.specs.declared.Fate.{Fate}
 use Rattle.ts_packet.specs.declared.Fate.TheVariants.{Keep, Lose, Flip}
 use Rattle.biop_object.specs.Names.{Layout, module_in}
+use Rattle.cycle_planner.specs.Cycle.{groups_from}
 use Rattle.cycle_planner.specs.declared.Item.{Item}
 use Rattle.cycle_planner.specs.declared.Item.TheVariants.{Dsi, Dii, Block}
 use Rattle.ddb_block.specs.Message.{message_at}
@@ -35,7 +36,7 @@ use Rattle.carousel_world.specs.declared.event.Reply.TheVariants as replies
 use Rattle.carousel_world.specs.Promises.{broadcast_of, group_of, from_of, IsUndamaged}
 use Rattle.carousel_world.specs.Runs.{ones, the_path, puts, lossy_run, RunIsPremised}
 use Rattle.carousel_world.proofs.Instances.{first_content, second_content, first_publishable, second_publishable}
-use Rattle.carousel_world.proofs.Premised.{heard_by, its_blocks, one_round}
+use Rattle.carousel_world.proofs.Premised.{cycles_given, heard_by, its_blocks, one_round}
 use Rattle.carousel_world.proofs.Laid.{generation_with, laid, changed_laid}
 use Rattle.module_packer.specs.Kept.{kept_modules, least_with}
 
@@ -90,7 +91,11 @@ abbrev pub generations : List ℕ
 generations = 1 ∷ 2 ∷ 2 ∷ []
 
 abbrev pub sent : Broadcast
-sent = cycles_with (laid first_content second_content) trees generations
+sent = cycles_given (laid first_content second_content) trees generations (Dsi ∷ Dii 1 ∷ Block 1 0 ∷ [])
+
+are_cycles : cycles_with (laid first_content second_content) trees generations ≡ sent
+unfolding groups_from
+are_cycles = refl
 
 abbrev pub sent_with : List Layout → Broadcast
 sent_with ls = record { carousel = 1; trees = [] ∷ trees; layouts = ls; groups = map group_of after_run.drawings }
@@ -191,7 +196,7 @@ both = record {
 
 undamaged : LayoutsAreLawful → IsUndamaged after_run
 undamaged lawful =
-    let heard : IsHeardOf sent all From = heard_by lawful (laid first_content second_content) trees generations all From changed_laid both refl refl refl accepted_are_sent in
+    let heard : IsHeardOf sent all From = heard_by lawful (laid first_content second_content) trees generations sent all From changed_laid both refl are_cycles refl refl accepted_are_sent in
     record {
       accepted = subst (λ b. AcceptedAreSent b all (FromIn b)) same accepted_are_sent;
       near = subst (λ b. BlocksAreNear b all (FromIn b)) same heard.near;
@@ -229,43 +234,43 @@ abbrev draws_last : Step
 draws_last = Draw 1048576 []
 
 first_committed : happens (initial_world 1 ones) commits_first ≡ committed_once
-unfolding kept_modules least_with
+unfolding kept_modules least_with groups_from
 first_committed = refl
 
 first_drawn : happens committed_once draws_first ≡ drawn_once
-unfolding kept_modules least_with
+unfolding kept_modules least_with groups_from
 first_drawn = refl
 
 second_committed : happens drawn_once commits_second ≡ committed_twice
-unfolding kept_modules least_with
+unfolding kept_modules least_with groups_from
 second_committed = refl
 
 second_drawn : happens committed_twice draws_second ≡ drawn_twice
-unfolding kept_modules least_with
+unfolding kept_modules least_with groups_from
 second_drawn = refl
 
 last_drawn : happens drawn_twice draws_last ≡ after_run
-unfolding kept_modules least_with
+unfolding kept_modules least_with groups_from
 last_drawn = refl
 
 first_number : reply_to (initial_world 1 ones) commits_first ≡ replies.Committed 1
-unfolding kept_modules least_with
+unfolding kept_modules least_with groups_from
 first_number = refl
 
 first_items : reply_to committed_once draws_first ≡ replies.Drawn 1 0 3
-unfolding kept_modules least_with
+unfolding kept_modules least_with groups_from
 first_items = refl
 
 second_number : reply_to drawn_once commits_second ≡ replies.Committed 2
-unfolding kept_modules least_with
+unfolding kept_modules least_with groups_from
 second_number = refl
 
 second_items : reply_to committed_twice draws_second ≡ replies.Drawn 2 0 3
-unfolding kept_modules least_with
+unfolding kept_modules least_with groups_from
 second_items = refl
 
 last_items : reply_to drawn_twice draws_last ≡ replies.Drawn 2 0 3
-unfolding kept_modules least_with
+unfolding kept_modules least_with groups_from
 last_items = refl
 
 first_opened : reply_to drawn_once (Open 1 the_path) ≡ replies.Opened (Some 1) answers.NoCarousel

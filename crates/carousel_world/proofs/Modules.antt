@@ -1,5 +1,5 @@
 -- What follows from the limits of a layout: each of its DIIs is one that every receiver takes.
-use Rattle.std.proofs.Common.{◌≡◌, ◌≢◌, ℕ, zero, suc, ◌+◌, ◌<◌, ◌≤◌, Bool, true, false, not, eqb, leb, List, [], ◌∷◌, map, length, get_or, Some, None, refl, ap, sym, ◌∙◌, subst, arith, ◌-◌, cond, ◌*◌}
+use Rattle.std.proofs.Common.{◌≡◌, ◌≢◌, ℕ, suc, ◌+◌, ◌<◌, ◌≤◌, Bool, true, false, not, eqb, leb, List, [], ◌∷◌, map, length, get_or, Some, None, refl, ap, sym, ◌∙◌, subst, arith}
 use Rattle.std.proofs.lemmas.Bool.{eqb-true, eq-eqb, ne_eqb, le-leb, and_from, or_from, not_from_false}
 use Rattle.std.proofs.lemmas.List.Elements.{All-head, All-tail, All-cons, All-nil, All-map, All-filter}
 use Rattle.std.proofs.lemmas.List.Sums.{sum_by-cons}
@@ -12,11 +12,11 @@ use Rattle.dsi_dii.specs.Controls.{identification_of, version_of}
 use Rattle.dsi_dii.specs.declared.ModuleLine.{ModuleLine}
 use Rattle.biop_object.specs.Names.{Layout, module_in}
 use Rattle.generation.specs.Lawful.{Lawful, IsLayout, layout_at, version_in, dii_in}
-use Rattle.generation.specs.Groups.{group_of, is_in_group, group_in, transaction_of}
+use Rattle.generation.specs.Groups.{group_of, is_in_group, group_in, dii_transaction}
 use Rattle.tuner_core.specs.Limits.{no_id_twice, is_small}
 use Rattle.tuner_core.specs.LookBack.{is_sound}
 use Rattle.tuner_core.specs.Spans.{version}
-use Rattle.generation.proofs.CallerLemmas.{at_layout}
+use Rattle.generation.proofs.CallerLemmas.{at_layout, few_of_group, rising_few}
 
 -- a generation whose layout keeps the limits
 pub record IsSent (carousel : ℕ) (ls : List Layout) (g : ℕ) : Type 0 where
@@ -87,10 +87,10 @@ listed_holds P (n ∷ ns) m b all e = by (eqb n.0 m) refl (listed_holds P ns m b
 
 -- ---- the numbers of a DII
 
-pub number_is : (g j : ℕ) → j ≤ 16 → identification_of (transaction_of g j) ≡ j
+pub number_is : (g j : ℕ) → j ≤ 16 → identification_of (dii_transaction g j) ≡ j
 number_is g j le = omega (arith, le)
 
-pub generation_is : (g j : ℕ) → g < 16384 → j ≤ 16 → version_of (transaction_of g j) ≡ g
+pub generation_is : (g j : ℕ) → g < 16384 → j ≤ 16 → version_of (dii_transaction g j) ≡ g
 generation_is g j lt le = omega (arith, lt, le)
 
 pub group_some : (m : ℕ) → 1 ≤ group_of m
@@ -131,44 +131,9 @@ in_its_group j (n ∷ ns) m b own e = go (eqb (group_of n.0) j) refl (eqb n.0 m)
   go true f true g rest = rw (f, g) (rw g at e)
   go true f false g rest = rw (f, g) (rest (rw g at e))
 
--- ids that rise between two bounds are few
-rising_few : (ms : Layout) (a u : ℕ) → a ≤ u → AllPairs (λ m n. m.0 < n.0) ms → All (λ m. a ≤ m.0) ms → All (λ m. m.0 < u) ms → length ms + a ≤ u
-rising_few [] a u le rising low high = omega (arith, le)
-rising_few (m ∷ ms) a u le rising low high =
-    let here : a ≤ m.0 = All-head (λ m. a ≤ m.0) m ms low in
-    let below : m.0 < u = All-head (λ m. m.0 < u) m ms high in
-    let above : All (λ n. m.0 + 1 ≤ n.0) ms = λ k d inside. let gt : m.0 < (get_or ms k d).0 = rising zero (suc k) d (omega arith) (omega (arith, inside)) in omega (arith, gt) in
-    let rest : length ms + (m.0 + 1) ≤ u = rising_few ms (m.0 + 1) u (omega (arith, below)) (λ i j d lt inside. rising (suc i) (suc j) d (omega (arith, lt)) (omega (arith, inside))) above (All-tail (λ m. m.0 < u) m ms high) in
-    omega (arith, rest, here)
-
-all_of_group : (j : ℕ) (ms : Layout) → All (λ m. group_of m.0 ≡ j) (filter (is_in_group j) ms)
-all_of_group j [] = All-nil (λ m. group_of m.0 ≡ j)
-all_of_group j (m ∷ ms) = go (eqb (group_of m.0) j) refl (all_of_group j ms) where
-  go : (t : Bool) → eqb (group_of m.0) j ≡ t → All (λ m. group_of m.0 ≡ j) (filter (is_in_group j) ms) → All (λ m. group_of m.0 ≡ j) (cond t (m ∷ filter (is_in_group j) ms) (filter (is_in_group j) ms))
-  go true e rest = All-cons (λ m. group_of m.0 ≡ j) m (filter (is_in_group j) ms) (eqb-true _ _ e) rest
-  go false e rest = rest
-
-group_low : (m j : ℕ) → 1 ≤ m → group_of m ≡ j → (j - 1) * 139 + 1 ≤ m
-group_low m j some e = omega (arith, some, e)
-
-group_high : (m j : ℕ) → group_of m ≡ j → m < j * 139 + 1
-group_high m j e = omega (arith, e)
-
+-- as many as a DII has room for
 pub few_in_group : (carousel : ℕ) (ls : List Layout) (g j : ℕ) → IsSent carousel ls g → 1 ≤ j → length (group_in (layout_at ls g) j) ≤ 139
-few_in_group carousel ls g j sent some =
-    let ms = group_in (layout_at ls g) j in
-    let of = all_of_group j (layout_at ls g) in
-    let ones = All-filter (is_in_group j) (λ m. 1 ≤ m.0) (layout_at ls g) sent.from_one in
-    let count : length ms + ((j - 1) * 139 + 1) ≤ j * 139 + 1 =
-    rising_few ms ((j - 1) * 139 + 1) (j * 139 + 1) (bounds j some) (AllPairs-filter (λ m n. m.0 < n.0) (is_in_group j) (layout_at ls g) sent.rising)
-    (λ k d inside. group_low (get_or ms k d).0 j (ones k d inside) (of k d inside)) (λ k d inside. group_high (get_or ms k d).0 j (of k d inside)) in
-    at_most (length ms) j some count
-  where
-    bounds : (j : ℕ) → 1 ≤ j → (j - 1) * 139 + 1 ≤ j * 139 + 1
-    bounds j some = omega (arith, some)
-
-    at_most : (n j : ℕ) → 1 ≤ j → n + ((j - 1) * 139 + 1) ≤ j * 139 + 1 → n ≤ 139
-    at_most n j some le = omega (arith, some, le)
+few_in_group carousel ls g j sent some = few_of_group (layout_at ls g) j (record { rising = sent.rising; from_one = sent.from_one }) some
 
 pub few_modules : (carousel : ℕ) (ls : List Layout) (g : ℕ) → IsSent carousel ls g → length (layout_at ls g) ≤ 2224
 few_modules carousel ls g sent =
@@ -234,8 +199,8 @@ is_taken carousel ls g j sent some few =
     let ms = group_in (layout_at ls g) j in
     let lines = map (line_of (version_in ls g)) ms in
     let total : sum_by (λ (l : ModuleLine). l.size) lines ≤ 268435456 = omega (arith, same_total (version_in ls g) ms, part_of_sum j (layout_at ls g), sent.total) in
-    let other : eqb (identification_of (transaction_of g j)) 0 ≡ false = ne_eqb _ _ (λ e. zero_not (identification_of (transaction_of g j)) j (number_is g j few) e some) in
-    let named : not (eqb (identification_of (transaction_of g j)) 0) ≡ true = ap not other in
+    let other : eqb (identification_of (dii_transaction g j)) 0 ≡ false = ne_eqb _ _ (λ e. zero_not (identification_of (dii_transaction g j)) j (number_is g j few) e some) in
+    let named : not (eqb (identification_of (dii_transaction g j)) 0) ≡ true = ap not other in
     let small : list_all (is_small 4066) lines ≡ true = each_all (is_small 4066) lines
     (All-map (λ l. is_small 4066 l ≡ true) (line_of (version_in ls g)) ms
     (λ k d lt. small_line (version_in ls g) (get_or ms k d) (All-filter (is_in_group j) (λ m. length m.1 ≤ 16842752) (layout_at ls g) sent.sizes k d lt))) in

@@ -1,9 +1,9 @@
 -- Premises of a reception that are found by computing.
-use Rattle.std.proofs.Common.{◌≡◌, ℕ, zero, suc, ◌+◌, ◌<◌, ◌≤◌, Bool, true, false, cond, ◌&&◌, ◌==◌, nat_le, nat_lt, List, [], ◌∷◌, length, map, get_or, Some, None, refl, ap, sym, ◌∙◌, subst, arith}
+use Rattle.std.proofs.Common.{◌≡◌, ℕ, zero, suc, ◌+◌, ◌<◌, ◌≤◌, Bool, true, false, cond, ◌&&◌, ◌==◌, nat_le, nat_lt, List, [], ◌∷◌, length, map, get_or, Some, None, refl, ap, sym, ◌∙◌, subst, arith, inl, inr}
 use Rattle.std.specs.Prelude.{slice_get}
 use Rattle.std.specs.List.{All, AllPairs, Contains, list_all}
 use Rattle.std.proofs.lemmas.Bool.{and_parts, eqb-true, ltb-true, leb-true}
-use Rattle.std.proofs.lemmas.List.Elements.{All-nil, All-cons, All-append, All-map, All-head, All-tail}
+use Rattle.std.proofs.lemmas.List.Elements.{All-nil, All-append, All-map, All-head, All-tail}
 use Rattle.std.proofs.lemmas.List.Sums.{AllPass-from_list_all}
 use Rattle.std.proofs.lemmas.List.{get_or-map, length-map}
 use Rattle.std.proofs.lemmas.Option.{same_Some, slice_get-get_or}
@@ -18,7 +18,7 @@ use Rattle.generation.specs.Layouts.{lines_in}
 use Rattle.generation.specs.Kept.{LayoutsAreLawful, layouts_of}
 use Rattle.generation.specs.Lawful.{Lawful, ArePublishable, HasDii, IsItem, layout_at, section_in}
 use Rattle.carousel_world.specs.Broadcasts.{Broadcast, Sending, sendings_of, sendings, NeverBack}
-use Rattle.generation.proofs.CallerLemmas.{has_one}
+use Rattle.generation.specs.Groups.{group_of}
 use Rattle.carousel_world.specs.Premises.{Ascribed, AcceptedAreSent, BlocksAreNear, HasRound, IsHeardOf}
 use Rattle.carousel_world.specs.Instances.{cycles_with}
 use Rattle.carousel_world.specs.Runs.{ones}
@@ -48,6 +48,15 @@ pairs_by xs e i j d lt inside =
           ∙ ap (λ (n : ℕ). Some n) (get_or-map (λ (s : Sending). s.0) xs k d d.0 below)
 
 -- ---- whole cycles
+
+-- these items of each of these generations
+abbrev pub cycles_given : List Layout → List Tree → List ℕ → List Item → Broadcast
+cycles_given ls trees generations items = record {
+  carousel = 1;
+  trees = [] ∷ trees;
+  layouts = ls;
+  groups = map (λ g. record { generation = g; items = items }) generations;
+}
 
 items_of_groups : (carousel : ℕ) (ls : List Layout) (trees : List Tree) → Lawful carousel ls trees → (gs : List ℕ) → All (λ g. nat_lt g (length ls) ≡ true) gs
     → All (λ s. IsItem ls s.0 s.1) (sendings (record { carousel = carousel; trees = trees; layouts = ls; groups = map (λ g. record { generation = g; items = cycle_of ones (lines_in (layout_at ls g)) }) gs }))
@@ -87,40 +96,47 @@ near_within lo b cs is_from all i j g h block last p q =
     let high : q.1.0 < lo + 256 = (within lo (sendings b) all q.0 q.1 q.3).1 in
     omega (arith, first, next, low, high)
 
--- where these are the layouts that the rules make
-pub heard_by : LayoutsAreLawful → (ls : List Layout) (trees : List Tree) (gs : List ℕ) (cs : List Bytes) (is_from : Ascribed) → layouts_of 1 trees ≡ ls → ArePublishable 1 trees
-    → list_all (λ g. nat_lt g (length ls)) gs ≡ true → is_climbing 0 (map (λ s. s.0) (sendings (cycles_with ls trees gs))) ≡ true
-    → list_all (is_within 0) (sendings (cycles_with ls trees gs)) ≡ true → AcceptedAreSent (cycles_with ls trees gs) cs is_from → IsHeardOf (cycles_with ls trees gs) cs is_from
-heard_by lawful ls trees gs cs is_from laid publishable below climbing few accepted =
+-- where these are the layouts that the rules make, and the broadcast is a whole cycle of each of these generations
+pub heard_by : LayoutsAreLawful → (ls : List Layout) (trees : List Tree) (gs : List ℕ) (b : Broadcast) (cs : List Bytes) (is_from : Ascribed)
+    → layouts_of 1 trees ≡ ls → ArePublishable 1 trees → list_all (λ g. nat_lt g (length ls)) gs ≡ true → cycles_with ls trees gs ≡ b
+    → is_climbing 0 (map (λ s. s.0) (sendings b)) ≡ true → list_all (is_within 0) (sendings b) ≡ true → AcceptedAreSent b cs is_from → IsHeardOf b cs is_from
+heard_by lawful ls trees gs b cs is_from laid publishable below cycles climbing few accepted =
     let l : Lawful 1 ls ([] ∷ trees) = subst (λ x. Lawful 1 x ([] ∷ trees)) laid (lawful 1 trees publishable) in
+    let some : 0 < length ls = omega (arith, l.as_many) in
+    let items = items_of_groups 1 ls ([] ∷ trees) l gs (AllPass-from_list_all (λ g. nat_lt g (length ls)) gs below) in
     record {
-      first = omega (arith, l.as_many);
-      lawful = l;
+      first = subst (λ (c : Broadcast). 0 < length c.layouts) cycles some;
+      lawful = subst (λ (c : Broadcast). Lawful c.carousel c.layouts c.trees) cycles l;
       in_order = record {
-        items = items_of_groups 1 ls ([] ∷ trees) l gs (AllPass-from_list_all (λ g. nat_lt g (length ls)) gs below);
-        order = pairs_by (sendings (cycles_with ls trees gs)) climbing;
+        items = subst (λ (c : Broadcast). All (λ s. IsItem c.layouts s.0 s.1) (sendings c)) cycles items;
+        order = pairs_by (sendings b) climbing;
       };
       accepted = accepted;
-      near = near_within 0 (cycles_with ls trees gs) cs is_from few;
+      near = near_within 0 b cs is_from few;
     }
 
 -- ---- a generation of one module
+
+alone : (bytes : Bytes) (m : ℕ) (x : Bytes) → module_in ((1, bytes) ∷ []) m ≡ Some x → (1 ≡ m) × (x ≡ bytes)
+alone bytes m x e = go (1 == m) refl e where
+  go : (t : Bool) → (1 == m) ≡ t → cond t (Some bytes) None ≡ Some x → (1 ≡ m) × (x ≡ bytes)
+  go true h e = (eqb-true 1 m h, sym (same_Some bytes x e))
+  go false h e = cc
 
 pub its_blocks : (ls : List Layout) (g : ℕ) (bytes : Bytes) (after : List Bytes) (carousel count : ℕ) → layout_at ls g ≡ (1, bytes) ∷ [] → block_count_of (length bytes) 4066 ≡ count
     → ((b : ℕ) → b < count → Contains after (section_in carousel ls g (Block 1 b))) → (m b : ℕ) → IsItem ls g (Block m b) → Contains after (section_in carousel ls g (Block m b))
 its_blocks ls g bytes after carousel count layout is has m b item =
     let there : module_in ((1, bytes) ∷ []) m ≡ Some item.1.0 = subst (λ l. module_in l m ≡ Some item.1.0) layout item.1.1 in
-    let which = only m item.1.0 there in
+    let which = alone bytes m item.1.0 there in
     let below : b < block_count_of (length bytes) 4066 = subst (λ x. b < block_count_of (length x) 4066) which.1 item.1.2 in
-    subst (λ k. Contains after (section_in carousel ls g (Block k b))) which.0 (has b (subst (λ n. b < n) is below)) where
-      only : (m : ℕ) (x : Bytes) → module_in ((1, bytes) ∷ []) m ≡ Some x → (1 ≡ m) × (x ≡ bytes)
-      only m x e = go (1 == m) refl e where
-        go : (t : Bool) → (1 == m) ≡ t → cond t (Some bytes) None ≡ Some x → (1 ≡ m) × (x ≡ bytes)
-        go true h e = (eqb-true 1 m h, sym (same_Some bytes x e))
-        go false h e = cc
+    subst (λ k. Contains after (section_in carousel ls g (Block k b))) which.0 (has b (subst (λ n. b < n) is below))
 
 -- DII 1 is its one DII
 pub one_round : (carousel : ℕ) (ls : List Layout) (g : ℕ) (cs : List Bytes) (bytes : Bytes) → layout_at ls g ≡ (1, bytes) ∷ [] → HasRound carousel ls g 1 cs → (j : ℕ) → HasDii ls g j → HasRound carousel ls g j cs
 one_round carousel ls g cs bytes layout round j has =
-    let few : All (λ m. m.0 ≤ 139) (layout_at ls g) = subst (All (λ m. m.0 ≤ 139)) (sym layout) (All-cons (λ (m : ℕ × Bytes). m.0 ≤ 139) (1, bytes) [] (omega arith) (All-nil (λ (m : ℕ × Bytes). m.0 ≤ 139))) in
-    subst (λ i. HasRound carousel ls g i cs) (sym (has_one ls g j few has)) round
+    subst (λ i. HasRound carousel ls g i cs) (one j has) round where
+      one : (j : ℕ) → HasDii ls g j → 1 ≡ j
+      one j (inl e) = sym e
+      one j (inr has) =
+          let there : module_in ((1, bytes) ∷ []) has.0 ≡ Some has.1 = subst (λ l. module_in l has.0 ≡ Some has.1) layout has.2 in
+          ap group_of (alone bytes has.0 has.1 there).0 ∙ has.3

@@ -4,7 +4,7 @@ use Rattle.path_tree.specs.Trees.{Tree}
 use Rattle.path_tree.specs.declared.entry.Entry.TheVariants as entries
 use Rattle.cycle_planner.specs.Weights.{AreWeights}
 use Rattle.cycle_planner.proofs.CallerLemmas.{are_ones}
-use Rattle.generation.specs.Kept.{LayoutsAreLawful, LayoutsAreInOneGroup}
+use Rattle.generation.specs.Kept.{LayoutsAreLawful}
 use Rattle.generation.specs.Lawful.{IsPublishable}
 use Rattle.carousel_world.specs.Broadcasts.{sections}
 use Rattle.carousel_world.specs.Instances.{PremisesCanBeMet, tree_of}
@@ -19,22 +19,22 @@ use Rattle.carousel_world.proofs.FarApart.{far}
 use Rattle.carousel_world.proofs.Lossy.{run_is_premised}
 use Rattle.carousel_world.proofs.Opening.{whole_cycles}
 use Rattle.carousel_world.proofs.Saying.{Spelled}
-use Rattle.carousel_world.proofs.Single.{second_of, first_group_of, in_order}
+use Rattle.carousel_world.proofs.Single.{second_of, in_order}
 use Rattle.carousel_world.proofs.Waiting.{waits}
 
-whole_round : LayoutsAreLawful → LayoutsAreInOneGroup → (carousel : ℕ) (weights : List ℕ) (cycles : ℕ) (t : Tree) → carousel < 4294967296 → AreWeights weights → IsPublishable t → IsWhole carousel (layouts_for carousel t) 1 (sections (publication carousel weights (suc cycles) t))
-whole_round lawful one carousel weights cycles t lt are is =
+whole_round : LayoutsAreLawful → (carousel : ℕ) (weights : List ℕ) (cycles : ℕ) (t : Tree) → carousel < 4294967296 → AreWeights weights → IsPublishable t → IsWhole carousel (layouts_for carousel t) 1 (sections (publication carousel weights (suc cycles) t))
+whole_round lawful carousel weights cycles t lt are is =
     let ls = layouts_for carousel t in
-    subst (IsWhole carousel ls 1) (sym (published_sections carousel weights (suc cycles) t)) (whole_cycles carousel weights ls 1 cycles are (second_of lawful carousel t lt is).sent.some (second_of lawful carousel t lt is).two (first_group_of lawful one carousel t lt is))
+    subst (IsWhole carousel ls 1) (sym (published_sections carousel weights (suc cycles) t)) (whole_cycles carousel weights ls 1 cycles are (second_of lawful carousel t lt is).sent (second_of lawful carousel t lt is).two)
 
-pub can_be_met : Spelled → LayoutsAreLawful → LayoutsAreInOneGroup → EveryPublicationMeets → PremisesCanBeMet
-can_be_met spelled lawful one meets = record {
+pub can_be_met : Spelled → LayoutsAreLawful → EveryPublicationMeets → PremisesCanBeMet
+can_be_met spelled lawful meets = record {
   weights = are_ones;
   tree = (tree_of first_content, record { publishable = first_publishable; path = letter ∷ []; content = first_content; there = first_node });
   bare = (tree_with entries.Folder, record { publishable = bare_publishable; path = letter ∷ []; below = not_root letter; there = bare_node });
   in_order = λ carousel weights cycles t lt is. in_order carousel weights cycles t (second_of lawful carousel t lt is);
   undamaged = λ carousel weights cycles t i bytes e accepted. (i, refl, e);
-  whole = whole_round lawful one;
+  whole = whole_round lawful;
   waits = waits spelled lawful meets;
   damage = damage lawful;
   carrying = carrying lawful;

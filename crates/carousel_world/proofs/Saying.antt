@@ -1,5 +1,5 @@
 -- What the sections of a generation say when they are heard.
-use Rattle.std.proofs.Common.{◌≡◌, ℕ, ◌+◌, ◌*◌, ◌%◌, ◌<◌, ◌≤◌, List, length, map, take, drop, Ok, refl, ap, ◌∙◌, arith, lit<, get_or, false, []}
+use Rattle.std.proofs.Common.{◌≡◌, ℕ, ◌+◌, ◌*◌, ◌%◌, ◌<◌, ◌≤◌, List, length, map, take, drop, Ok, refl, ap, ◌∙◌, arith, lit<, lit≤, get_or, false, []}
 use Rattle.std.proofs.lemmas.List.{length-take, length-map}
 use Rattle.std.specs.List.{All}
 use Rattle.std.proofs.lemmas.List.Elements.{All-map, All-filter}
@@ -18,7 +18,7 @@ use Rattle.cycle_planner.specs.declared.Item.{Item}
 use Rattle.cycle_planner.specs.declared.Item.TheVariants.{Dsi, Dii, Block}
 use Rattle.generation.specs.Layouts.{gateway_location, control_section, block_section}
 use Rattle.generation.specs.Lawful.{layout_at, version_in, dii_in, section_in, IsItem}
-use Rattle.generation.specs.Groups.{is_in_group, group_in, transaction_of}
+use Rattle.generation.specs.Groups.{is_in_group, group_in, dii_transaction}
 use Rattle.tuner_core.specs.Heard.{Heard, ADsi, ADii, ABlock, as_heard, heard_section, heard_in, heard_control, heard_block}
 use Rattle.carousel_world.proofs.Modules.{IsSent, listed_holds, line_of, few_blocks, few_in_group}
 
@@ -52,7 +52,7 @@ short_length : (xs : Bytes) → length (take 4066 xs) ≤ 4066
 short_length xs = omega (arith, length-take 4066 xs)
 
 pub dsi_written : (carousel : ℕ) → iors.IsWritten (iors.written_form gateway_kind (gateway_location carousel)) (gateway_location carousel)
-dsi_written carousel = record { form = refl; four = refl; key = refl }
+dsi_written carousel = record { form = refl; four = refl; key = refl; listed = (lit≤ tt, lit≤ tt) }
 
 pub number_below : (carousel : ℕ) (ls : List Layout) (g m b : ℕ) → IsSent carousel ls g → IsItem ls g (Block m b) → (m < 65536) × (b < 65536)
 number_below carousel ls g m b sent item =
@@ -144,7 +144,7 @@ spellable carousel ls g j sent some few = record {
   small : (m : ℕ) → m ≤ 2224 → m < 65536
   small m le = omega (arith, le)
 
-  transaction_small : (g j : ℕ) → g < 16384 → j ≤ 16 → transaction_of g j < 4294967296
+  transaction_small : (g j : ℕ) → g < 16384 → j ≤ 16 → dii_transaction g j < 4294967296
   transaction_small g j lt le = omega (arith, lt, le)
 
 pub hears_item : (carousel : ℕ) (ls : List Layout) (g : ℕ) → Spelled → IsSent carousel ls g → (item : Item) → IsItem ls g item
@@ -153,8 +153,8 @@ hears_item carousel ls g spelled sent Dsi item =
     hears_control 0 (dsi_spelling 0x80000000 gateway_kind (gateway_location carousel)) (IsDsi (dsi_of carousel)) spelled (dsi_fits carousel spelled)
     (spelled.dsi 0x80000000 gateway_kind (gateway_location carousel) (lit< tt) (dsi_written carousel) (record { carousel = sent.carousel_id; module_id = lit< tt }))
 hears_item carousel ls g spelled sent (Dii j) item =
-    hears_control (transaction_of g j % 65536) (dii_spelling (dii_in carousel ls g j)) (IsDii (dii_in carousel ls g j)) spelled
-    (dii_fits (transaction_of g j % 65536) (dii_in carousel ls g j) spelled (extension_small (transaction_of g j)) (listed_few carousel ls g j sent item.2))
+    hears_control (dii_transaction g j % 65536) (dii_spelling (dii_in carousel ls g j)) (IsDii (dii_in carousel ls g j)) spelled
+    (dii_fits (dii_transaction g j % 65536) (dii_in carousel ls g j) spelled (extension_small (dii_transaction g j)) (listed_few carousel ls g j sent item.2))
     (spelled.dii (dii_in carousel ls g j) (spellable carousel ls g j sent item.2 item.3))
 hears_item carousel ls g spelled sent (Block m b) item =
     let small = number_below carousel ls g m b sent item in
@@ -166,8 +166,8 @@ pub item_framed : (carousel : ℕ) (ls : List Layout) (g : ℕ) → ((s : sectio
     → (item : Item) → IsItem ls g item → sections.IsFramed (section_in carousel ls g item)
 item_framed carousel ls g framed spelled sent Dsi item = framed (control_section 0 (dsi_spelling 0x80000000 gateway_kind (gateway_location carousel))) (dsi_fits carousel spelled)
 item_framed carousel ls g framed spelled sent (Dii j) item =
-    framed (control_section (transaction_of g j % 65536) (dii_spelling (dii_in carousel ls g j)))
-    (dii_fits (transaction_of g j % 65536) (dii_in carousel ls g j) spelled (extension_small (transaction_of g j)) (listed_few carousel ls g j sent item.2))
+    framed (control_section (dii_transaction g j % 65536) (dii_spelling (dii_in carousel ls g j)))
+    (dii_fits (dii_transaction g j % 65536) (dii_in carousel ls g j) spelled (extension_small (dii_transaction g j)) (listed_few carousel ls g j sent item.2))
 item_framed carousel ls g framed spelled sent (Block m b) item =
     framed (block_section carousel m (version_in ls g m) b (module_of ls g m))
     (block_fits carousel m (version_in ls g m) b (module_of ls g m) spelled (number_below carousel ls g m b sent item).0)

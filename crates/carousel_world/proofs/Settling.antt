@@ -1,21 +1,19 @@
 -- After two whole draws a whole cycle of the last generation was heard.
-use Rattle.std.proofs.Common.{◌≡◌, ℕ, ◌+◌, ◌<◌, ◌≤◌, cond, List, [], ◌∷◌, ◌++◌, length, map, drop, refl, ap, sym, ◌∙◌, subst, append_assoc, arith, lit<}
+use Rattle.std.proofs.Common.{◌≡◌, ℕ, ◌+◌, ◌<◌, ◌≤◌, cond, List, [], ◌∷◌, ◌++◌, length, map, drop, refl, ap, sym, ◌∙◌, subst, arith, lit<}
 use Rattle.std.specs.List.{All, fold}
 use Rattle.std.proofs.lemmas.Bool.{lt-leb}
 use Rattle.std.proofs.lemmas.List.{append-nil, length-map, map-append}
-use Rattle.std.proofs.lemmas.List.Elements.{All-cons, All-drop, All-head, All-map, All-nil, All-take, Contains-append_right}
+use Rattle.std.proofs.lemmas.List.Elements.{All-cons, All-drop, All-head, All-map, All-nil, All-take}
 use Rattle.std.proofs.lemmas.List.Sums.{fold-append}
 use Rattle.path_tree.specs.Paths.{Bytes}
 use Rattle.biop_object.specs.Names.{Layout}
 use Rattle.cycle_planner.specs.Cycle.{cycle_of}
 use Rattle.cycle_planner.specs.Weights.{AreWeights}
 use Rattle.cycle_planner.specs.declared.Item.{Item}
-use Rattle.cycle_planner.specs.declared.Item.TheVariants.{Dsi, Dii, Block}
 use Rattle.dsmcc_section.specs.Sections as sections
 use Rattle.generation.specs.Layouts.{GenerationState, lines_in, section_of}
 use Rattle.generation.specs.Lawful.{ArePublishable, layout_at, section_in}
-use Rattle.generation.specs.Kept.{layouts_of, LayoutsAreLawful, LayoutsAreInOneGroup, GenerationsAreOfTheLists}
-use Rattle.generation.proofs.CallerLemmas.{at_layout, has_one}
+use Rattle.generation.specs.Kept.{layouts_of, LayoutsAreLawful, GenerationsAreOfTheLists}
 use Rattle.generation_catalogue.specs.History.{CatalogueState, trees_of, current_of, cycle_in, cursor_of, count_drawn, items_drawn, draws_of}
 use Rattle.generation_catalogue.specs.Laws.{HistoriesGrow}
 use Rattle.section_stream.specs.Cuts.{candidates}
@@ -24,24 +22,23 @@ use Rattle.section_stream.specs.Packing.{MuxState, IsSectionLike}
 use Rattle.section_stream.proofs.CallerLemmas.{counter_in_range, pid_stays, some_packets}
 use Rattle.carousel_world.specs.Fates.{Arrival, under}
 use Rattle.carousel_world.specs.Events.{Step}
-use Rattle.carousel_world.specs.Premises.{HasRound, IsWhole}
+use Rattle.carousel_world.specs.Premises.{IsWhole}
 use Rattle.carousel_world.specs.Promises.{broadcast_of, world_after, HoldsAfter, EveryRunMeetsTheHeadline}
 use Rattle.carousel_world.specs.Settling.{whole_draw, with_settling, EverySettledRunIsWhole, EverySettledRunOpens}
 use Rattle.carousel_world.specs.World.{WorldState, Drawing, drawing_of, sections_of, groups_sent, arrivals, first_packet, candidates_in, initial_world, happens}
-use Rattle.carousel_world.proofs.Cycles.{cycle_items}
+use Rattle.carousel_world.proofs.Cycles.{cycle_items, cycle_is_round}
+use Rattle.carousel_world.proofs.Opening.{round_is_whole}
 use Rattle.carousel_world.proofs.Happening.{framed_is_like}
 use Rattle.carousel_world.proofs.Modules.{IsSent, is_sent}
 use Rattle.carousel_world.proofs.Promised.{after-append, grows_all}
-use Rattle.carousel_world.proofs.Rounds.{contains_map}
 use Rattle.carousel_world.proofs.Saying.{Spelled, item_framed}
 use Rattle.carousel_world.proofs.Sending.{received_push}
-use Rattle.carousel_world.proofs.WholeDraws.{IsShort, IsRound, cycle_is_round, turned, short_cycle, some_drawn, cycle_drawn, draws_more, is_of_lists, last_section, sent_by}
+use Rattle.carousel_world.proofs.WholeDraws.{IsShort, turned, short_cycle, some_drawn, cycle_drawn, draws_more, is_of_lists, last_section, sent_by}
 
 pub record Laws : Type 0 where
   pub grow : HistoriesGrow
   pub lists : GenerationsAreOfTheLists
   pub lawful : LayoutsAreLawful
-  pub one : LayoutsAreInOneGroup
   pub later : LaterGroupsAreGiven
   pub spelled : Spelled
   pub framed : (s : sections.Fields) → sections.Fits s → sections.IsFramed (sections.spelling s)
@@ -110,26 +107,6 @@ ends_with later ds g h first second some framed like =
 
 -- ---- what is whole
 
--- a receiver whose candidates end with a round of the last generation has heard it whole
-ends_whole : (carousel : ℕ) (ls : List Layout) (g : ℕ) (earlier : List Bytes) (items : List Item) → length ls ≡ g + 1 → All (λ m. m.0 ≤ 139) (layout_at ls g) → IsRound ls g items
-    → IsWhole carousel ls g (earlier ++ map (section_in carousel ls g) items)
-ends_whole carousel ls g earlier items last few is =
-    let section = section_in carousel ls g in
-    let begun = map section is.before in
-    let behind = map section is.after in
-    let round : map section items ≡ begun ++ section (Dii 1) ∷ behind = ap (map section) is.place ∙ map-append section is.before (Dii 1 ∷ is.after) in
-    record {
-      generation = omega (arith, last);
-      gateway = Contains-append_right earlier (map section items) (section Dsi) (contains_map section items Dsi is.gateway);
-      rounds = λ j has. subst (λ i. HasRound carousel ls g i (earlier ++ map section items)) (sym (has_one ls g j few has)) (record {
-        before = earlier ++ begun;
-        after = behind;
-        place = ap (λ ss. earlier ++ ss) round ∙ sym (append_assoc earlier begun (section (Dii 1) ∷ behind));
-        blocks = λ m b own item. contains_map section is.after (Block m b) (is.blocks m b item);
-      });
-      no_later = λ h j above inside own has. absurd (omega (arith, last, above, inside));
-    }
-
 -- what holds of all lists that end with these holds of one that ends with the same
 by_end : (P : List Bytes → Type 0) (all xs ys : List Bytes) → (earlier : List Bytes) × (all ≡ earlier ++ xs) → xs ≡ ys → ((earlier : List Bytes) → P (earlier ++ ys)) → P all
 by_end P all xs ys ends same whole = subst P (sym (ends.1 ∙ ap (λ ss. ends.0 ++ ss) same)) (whole ends.0)
@@ -184,7 +161,6 @@ twice_whole laws w are published =
     let sent : IsSent c.carousel ls g = is_sent c.carousel ls ([] ∷ trees_of c) g lawful (omega (arith, last)) in
     let cycle = cycle_of c.weights (lines_in (layout_at ls g)) in
     let few = short_cycle c.carousel ls g c.weights are sent in
-    let own : All (λ m. m.0 ≤ 139) (layout_at ls g) = at_layout (λ l. All (λ m. m.0 ≤ 139) l) ls g (laws.one c.carousel (trees_of c) published) (omega (arith, last)) in
     let same : cycle_in c ≡ cycle = ap (λ l. cycle_of c.weights (lines_in l)) (is_of_lists laws.lists c).layout in
     let short : IsShort c = let size = ap length same in omega (arith, size, few) in
     let second = second_draw laws c short in
@@ -193,7 +169,7 @@ twice_whole laws w are published =
     let each : All (λ item. IsSectionLike (last_section c.carousel (trees_of c) item)) (cycle_in c) =
     subst (All (λ item. IsSectionLike (last_section c.carousel (trees_of c) item))) (sym same) (like_each laws c.carousel ls g c.weights sent (omega (arith, last))) in
     let heard = ends_with laws.later w.drawings (current_of c) (current_of (turned c)) (items_drawn c 1048576) (items_drawn (turned c) 1048576) (some_drawn c short) (first_like laws c each) like in
-    by_end (IsWhole c.carousel ls g) _ _ _ heard second (λ earlier. ends_whole c.carousel ls g earlier cycle last own (cycle_is_round ls g c.weights are sent.some))
+    by_end (IsWhole c.carousel ls g) _ _ _ heard second (λ earlier. round_is_whole c.carousel ls g earlier cycle last (cycle_is_round c.carousel ls g c.weights are sent))
 
 -- ---- a run
 

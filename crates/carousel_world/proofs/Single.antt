@@ -1,5 +1,5 @@
 -- One published tree is a case of many generations.
-use Rattle.std.proofs.Common.{◌≡◌, ℕ, ◌<◌, ◌≤◌, zero, suc, List, [], ◌∷◌, ◌++◌, map, length, Some, sym, ◌∙◌, subst, arith, append-nil, lit≤, refl}
+use Rattle.std.proofs.Common.{◌≡◌, ℕ, ◌<◌, zero, suc, List, [], ◌∷◌, ◌++◌, map, length, Some, sym, ◌∙◌, subst, arith, append-nil, lit≤, refl}
 use Rattle.std.specs.Prelude.{slice_get}
 use Rattle.std.specs.List.{All}
 use Rattle.std.proofs.lemmas.List.Elements.{All-head, All-tail, All-nil, All-cons, All-map}
@@ -8,8 +8,7 @@ use Rattle.path_tree.specs.Trees.{Tree, node_at}
 use Rattle.biop_object.specs.Names.{Layout}
 use Rattle.cycle_planner.specs.declared.Item.{Item}
 use Rattle.generation.specs.Lawful.{ArePublishable, Lawful, Carries, IsPublishable, IsItem, layout_at, tree_at}
-use Rattle.generation.specs.Kept.{LayoutsAreLawful, LayoutsAreInOneGroup}
-use Rattle.generation.proofs.CallerLemmas.{at_layout}
+use Rattle.generation.specs.Kept.{LayoutsAreLawful}
 use Rattle.section_stream.specs.Cuts.{candidates}
 use Rattle.tuner_core.specs.LookBack.{answer_after}
 use Rattle.carousel_world.specs.Headline.{IsAnswer, first_missing}
@@ -46,11 +45,6 @@ published carousel t lt is = record { carousel_id = lt; few = lit≤ tt; each = 
 pub second_of : LayoutsAreLawful → (carousel : ℕ) (t : Tree) → carousel < 4294967296 → IsPublishable t → IsSecond carousel (layouts_for carousel t) t
 second_of lawful carousel t lt is =
     second carousel (layouts_for carousel t) t (lawful carousel (t ∷ []) (published carousel t lt is))
-
--- DII 1 lists all modules of generation 1
-pub first_group_of : LayoutsAreLawful → LayoutsAreInOneGroup → (carousel : ℕ) (t : Tree) → carousel < 4294967296 → IsPublishable t → All (λ m. m.0 ≤ 139) (layout_at (layouts_for carousel t) 1)
-first_group_of lawful one carousel t lt is =
-    at_layout (λ l. All (λ m. m.0 ≤ 139) l) (layouts_for carousel t) 1 (one carousel (t ∷ []) (published carousel t lt is)) (second_of lawful carousel t lt is).listed
 
 -- ---- all that is sent is of generation 1
 

@@ -27,7 +27,7 @@ use Rattle.biop_object.specs.Objects.{Object, IsFile, IsFolder, BindingFields, f
 use Rattle.biop_object.specs.ObjectReading.{object_at, objects_of, reads_to_end}
 use Rattle.cycle_planner.specs.declared.Item.{Item}
 use Rattle.cycle_planner.specs.declared.Item.TheVariants.{Dsi, Dii, Block}
-use Rattle.generation.specs.Groups.{group_of, group_in, transaction_of}
+use Rattle.generation.specs.Groups.{group_of, group_in, dii_transaction}
 use Rattle.generation.specs.Kept.{LayoutsAreLawful}
 use Rattle.generation.specs.Layouts.{gateway_location, key_bytes, control_section, block_section}
 use Rattle.generation.specs.Lawful.{IsPublishable, IsLayout, IsNode, IsInside, Carries, Lawful, HasDii, IsItem, layout_at, tree_at, count_of, one_if_changed, version_in, section_in}
@@ -444,10 +444,10 @@ lines_like n k lt (m ∷ ms) =
 
 -- DII j of generation g, with these lines
 abbrev dii_with : ℕ → ℕ → List ModuleLine → Bytes
-dii_with g j ls = spelling (control_section (transaction_of g j % 65536) (dii_spelling (record {
+dii_with g j ls = spelling (control_section (dii_transaction g j % 65536) (dii_spelling (record {
   download = 1;
   block_size = 4066;
-  transaction = transaction_of g j;
+  transaction = dii_transaction g j;
   modules = ls;
 })))
 

@@ -8,7 +8,7 @@ use Rattle.path_tree.specs.Trees.{Tree, Node, File, Folder, NoSuch, node_at}
 use Rattle.biop_object.specs.Names.{Layout, module_in, thing_in}
 use Rattle.cycle_planner.specs.declared.Item.{Item}
 use Rattle.cycle_planner.specs.declared.Item.TheVariants.{Dsi, Dii}
-use Rattle.cycle_planner.specs.Cycle.{blocks_of}
+use Rattle.cycle_planner.specs.Cycle.{Line, groups_from, diis_from, diis_of, blocks_of}
 use Rattle.cycle_planner.proofs.CallerLemmas.{are_ones}
 use Rattle.ddb_block.specs.Blocks as ddb
 use Rattle.dsi_dii.specs.Controls.{DiiFields}
@@ -102,12 +102,22 @@ control_tells carousel ls g spelled sent lt = and_from _ _
     (or_left _ _ (ap is_dsi (hears_item carousel ls g spelled sent Dsi lt)))
     (or_right _ _ (or_left _ _ (ap is_dii (hears_item carousel ls g spelled sent (Dii 1) (lt, inl refl, omega arith, omega arith)))))
 
+-- the DIIs of a round begin with that of group 1
+first_dii : (lines : List Line) → diis_of lines ≡ Dii 1 ∷ diis_from lines 2
+unfolding groups_from
+first_dii lines = refl
+
 -- they are the first two sections of a cycle
 cycle_sections : (carousel : ℕ) (t : Tree) → 1 ≤ length (layout_for carousel t) → (later : List Item) × (sections (publication carousel ones 1 t) ≡ map (section_in carousel (layouts_for carousel t) 1) (Dsi ∷ Dii 1 ∷ later))
-cycle_sections carousel t some = (
-  flat_map blocks_of (lines_in (layout_for carousel t)) ++ (later_rounds ones (lines_in (layout_for carousel t)) ++ []),
-  published_sections carousel ones 1 t ∙ ap (map (section_in carousel (layouts_for carousel t) 1)) (first_round ones (layout_for carousel t) 0 are_ones some),
-)
+cycle_sections carousel t some =
+    let lines = lines_in (layout_for carousel t) in
+    let section = section_in carousel (layouts_for carousel t) 1 in
+    let later = later_rounds ones lines ++ [] in (
+      (diis_from lines 2 ++ flat_map blocks_of lines) ++ later,
+      published_sections carousel ones 1 t
+          ∙ ap (map section) (first_round ones (layout_for carousel t) 0 are_ones some)
+          ∙ ap (λ diis. map section (Dsi ∷ ((diis ++ flat_map blocks_of lines) ++ later))) (first_dii lines),
+    )
 
 control_sent : (carousel : ℕ) (t : Tree) → 1 ≤ length (layout_for carousel t) → AcceptedAreSent (publication carousel ones 1 t) (control_alone carousel t) (λ i k. Some i ≡ Some k)
 control_sent carousel t some zero bytes e accepted = (0, refl, ap (λ (ss : List Bytes). slice_get ss 0) (cycle_sections carousel t some).1 ∙ e)

@@ -1,28 +1,26 @@
 -- What two draws of the most items draw: the rest of a cycle, and the next one whole.
 use Rattle.std.proofs.Common.{◌≡◌, ℕ, ◌+◌, ◌-◌, ◌*◌, ◌%◌, ◌<◌, ◌≤◌, List, [], ◌∷◌, ◌++◌, length, map, take, drop, min, cond, Ok, Err, refl, ap, sym, ◌∙◌, subst, arith, lit<}
-use Rattle.std.specs.List.{Contains, flat_map, sum_by}
+use Rattle.std.specs.List.{Contains, sum_by}
 use Rattle.std.proofs.Math.Nat.{mod-add-mod, mod_self, mod-lt}
 use Rattle.std.proofs.lemmas.Grind.{div_ceil_times}
 use Rattle.std.proofs.lemmas.List.{length-drop, take_all}
-use Rattle.std.proofs.lemmas.List.Elements.{All-weaker, Contains-append_left}
+use Rattle.std.proofs.lemmas.List.Elements.{All-weaker}
 use Rattle.std.proofs.lemmas.List.Sums.{sum_by-cons, sum_by-append}
 use Rattle.path_tree.specs.Paths.{Bytes}
 use Rattle.path_tree.specs.Trees.{Tree}
 use Rattle.biop_object.specs.Names.{Layout}
-use Rattle.cycle_planner.specs.Cycle.{Line, blocks_of, cycle_of}
+use Rattle.cycle_planner.specs.Cycle.{Line, cycle_of}
 use Rattle.cycle_planner.specs.Weights.{AreWeights}
 use Rattle.cycle_planner.specs.declared.Item.{Item}
-use Rattle.cycle_planner.specs.declared.Item.TheVariants.{Dsi, Dii, Block}
-use Rattle.cycle_planner.proofs.CallerLemmas.{cycle_at_most, cycle_begins}
+use Rattle.cycle_planner.proofs.CallerLemmas.{cycle_at_most}
 use Rattle.ddb_block.specs.Blocks as ddb
 use Rattle.generation.specs.Layouts.{generation_of, items_of, lines_in, lines_of, section_of}
 use Rattle.generation.specs.Kept.{layouts_of, GenerationsAreOfTheLists, IsGenerationOf}
-use Rattle.generation.specs.Lawful.{layout_at, section_in, IsItem}
+use Rattle.generation.specs.Lawful.{layout_at, section_in}
 use Rattle.generation_catalogue.specs.History.{CatalogueState, trees_of, current_of, cycle_in, cursor_of, count_drawn, items_drawn, draws_of, with_draw, drawn_since, is_draw}
 use Rattle.generation_catalogue.specs.Laws.{HistoriesGrow}
 use Rattle.generation_catalogue.specs.declared.entry.Entry.{Entry}
 use Rattle.generation_catalogue.specs.declared.entry.Entry.TheVariants as entries
-use Rattle.carousel_world.proofs.Cycles.{cycle_has, later_rounds, some_lines}
 use Rattle.carousel_world.proofs.Drawn.{alike}
 use Rattle.carousel_world.proofs.Modules.{IsSent, few_modules}
 
@@ -40,37 +38,14 @@ blocks_fit (m ∷ ms) =
     let fits = blocks_fit ms in
     omega (arith, here, total, fit, fits)
 
--- 268,435,456 bytes in 2,224 modules have at most 68,242 blocks, each of which is sent up to eight times
-pub short_cycle : (carousel : ℕ) (ls : List Layout) (g : ℕ) (weights : List ℕ) → AreWeights weights → IsSent carousel ls g → length (cycle_of weights (lines_in (layout_at ls g))) ≤ 545945
+-- 268,435,456 bytes in 2,224 modules have at most 68,242 blocks, each of which is sent up to eight times, as are 16 DIIs
+pub short_cycle : (carousel : ℕ) (ls : List Layout) (g : ℕ) (weights : List ℕ) → AreWeights weights → IsSent carousel ls g → length (cycle_of weights (lines_in (layout_at ls g))) ≤ 546065
 short_cycle carousel ls g weights are sent =
     let fit = blocks_fit (layout_at ls g) in
     let size = cycle_at_most weights (lines_in (layout_at ls g)) are in
     let few = few_modules carousel ls g sent in
     let total = sent.total in
     omega (arith, fit, size, few, total)
-
--- ---- and a whole round
-
--- the DSI is among these items, and at some place the DII of group 1 with every block after it
-pub record IsRound (ls : List Layout) (g : ℕ) (items : List Item) : Type 0 where
-  pub gateway : Contains items Dsi
-  pub before : List Item
-  pub after : List Item
-  pub place : items ≡ before ++ Dii 1 ∷ after
-  pub blocks : (m b : ℕ) → IsItem ls g (Block m b) → Contains after (Block m b)
-
-pub cycle_is_round : (ls : List Layout) (g : ℕ) (weights : List ℕ) → AreWeights weights → 1 ≤ length (layout_at ls g) → IsRound ls g (cycle_of weights (lines_in (layout_at ls g)))
-cycle_is_round ls g weights are some =
-    let lines = lines_in (layout_at ls g) in
-    let blocks = flat_map blocks_of lines in
-    let later = later_rounds weights lines in
-    record {
-      gateway = (0, omega arith, refl);
-      before = Dsi ∷ [];
-      after = blocks ++ later;
-      place = cycle_begins weights lines are (some_lines (layout_at ls g) some);
-      blocks = λ m b item. Contains-append_left blocks later (Block m b) (cycle_has ls g m b item);
-    }
 
 -- ---- a draw of the most items
 

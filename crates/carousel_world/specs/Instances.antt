@@ -147,11 +147,9 @@ pub record CarryingIsPremised : Type 0 where
 
 -- ---- two generations that two DIIs describe each
 
--- The gateway, whose one binding leads to a file of three bytes in module 140. The transactionId in its tap, which ends at byte 102, is
--- changed to that of DII 2, since module 140 is of group 2.
+-- the gateway, whose one binding leads to a file of three bytes in module 140, which is of group 2
 abbrev pub gateway_to_file : Bytes
-gateway_to_file =
-    slice_set (folder_spelling Gateway (key_bytes 1) (record { name = 97 ∷ []; bound = bounds.File 3; location = record { carousel = 1; «module» = 140; key = key_bytes 2 } } ∷ [])) 102 4
+gateway_to_file = folder_spelling Gateway (key_bytes 1) (record { name = 97 ∷ []; bound = bounds.File 3; location = record { carousel = 1; «module» = 140; key = key_bytes 2 } } ∷ [])
 
 -- that file
 abbrev pub file_alone : Bytes

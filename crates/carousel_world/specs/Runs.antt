@@ -13,7 +13,7 @@ use Rattle.carousel_world.specs.World.{candidates_in, initial_world, replies_to}
 use Rattle.carousel_world.specs.Promises.{broadcast_of, IsUndamaged, world_after}
 use Rattle.carousel_world.specs.declared.event.Reply.TheVariants as replies
 use Rattle.cycle_planner.specs.declared.TheConstants.{MOST_DRAWN}
-use Rattle.cycle_planner.specs.declared.weigh.TheConstants.{GREATEST_ID}
+use Rattle.module_groups.specs.declared.TheConstants.{GREATEST_ID}
 
 -- the weight 1 for every module
 abbrev pub ones : List ℕ

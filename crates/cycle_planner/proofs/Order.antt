@@ -1,43 +1,28 @@
 -- The items of a cycle, by place and by number.
-use Rattle.std.proofs.Common.{◌≡◌, ◌≢◌, ℕ, zero, suc, ◌+◌, ◌-◌, ◌*◌, ◌^◌, ◌<◌, ◌≤◌, Bool, true, false, cond, nat_lt, max, filter, if◌then◌else◌, List, [], ◌∷◌, ◌++◌, length, map, Some, slice_get, refl, ap, sym, ◌∙◌, subst, arith, get_or, drop, take, zero-add, length-append, ◌⊎◌, inl, inr}
+use Rattle.std.proofs.Common.{◌≡◌, ◌≢◌, ℕ, zero, suc, ◌+◌, ◌-◌, ◌*◌, ◌^◌, ◌<◌, ◌≤◌, Bool, true, false, cond, nat_lt, max, filter, if◌then◌else◌, List, [], ◌∷◌, ◌++◌, length, map, refl, ap, sym, ◌∙◌, subst, arith, get_or, take, zero-add, length-append, ◌⊎◌, inl, inr}
 use Rattle.std.specs.List.{All, Contains, AllPairs, flat_map, fold, range_with_len, sum_by, count_by}
-use Rattle.std.proofs.lemmas.List.{drop_more, take_all, length-map, get_or_past}
+use Rattle.std.proofs.lemmas.List.{take_all, length-map, get_or_past}
 use Rattle.std.proofs.lemmas.List.Concat.{length-flat_map}
-use Rattle.std.proofs.lemmas.List.FromFn.{get_or-range_with_len, get_or-map-range_with_len}
+use Rattle.std.proofs.lemmas.List.FromFn.{get_or-range_with_len}
 use Rattle.std.proofs.lemmas.List.Sums.{sum_by-cons, sum_by-append, sum_by-le, sum_by-take-le, sum_by_more, fold_more}
 use Rattle.std.proofs.lemmas.List.Elements.{All-head, All-tail, All-cons, All-nil, All-map, All-append}
-use Rattle.std.proofs.lemmas.Option.{slice_get-get_or}
 use Rattle.std.proofs.lemmas.Bool.{cases_eq, cases_lt, eq-eqb, ne_eqb, lt-ltb, le-ltb, ltb-true, ltb-false}
 use Rattle.cycle_planner.specs.declared.Item.{Item}
-use Rattle.cycle_planner.specs.declared.Item.TheVariants.{Dsi, Dii, Block}
+use Rattle.cycle_planner.specs.declared.Item.TheVariants.{Dsi, Block}
 use Rattle.cycle_planner.specs.Weights.{weight, AreWeights}
 use Rattle.cycle_planner.specs.Rounds.{blocks_in_round}
-use Rattle.cycle_planner.specs.Cycle.{Line, blocks_of, round, greatest_weight, cycle_of, AreLines, SendsEach, IsOfLines, is_dsi, is_dii, is_block}
+use Rattle.cycle_planner.specs.Cycle.{Line, blocks_of, diis_of, round, greatest_weight, cycle_of, AreLines, SendsEach, IsOfLines, is_dsi, is_dii, is_block}
+use Rattle.cycle_planner.specs.Places.{IsListed}
+use Rattle.cycle_planner.proofs.Groups.{group_known, group_listed, few_diis, no_dii, dii_once, all_diis, count_none, count_one}
 
 -- ---- by place
-
-get_front : {X : Type 0} (xs ys : List X) (n : ℕ) → n < length xs → slice_get (xs ++ ys) n ≡ slice_get xs n
-get_front [] ys n h = absurd (omega arith)
-get_front (x ∷ xs) ys zero h = refl
-get_front (x ∷ xs) ys (suc n) h = get_front xs ys n (omega arith)
-
-get_behind : {X : Type 0} (xs ys : List X) (n m : ℕ) → n ≡ length xs + m → slice_get (xs ++ ys) n ≡ slice_get ys m
-get_behind [] ys n m e = ap (slice_get ys) (e ∙ zero-add m)
-get_behind (x ∷ xs) ys zero m e = absurd (omega arith)
-get_behind (x ∷ xs) ys (suc n) m e = get_behind xs ys n m (omega arith)
 
 length_range : (a n : ℕ) → length (range_with_len a n) ≡ n
 length_range a zero = refl
 length_range a (suc n) = ap suc (length_range (a + 1) n)
 
-length_blocks : (line : Line) → length (blocks_of line) ≡ line.1
+pub length_blocks : (line : Line) → length (blocks_of line) ≡ line.1
 length_blocks line = length-map (range_with_len 0 line.1) (λ (b : ℕ). Block line.0 b) ∙ length_range 0 line.1
-
-block_here : (line : Line) (b : ℕ) → b < line.1 → slice_get (blocks_of line) b ≡ Some (Block line.0 b)
-block_here line b h =
-    let f : ℕ → Item = λ x. Block line.0 x in
-    slice_get-get_or (blocks_of line) b Dsi (omega (arith, length_blocks line))
-    ∙ ap (λ (x : Item). Some x) (get_or-map-range_with_len f 0 line.1 b b Dsi h (zero-add b))
 
 -- ---- a round as a walk over all lines
 
@@ -64,14 +49,8 @@ walk ws r [] = refl
 walk ws r (line ∷ lines) =
     by_test (nat_lt r (weight ws line.0)) line (filter (λ l. nat_lt r (weight ws l.0)) lines) (flat_map (blocks_in_round ws r) lines) (walk ws r lines)
 
-pub round_is : (ws : List ℕ) (lines : List Line) (r : ℕ) → round ws lines r ≡ Dii 1 ∷ flat_map (blocks_in_round ws r) lines
-round_is ws lines r = ap (λ xs. Dii 1 ∷ xs) (walk ws r lines)
-
--- ---- the place that is left to go among the lines from i on
-
-pub record IsAhead (ws : List ℕ) (r : ℕ) (lines : List Line) (at i left : ℕ) : Type 0 where
-  pub same : slice_get (flat_map (blocks_in_round ws r) (drop i lines)) left ≡ slice_get (flat_map (blocks_in_round ws r) lines) at
-  pub within : left < length (flat_map (blocks_in_round ws r) (drop i lines))
+pub round_is : (ws : List ℕ) (lines : List Line) (r : ℕ) → round ws lines r ≡ diis_of lines ++ flat_map (blocks_in_round ws r) lines
+round_is ws lines r = ap (λ xs. diis_of lines ++ xs) (walk ws r lines)
 
 -- a line that sends something sends its blocks
 all_of : (ws : List ℕ) (r : ℕ) (line : Line) (left : ℕ) → left < length (blocks_in_round ws r line) → (r < weight ws line.0) ⊎ (weight ws line.0 ≤ r) → blocks_in_round ws r line ≡ blocks_of line
@@ -84,35 +63,11 @@ all_blocks ws r line left h = all_of ws r line left h (cases_lt r (weight ws lin
 pub within_line : (ws : List ℕ) (r : ℕ) (line : Line) (left : ℕ) → left < length (blocks_in_round ws r line) → left < line.1
 within_line ws r line left h = omega (arith, h, ap length (all_blocks ws r line left h), length_blocks line)
 
-pub ahead_here : (ws : List ℕ) (r : ℕ) (lines : List Line) (at i left : ℕ) (d : Line) → i < length lines → left < length (blocks_in_round ws r (get_or lines i d)) → IsAhead ws r lines at i left
-    → slice_get (flat_map (blocks_in_round ws r) lines) at ≡ Some (Block (get_or lines i d).0 left)
-ahead_here ws r lines at i left d h l a =
-    let line = get_or lines i d in
-    let rest = flat_map (blocks_in_round ws r) (drop (i + 1) lines) in
-    sym a.same
-    ∙ ap (λ (ls : List Line). slice_get (flat_map (blocks_in_round ws r) ls) left) (drop_more lines i d h)
-    ∙ get_front (blocks_in_round ws r line) rest left l
-    ∙ ap (λ (xs : List Item). slice_get xs left) (all_blocks ws r line left l)
-    ∙ block_here line left (within_line ws r line left l)
-
-pub ahead_next : (ws : List ℕ) (r : ℕ) (lines : List Line) (at i left : ℕ) (d : Line) → i < length lines → length (blocks_in_round ws r (get_or lines i d)) ≤ left → IsAhead ws r lines at i left
-    → IsAhead ws r lines at (i + 1) (left - length (blocks_in_round ws r (get_or lines i d)))
-ahead_next ws r lines at i left d h l a =
-    let line = get_or lines i d in
-    let front = blocks_in_round ws r line in
-    let rest = flat_map (blocks_in_round ws r) (drop (i + 1) lines) in
-    let whole : flat_map (blocks_in_round ws r) (drop i lines) ≡ front ++ rest = ap (flat_map (blocks_in_round ws r)) (drop_more lines i d h) in
-    record {
-      same = sym (get_behind front rest left (left - length front) (omega (arith, l)))
-          ∙ ap (λ (xs : List Item). slice_get xs left) (sym whole)
-          ∙ a.same;
-      within = omega (arith, length-append front rest, ap length whole, a.within);
-    }
-
 -- ---- the length of a round
 
-round_length : (ws : List ℕ) (lines : List Line) (r : ℕ) → length (round ws lines r) ≡ 1 + sum_by (λ l. length (blocks_in_round ws r l)) lines
-round_length ws lines r = ap length (round_is ws lines r) ∙ ap suc (length-flat_map (blocks_in_round ws r) lines) ∙ omega arith
+pub round_length : (ws : List ℕ) (lines : List Line) (r : ℕ) → length (round ws lines r) ≡ length (diis_of lines) + sum_by (λ l. length (blocks_in_round ws r l)) lines
+round_length ws lines r =
+    ap length (round_is ws lines r) ∙ length-append (diis_of lines) (flat_map (blocks_in_round ws r) lines) ∙ ap (λ n. length (diis_of lines) + n) (length-flat_map (blocks_in_round ws r) lines)
 
 -- as many lines as there are ids at most
 few_from : (lines : List Line) (low : ℕ) → AllPairs (λ a b. a.0 < b.0) lines → All (λ l. low ≤ l.0) lines → All (λ l. l.0 ≤ 2224) lines → low ≤ 2225 → low + length lines ≤ 2225
@@ -138,11 +93,11 @@ round_within ws r lines i are =
     let f : Line → ℕ = λ l. length (blocks_in_round ws r l) in
     omega (arith, sum_by-le f 65536 lines (sent_few ws r lines are), few_lines lines are, sum_by-take-le f lines i)
 
-pub round_fits : (ws : List ℕ) (r : ℕ) (lines : List Line) (i items next : ℕ) (d : Line) → AreLines lines → i < length lines → items ≡ 1 + sum_by (λ l. length (blocks_in_round ws r l)) (take i lines) → next ≡ length (blocks_in_round ws r (get_or lines i d)) → items + next < 2 ^ 64
+pub round_fits : (ws : List ℕ) (r : ℕ) (lines : List Line) (i items next : ℕ) (d : Line) → AreLines lines → i < length lines → items ≡ length (diis_of lines) + sum_by (λ l. length (blocks_in_round ws r l)) (take i lines) → next ≡ length (blocks_in_round ws r (get_or lines i d)) → items + next < 2 ^ 64
 round_fits ws r lines i items next d are h e n =
-    omega (arith, round_within ws r lines (i + 1) are, sum_by_more (λ (l : Line). length (blocks_in_round ws r l)) lines i d h)
+    omega (arith, e, n, few_diis lines, round_within ws r lines (i + 1) are, sum_by_more (λ (l : Line). length (blocks_in_round ws r l)) lines i d h)
 
-pub round_size : (ws : List ℕ) (r : ℕ) (lines : List Line) (i items : ℕ) → length lines ≤ i → items ≡ 1 + sum_by (λ l. length (blocks_in_round ws r l)) (take i lines) → items ≡ length (round ws lines r)
+pub round_size : (ws : List ℕ) (r : ℕ) (lines : List Line) (i items : ℕ) → length lines ≤ i → items ≡ length (diis_of lines) + sum_by (λ l. length (blocks_in_round ws r l)) (take i lines) → items ≡ length (round ws lines r)
 round_size ws r lines i items h e =
     let f : Line → ℕ = λ l. length (blocks_in_round ws r l) in
     let all : sum_by f (take i lines) ≡ sum_by f lines = ap (sum_by f) (take_all i lines h) in
@@ -193,56 +148,12 @@ known_weight ws m are = ranged ws (m - 1) are (cases_lt (m - 1) (length ws))
 pub most_rounds : (ws : List ℕ) (lines : List Line) → AreWeights ws → AreLines lines → greatest_weight ws lines ≤ 8
 most_rounds ws lines are of = at_most ws 0 8 lines (omega arith) (λ k d q. (known_weight ws (get_or lines k d).0 are).1)
 
--- the place that is left to go among the rounds from r on
-pub record IsAheadOfRounds (ws : List ℕ) (lines : List Line) (at r left : ℕ) : Type 0 where
-  pub same : slice_get (flat_map (round ws lines) (range_with_len r (greatest_weight ws lines - r))) left ≡ slice_get (flat_map (round ws lines) (range_with_len 0 (greatest_weight ws lines))) at
-  pub within : left < length (flat_map (round ws lines) (range_with_len r (greatest_weight ws lines - r)))
-
-no_round : (ws : List ℕ) (lines : List Line) (r n left : ℕ) → n ≡ 0 → left < length (flat_map (round ws lines) (range_with_len r n)) → ⊥
-no_round ws lines r zero left e h = omega (arith, h)
-no_round ws lines r (suc n) left e h = omega (arith, e)
-
-before_from : (ws : List ℕ) (lines : List Line) (at r left : ℕ) → IsAheadOfRounds ws lines at r left → (r < greatest_weight ws lines) ⊎ (greatest_weight ws lines ≤ r) → r < greatest_weight ws lines
-before_from ws lines at r left a (inl lower) = lower
-before_from ws lines at r left a (inr higher) = absurd (no_round ws lines r (greatest_weight ws lines - r) left (omega (arith, higher)) a.within)
-
-pub round_before : (ws : List ℕ) (lines : List Line) (at r left : ℕ) → IsAheadOfRounds ws lines at r left → r < greatest_weight ws lines
-round_before ws lines at r left a = before_from ws lines at r left a (cases_lt r (greatest_weight ws lines))
-
 rounds_from : (ws : List ℕ) (lines : List Line) (r n m : ℕ) → n ≡ suc m → flat_map (round ws lines) (range_with_len r n) ≡ round ws lines r ++ flat_map (round ws lines) (range_with_len (r + 1) m)
 rounds_from ws lines r n m e = ap (λ k. flat_map (round ws lines) (range_with_len r k)) e
 
 pub first_round : (ws : List ℕ) (lines : List Line) (r : ℕ) → r < greatest_weight ws lines
     → flat_map (round ws lines) (range_with_len r (greatest_weight ws lines - r)) ≡ round ws lines r ++ flat_map (round ws lines) (range_with_len (r + 1) (greatest_weight ws lines - (r + 1)))
 first_round ws lines r h = rounds_from ws lines r (greatest_weight ws lines - r) (greatest_weight ws lines - (r + 1)) (omega (arith, h))
-
-pub round_here : (ws : List ℕ) (lines : List Line) (at r left : ℕ) (item : Item) → IsAheadOfRounds ws lines at r left → left < length (round ws lines r) → slice_get (round ws lines r) left ≡ Some item
-    → slice_get (flat_map (round ws lines) (range_with_len 0 (greatest_weight ws lines))) at ≡ Some item
-round_here ws lines at r left item a h e =
-    let rest = flat_map (round ws lines) (range_with_len (r + 1) (greatest_weight ws lines - (r + 1))) in
-    sym a.same
-    ∙ ap (λ (xs : List Item). slice_get xs left) (first_round ws lines r (round_before ws lines at r left a))
-    ∙ get_front (round ws lines r) rest left h
-    ∙ e
-
-pub round_next : (ws : List ℕ) (lines : List Line) (at r left : ℕ) → IsAheadOfRounds ws lines at r left → length (round ws lines r) ≤ left → IsAheadOfRounds ws lines at (r + 1) (left - length (round ws lines r))
-round_next ws lines at r left a h =
-    let front = round ws lines r in
-    let rest = flat_map (round ws lines) (range_with_len (r + 1) (greatest_weight ws lines - (r + 1))) in
-    let whole : flat_map (round ws lines) (range_with_len r (greatest_weight ws lines - r)) ≡ front ++ rest = first_round ws lines r (round_before ws lines at r left a) in
-    record {
-      same = sym (get_behind front rest left (left - length front) (omega (arith, h)))
-          ∙ ap (λ (xs : List Item). slice_get xs left) (sym whole)
-          ∙ a.same;
-      within = omega (arith, length-append front rest, ap length whole, a.within);
-    }
-
-less_one : (n : ℕ) → n ≡ suc n - 1
-less_one n = omega arith
-
-pub in_cycle : (ws : List ℕ) (lines : List Line) (at : ℕ) (item : Item) → 1 ≤ at → slice_get (flat_map (round ws lines) (range_with_len 0 (greatest_weight ws lines))) (at - 1) ≡ Some item → slice_get (cycle_of ws lines) at ≡ Some item
-in_cycle ws lines zero item h e = absurd (omega arith)
-in_cycle ws lines (suc n) item h e = ap (slice_get (flat_map (round ws lines) (range_with_len 0 (greatest_weight ws lines)))) (less_one n) ∙ e
 
 -- ---- the length of a cycle
 
@@ -278,8 +189,8 @@ none_sum (line ∷ lines) = omega (arith, sum_by-cons (λ (l : Line). 0 * l.1) l
 spread : (a b c : ℕ) → (a + b) * c ≡ a * c + b * c
 spread a b c = omega arith
 
-rounds_length : (ws : List ℕ) (lines : List Line) (r n : ℕ) → length (flat_map (round ws lines) (range_with_len r n)) ≡ n + sum_by (λ l. hits (weight ws l.0) r n * l.1) lines
-rounds_length ws lines r zero = none_sum lines ∙ sym (zero-add (sum_by (λ (l : Line). 0 * l.1) lines))
+rounds_length : (ws : List ℕ) (lines : List Line) (r n : ℕ) → length (flat_map (round ws lines) (range_with_len r n)) ≡ n * length (diis_of lines) + sum_by (λ l. hits (weight ws l.0) r n * l.1) lines
+rounds_length ws lines r zero = omega (arith, none_sum lines)
 rounds_length ws lines r (suc n) =
     let f : Line → ℕ = λ l. length (blocks_in_round ws r l) in
     let g : Line → ℕ = λ l. hits (weight ws l.0) (r + 1) n * l.1 in
@@ -290,13 +201,14 @@ rounds_length ws lines r (suc n) =
       length-append (round ws lines r) (flat_map (round ws lines) (range_with_len (r + 1) n)),
       round_length ws lines r,
       rounds_length ws lines (r + 1) n,
+      spread 1 n (length (diis_of lines)),
       add_up f g h lines each,
     )
 
 each_weight : (ws : List ℕ) (lines : List Line) (k : ℕ) (d : Line) → k < length lines → hits (weight ws (get_or lines k d).0) 0 (greatest_weight ws lines) ≡ weight ws (get_or lines k d).0
 each_weight ws lines k d h = hits_all (weight ws (get_or lines k d).0) 0 (greatest_weight ws lines) (omega (arith, each_at_most ws 0 lines k d h)) ∙ omega arith
 
-pub cycle_length : (ws : List ℕ) (lines : List Line) → length (cycle_of ws lines) ≡ 1 + greatest_weight ws lines + sum_by (λ l. weight ws l.0 * l.1) lines
+pub cycle_length : (ws : List ℕ) (lines : List Line) → length (cycle_of ws lines) ≡ 1 + greatest_weight ws lines * length (diis_of lines) + sum_by (λ l. weight ws l.0 * l.1) lines
 cycle_length ws lines =
     omega (
       arith,
@@ -305,12 +217,6 @@ cycle_length ws lines =
     )
 
 -- ---- how often
-
-count_none : (p : Item → Bool) (a : Item) (xs : List Item) → p a ≡ false → count_by p (a ∷ xs) ≡ count_by p xs
-count_none p a xs e = sum_by-cons (λ (x : Item). cond (p x) 1 0) a xs ∙ rw (e, zero-add (count_by p xs)) refl
-
-count_one : (p : Item → Bool) (a : Item) (xs : List Item) → p a ≡ true → count_by p (a ∷ xs) ≡ 1 + count_by p xs
-count_one p a xs e = sum_by-cons (λ (x : Item). cond (p x) 1 0) a xs ∙ rw e refl
 
 count_blocks : (p : Item → Bool) (xs ys : List Item) → count_by p (xs ++ ys) ≡ count_by p xs + count_by p ys
 count_blocks p xs ys = sum_by-append (λ (x : Item). cond (p x) 1 0) xs ys
@@ -386,8 +292,8 @@ in_round ws r (first ∷ lines) line (suc k) b rising h e l =
       in_round ws r lines line k b (λ i j d p q. rising (suc i) (suc j) d (omega arith) (omega arith)) (omega arith) e l,
     )
 
-count_round : (p : Item → Bool) (ws : List ℕ) (lines : List Line) (r : ℕ) → count_by p (round ws lines r) ≡ count_by p (Dii 1 ∷ flat_map (blocks_in_round ws r) lines)
-count_round p ws lines r = ap (count_by p) (round_is ws lines r)
+count_round : (p : Item → Bool) (ws : List ℕ) (lines : List Line) (r : ℕ) → count_by p (round ws lines r) ≡ count_by p (diis_of lines) + count_by p (flat_map (blocks_in_round ws r) lines)
+count_round p ws lines r = ap (count_by p) (round_is ws lines r) ∙ count_blocks p (diis_of lines) (flat_map (blocks_in_round ws r) lines)
 
 no_dsi : (ws : List ℕ) (lines : List Line) (r n : ℕ) → count_by is_dsi (flat_map (round ws lines) (range_with_len r n)) ≡ 0
 no_dsi ws lines r zero = refl
@@ -396,21 +302,23 @@ no_dsi ws lines r (suc n) =
       arith,
       count_blocks is_dsi (round ws lines r) (flat_map (round ws lines) (range_with_len (r + 1) n)),
       count_round is_dsi ws lines r,
-      count_none is_dsi (Dii 1) (flat_map (blocks_in_round ws r) lines) refl,
+      no_dii is_dsi (λ j. refl) lines,
       no_blocks is_dsi (λ m b. refl) ws r lines,
       no_dsi ws lines (r + 1) n,
     )
 
-each_dii : (ws : List ℕ) (lines : List Line) (r n : ℕ) → count_by is_dii (flat_map (round ws lines) (range_with_len r n)) ≡ n
-each_dii ws lines r zero = refl
-each_dii ws lines r (suc n) =
+-- each DII is in a round once
+dii_of_round : (ws : List ℕ) (lines : List Line) (j r : ℕ) → IsListed lines j → count_by (is_dii j) (round ws lines r) ≡ 1
+dii_of_round ws lines j r is = omega (arith, count_round (is_dii j) ws lines r, dii_once lines j is, no_blocks (is_dii j) (λ m b. refl) ws r lines)
+
+each_dii : (ws : List ℕ) (lines : List Line) (j : ℕ) → IsListed lines j → (r n : ℕ) → count_by (is_dii j) (flat_map (round ws lines) (range_with_len r n)) ≡ n
+each_dii ws lines j is r zero = refl
+each_dii ws lines j is r (suc n) =
     omega (
       arith,
-      count_blocks is_dii (round ws lines r) (flat_map (round ws lines) (range_with_len (r + 1) n)),
-      count_round is_dii ws lines r,
-      count_one is_dii (Dii 1) (flat_map (blocks_in_round ws r) lines) refl,
-      no_blocks is_dii (λ m b. refl) ws r lines,
-      each_dii ws lines (r + 1) n,
+      count_blocks (is_dii j) (round ws lines r) (flat_map (round ws lines) (range_with_len (r + 1) n)),
+      dii_of_round ws lines j r is,
+      each_dii ws lines j is (r + 1) n,
     )
 
 in_rounds : (ws : List ℕ) (lines : List Line) (line : Line) (k b r n : ℕ) → AllPairs (λ a c. a.0 < c.0) lines → k < length lines → get_or lines k line ≡ line → b < line.1
@@ -419,7 +327,8 @@ in_rounds ws lines line k b r zero rising h e l = refl
 in_rounds ws lines line k b r (suc n) rising h e l =
     count_blocks (is_block line.0 b) (round ws lines r) (flat_map (round ws lines) (range_with_len (r + 1) n))
     ∙ ap (λ x. x + count_by (is_block line.0 b) (flat_map (round ws lines) (range_with_len (r + 1) n)))
-    (count_round (is_block line.0 b) ws lines r ∙ count_none (is_block line.0 b) (Dii 1) (flat_map (blocks_in_round ws r) lines) refl ∙ in_round ws r lines line k b rising h e l)
+    (count_round (is_block line.0 b) ws lines r ∙ ap (λ n. n + count_by (is_block line.0 b) (flat_map (blocks_in_round ws r) lines)) (no_dii (is_block line.0 b) (λ j. refl) lines)
+    ∙ zero-add (count_by (is_block line.0 b) (flat_map (blocks_in_round ws r) lines)) ∙ in_round ws r lines line k b rising h e l)
     ∙ ap (λ x. cond (nat_lt r (weight ws line.0)) 1 0 + x) (in_rounds ws lines line k b (r + 1) n rising h e l)
 
 -- ---- nothing else
@@ -431,7 +340,7 @@ one_line P line h =
     let is : get_or (range_with_len 0 line.1) k d ≡ k = get_or-range_with_len 0 line.1 k d within ∙ omega arith in
     subst (λ (b : ℕ). P (Block line.0 b)) (sym is) (h k within))
 
-all_blocks_of : (P : Item → Type 0) (lines : List Line) → ((line : Line) (b : ℕ) → Contains lines line → b < line.1 → P (Block line.0 b)) → All P (flat_map blocks_of lines)
+pub all_blocks_of : (P : Item → Type 0) (lines : List Line) → ((line : Line) (b : ℕ) → Contains lines line → b < line.1 → P (Block line.0 b)) → All P (flat_map blocks_of lines)
 all_blocks_of P [] h = All-nil P
 all_blocks_of P (line ∷ lines) h =
     All-append P (blocks_of line) (flat_map blocks_of lines) (one_line P line (λ b l. h line b (0, omega arith, refl) l))
@@ -456,19 +365,19 @@ all_sent P ws r (line ∷ lines) all =
     (where_sent P (nat_lt r (weight ws line.0)) (blocks_of line) (all_left P (blocks_of line) (flat_map blocks_of lines) all))
     (all_sent P ws r lines (all_right P (blocks_of line) (flat_map blocks_of lines) all))
 
-all_rounds : (P : Item → Type 0) (ws : List ℕ) (lines : List Line) (r n : ℕ) → P (Dii 1) → All P (flat_map blocks_of lines) → All P (flat_map (round ws lines) (range_with_len r n))
+all_rounds : (P : Item → Type 0) (ws : List ℕ) (lines : List Line) (r n : ℕ) → All P (diis_of lines) → All P (flat_map blocks_of lines) → All P (flat_map (round ws lines) (range_with_len r n))
 all_rounds P ws lines r zero dii all = All-nil P
 all_rounds P ws lines r (suc n) dii all =
     All-append P (round ws lines r) (flat_map (round ws lines) (range_with_len (r + 1) n))
-    (subst (All P) (sym (round_is ws lines r)) (All-cons P (Dii 1) (flat_map (blocks_in_round ws r) lines) dii (all_sent P ws r lines all)))
+    (subst (All P) (sym (round_is ws lines r)) (All-append P (diis_of lines) (flat_map (blocks_in_round ws r) lines) dii (all_sent P ws r lines all)))
     (all_rounds P ws lines (r + 1) n dii all)
 
-pub cycle_all : (P : Item → Type 0) (ws : List ℕ) (lines : List Line) → P Dsi → P (Dii 1) → All P (flat_map blocks_of lines) → All P (cycle_of ws lines)
+pub cycle_all : (P : Item → Type 0) (ws : List ℕ) (lines : List Line) → P Dsi → All P (diis_of lines) → All P (flat_map blocks_of lines) → All P (cycle_of ws lines)
 cycle_all P ws lines dsi dii all =
     All-cons P Dsi (flat_map (round ws lines) (range_with_len 0 (greatest_weight ws lines))) dsi (all_rounds P ws lines 0 (greatest_weight ws lines) dii all)
 
 each_of_lines : (ws : List ℕ) (lines : List Line) → All (IsOfLines lines) (cycle_of ws lines)
-each_of_lines ws lines = cycle_all (IsOfLines lines) ws lines tt refl (all_blocks_of (IsOfLines lines) lines (λ line b here l. (line, here, refl, l)))
+each_of_lines ws lines = cycle_all (IsOfLines lines) ws lines tt (all_diis (IsOfLines lines) lines (λ j is. group_known lines j is.has)) (all_blocks_of (IsOfLines lines) lines (λ line b here l. (line, here, refl, l)))
 
 -- ---- the first round is whole
 
@@ -485,11 +394,11 @@ pub some_round : (ws : List ℕ) (lines : List Line) → AreWeights ws → 0 < l
 some_round ws lines w some = omega (arith, at_least_one ws lines w 0 (0, 0) some, each_at_most ws 0 lines 0 (0, 0) some)
 
 pub cycle_begins : (ws : List ℕ) (lines : List Line) → AreWeights ws → 0 < length lines
-    → cycle_of ws lines ≡ Dsi ∷ Dii 1 ∷ flat_map blocks_of lines ++ flat_map (round ws lines) (range_with_len 1 (greatest_weight ws lines - 1))
+    → cycle_of ws lines ≡ Dsi ∷ ((diis_of lines ++ flat_map blocks_of lines) ++ flat_map (round ws lines) (range_with_len 1 (greatest_weight ws lines - 1)))
 cycle_begins ws lines w some =
     let later = flat_map (round ws lines) (range_with_len 1 (greatest_weight ws lines - 1)) in
     ap (λ (xs : List Item). Dsi ∷ xs) (rounds_from ws lines 0 (greatest_weight ws lines) (greatest_weight ws lines - 1) (omega (arith, some_round ws lines w some)))
-    ∙ ap (λ (xs : List Item). Dsi ∷ xs ++ later) (round_is ws lines 0 ∙ ap (λ (xs : List Item). Dii 1 ∷ xs) (heavy_enough ws lines (at_least_one ws lines w)))
+    ∙ ap (λ (xs : List Item). Dsi ∷ (xs ++ later)) (round_is ws lines 0 ∙ ap (λ (xs : List Item). diis_of lines ++ xs) (heavy_enough ws lines (at_least_one ws lines w)))
 
 pub sends_each : (ws : List ℕ) (lines : List Line) → AreLines lines → SendsEach ws lines
 sends_each ws lines are =
@@ -497,7 +406,8 @@ sends_each ws lines are =
     record {
       size = cycle_length ws lines;
       dsi = omega (arith, count_one is_dsi Dsi rounds refl, no_dsi ws lines 0 (greatest_weight ws lines));
-      dii = count_none is_dii Dsi rounds refl ∙ each_dii ws lines 0 (greatest_weight ws lines);
+      diis = λ j is. count_none (is_dii j) Dsi rounds refl ∙ each_dii ws lines j (group_listed lines are j is) 0 (greatest_weight ws lines);
+      rounds = λ j r is h. dii_of_round ws lines j r (group_listed lines are j is);
       blocks = λ line b here l.
           count_none (is_block line.0 b) Dsi rounds refl
           ∙ in_rounds ws lines line here.0 b 0 (greatest_weight ws lines) are.rising here.1 here.2 l
@@ -507,21 +417,13 @@ sends_each ws lines are =
       only = each_of_lines ws lines;
     }
 
-pub round_more : (ws : List ℕ) (r : ℕ) (lines : List Line) (i items next : ℕ) (d : Line) → i < length lines → items ≡ 1 + sum_by (λ l. length (blocks_in_round ws r l)) (take i lines) → next ≡ length (blocks_in_round ws r (get_or lines i d))
-    → items + next ≡ 1 + sum_by (λ l. length (blocks_in_round ws r l)) (take (i + 1) lines)
+pub round_more : (ws : List ℕ) (r : ℕ) (lines : List Line) (i items next : ℕ) (d : Line) → i < length lines → items ≡ length (diis_of lines) + sum_by (λ l. length (blocks_in_round ws r l)) (take i lines) → next ≡ length (blocks_in_round ws r (get_or lines i d))
+    → items + next ≡ length (diis_of lines) + sum_by (λ l. length (blocks_in_round ws r l)) (take (i + 1) lines)
 round_more ws r lines i items next d h e n = omega (arith, e, n, sum_by_more (λ (l : Line). length (blocks_in_round ws r l)) lines i d h)
-
-pub block_below : (ws : List ℕ) (lines : List Line) (r at : ℕ) → 1 ≤ at → at < length (round ws lines r) → at - 1 < length (flat_map (blocks_in_round ws r) lines)
-block_below ws lines r at h l = omega (arith, h, l, ap length (round_is ws lines r))
-
-pub block_of_round : (ws : List ℕ) (lines : List Line) (r at : ℕ) (item : Item) → 1 ≤ at → slice_get (flat_map (blocks_in_round ws r) lines) (at - 1) ≡ Some item → slice_get (round ws lines r) at ≡ Some item
-block_of_round ws lines r zero item h e = absurd (omega arith)
-block_of_round ws lines r (suc n) item h e =
-    ap (λ xs. slice_get xs (suc n)) (round_is ws lines r) ∙ ap (slice_get (flat_map (blocks_in_round ws r) lines)) (less_one n) ∙ e
 
 -- ---- the loop over the lines
 
-products : (a b c d : ℕ) → a ≤ b → c ≤ d → a * c ≤ b * d
+pub products : (a b c d : ℕ) → a ≤ b → c ≤ d → a * c ≤ b * d
 products zero b c d h l = omega arith
 products (suc a) zero c d h l = absurd (omega (arith, h))
 products (suc a) (suc b) c d h l = omega (arith, products a b c d (omega (arith, h)) l, spread a 1 c, spread b 1 d, l)
@@ -550,12 +452,20 @@ pub rounds_more : (ws : List ℕ) (lines : List Line) (i rounds next : ℕ) (d :
 rounds_more ws lines i rounds next d h e n =
     ap (λ x. max x next) e ∙ ap (λ x. max (greatest_weight ws (take i lines)) x) n ∙ sym (fold_more (λ r (line : Line). max r (weight ws line.0)) 0 lines i d h)
 
-pub all_fit : (ws : List ℕ) (lines : List Line) (i items rounds : ℕ) → AreWeights ws → AreLines lines → length lines ≤ i → items ≡ 1 + sum_by (λ l. weight ws l.0 * l.1) (take i lines) → rounds ≡ greatest_weight ws (take i lines)
-    → items + rounds < 2 ^ 64
-all_fit ws lines i items rounds w are h e r =
-    omega (arith, e, r, weighed_within ws lines i w are, most_rounds ws lines w are, ap (greatest_weight ws) (take_all i lines h))
+pub diis_fit : (ws : List ℕ) (lines : List Line) → AreWeights ws → AreLines lines → greatest_weight ws lines * length (diis_of lines) ≤ 128
+diis_fit ws lines w are = products (greatest_weight ws lines) 8 (length (diis_of lines)) 16 (most_rounds ws lines w are) (few_diis lines)
 
-pub all_items : (ws : List ℕ) (lines : List Line) (i items rounds : ℕ) → length lines ≤ i → items ≡ 1 + sum_by (λ l. weight ws l.0 * l.1) (take i lines) → rounds ≡ greatest_weight ws (take i lines)
-    → items + rounds ≡ length (cycle_of ws lines)
-all_items ws lines i items rounds h e r =
-    omega (arith, e, r, cycle_length ws lines, ap (sum_by (λ (l : Line). weight ws l.0 * l.1)) (take_all i lines h), ap (greatest_weight ws) (take_all i lines h))
+pub all_fit : (ws : List ℕ) (lines : List Line) (i items rounds diis : ℕ) → AreWeights ws → AreLines lines → length lines ≤ i → items ≡ 1 + sum_by (λ l. weight ws l.0 * l.1) (take i lines) → rounds ≡ greatest_weight ws (take i lines)
+    → diis ≡ length (diis_of lines) → (rounds * diis < 2 ^ 64) × (items + rounds * diis < 2 ^ 64)
+all_fit ws lines i items rounds diis w are h e r d =
+    let all : rounds ≡ greatest_weight ws lines = r ∙ ap (greatest_weight ws) (take_all i lines h) in
+    let product : rounds * diis ≡ greatest_weight ws lines * length (diis_of lines) = cc in
+    let few = diis_fit ws lines w are in
+    (omega (arith, product, few), omega (arith, e, product, few, weighed_within ws lines i w are))
+
+pub all_items : (ws : List ℕ) (lines : List Line) (i items rounds diis : ℕ) → length lines ≤ i → items ≡ 1 + sum_by (λ l. weight ws l.0 * l.1) (take i lines) → rounds ≡ greatest_weight ws (take i lines)
+    → diis ≡ length (diis_of lines) → items + rounds * diis ≡ length (cycle_of ws lines)
+all_items ws lines i items rounds diis h e r d =
+    let all : rounds ≡ greatest_weight ws lines = r ∙ ap (greatest_weight ws) (take_all i lines h) in
+    let product : rounds * diis ≡ greatest_weight ws lines * length (diis_of lines) = cc in
+    omega (arith, e, product, cycle_length ws lines, ap (sum_by (λ (l : Line). weight ws l.0 * l.1)) (take_all i lines h))

@@ -1,7 +1,8 @@
 -- Weights of modules. They are this project's own.
 use Rattle.std.specs.Prelude.{◌≡◌, ℕ, ◌-◌, ◌≤◌, List, length, slice_index_or}
 use Rattle.std.specs.List.{All}
-use Rattle.cycle_planner.specs.declared.weigh.TheConstants.{GREATEST_ID, GREATEST_WEIGHT}
+use Rattle.module_groups.specs.declared.TheConstants.{GREATEST_ID}
+use Rattle.cycle_planner.specs.declared.weigh.TheConstants.{GREATEST_WEIGHT}
 
 -- the weight of a module, by the list of weights from module 1 on; a module that the list doesn't have weighs 1
 abbrev pub weight : List ℕ → ℕ → ℕ

@@ -1,10 +1,11 @@
 //! The order of the items of a cycle: what a broadcaster sends, section by section, before it begins again.
 //!
 //! Each module has a weight, 1 to [`GREATEST_WEIGHT`]. A cycle begins with the DSI and goes in rounds, as many as the greatest weight among
-//! its modules. A round is the DII of group 1 and then the blocks, by rising module id and block number, of each module that weighs more than
-//! rounds went before. So the DII is sent in each round, and each block as often as its module weighs. ISO/IEC 13818-6 leaves the
-//! order and the repetition of a carousel's messages to the broadcaster; the order and the weights here are this project's own. A
-//! module is given as a line: its id, 1 to [`GREATEST_ID`], and the number of its blocks, at most [`ddb_block::MOST_BLOCKS`].
+//! its modules. A round is the DIIs, by rising group, and then the blocks, by rising module id and block number, of each module that weighs
+//! more than rounds went before. There is a DII of group 1, and one of each other group that a module's id is of. So each DII is sent in
+//! each round, and each block as often as its module weighs. ISO/IEC 13818-6 leaves the order and the repetition of a carousel's
+//! messages to the broadcaster; the order and the weights here are this project's own. A module is given as a line: its id, 1 to [`GREATEST_ID`], and
+//! the number of its blocks, at most [`ddb_block::MOST_BLOCKS`].
 //!
 //! ```
 //! use cycle_planner::{GREATEST_ID, Item, Walk, Weigh, cycle_len, item_at};
@@ -20,25 +21,28 @@
 #![tactic(auto)]
 
 ghost use Rattle.std.specs.Prelude.{◌≡◌, ◌≤◌, ◌<◌, max, Some, length, slice_get};
-ghost use Rattle.std.specs.List.{flat_map};
 ghost use Rattle.cycle_planner.specs.Cycle.{cycle_of, round, AreLines, SendsEach};
 ghost use Rattle.cycle_planner.specs.Rounds.{blocks_in_round};
+ghost use Rattle.module_groups.specs.declared.TheConstants.{GREATEST_ID};
 
+mod diis;
 mod limits;
+mod place;
 mod walk;
 mod weigh;
 
+use diis::dii_count;
 pub use limits::limits_are_numbers;
+pub use module_groups::GREATEST_ID;
 pub use walk::Walk;
-pub use weigh::{Call, GREATEST_ID, GREATEST_WEIGHT, Weigh};
+pub use weigh::{Call, GREATEST_WEIGHT, Weigh};
 
 /// What one section of a cycle carries.
 #[derive(Clone, Copy, Debug, PartialEq, Eq)]
 pub enum Item {
     /// The DownloadServerInitiate, which names the service gateway.
     Dsi,
-    /// A DownloadInfoIndication, which lists modules: the number of their group, 1 to 16. One DII lists 139 modules at most, so the
-    /// first 139 module ids are of group 1, the next 139 of group 2, and so on. Cycles have the DII of group 1 alone.
+    /// A DownloadInfoIndication, which lists modules: the number of their group ([`module_groups::group_of`]), 1 to 16.
     Dii(u16),
     /// A block of a module: the module's id and the block's number, counted from 0.
     Block(u16, u16),
@@ -47,7 +51,7 @@ pub enum Item {
 /// The most items that one draw takes of a cycle. This project's own limit.
 pub const MOST_DRAWN: u32 = 1_048_576;
 
-/// How many items a cycle of these lines has: the DSI, the DII as often as the greatest weight says, and each module's
+/// How many items a cycle of these lines has: the DSI, each DII as often as the greatest weight says, and each module's
 /// blocks as often as it weighs. The lines aren't empty and their ids rise. Takes no memory.
 pub fn cycle_len(lines: &[(u16, u32)], weigh: &Weigh) -> u64
     requires { AreLines lines.now }
@@ -61,7 +65,7 @@ pub fn cycle_len(lines: &[(u16, u32)], weigh: &Weigh) -> u64
         rounds = greater(rounds, weight);
         items += weight * u64::from(line.1);
     }
-    items + rounds
+    items + rounds * dii_count(lines)
 }
 
 /// The item at a place of the cycle, counted from 0, which has to be below `cycle_len`. Takes no memory; the rounds and the
@@ -71,18 +75,8 @@ pub fn item_at(lines: &[(u16, u32)], weigh: &Weigh, at: u64) -> Item
     requires below { at < length (cycle_of weigh.now.weights lines.now) }
     ensures { slice_get (cycle_of weigh.now.weights lines.now) at ≡ Some result }
 {
-    if at == 0 {
-        return Item::Dsi;
-    }
-    let mut left = at - 1;
-    for number in 0..GREATEST_WEIGHT {
-        let items = round_len(lines, weigh, number);
-        if left < items {
-            return item_of_round(lines, weigh, number, left);
-        }
-        left -= items;
-    }
-    unreachable!()
+    let mut walk = Walk::at(lines, weigh, at);
+    walk.next(lines, weigh).unwrap()
 }
 
 /// The greater number.
@@ -109,39 +103,9 @@ fn round_len(lines: &[(u16, u32)], weigh: &Weigh, number: u8) -> u64
     requires { AreLines lines.now }
     ensures { result ≡ length (round weigh.now.weights lines.now number) }
 {
-    let mut items = 1;
+    let mut items = dii_count(lines);
     for line in lines {
         items += blocks_in(line, weigh, number);
     }
     items
-}
-
-/// The item at a place of a round: the DII, or a block.
-fn item_of_round(lines: &[(u16, u32)], weigh: &Weigh, number: u8, at: u64) -> Item
-    requires lines { AreLines lines.now }
-    requires below { at < length (round weigh.now.weights lines.now number) }
-    ensures { slice_get (round weigh.now.weights lines.now number) at ≡ Some result }
-{
-    if at == 0 {
-        Item::Dii(1)
-    } else {
-        block_at(lines, weigh, number, at - 1)
-    }
-}
-
-/// The block at a place among the blocks that a round sends.
-fn block_at(lines: &[(u16, u32)], weigh: &Weigh, number: u8, at: u64) -> Item
-    requires lines { AreLines lines.now }
-    requires below { at < length (flat_map (blocks_in_round weigh.now.weights number) lines.now) }
-    ensures { slice_get (flat_map (blocks_in_round weigh.now.weights number) lines.now) at ≡ Some result }
-{
-    let mut left = at;
-    for line in lines {
-        let blocks = blocks_in(line, weigh, number);
-        if left < blocks {
-            return Item::Block(line.0, left as u16);
-        }
-        left -= blocks;
-    }
-    unreachable!()
 }

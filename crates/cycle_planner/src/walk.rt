@@ -1,25 +1,12 @@
-ghost use Rattle.std.specs.Prelude.{◌≡◌, ◌∷◌, ◌<◌, ◌≤◌, [], length, MatchOption};
+ghost use Rattle.std.specs.Prelude.{◌≡◌, ◌∷◌, [], drop, MatchOption};
 ghost use Rattle.cycle_planner.specs.Cycle.{AreLines, cycle_of, greatest_weight};
-ghost use Rattle.cycle_planner.specs.Places.{IsPlace, items_from, lines_from};
 
-use crate::{Item, Weigh, blocks_in};
+use crate::place::{Place, place_at, step};
+use crate::{Item, Weigh};
 
-/// Where a walk stands in a cycle. Rounds, lines and blocks are counted from 0.
-#[derive(Clone, Copy, Debug)]
-enum Place {
-    /// Before the DSI.
-    Start,
-    /// Before the DII of a round.
-    Round(u8),
-    /// Before a block of a module that the round sends.
-    Block { round: u8, line: usize, block: u16 },
-    /// Behind the last round.
-    End,
-}
-
-/// A walk over the items of a cycle, one after another: no line is passed over twice in a round, and its weight is asked once a
-/// round, and once before the first. The lines and the weights are lent to each call, and have to stay the same; contracts see the
-/// items of their cycle that are still to come.
+/// A walk over the items of a cycle, one after another: a module's weight is asked once before the first item and once a round,
+/// and by a walk that begins at a place once more in each round up to it. The lines and the weights are lent to each call, and
+/// have to stay the same; contracts see the items of their cycle that are still to come.
 #[derive(Clone, Copy, Debug)]
 pub struct Walk {
     rounds: u8,
@@ -38,6 +25,20 @@ impl Walk {
         Walk {
             rounds: rounds_of(lines, weigh),
             place: Place::Start,
+        }
+    }
+
+    /// Stands before the item at a place of the cycle of these lines, counted from 0, or behind the last one where the cycle has no
+    /// such place. Takes no memory; the rounds and the modules before the place are passed over whole.
+    pub fn at(lines: &[(u16, u32)], weigh: &Weigh, at: u64) -> Walk
+        requires { AreLines lines.now }
+        ensures walk { IsWalk weigh.now.weights lines.now result }
+        ensures items { left_of weigh.now.weights lines.now result ≡ drop at (cycle_of weigh.now.weights lines.now) }
+    {
+        let rounds = rounds_of(lines, weigh);
+        Walk {
+            rounds,
+            place: place_at(lines, weigh, rounds, at),
         }
     }
 
@@ -63,57 +64,4 @@ fn rounds_of(lines: &[(u16, u32)], weigh: &Weigh) -> u8
         rounds = rounds.max(weigh.of(line.0));
     }
     rounds
-}
-
-/// The item at a place, and the place behind it.
-#[tactic(auto, using(crate::proofs::Stepping::begins, crate::proofs::Stepping::round_begins, crate::proofs::Stepping::block_first, crate::proofs::Order::some_round))]
-fn step(lines: &[(u16, u32)], weigh: &Weigh, rounds: u8, place: Place) -> Option<(Item, Place)>
-    requires lines { AreLines lines.now }
-    requires rounds { rounds ≡ greatest_weight weigh.now.weights lines.now }
-    requires place { IsPlace weigh.now.weights lines.now place }
-    ensures { MatchOption result (items_from weigh.now.weights lines.now place ≡ []) (λ p. (items_from weigh.now.weights lines.now place ≡ p.0 ∷ items_from weigh.now.weights lines.now p.1) × IsPlace weigh.now.weights lines.now p.1) }
-{
-    match place {
-        Place::Start => Some((Item::Dsi, Place::Round(0))),
-        Place::Round(round) => Some((Item::Dii(1), place_from(lines, weigh, rounds, round, 0))),
-        Place::Block { round, line, block } => {
-            let (id, blocks) = lines[line];
-            let next = if u32::from(block) + 1 < blocks {
-                Place::Block {
-                    round,
-                    line,
-                    block: block + 1,
-                }
-            } else {
-                place_from(lines, weigh, rounds, round, line + 1)
-            };
-            Some((Item::Block(id, block), next))
-        }
-        Place::End => None,
-    }
-}
-
-/// The place of the next item where the lines of a round are still to come from one on.
-fn place_from(lines: &[(u16, u32)], weigh: &Weigh, rounds: u8, round: u8, from: usize) -> Place
-    requires lines { AreLines lines.now }
-    requires rounds { rounds ≡ greatest_weight weigh.now.weights lines.now }
-    requires round { round < rounds }
-    requires from { from ≤ length lines.now }
-    ensures place { IsPlace weigh.now.weights lines.now result }
-    ensures items { items_from weigh.now.weights lines.now result ≡ lines_from weigh.now.weights lines.now round from }
-{
-    for line in from..lines.len() {
-        if blocks_in(&lines[line], weigh, round) > 0 {
-            return Place::Block {
-                round,
-                line,
-                block: 0,
-            };
-        }
-    }
-    if round + 1 < rounds {
-        Place::Round(round + 1)
-    } else {
-        Place::End
-    }
 }

@@ -1,9 +1,8 @@
 ghost use Rattle.std.specs.Prelude.{◌≡◌, ◌≤◌, List, ℕ};
 ghost use Rattle.cycle_planner.specs.Weights.{AreWeights, weight};
-ghost use Rattle.cycle_planner.specs.declared.weigh.TheConstants.{GREATEST_ID};
+ghost use Rattle.module_groups.specs.declared.TheConstants.{GREATEST_ID};
 
-/// The greatest module id, and so the number of weights.
-pub const GREATEST_ID: usize = 2_224;
+use module_groups::GREATEST_ID;
 
 /// The greatest weight of a module.
 pub const GREATEST_WEIGHT: u8 = 8;

@@ -1,4 +1,4 @@
--- Control messages: the DSI with the gateway, and the DII with the modules.
+-- Control messages: the DSI with the gateway, and the DIIs with the modules.
 use Rattle.std.specs.Prelude.{◌≡◌, ℕ, zero, suc, nat_le, ◌+◌, ◌-◌, ◌*◌, ◌/◌, ◌%◌, ◌<◌, Bool, false, List, [], ◌∷◌, ◌++◌, length, replicate, drop, Option, Some, None, ◌==◌, if◌then◌else◌}
 use Rattle.std.specs.List.{flat_map, list_any, All}
 use Rattle.oc_bytes.specs.Numbers.{two_bytes, four_bytes}
@@ -47,9 +47,9 @@ version_of transaction = transaction / 65536 % 16384
 abbrev pub identification_of : ℕ → ℕ
 identification_of transaction = transaction / 2 % 32768
 
--- the transactionId of a generation's DII
-abbrev pub dii_transaction : ℕ → ℕ
-dii_transaction g = 0x80000002 + g * 65536 + g % 2
+-- the transactionId of DII j of generation g: its version is g, its identification is j, and its flag is the generation's last bit
+abbrev pub dii_transaction : ℕ → ℕ → ℕ
+dii_transaction g j = 0x80000000 + g * 65536 + 2 * j + g % 2
 
 abbrev pub distance_of : ℕ → ℕ → ℕ
 distance_of old new = (new + 16384 - old) % 16384

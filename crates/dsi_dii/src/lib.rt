@@ -1,4 +1,4 @@
-//! The control messages of an object carousel: the DSI, which names the service gateway, and the DII, which lists
+//! The control messages of an object carousel: the DSI, which names the service gateway, and the DIIs, which list
 //! the modules. They are read by their grammar and written in one spelling.
 //!
 //! The layouts are those of ISO/IEC 13818-6, clauses 7.2 and 7.3, in the profile of ETSI TR 101 202, clauses 4.6
@@ -14,11 +14,12 @@
 //!     Ok(Some(dii.transaction.version()))
 //! }
 //!
-//! assert_eq!(rt; TransactionId::dii(3).version(), 3);
+//! assert_eq!(rt; TransactionId::dii(3, 1).version(), 3);
 //! ```
 #![tactic(auto)]
 
 ghost use Rattle.std.specs.Prelude.{◌≡◌, ◌≤◌, ◌<◌};
+ghost use Rattle.module_groups.specs.declared.TheConstants.{MOST_GROUPS};
 ghost use Rattle.dsi_dii.specs.Controls.{distance_of, dii_transaction, version_of, identification_of};
 ghost use Rattle.dsi_dii.specs.declared.ControlFault.TheVariants.{NotControl, NoMemory as ControlNoMemory};
 ghost use Rattle.dsi_dii.specs.declared.DiiFault.TheVariants.{NoMemory as DiiNoMemory};
@@ -30,14 +31,15 @@ mod writing;
 use ddb_block::MOST_BLOCK_SIZE;
 use ior_tap::Ior;
 pub use limits::limits_are_numbers;
+use module_groups::GROUP_SIZE;
 use oc_bytes::Cut;
 pub use reading::decode;
 use std::alloc::{AllocError, AllocFailed};
 use thiserror::Error;
 pub use writing::{encode_dii, encode_dsi, spellings_read_back};
 
-/// The most modules of a DII: one section has no room for more.
-pub const MOST_MODULES: usize = 139;
+/// The most modules of a DII, 139: one section has no room for more.
+pub const MOST_MODULES: usize = GROUP_SIZE as usize;
 
 /// The block size of each DII that is written, in bytes: the greatest.
 pub const BLOCK_SIZE: u16 = MOST_BLOCK_SIZE;
@@ -61,13 +63,18 @@ impl TransactionId {
         TransactionId(0x8000_0000)
     }
 
-    /// That of the DII of this generation, 0 to [`LAST_GENERATION`]: the generation is its version, the identification is 1,
-    /// and the flag is the generation's last bit, so that it changes with each generation.
-    pub fn dii(generation: u64) -> TransactionId
-        requires { generation ≤ LAST_GENERATION }
-        ensures { result.0 ≡ dii_transaction generation }
+    /// That of the DII of a group of modules, 1 to [`module_groups::MOST_GROUPS`], in this generation, 0 to [`LAST_GENERATION`]: the
+    /// generation is its version, the group its identification, and the flag is the generation's last bit, so that it changes with
+    /// each generation.
+    pub fn dii(generation: u64, group: u16) -> TransactionId
+        requires generation { generation ≤ LAST_GENERATION }
+        requires group { (1 ≤ group) × (group ≤ MOST_GROUPS) }
+        ensures transaction { result.0 ≡ dii_transaction generation group }
+        ensures version { version_of result.0 ≡ generation }
+        ensures identification { identification_of result.0 ≡ group }
     {
-        TransactionId(0x8000_0002 + generation as u32 * 65536 + (generation % 2) as u32)
+        let flag = (generation % 2) as u32;
+        TransactionId(0x8000_0000 + generation as u32 * 65536 + 2 * u32::from(group) + flag)
     }
 
     /// The version, 0 to 16,383.
@@ -107,7 +114,7 @@ pub struct ModuleLine {
     pub compressed: bool,
 }
 
-/// A DII (DownloadInfoIndication): the modules of the carousel as they are now.
+/// A DII (DownloadInfoIndication): modules of the carousel as they are now.
 #[derive(Debug, Drop)]
 pub struct Dii {
     /// The downloadId, which the blocks of these modules carry.

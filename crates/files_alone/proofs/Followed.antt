@@ -42,7 +42,7 @@ sends_same f g same = record {
   by (Dii j) = refl
   by (Block m b) = refl
 
-made_same : (carousel number : ℕ) (t : FileTree) (old : List Placed) (before : Layout) (counts : List (ℕ × ℕ)) → IsTree (of_files t)
+made_same : (carousel number : ℕ) (t : FileTree) (old : List Placed) (before : Layout) (counts : List ℕ) → IsTree (of_files t)
     → IsAlike (files.make_generation carousel number t (map as_placed old) before counts) (make_generation carousel number (of_files t) old before counts)
 made_same carousel number t old before counts h =
     let placed = objects_same t old h in

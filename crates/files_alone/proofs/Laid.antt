@@ -8,7 +8,7 @@ use Rattle.path_tree.specs.Files.{FileTree, of_files}
 use Rattle.path_tree.specs.Trees.{IsTree}
 use Rattle.biop_object.specs.Objects.{folder_spelling}
 use Rattle.module_packer.specs.Kept.{kept_modules}
-use Rattle.dsi_dii.specs.declared.TheConstants.{MOST_MODULES}
+use Rattle.module_groups.specs.declared.TheConstants.{GREATEST_ID}
 use Rattle.generation.specs.Publication.{Spot, is_child}
 use Rattle.generation.specs.Publication as today
 use Rattle.generation.specs.Layouts.{Placed, is_same_spot, fill_keys, free_keys, taken_in, folder_kind_of, key_bytes, greatest}
@@ -66,7 +66,7 @@ objects_same t old h =
     let keys : files.keys_of (map as_placed old) (objects.spots_of t) ≡ generations.keys_of old all = ap (files.keys_of (map as_placed old)) spots ∙ keys_same old all in
     let before : files.old_modules (map as_placed old) (objects.spots_of t) ≡ generations.old_modules old all = ap (files.old_modules (map as_placed old)) spots ∙ old_modules_same old all in
     let sizes : objects.sizes_of t ≡ today.sizes_of (of_files t) = sizes_same t h in
-    let ms : files.modules_for (map as_placed old) t ≡ generations.modules_for old (of_files t) = λ i. kept_modules MOST_MODULES (zip (sizes i) (before i)) in
+    let ms : files.modules_for (map as_placed old) t ≡ generations.modules_for old (of_files t) = λ i. kept_modules GREATEST_ID (zip (sizes i) (before i)) in
     (λ i. files.placed_all (spots i) (keys i) (ms i)) ∙ placed_same all (generations.keys_of old all) (generations.modules_for old (of_files t))
 
 -- ---- what holds of each object

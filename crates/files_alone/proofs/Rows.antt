@@ -9,6 +9,7 @@ use Rattle.path_tree.specs.Files.{FileTree, Put, Remove}
 use Rattle.path_tree.specs.declared.tree.Edit.TheVariants as edits
 use Rattle.path_tree.specs.declared.tree.EditFault.TheVariants.{NoSuchFile}
 use Rattle.module_packer.specs.Kept.{kept_modules, least_with}
+use Rattle.cycle_planner.specs.Cycle.{groups_from}
 use Rattle.generation_catalogue.specs.declared.entry.Refusal.TheVariants as refusals
 use Rattle.files_alone.specs.Objects.{gateway_spot, spots_of, sizes_of, limit_of}
 use Rattle.files_alone.specs.Histories.{FileEntry, Commit, Draw}
@@ -78,5 +79,5 @@ asked-made =
     All-from_recursion IsRequest asked (put_made, (only IsEdit (edits.Remove ((99 ∷ []) ∷ [])) tt, (tt, (tt, tt))))
 
 asked-answered : (history_of 7 [] asked).entries ≡ answered
-unfolding asked answered kept_modules least_with
+unfolding asked answered kept_modules least_with groups_from
 asked-answered = refl

@@ -8,7 +8,8 @@ use Rattle.path_tree.specs.Paths.{Bytes}
 use Rattle.path_tree.specs.Files.{FileTree, of_files}
 use Rattle.path_tree.specs.Trees.{IsTree}
 use Rattle.module_packer.specs.Placement.{modules_needed}
-use Rattle.dsi_dii.specs.declared.TheConstants.{MOST_MODULES, MOST_TOTAL_SIZE}
+use Rattle.dsi_dii.specs.declared.TheConstants.{MOST_TOTAL_SIZE}
+use Rattle.module_groups.specs.declared.TheConstants.{GREATEST_ID}
 use Rattle.biop_object.specs.declared.written.TheConstants.{FOLDER_FRONT, MOST_FOLDER_SIZE}
 use Rattle.generation.specs.declared.limit.TheConstants.{MOST_OBJECTS}
 use Rattle.generation.specs.Publication.{Spot, Passed, Objects, Folder, Total, Modules, binding_rest, is_child, or_else, over}
@@ -70,7 +71,7 @@ limit_from n large sizes =
     or_else (over (nat_lt MOST_OBJECTS n) (Objects (cap_at_u32 n)))
     (or_else large
     (or_else (over (nat_lt MOST_TOTAL_SIZE (sum sizes)) (Total (cap_at_u64 (sum sizes))))
-    (over (nat_lt MOST_MODULES (modules_needed sizes)) (Modules (cap_at_u64 (modules_needed sizes))))))
+    (over (nat_lt GREATEST_ID (modules_needed sizes)) (Modules (cap_at_u64 (modules_needed sizes))))))
 
 pub limits_same : LimitsStayTheSame
 unfolding limit_from

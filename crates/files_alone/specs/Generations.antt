@@ -13,7 +13,7 @@ use Rattle.cycle_planner.specs.declared.Item.{Item}
 use Rattle.generation.specs.Layouts.{same_kind, free_keys, fill_keys, taken_in, key_bytes, bound_of, folder_kind_of, greatest, counts_after}
 use Rattle.generation.specs.Layouts as today
 use Rattle.files_alone.specs.Objects.{Spot, gateway_spot, spots_of, sizes_of, child_name}
-use Rattle.dsi_dii.specs.declared.TheConstants.{MOST_MODULES}
+use Rattle.module_groups.specs.declared.TheConstants.{GREATEST_ID}
 
 -- an object with its key and its module
 pub record Placed : Type 0 where
@@ -28,7 +28,7 @@ pub record GenerationState : Type 0 where
   pub tree : FileTree
   pub objects : List Placed
   pub layout : Layout
-  pub counts : List (ℕ × ℕ)
+  pub counts : List ℕ
 
 -- the same path and kind
 abbrev pub is_same_spot : Spot → Spot → Bool
@@ -99,9 +99,9 @@ old_modules old spots = map (λ s. module_of (placed_at old s)) spots
 
 -- the module of each object: the one where it was, as far as there is room
 abbrev pub modules_for : List Placed → FileTree → List ℕ
-modules_for old t = kept_modules MOST_MODULES (zip (sizes_of t) (old_modules old (spots_of t)))
+modules_for old t = kept_modules GREATEST_ID (zip (sizes_of t) (old_modules old (spots_of t)))
 
-abbrev pub make_generation : ℕ → ℕ → FileTree → List Placed → Layout → List (ℕ × ℕ) → GenerationState
+abbrev pub make_generation : ℕ → ℕ → FileTree → List Placed → Layout → List ℕ → GenerationState
 make_generation carousel number t old before counts =
     let spots = spots_of t in
     let objects = placed_all spots (keys_of old spots) (modules_for old t) in

@@ -1,11 +1,10 @@
 -- The sections of a lawful broadcast are as a packer asks.
-use Rattle.std.proofs.Common.{◌≡◌, ℕ, zero, suc, ◌+◌, ◌-◌, ◌*◌, ◌%◌, ◌<◌, ◌≤◌, Bool, true, false, eqb, List, [], ◌∷◌, map, length, take, drop, get_or, Some, refl, sym, ◌∙◌, subst, arith, cond, lit<}
-use Rattle.std.specs.List.{All, AllPairs, filter, flat_map}
+use Rattle.std.proofs.Common.{◌≡◌, ℕ, ◌+◌, ◌*◌, ◌%◌, ◌<◌, ◌≤◌, Bool, true, false, eqb, List, [], ◌∷◌, map, length, take, drop, get_or, Some, refl, sym, ◌∙◌, subst, arith, lit<, lit≤}
+use Rattle.std.specs.List.{All, flat_map}
 use Rattle.std.specs.Option.{unwrap_or}
 use Rattle.std.proofs.lemmas.Bool.{eqb-true}
 use Rattle.std.proofs.lemmas.List.{get_or_append_left, get_or-append-add, get_or-map, length-append, length-map, length-take}
-use Rattle.std.proofs.lemmas.List.Elements.{All-cons, All-filter, All-head, All-map, All-nil, All-tail}
-use Rattle.std.proofs.lemmas.List.Kept.{AllPairs-filter}
+use Rattle.std.proofs.lemmas.List.Elements.{All-cons, All-head, All-map, All-nil, All-tail}
 use Rattle.path_tree.specs.Paths.{Bytes}
 use Rattle.biop_object.specs.Names.{Layout, module_in}
 use Rattle.biop_object.specs.Objects.{gateway_kind}
@@ -16,10 +15,10 @@ use Rattle.dsi_dii.specs.Spellings.{DiiSpellingsHaveSize, DsiSpellingsHaveSize}
 use Rattle.dsmcc_section.specs.Sections as sections
 use Rattle.cycle_planner.specs.declared.Item.{Item}
 use Rattle.cycle_planner.specs.declared.Item.TheVariants.{Dsi, Dii, Block}
-use Rattle.generation.specs.Groups.{group_of, is_in_group, group_in, transaction_of}
+use Rattle.generation.specs.Groups.{group_in, dii_transaction}
 use Rattle.generation.specs.Layouts.{gateway_location, control_section, block_section}
 use Rattle.generation.specs.Lawful.{IsItem, IsLayout, Lawful, dii_in, layout_at, section_in, version_in}
-use Rattle.generation.proofs.CallerLemmas.{at_layout}
+use Rattle.generation.proofs.CallerLemmas.{at_layout, few_of_group}
 use Rattle.section_stream.specs.Packing.{IsSectionLike}
 use Rattle.carousel_world.specs.Broadcasts.{Group, Sending, sendings_of}
 use Rattle.carousel_world.proofs.CallerLemmas.{framed_is_like}
@@ -31,47 +30,6 @@ pub record Sizes : Type 0 where
   pub block : (b : ddb.Block) → length (ddb.spelling b) ≡ length b.bytes + 18
   pub dii : DiiSpellingsHaveSize
   pub dsi : DsiSpellingsHaveSize
-
--- ---- a DII's modules are few
-
--- ids that rise between two bounds are few
-rising_few : (ms : Layout) (a u : ℕ) → a ≤ u → AllPairs (λ m n. m.0 < n.0) ms → All (λ m. a ≤ m.0) ms → All (λ m. m.0 < u) ms → length ms + a ≤ u
-rising_few [] a u le rising low high = omega (arith, le)
-rising_few (m ∷ ms) a u le rising low high =
-    let here : a ≤ m.0 = All-head (λ m. a ≤ m.0) m ms low in
-    let below : m.0 < u = All-head (λ m. m.0 < u) m ms high in
-    let above : All (λ n. m.0 + 1 ≤ n.0) ms = λ k d inside. let gt : m.0 < (get_or ms k d).0 = rising zero (suc k) d (omega arith) (omega (arith, inside)) in omega (arith, gt) in
-    let rest : length ms + (m.0 + 1) ≤ u = rising_few ms (m.0 + 1) u (omega (arith, below)) (λ i j d lt inside. rising (suc i) (suc j) d (omega (arith, lt)) (omega (arith, inside))) above (All-tail (λ m. m.0 < u) m ms high) in
-    omega (arith, rest, here)
-
-all_of_group : (j : ℕ) (ms : Layout) → All (λ m. group_of m.0 ≡ j) (filter (is_in_group j) ms)
-all_of_group j [] = All-nil (λ m. group_of m.0 ≡ j)
-all_of_group j (m ∷ ms) = go (eqb (group_of m.0) j) refl (all_of_group j ms) where
-  go : (t : Bool) → eqb (group_of m.0) j ≡ t → All (λ m. group_of m.0 ≡ j) (filter (is_in_group j) ms) → All (λ m. group_of m.0 ≡ j) (cond t (m ∷ filter (is_in_group j) ms) (filter (is_in_group j) ms))
-  go true e rest = All-cons (λ m. group_of m.0 ≡ j) m (filter (is_in_group j) ms) (eqb-true _ _ e) rest
-  go false e rest = rest
-
-group_low : (m j : ℕ) → 1 ≤ m → group_of m ≡ j → (j - 1) * 139 + 1 ≤ m
-group_low m j some e = omega (arith, some, e)
-
-group_high : (m j : ℕ) → group_of m ≡ j → m < j * 139 + 1
-group_high m j e = omega (arith, e)
-
-few_in_group : (layout : Layout) (j : ℕ) → IsLayout layout → 1 ≤ j → length (group_in layout j) ≤ 139
-few_in_group layout j is some =
-    let ms = group_in layout j in
-    let of = all_of_group j layout in
-    let ones = All-filter (is_in_group j) (λ m. 1 ≤ m.0) layout is.from_one in
-    let count : length ms + ((j - 1) * 139 + 1) ≤ j * 139 + 1 =
-    rising_few ms ((j - 1) * 139 + 1) (j * 139 + 1) (bounds j some) (AllPairs-filter (λ m n. m.0 < n.0) (is_in_group j) layout is.rising)
-    (λ k d inside. group_low (get_or ms k d).0 j (ones k d inside) (of k d inside)) (λ k d inside. group_high (get_or ms k d).0 j (of k d inside)) in
-    at_most (length ms) j some count
-  where
-    bounds : (j : ℕ) → 1 ≤ j → (j - 1) * 139 + 1 ≤ j * 139 + 1
-    bounds j some = omega (arith, some)
-
-    at_most : (n j : ℕ) → 1 ≤ j → n + ((j - 1) * 139 + 1) ≤ j * 139 + 1 → n ≤ 139
-    at_most n j some le = omega (arith, some, le)
 
 -- what is found under an id is a module
 listed_id : (layout : Layout) (m : ℕ) (b : Bytes) → All (λ x. x.0 ≤ 2224) layout → module_in layout m ≡ Some b → m ≤ 2224
@@ -95,7 +53,7 @@ control_fits extension payload lt le = record {
 dsi_fits : (carousel : ℕ) → Sizes → sections.Fits (control_section 0 (dsi_spelling 0x80000000 gateway_kind (gateway_location carousel)))
 dsi_fits carousel sizes =
     control_fits 0 (dsi_spelling 0x80000000 gateway_kind (gateway_location carousel)) (lit< tt)
-    (omega (arith, sizes.dsi 0x80000000 gateway_kind (gateway_location carousel) (record { form = refl; four = refl; key = refl })))
+    (omega (arith, sizes.dsi 0x80000000 gateway_kind (gateway_location carousel) (record { form = refl; four = refl; key = refl; listed = (lit≤ tt, lit≤ tt) })))
 
 dii_fits : (extension : ℕ) (d : DiiFields) → Sizes → extension < 65536 → length d.modules ≤ 139 → sections.Fits (control_section extension (dii_spelling d))
 dii_fits extension d sizes lt few = control_fits extension (dii_spelling d) lt (omega (arith, sizes.dii d))
@@ -122,7 +80,7 @@ id_small m le = omega (arith, le)
 
 dii_few : (carousel : ℕ) (ls : List Layout) (g j : ℕ) → IsLayout (layout_at ls g) → 1 ≤ j → length (dii_in carousel ls g j).modules ≤ 139
 dii_few carousel ls g j is some =
-    let few = few_in_group (layout_at ls g) j is some in
+    let few = few_of_group (layout_at ls g) j (record { rising = is.rising; from_one = is.from_one }) some in
     omega (arith, few, length-map {B = ModuleLine} (group_in (layout_at ls g) j) (λ m. record { id = m.0; size = length m.1; version = version_in ls g m.0; compressed = false }))
 
 layout_is : (carousel : ℕ) (ls : List Layout) (ts : _) (g : ℕ) → Lawful carousel ls ts → g < length ls → IsLayout (layout_at ls g)
@@ -131,8 +89,8 @@ layout_is carousel ls ts g lawful lt = at_layout IsLayout ls g lawful.maps lt
 item_framed : (carousel : ℕ) (ls : List Layout) (ts : _) (g : ℕ) → Sizes → Lawful carousel ls ts → (item : Item) → IsItem ls g item → sections.IsFramed (section_in carousel ls g item)
 item_framed carousel ls ts g sizes lawful Dsi item = sizes.framed (control_section 0 (dsi_spelling 0x80000000 gateway_kind (gateway_location carousel))) (dsi_fits carousel sizes)
 item_framed carousel ls ts g sizes lawful (Dii j) item =
-    sizes.framed (control_section (transaction_of g j % 65536) (dii_spelling (dii_in carousel ls g j)))
-    (dii_fits (transaction_of g j % 65536) (dii_in carousel ls g j) sizes (small (transaction_of g j)) (dii_few carousel ls g j (layout_is carousel ls ts g lawful item.0) item.2))
+    sizes.framed (control_section (dii_transaction g j % 65536) (dii_spelling (dii_in carousel ls g j)))
+    (dii_fits (dii_transaction g j % 65536) (dii_in carousel ls g j) sizes (small (dii_transaction g j)) (dii_few carousel ls g j (layout_is carousel ls ts g lawful item.0) item.2))
 item_framed carousel ls ts g sizes lawful (Block m b) item =
     sizes.framed (block_section carousel m (version_in ls g m) b (unwrap_or (module_in (layout_at ls g) m) []))
     (block_fits carousel m (version_in ls g m) b (unwrap_or (module_in (layout_at ls g) m) []) sizes

@@ -12,7 +12,7 @@ ghost use Rattle.folder_playout.specs.Readings.{by_judgement, judged, path_told,
 
 use crate::reading::{Trees, Unread};
 use folder_store::{Folders, ReadTree, SurveyFault, TreeFault, place_text, survey};
-use generation::check;
+use generation::{Publishable, checked};
 use generation_catalogue::{CommitFault, MOST_PUT_BYTES, Refusal};
 use oc_bytes::NoMemory;
 use path_tree::{Edit, EditFault, Tree, apply};
@@ -48,7 +48,7 @@ impl<F: Folders> Trees for FolderTrees<'_, F> {
         × AreRead a.folder.now (F.tree a.folders.now) (F.tree b.folders.now) (F.faults a.folders.now) (F.faults b.folders.now) readings };
 
     /// The tree of the folder, as `publish` makes it: what it refuses is refused in the same order.
-    fn read(&mut self) -> Result<Tree, Unread> {
+    fn read(&mut self) -> Result<Publishable, Unread> {
         match survey(self.alloc, self.folders, self.folder) {
             Ok(survey) => tree_of(self.alloc, &survey.edits),
             Err(fault) => Err(walk_fault(self.alloc, &fault)?),
@@ -70,7 +70,7 @@ fn walk_fault(alloc: Global, fault: &SurveyFault) -> Result<Unread, NoMemory>
 }
 
 /// The tree that edits make of the empty one, or the first refusal that holds, with the path at fault.
-fn tree_of(alloc: Global, edits: &[Edit]) -> Result<Tree, Unread>
+fn tree_of(alloc: Global, edits: &[Edit]) -> Result<Publishable, Unread>
     ensures tells { Tells result (by_judgement edits.now (judged edits.now) ∷ []) }
     ensures publishable { IfOk result IsPublishable }
 {
@@ -98,7 +98,7 @@ fn path_told(alloc: Global, edits: &[Edit], refusal: &Refusal) -> Result<Option<
 }
 
 /// The tree that edits make of the empty one, or the first refusal that holds.
-fn judge(alloc: Global, edits: &[Edit]) -> Result<Tree, CommitFault>
+fn judge(alloc: Global, edits: &[Edit]) -> Result<Publishable, CommitFault>
     ensures judged { Gives (λ t. t) commit_cause result (judged edits.now) }
     ensures publishable { IfOk result IsPublishable }
 {
@@ -107,8 +107,7 @@ fn judge(alloc: Global, edits: &[Edit]) -> Result<Tree, CommitFault>
         return Err(CommitFault::Refused(Refusal::JournalFull(total)));
     }
     let tree = apply(alloc, &Tree::empty(alloc), edits)?;
-    check(alloc, &tree)?;
-    Ok(tree)
+    Ok(checked(alloc, tree)?)
 }
 
 /// The bytes that the edits put, or the greatest `u64`.

@@ -9,7 +9,7 @@ use crate::notices::Notices;
 use crate::playout::Playout;
 use crate::reading::{Trees, Unread};
 use cycle_planner::Weigh;
-use path_tree::Tree;
+use generation::Publishable;
 use shell_streams::{Output, OutputFault};
 use std::alloc::{AllocError, Global};
 use thiserror::Error;
@@ -174,10 +174,10 @@ fn take_next<T: Trees, N: Notices, O: Output>(
 /// The tree of the next generation, where one was read that differs from that of the generation on the air, of which so many cycles are sent.
 fn next_tree<N: Notices>(
     playout: &Playout,
-    read: Result<Tree, Unread>,
+    read: Result<Publishable, Unread>,
     sent: u32,
     notices: &mut N,
-) -> Result<Option<Tree>, OutputFault>
+) -> Result<Option<Publishable>, OutputFault>
     requires { sent + 1 < 2 ^ 32 }
     ensures next { IsNext playout.now.generation (sent + 1) read result }
     ensures told { (start : N) (before : List Notice) → N.told start notices.old before → N.told start notices.new (before ++ told_next playout.now.generation.number (sent + 1) read) }

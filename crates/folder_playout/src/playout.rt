@@ -1,7 +1,6 @@
-ghost use Rattle.std.specs.Prelude.{◌≡◌, ◌<◌, ◌≤◌, [], ℕ, None, true, false, IfOk, OnOk};
+ghost use Rattle.std.specs.Prelude.{◌≡◌, ◌<◌, ◌≤◌, [], ℕ, true, false, IfOk, OnOk};
 ghost use Rattle.std.specs.List.{All};
 ghost use Rattle.generation.specs.Layouts.{first_of, next_of};
-ghost use Rattle.generation.specs.Publication.{limit_of};
 ghost use Rattle.section_stream.specs.Packing.{IsSectionLike};
 ghost use Rattle.shell_streams.specs.Sending.{OutputState, HasPut, Puts};
 ghost use Rattle.dsi_dii.specs.declared.TheConstants.{LAST_GENERATION};
@@ -14,9 +13,8 @@ use crate::same::is_same_tree;
 use cycle_planner::Weigh;
 use cycle_sender::Sender;
 use dsi_dii::LAST_GENERATION;
-use generation::Generation;
+use generation::{Generation, Publishable};
 use oc_bytes::NoMemory;
-use path_tree::Tree;
 use shell_streams::{Output, OutputFault};
 use std::alloc::Global;
 
@@ -33,27 +31,26 @@ impl Playout {
         alloc: Global,
         pid: u16,
         carousel: u32,
-        tree: Tree,
+        tree: Publishable,
     ) -> Result<(Playout, Difference), NoMemory>
         requires in_range { pid < 8192 }
-        requires tree { limit_of tree ≡ None }
         ensures stands { IfOk result (λ p. StandsFor p.0 pid (begun carousel tree)) }
         ensures differs { IfOk result (λ p. p.1 ≡ difference_of (first_of carousel) (next_of (first_of carousel) tree)) }
     {
         let sender = Sender::new(alloc, pid);
         let none = Generation::first(alloc, carousel)?;
-        let generation = none.next(tree)?;
+        let generation = none.next_checked(tree)?;
         let difference = compared(&none, &generation);
         let playout = Playout { sender, generation };
         Ok((playout, difference))
     }
 
     /// Whether this is another tree than that of the generation on the air.
-    pub(crate) fn is_new(&self, tree: &Tree) -> bool
+    pub(crate) fn is_new(&self, tree: &Publishable) -> bool
         ensures same { result ≡ false → same_tree tree.now self.now.generation.tree ≡ true }
         ensures other { result ≡ true → same_tree tree.now self.now.generation.tree ≡ false }
     {
-        !is_same_tree(tree, self.generation.tree())
+        !is_same_tree(tree.tree(), self.generation.tree())
     }
 
     /// The number of the generation on the air.
@@ -74,10 +71,9 @@ impl Playout {
     /// Makes the tree the next generation, and says in what it differs. The sections of this one end as a group.
     pub(crate) fn renew<O: Output>(
         &mut self,
-        tree: Tree,
+        tree: Publishable,
         out: &mut O,
     ) -> Result<Difference, OutputFault>
-        requires tree { limit_of tree ≡ None }
         requires number { self.old.generation.number < LAST_GENERATION }
         ensures puts { (start : OutputState) (pid : ℕ) (s : OnAir) → StandsFor self.old pid s → All (All IsSectionLike) (groups_of s)
             → HasPut start (O.state out.old) (given_bytes pid s) → Puts result start (O.state out.new) (given_bytes pid (with_tree tree s)) }
@@ -85,7 +81,7 @@ impl Playout {
         ensures differs { IfOk result (λ d. d ≡ difference_of self.old.generation (next_of self.old.generation tree)) }
     {
         self.sender.finish(out)?;
-        let next = self.generation.next(tree)?;
+        let next = self.generation.next_checked(tree)?;
         let difference = compared(&self.generation, &next);
         self.generation = next;
         Ok(difference)

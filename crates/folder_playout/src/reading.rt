@@ -3,7 +3,7 @@ ghost use Rattle.generation.specs.Lawful.{IsPublishable};
 ghost use Rattle.folder_playout.specs.Readings.{Reading, reading_in};
 
 use folder_store::TreeFault;
-use path_tree::Tree;
+use generation::Publishable;
 use std::alloc::AllocError;
 use thiserror::Error;
 
@@ -52,8 +52,8 @@ pub trait Trees {
     /// From the first value on to the second these were the answers, in order, and no other.
     ghost answered: { Self → Self → List Reading → Type 0 };
 
-    /// The tree that stands there now, which can be sent. What was read before is no part of the answer.
-    fn read(&mut self) -> Result<Tree, Unread>
+    /// The tree that stands there now, which can be sent, with its objects and their sizes. What was read before is no part of the answer.
+    fn read(&mut self) -> Result<Publishable, Unread>
         ensures publishable { IfOk result IsPublishable }
         ensures answered { (start : Self) (before : List Reading) → answered start self.old before → answered start self.new (before ++ reading_in result) };
 }

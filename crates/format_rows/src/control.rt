@@ -1,22 +1,25 @@
 //! Control messages: the DSI and the DII.
 //!
-//! - `dsi-encode CAROUSEL MODULE KEY`: the DSI whose gateway has this key of four bytes in this module.
-//! - `dii-encode DOWNLOAD GENERATION COUNT`: the DII of a generation with so many modules, each of 34 bytes in version 0.
+//! - `dsi-encode CAROUSEL MODULE KEY`: the DSI whose gateway has this key of four bytes in this module, from 1 to 2,224.
+//! - `dii-encode DOWNLOAD GENERATION GROUP COUNT`: the DII of a group in a generation, with so many modules from the group's first
+//!   id on, each of 34 bytes in version 0.
 //! - `control-decode BYTES`: the fields of a DSI or of a DII.
-//! - `transaction-dii GENERATION`: the transactionId of a generation's DII, its version and its identification.
+//! - `transaction-dii GENERATION GROUP`: the transactionId of the DII of a group in a generation, its version and its identification.
 //! - `distance OLD NEW`: how far a version lies ahead of another.
 
 ghost use Rattle.std.specs.Prelude.{◌≡◌, ◌≤◌, ◌<◌, false, IfOk};
 ghost use Rattle.std.specs.List.{All};
 ghost use Rattle.dsi_dii.specs.declared.TheConstants.{LAST_GENERATION};
+ghost use Rattle.module_groups.specs.declared.TheConstants.{MOST_GROUPS};
 
-use crate::references::{place_text, reference};
+use crate::references::{module_id, place_text, reference};
 use crate::told::{Told, each, read};
 use crate::words::array;
 use dsi_dii::{
     BLOCK_SIZE, Control, Dii, Dsi, LAST_GENERATION, ModuleLine, TransactionId, decode, distance,
     encode_dii, encode_dsi,
 };
+use module_groups::{GROUP_SIZE, MOST_GROUPS};
 use std::alloc::{AllocError, Global};
 use test_rows::{Line, Row, RowFault};
 
@@ -33,7 +36,7 @@ pub(crate) fn call(alloc: Global, row: &Row<'_>) -> Option<Line> {
 
 fn dsi_encoded(alloc: Global, row: &Row<'_>) -> Line {
     let key = array(row, 2);
-    let Ok(gateway) = reference(alloc, *b"srg\0", row.long(0), row.short(1), key) else {
+    let Ok(gateway) = reference(alloc, *b"srg\0", row.long(0), module_id(row, 1), key) else {
         return row.failed(RowFault::NoMemory);
     };
     let transaction = TransactionId::dsi();
@@ -56,6 +59,18 @@ fn generation(row: &Row<'_>, place: usize) -> u64
     0
 }
 
+/// The number of a group at a place: one that a carousel may have.
+fn group(row: &Row<'_>, place: usize) -> u16
+    ensures { (1 ≤ result) × (result ≤ MOST_GROUPS) }
+{
+    let number = row.short(place);
+    if (1..=MOST_GROUPS).contains(&number) {
+        return number;
+    }
+    row.fail(RowFault::BadRow);
+    1
+}
+
 /// The version at a place: one that a transactionId may have.
 fn version(row: &Row<'_>, place: usize) -> u16
     ensures { result < 16384 }
@@ -68,14 +83,16 @@ fn version(row: &Row<'_>, place: usize) -> u16
     0
 }
 
-/// So many modules, numbered from 1, each of 34 bytes.
-fn modules(alloc: Global, count: u16) -> Result<Vec<ModuleLine>, AllocError>
+/// So many modules, numbered from the first id of a group on, each of 34 bytes.
+fn modules(alloc: Global, group: u16, count: u16) -> Result<Vec<ModuleLine>, AllocError>
+    requires { (1 ≤ group) × (group ≤ MOST_GROUPS) }
     ensures { IfOk result (λ v. All (λ l. l.compressed ≡ false) v.items) }
 {
+    let first = (group - 1) * GROUP_SIZE + 1;
     let mut lines = Vec::new(alloc);
     for i in 0..count {
         lines.push(ModuleLine {
-            id: i.saturating_add(1),
+            id: first.saturating_add(i),
             size: 34,
             version: 0,
             compressed: false,
@@ -85,8 +102,9 @@ fn modules(alloc: Global, count: u16) -> Result<Vec<ModuleLine>, AllocError>
 }
 
 fn dii_encoded(alloc: Global, row: &Row<'_>) -> Line {
-    let transaction = TransactionId::dii(generation(row, 1));
-    let Ok(modules) = modules(alloc, row.short(2)) else {
+    let group = group(row, 2);
+    let transaction = TransactionId::dii(generation(row, 1), group);
+    let Ok(modules) = modules(alloc, group, row.short(3)) else {
         return row.failed(RowFault::NoMemory);
     };
     let dii = Dii {
@@ -141,7 +159,7 @@ impl Told for ModuleLine {
 }
 
 fn transaction(row: &Row<'_>) -> Line {
-    let transaction = TransactionId::dii(generation(row, 0));
+    let transaction = TransactionId::dii(generation(row, 0), group(row, 1));
     row.line()
         .bytes("", &transaction.0.to_be_bytes())
         .value(", version ", &transaction.version())

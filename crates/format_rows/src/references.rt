@@ -1,17 +1,24 @@
 //! References to objects: IORs.
 //!
-//! - `ior-encode KIND CAROUSEL MODULE KEY`: the reference of this kind to the object with this key, each of four bytes.
+//! - `ior-encode KIND CAROUSEL MODULE KEY`: the reference of this kind to the object with this key, each of four bytes, in a
+//!   module from 1 to 2,224.
 //! - `ior-decode BYTES`: how many bytes the reference at the front has, its kind, and its profiles.
 //! - `ior-location BYTES`: the location that a reference has, and the transactionId of the control messages by which it is
 //!   reached.
 
-ghost use Rattle.std.specs.Prelude.{IfOk};
-ghost use Rattle.ior_tap.specs.Iors.{view, IsWritten};
+ghost use Rattle.std.specs.Prelude.{◌≡◌, ◌≤◌, IfOk};
+ghost use Rattle.ior_tap.specs.Iors.{view, IsWritten, written_tap};
 ghost use Rattle.ior_tap.specs.declared.Location.{Location};
+ghost use Rattle.module_groups.specs.declared.TheConstants.{GREATEST_ID};
 
 use crate::told::{Told, each, read};
 use crate::words::array;
-use ior_tap::{Binder, Ior, Key, Location, Profile, Tap, biop_of, decode, delivery_of, encode};
+use ior_tap::{
+    Binder, Ior, Key, Location, Profile, Tap, biop_of, decode, delivery_of, delivery_of_module,
+    encode,
+};
+use module_groups::GREATEST_ID;
+use oc_bytes::Writer;
 use std::alloc::{AllocError, Global};
 use test_rows::{Line, Row, RowFault};
 
@@ -24,6 +31,29 @@ pub(crate) fn call(alloc: Global, row: &Row<'_>) -> Option<Line> {
     }
 }
 
+/// The id of a module at a place: one that a location may have which is written.
+pub(crate) fn module_id(row: &Row<'_>, place: usize) -> u16
+    ensures { (1 ≤ result) × (result ≤ GREATEST_ID) }
+{
+    let number = row.short(place);
+    if number >= 1 && usize::from(number) <= GREATEST_ID {
+        return number;
+    }
+    row.fail(RowFault::BadRow);
+    1
+}
+
+/// The selector of the tap by which a module is reached: its type, the transactionId, and no time-out.
+fn selector(alloc: Global, module_id: u16) -> Result<Vec<u8>, AllocError>
+    ensures { IfOk result (λ bytes. bytes.items ≡ (written_tap module_id).selector) }
+{
+    let mut out = Writer::new(alloc);
+    out.put_u16(1)?;
+    out.put_u32(delivery_of_module(module_id))?;
+    out.put_u32(0xFFFF_FFFF)?;
+    Ok(out.done())
+}
+
 /// The reference of this kind to the object with this key, in the form that is written.
 pub(crate) fn reference(
     alloc: Global,
@@ -32,13 +62,14 @@ pub(crate) fn reference(
     module_id: u16,
     key: [u8; 4],
 ) -> Result<Ior, AllocError>
+    requires { (1 ≤ module_id) × (module_id ≤ GREATEST_ID) }
     ensures { IfOk result (λ ior. (l : Location) × IsWritten (view ior) l) }
 {
     let tap = Tap {
         id: 0,
         use_code: 0x0016,
         assoc: 0x0001,
-        selector: vec![in alloc; 0, 1, 0x80, 0, 0, 2, 0xFF, 0xFF, 0xFF, 0xFF]?,
+        selector: selector(alloc, module_id)?,
     };
     let binder = Binder {
         taps: vec![in alloc; tap]?,
@@ -59,7 +90,7 @@ pub(crate) fn reference(
 
 fn encoded(alloc: Global, row: &Row<'_>) -> Line {
     let (kind, key) = (array(row, 0), array(row, 3));
-    match reference(alloc, kind, row.long(1), row.short(2), key) {
+    match reference(alloc, kind, row.long(1), module_id(row, 2), key) {
         Ok(ior) => row.line().outcome(encode(alloc, &ior)),
         Err(_) => row.failed(RowFault::NoMemory),
     }

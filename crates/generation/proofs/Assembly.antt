@@ -11,10 +11,11 @@ use Rattle.path_tree.specs.Trees.{Tree, IsTree}
 use Rattle.biop_object.specs.Names.{Layout, module_in}
 use Rattle.biop_object.specs.Spelled.{SpellingsReadBack}
 use Rattle.module_packer.specs.Kept.{KeptIsAPlacement}
+use Rattle.module_groups.specs.declared.TheConstants.{GREATEST_ID}
 use Rattle.generation.specs.Publication.{gateway_spot}
 use Rattle.generation.specs.Layouts.{GenerationState, Placed, object_bytes, is_in, module_bytes, module_if_used, layout_of, greatest, first_of, next_of, gateway_before}
 use Rattle.generation.specs.Lawful.{IsLayout, Carries, IsPublishable, layout_at, tree_at}
-use Rattle.generation.specs.Kept.{states_from, layouts_of, LayoutsAreLawful, LayoutsAreInOneGroup}
+use Rattle.generation.specs.Kept.{states_from, layouts_of, LayoutsAreLawful}
 use Rattle.generation.proofs.Placing.{total_length, greatest_most, all_unmap}
 use Rattle.generation.proofs.Lists.{ids_from, state_at, state_tree, state_layout, length_states}
 use Rattle.generation.proofs.Carrying.{module_found}
@@ -68,7 +69,6 @@ total_high c objects a (suc n) = go (list_any (is_in a) objects) refl (total_hig
 
 pub record IsFine (layout : Layout) : Type 0 where
   pub form : IsLayout layout
-  pub one : All (λ m. m.0 ≤ 139) layout
   pub total : sum_by (λ m. length m.1) layout ≤ 268435456
   pub sizes : All (λ m. length m.1 ≤ 16842752) layout
 
@@ -82,7 +82,7 @@ fine : (c : ℕ) (t : Tree) (objects : List Placed) → Made c t objects → IsF
 fine c t objects made =
     let sound = made.sound in
     let top = greatest (map (λ o. o.module_id) objects) in
-    let most : top ≤ 139 = greatest_most (map (λ o. o.module_id) objects) 139 made.placement.numbers in
+    let most : top ≤ GREATEST_ID = greatest_most (map (λ o. o.module_id) objects) GREATEST_ID made.placement.numbers in
     let octets = byte_spots c t objects made in
     let gateway : module_in (layout_of c objects) sound.gateway.module_id ≡ Some (module_bytes c objects sound.gateway.module_id) = module_found c objects sound.gateway sound.has_gateway (omega (arith, sound.is_gateway.2)) in
     let sum : sum_by (λ o. length (object_bytes c objects o)) objects ≤ 268435456 = rw (total_length c objects objects, sound.spots) made.within.total in
@@ -90,11 +90,10 @@ fine c t objects made =
       form = record {
         rising = rising c objects 1 top;
         from_one = ids_from c objects 1 top;
-        ids = each_listed (λ m. m.0 ≤ 2224) c objects 1 top (λ m lt used. omega (arith, lt, most));
+        ids = each_listed (λ m. m.0 ≤ GREATEST_ID) c objects 1 top (λ m lt used. omega (arith, lt, most));
         bytes = each_listed (λ m. IsBytes m.1) c objects 1 top (λ m lt used. module_octets c objects octets m);
         first = there (module_in (layout_of c objects) 1) (module_bytes c objects sound.gateway.module_id) (ap (module_in (layout_of c objects)) (sym sound.is_gateway.2) ∙ gateway);
       };
-      one = each_listed (λ m. m.0 ≤ 139) c objects 1 top (λ m lt used. omega (arith, lt, most));
       total = omega (arith, total_high c objects 1 top, high_all (λ o. length (object_bytes c objects o)) 1 objects, sum);
       sizes = each_listed (λ m. length m.1 ≤ 16842752) c objects 1 top (λ m lt used. module_size c t objects (filled_of c t objects made) m);
     } where
@@ -129,7 +128,7 @@ before_first = record {
   one zero d lt = lit< tt
   one (suc i) d lt = absurd (omega (arith, lt))
 
-  in_one : (i : ℕ) (d : Placed) → i < 1 → (1 ≤ (get_or gateway_before i d).module_id) × ((get_or gateway_before i d).module_id ≤ 139)
+  in_one : (i : ℕ) (d : Placed) → i < 1 → (1 ≤ (get_or gateway_before i d).module_id) × ((get_or gateway_before i d).module_id ≤ GREATEST_ID)
   in_one zero d lt = (lit≤ tt, lit≤ tt)
   in_one (suc i) d lt = absurd (omega (arith, lt))
 
@@ -182,7 +181,3 @@ lawful spells places c trees publishable =
       total = each_state places c small (λ l. sum_by (λ m. length m.1) l ≤ 268435456) (λ s state. (fine_state c s state).total) (first_of c) first trees each;
       sizes = each_state places c small (λ l. All (λ m. length m.1 ≤ 16842752) l) (λ s state. (fine_state c s state).sizes) (first_of c) first trees each;
     }
-
-pub in_one_group : KeptIsAPlacement → LayoutsAreInOneGroup
-in_one_group places c trees publishable =
-    each_state places c publishable.carousel_id (λ l. All (λ m. m.0 ≤ 139) l) (λ s state. (fine_state c s state).one) (first_of c) (first_state places c publishable.carousel_id) trees publishable.each

@@ -3,7 +3,6 @@ use Rattle.std.proofs.Common.{◌≡◌, ℕ, zero, suc, ◌+◌, ◌<◌, ◌�
 use Rattle.std.specs.List.{All, list_any, range_with_len, filter, filter_map, flat_map, find, fold}
 use Rattle.std.specs.Option.{option_map}
 use Rattle.std.proofs.lemmas.Bool.Decides.{nat_tests}
-use Rattle.std.proofs.lemmas.Option.{same_Some}
 use Rattle.std.proofs.lemmas.List.Elements.{All-cons, All-map}
 use Rattle.path_tree.specs.Paths.{Bytes, same_name}
 use Rattle.path_tree.specs.Trees.{Tree, IsTree}
@@ -11,6 +10,7 @@ use Rattle.biop_object.specs.Names.{module_in, Thing, AFile, AFolder, thing_at, 
 use Rattle.biop_object.specs.Objects.{Object, binding_of, file_spelling}
 use Rattle.biop_object.specs.ObjectReading.{index_of}
 use Rattle.biop_object.specs.Spelled.{Spelled, AFile as SpelledFile, AFolder as SpelledFolder, spelled_bytes, spelled_object, spelled_objects, IsSpellable, SpellingsReadBack}
+use Rattle.module_groups.specs.declared.TheConstants.{GREATEST_ID}
 use Rattle.generation.specs.Publication.{spots_of, gateway_spot}
 use Rattle.generation.specs.Layouts.{Placed, key_bytes, location_of, entries_of, folder_kind_of, object_bytes, is_in, module_bytes, module_if_used, layout_of, greatest}
 use Rattle.generation.proofs.Keyed.{Distinct, same_keys}
@@ -107,13 +107,6 @@ abbrev pub In : Placed → List Placed → Type 0
 In o [] = ⊥
 In o (x ∷ xs) = (x ≡ o) ⊎ In o xs
 
-pub find_in : (p : Placed → Bool) (xs : List Placed) (o : Placed) → find p xs ≡ Some o → In o xs
-find_in p [] o e = cc
-find_in p (x ∷ xs) o e = go (p x) refl (λ h. find_in p xs o h) where
-  go : (t : Bool) → p x ≡ t → (find p xs ≡ Some o → In o xs) → (x ≡ o) ⊎ In o xs
-  go true h rest = inl (same_Some x o (sym (find_step p x xs true h) ∙ e))
-  go false h rest = inr (rest (sym (find_step p x xs false h) ∙ e))
-
 pub in_all : (P : Placed → Type 0) (xs : List Placed) (o : Placed) → All P xs → In o xs → P o
 in_all P [] o all has = absurd has
 in_all P (x ∷ xs) o all (inl is) = subst P is (all 0 x (omega arith))
@@ -200,7 +193,7 @@ pub record Sound (c : ℕ) (t : Tree) (objects : List Placed) : Type 0 where
   pub spots : map (λ o. o.spot) objects ≡ spots_of t
   pub keys : Distinct (map (λ o. o.key) objects)
   pub small : AreSmall objects
-  pub modules : All (λ o. (1 ≤ o.module_id) × (o.module_id ≤ 139)) objects
+  pub modules : All (λ o. (1 ≤ o.module_id) × (o.module_id ≤ GREATEST_ID)) objects
   pub spellable : All (λ o. IsSpellable (spelled c objects o)) objects
   pub gateway : Placed
   pub has_gateway : In gateway objects
@@ -226,7 +219,7 @@ thing_found law c t objects sound o has =
     let m = o.module_id in
     let bytes = module_bytes c objects m in
     let key = in_all (λ q. q.key < 8194) objects o sound.small has in
-    ap (λ b. thing_in b (key_bytes o.key)) (module_found c objects o has (in_all (λ q. (1 ≤ q.module_id) × (q.module_id ≤ 139)) objects o sound.modules has).0)
+    ap (λ b. thing_in b (key_bytes o.key)) (module_found c objects o has (in_all (λ q. (1 ≤ q.module_id) × (q.module_id ≤ GREATEST_ID)) objects o sound.modules has).0)
     ∙ (ap (λ i. first_of_key bytes (key_bytes o.key) i.0) (module_index law c t objects sound m)
     ∙ (first_found c objects (filter (is_in m) objects) [] o.key key (filter_all (λ q. q.key < 8194) (is_in m) objects sound.small)
     ∙ ap (option_map (seen c objects)) (key_found objects o sound.keys has)))

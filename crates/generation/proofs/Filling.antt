@@ -14,6 +14,7 @@ use Rattle.path_tree.specs.Trees.{Tree, IsTree}
 use Rattle.module_packer.specs.Placement.{IsPlacement, sum_in}
 use Rattle.ddb_block.specs.Blocks.{block_count_of}
 use Rattle.cycle_planner.specs.Cycle.{AreLines}
+use Rattle.module_groups.specs.declared.TheConstants.{GREATEST_ID}
 use Rattle.generation.specs.declared.objects.Placed.{Placed as CodePlaced}
 use Rattle.generation.specs.Publication.{spots_of, sizes_of, size_of, is_large_folder, limit_of}
 use Rattle.generation.specs.Layouts.{Placed, object_bytes, is_in, module_bytes, module_if_used, layout_of, lines_in, greatest, placed_all, keys_of}
@@ -28,7 +29,7 @@ pub record Filled (t : Tree) (objects : List Placed) : Type 0 where
   pub tree : IsTree t
   pub within : Within t
   pub spots : map (λ o. o.spot) objects ≡ spots_of t
-  pub placement : IsPlacement 139 (sizes_of t) (map (λ o. o.module_id) objects)
+  pub placement : IsPlacement GREATEST_ID (sizes_of t) (map (λ o. o.module_id) objects)
 
 -- ---- ids
 
@@ -48,10 +49,10 @@ each_listed P c objects a (suc n) h = go (list_any (is_in a) objects) refl (each
   go false e rest = rw e rest
 
 -- where each object lies in a module of the first group, only such modules are listed
-pub few_listed : (c : ℕ) (objects : List Placed) → All (λ o. (1 ≤ o.module_id) × (o.module_id ≤ 139)) objects → All (λ m. m.0 ≤ 139) (layout_of c objects)
+pub few_listed : (c : ℕ) (objects : List Placed) → All (λ o. (1 ≤ o.module_id) × (o.module_id ≤ GREATEST_ID)) objects → All (λ m. m.0 ≤ GREATEST_ID) (layout_of c objects)
 few_listed c objects ids =
-    let most : greatest (map (λ o. o.module_id) objects) ≤ 139 = greatest_most (map (λ o. o.module_id) objects) 139 (All-map (λ m. (1 ≤ m) × (m ≤ 139)) (λ o. o.module_id) objects ids) in
-    each_listed (λ m. m.0 ≤ 139) c objects 1 (greatest (map (λ o. o.module_id) objects)) (λ m lt used. omega (arith, lt, most))
+    let most : greatest (map (λ o. o.module_id) objects) ≤ GREATEST_ID = greatest_most (map (λ o. o.module_id) objects) GREATEST_ID (All-map (λ m. (1 ≤ m) × (m ≤ GREATEST_ID)) (λ o. o.module_id) objects ids) in
+    each_listed (λ m. m.0 ≤ GREATEST_ID) c objects 1 (greatest (map (λ o. o.module_id) objects)) (λ m lt used. omega (arith, lt, most))
 
 -- ---- sizes
 
@@ -156,20 +157,20 @@ pub lines_of_filled : (c : ℕ) (t : Tree) (objects : List Placed) → Filled t 
 lines_of_filled c t objects made =
     let top = greatest (map (λ o. o.module_id) objects) in
     let layout = layout_of c objects in
-    let most : top ≤ 139 = greatest_most (map (λ o. o.module_id) objects) 139 made.placement.numbers in
+    let most : top ≤ GREATEST_ID = greatest_most (map (λ o. o.module_id) objects) GREATEST_ID made.placement.numbers in
     let first = first_in objects made.placement.first in
     let line : ℕ × Bytes → ℕ × ℕ = λ m. (m.0, block_count_of (length m.1) 4066) in
     let sizes = each_listed (λ m. length m.1 ≤ 16842752) c objects 1 top (λ m lt used. module_size c t objects made m) in
     let above = ids_from c objects 1 top in
-    let below = each_listed (λ m. m.0 ≤ 139) c objects 1 top (λ m lt used. omega (arith, lt, most)) in
+    let below = each_listed (λ m. m.0 ≤ GREATEST_ID) c objects 1 top (λ m lt used. omega (arith, lt, most)) in
     record {
       some = omega (arith, some_listed c objects top first.1 first.0, len_map line layout);
       rising = lines_rise layout (rising c objects 1 top);
-      ids = All-map (λ l. (1 ≤ l.0) × (l.0 ≤ 2224)) line layout (λ k d lt. (above k d lt, omega (arith, below k d lt)));
+      ids = All-map (λ l. (1 ≤ l.0) × (l.0 ≤ GREATEST_ID)) line layout (λ k d lt. (above k d lt, omega (arith, below k d lt)));
       blocks = All-map (λ l. l.1 ≤ 65536) line layout (λ k d lt. few_blocks (length (get_or layout k d).1) (sizes k d lt));
     }
 
-pub lines_arm : {E : Type 0} (r : Result (Vec CodePlaced Global) E) (t : Tree) (old : List Placed) (ms : List ℕ) → IsTree t → limit_of t ≡ None → IsPlacement 139 (sizes_of t) ms
+pub lines_arm : {E : Type 0} (r : Result (Vec CodePlaced Global) E) (t : Tree) (old : List Placed) (ms : List ℕ) → IsTree t → limit_of t ≡ None → IsPlacement GREATEST_ID (sizes_of t) ms
     → IfOk r (λ v. map (view_placed t) v.items ≡ placed_all (spots_of t) (keys_of old (spots_of t)) ms)
     → IfOk r (λ v. (c : ℕ) → AreLines (lines_in (layout_of c (map (view_placed t) v.items))))
 lines_arm (Ok v) t old ms tree limit placement is =
@@ -181,7 +182,7 @@ lines_arm (Ok v) t old ms tree limit placement is =
       tree = tree;
       within = within_limits t limit;
       spots = placed_spots spots keys ms nk nm;
-      placement = subst (IsPlacement 139 (sizes_of t)) (sym (placed_modules spots keys ms nk nm)) placement;
+      placement = subst (IsPlacement GREATEST_ID (sizes_of t)) (sym (placed_modules spots keys ms nk nm)) placement;
     } in
     λ c. subst (λ os. AreLines (lines_in (layout_of c os))) (sym is) (lines_of_filled c t (placed_all spots keys ms) made)
 lines_arm (Err e) t old ms tree limit placement is = is

@@ -50,7 +50,3 @@ cmp_over a b d e i ld le at =
     let nd : length (take d a) ≡ d = omega (arith, length-take d a, ld) in
     let ne : length (take e b) ≡ e = omega (arith, length-take e b, le) in
     cmp-ends (take d a) (take e b) i (omega (arith, at, nd, ne)) ∙ (ap (λ k. nat_cmp k (length (take e b))) nd ∙ ap (λ k. nat_cmp d k) ne)
-
--- the path of no names stands before each other
-pub cmp_none : (a b : PathNames) (d e : ℕ) → d ≤ length a → e ≤ length b → min d e ≡ 0 → path_cmp (take d a) (take e b) ≡ nat_cmp d e
-cmp_none a b d e ld le at = cmp_over a b d e 0 ld le (omega (arith, at))

@@ -1,37 +1,109 @@
--- Where each module is of the first group, one DII lists all modules of a generation.
-use Rattle.std.proofs.Common.{◌≡◌, ℕ, zero, suc, ◌<◌, ◌≤◌, inl, inr, Bool, true, false, ◌==◌, List, [], ◌∷◌, length, Some, refl, sym, ◌∙◌, ap, subst, arith}
-use Rattle.std.specs.List.{All}
-use Rattle.std.proofs.lemmas.Bool.{cond-true, eq-eqb, eqb-true}
-use Rattle.std.proofs.lemmas.List.Elements.{All-head, All-tail}
+-- Which DII lists which module, and how many one lists.
+use Rattle.std.proofs.Common.{◌≡◌, ℕ, zero, suc, ◌+◌, ◌-◌, ◌*◌, ◌<◌, ◌≤◌, inl, inr, Bool, true, false, cond, ◌==◌, eqb, List, [], ◌∷◌, ◌++◌, length, get_or, Some, refl, ◌∙◌, ap, subst, arith}
+use Rattle.std.specs.List.{All, AllPairs, Contains, filter, flat_map}
+use Rattle.std.proofs.lemmas.Bool.{eqb-true}
+use Rattle.std.proofs.lemmas.Option.{same_Some}
+use Rattle.std.proofs.lemmas.List.{get_or-map}
+use Rattle.std.proofs.lemmas.List.Elements.{All-head, All-tail, All-cons, All-nil, All-append, All-filter}
+use Rattle.std.proofs.lemmas.List.Kept.{AllPairs-filter}
 use Rattle.path_tree.specs.Paths.{Bytes}
+use Rattle.ddb_block.specs.Blocks.{block_count_of}
+use Rattle.dsi_dii.specs.declared.TheConstants.{BLOCK_SIZE}
+use Rattle.module_groups.specs.declared.TheConstants.{GROUP_SIZE}
+use Rattle.module_groups.proofs.CallerLemmas.{id_of_group}
 use Rattle.biop_object.specs.Names.{Layout, module_in}
-use Rattle.generation.specs.Groups.{group_of, group_in}
+use Rattle.cycle_planner.specs.Cycle.{Line, IsGroupOf, AreLines, diis_of, blocks_of}
+use Rattle.cycle_planner.specs.Places.{IsListed}
+use Rattle.cycle_planner.specs.declared.Item.{Item}
+use Rattle.cycle_planner.specs.declared.Item.TheVariants.{Dsi, Dii}
+use Rattle.cycle_planner.proofs.CallerLemmas.{all_diis, all_blocks_of}
+use Rattle.generation.proofs.Limiting.{len_map}
+use Rattle.generation.specs.Groups.{group_of, is_in_group, group_in}
+use Rattle.generation.specs.Layouts.{GenerationState, lines_in, lines_of, items_of}
 use Rattle.generation.specs.Lawful.{layout_at, HasDii}
+use Rattle.generation.specs.View.{IsRising}
 
-one_group : (m : ℕ) → m ≤ 139 → group_of m ≡ 1
-one_group m le = omega (arith, le)
+-- ---- how many modules a DII lists
 
--- it lists each of them
-pub all_in_group : (ms : Layout) → All (λ m. m.0 ≤ 139) ms → group_in ms 1 ≡ ms
-all_in_group [] few = refl
-all_in_group (m ∷ ms) few =
-    cond-true _ _ _ (eq-eqb (group_of m.0) 1 (one_group m.0 (All-head (λ m. m.0 ≤ 139) m ms few)))
-    ∙ ap (λ ns. m ∷ ns) (all_in_group ms (All-tail (λ m. m.0 ≤ 139) m ms few))
+-- ids that rise between two numbers are few
+pub rising_few : (ms : Layout) (a u : ℕ) → a ≤ u → AllPairs (λ m n. m.0 < n.0) ms → All (λ m. a ≤ m.0) ms → All (λ m. m.0 < u) ms → length ms + a ≤ u
+rising_few [] a u le rising low high = omega (arith, le)
+rising_few (m ∷ ms) a u le rising low high =
+    let here : a ≤ m.0 = All-head (λ m. a ≤ m.0) m ms low in
+    let below : m.0 < u = All-head (λ m. m.0 < u) m ms high in
+    let above : All (λ n. m.0 + 1 ≤ n.0) ms = λ k d inside. let gt : m.0 < (get_or ms k d).0 = rising zero (suc k) d (omega arith) (omega (arith, inside)) in omega (arith, gt) in
+    let rest : length ms + (m.0 + 1) ≤ u = rising_few ms (m.0 + 1) u (omega (arith, below)) (λ i j d lt inside. rising (suc i) (suc j) d (omega (arith, lt)) (omega (arith, inside))) above (All-tail (λ m. m.0 < u) m ms high) in
+    omega (arith, rest, here)
 
-listed_one : (layout : Layout) (m : ℕ) (bytes : Bytes) → All (λ x. x.0 ≤ 139) layout → module_in layout m ≡ Some bytes → m ≤ 139
-listed_one [] m bytes all e = cc
-listed_one (x ∷ xs) m bytes all e = go (x.0 == m) refl (listed_one xs m bytes (All-tail (λ x. x.0 ≤ 139) x xs all)) where
-  go : (t : Bool) → (x.0 == m) ≡ t → (module_in xs m ≡ Some bytes → m ≤ 139) → m ≤ 139
-  go true f rest = subst (λ k. k ≤ 139) (eqb-true x.0 m f) (All-head (λ x. x.0 ≤ 139) x xs all)
-  go false f rest = rest (rw f at e)
+pub all_of_group : (j : ℕ) (ms : Layout) → All (λ m. group_of m.0 ≡ j) (group_in ms j)
+all_of_group j [] = All-nil (λ m. group_of m.0 ≡ j)
+all_of_group j (m ∷ ms) = go (eqb (group_of m.0) j) refl (all_of_group j ms) where
+  go : (t : Bool) → eqb (group_of m.0) j ≡ t → All (λ m. group_of m.0 ≡ j) (filter (is_in_group j) ms) → All (λ m. group_of m.0 ≡ j) (cond t (m ∷ filter (is_in_group j) ms) (filter (is_in_group j) ms))
+  go true e rest = All-cons (λ m. group_of m.0 ≡ j) m (filter (is_in_group j) ms) (eqb-true _ _ e) rest
+  go false e rest = rest
 
--- and is the one DII
-pub has_one : (ls : List Layout) (g j : ℕ) → All (λ m. m.0 ≤ 139) (layout_at ls g) → HasDii ls g j → j ≡ 1
-has_one ls g j few (inl e) = e
-has_one ls g j few (inr has) = sym has.3 ∙ one_group has.0 (listed_one (layout_at ls g) has.0 has.1 few has.2)
+pub few_of_group : (ms : Layout) (j : ℕ) → IsRising ms → 1 ≤ j → length (group_in ms j) ≤ GROUP_SIZE
+few_of_group ms j is some =
+    let of = all_of_group j ms in
+    let ones = All-filter (is_in_group j) (λ m. 1 ≤ m.0) ms is.from_one in
+    let count : length (group_in ms j) + ((j - 1) * GROUP_SIZE + 1) ≤ j * GROUP_SIZE + 1 =
+    rising_few (group_in ms j) ((j - 1) * GROUP_SIZE + 1) (j * GROUP_SIZE + 1) (omega (arith, some)) (AllPairs-filter (λ m n. m.0 < n.0) (is_in_group j) ms is.rising)
+    (λ k d inside. let above = (id_of_group j (get_or (group_in ms j) k d).0 some (ones k d inside) (of k d inside)).above in omega (arith, above))
+    (λ k d inside. let within = (id_of_group j (get_or (group_in ms j) k d).0 some (ones k d inside) (of k d inside)).within in omega (arith, within)) in
+    omega (arith, some, count)
+
+-- ---- which groups have a DII: by the layout, and by its lines
+
+line_there : (layout : Layout) (m : ℕ) (bytes : Bytes) → module_in layout m ≡ Some bytes → Contains (lines_in layout) (m, block_count_of (length bytes) BLOCK_SIZE)
+line_there [] m bytes e = cc
+line_there (x ∷ xs) m bytes e = go (x.0 == m) refl (line_there xs m bytes) where
+  go : (t : Bool) → (x.0 == m) ≡ t → (module_in xs m ≡ Some bytes → Contains (lines_in xs) (m, block_count_of (length bytes) BLOCK_SIZE)) → Contains (lines_in (x ∷ xs)) (m, block_count_of (length bytes) BLOCK_SIZE)
+  go true t later =
+      let id : x.0 ≡ m = eqb-true x.0 m t in
+      let same : x.1 ≡ bytes = same_Some x.1 bytes (rw t at e) in
+      (0, omega arith, ap (λ i. (i, block_count_of (length x.1) BLOCK_SIZE)) id ∙ ap (λ b. (m, block_count_of (length b) BLOCK_SIZE)) same)
+  go false t later = let r = later (rw t at e) in (suc r.0, omega (arith, r.1), r.2)
+
+pub dii_of_lines : (ls : List Layout) (g j : ℕ) → HasDii ls g j → IsGroupOf (lines_in (layout_at ls g)) j
+dii_of_lines ls g j (inl e) = inl e
+dii_of_lines ls g j (inr has) = inr ((has.0, block_count_of (length has.1) BLOCK_SIZE), line_there (layout_at ls g) has.0 has.1 has.2, has.3)
 
 -- what holds of each layout
 pub at_layout : (P : Layout → Type 0) (ls : List Layout) (g : ℕ) → All P ls → g < length ls → P (layout_at ls g)
 at_layout P [] g all lt = absurd (omega (arith, lt))
 at_layout P (l ∷ ls) zero all lt = All-head P l ls all
 at_layout P (l ∷ ls) (suc g) all lt = at_layout P ls g (All-tail P l ls all) (omega (arith, lt))
+
+-- modules whose lines have a cycle rise
+abbrev line_of : ℕ × Bytes → Line
+line_of m = (m.0, block_count_of (length m.1) BLOCK_SIZE)
+
+id_at : (layout : Layout) (k : ℕ) (d : ℕ × Bytes) → k < length layout → (get_or (lines_in layout) k (0, 0)).0 ≡ (get_or layout k d).0
+id_at layout k d lt = ap (λ (l : Line). l.0) (get_or-map line_of layout k d (0, 0) lt)
+
+pub rising_of : (layout : Layout) → AreLines (lines_in layout) → IsRising layout
+rising_of layout are =
+    let n : length (lines_in layout) ≡ length layout = len_map line_of layout in
+    record {
+      rising = λ i j d lt inside.
+          let up = are.rising i j (0, 0) lt (omega (arith, inside, n)) in
+          omega (arith, up, id_at layout i d (omega (arith, lt, inside)), id_at layout j d inside);
+      from_one = λ k d lt.
+          let low = (are.ids k (0, 0) (omega (arith, lt, n))).0 in
+          omega (arith, low, id_at layout k d lt);
+    }
+
+-- ---- the DIIs among the items of a generation
+
+abbrev IsOwn : List Line → Item → Type 0
+IsOwn lines (Dii j) = IsListed lines j
+IsOwn lines _ = Unit {0}
+
+pub dii_listed : (s : GenerationState) (j : ℕ) → Contains (items_of s) (Dii j) → IsListed (lines_of s) j
+dii_listed s j has =
+    let lines = lines_of s in
+    let P = IsOwn lines in
+    let all : All P (items_of s) =
+    All-cons P Dsi (diis_of lines ++ flat_map blocks_of lines) tt
+    (All-append P (diis_of lines) (flat_map blocks_of lines) (all_diis P lines (λ j is. is)) (all_blocks_of P lines (λ line b c lt. tt))) in
+    subst P has.2 (all has.0 (Dii j) has.1)

@@ -15,6 +15,7 @@ use Rattle.biop_object.specs.Names.{Layout, module_in}
 use Rattle.biop_object.specs.Objects.{Object, IsFile, IsFolder, BindingFields, binding_of}
 use Rattle.biop_object.specs.ObjectReading.{objects_of, reads_to_end}
 use Rattle.biop_object.specs.Spelled.{spelled_object, spelled_objects, SpellingsReadBack}
+use Rattle.module_groups.specs.declared.TheConstants.{GREATEST_ID}
 use Rattle.generation.specs.Publication.{is_child}
 use Rattle.generation.specs.Layouts.{Placed, location_of, bound_of, entries_of, is_in, module_bytes, module_if_used, layout_of, greatest}
 use Rattle.generation.specs.Groups.{group_of}
@@ -44,27 +45,32 @@ to_end law c t objects sound m bytes e =
 target_is : (x y : Location × List iors.TapFields) → Some x ≡ Some y → x ≡ y
 target_is x y e = same_Some x y e
 
--- an object's module is listed, in the first group
+-- an object's module is listed
 abbrev pub IsListed : Layout → Placed → Type 0
-IsListed layout o = (module_in layout o.module_id ≢ None) × (o.module_id ≤ 139)
+IsListed layout o = (module_in layout o.module_id ≢ None) × (o.module_id ≤ GREATEST_ID)
 
-first_group : (m : ℕ) → m ≤ 139 → 1 ≡ group_of m
-first_group m le = omega (arith, le)
+-- the delivery that is written for a module is by the DII of its group
+by_group : (m : ℕ) → m ≤ GREATEST_ID → identification_of (iors.delivery_of_module m) ≡ group_of m
+by_group m le = omega (arith, le)
+
+-- which is read back out of its tap
+delivered : (m : ℕ) → m ≤ GREATEST_ID → Some (iors.delivery_of_module m) ≡ iors.delivery_of_taps (iors.written_tap m ∷ [])
+delivered m le = ap (λ (n : ℕ). Some n) (omega (arith, le))
 
 binding_inside : (c : ℕ) (layout : Layout) (k : Bytes) (o : Placed) → IsListed layout o
     → IsInside layout c (binding_of (record { name = k; bound = bound_of o.spot.content; location = location_of c o }))
 binding_inside c layout k o there = record {
   inside = λ l taps e.
-      let h = target_is (location_of c o, iors.written_tap ∷ []) (l, taps) e in
+      let h = target_is (location_of c o, iors.written_tap o.module_id ∷ []) (l, taps) e in
       let is : location_of c o ≡ l = ap (λ x. x.0) h in
       (ap (λ z. z.carousel) (sym is), subst (λ z. module_in layout z.module ≢ None) is there.0);
   delivered = λ l taps t e d.
-      let h = target_is (location_of c o, iors.written_tap ∷ []) (l, taps) e in
-      let is : iors.written_tap ∷ [] ≡ taps = ap (λ x. x.1) h in
-      let one : iors.delivery_of_taps (iors.written_tap ∷ []) ≡ Some t = ap iors.delivery_of_taps is ∙ d in
-      let number : 0x80000002 ≡ t = same_Some 0x80000002 t one in
+      let h = target_is (location_of c o, iors.written_tap o.module_id ∷ []) (l, taps) e in
+      let is : iors.written_tap o.module_id ∷ [] ≡ taps = ap (λ x. x.1) h in
+      let one : iors.delivery_of_taps (iors.written_tap o.module_id ∷ []) ≡ Some t = ap iors.delivery_of_taps is ∙ d in
+      let number : iors.delivery_of_module o.module_id ≡ t = same_Some (iors.delivery_of_module o.module_id) t (delivered o.module_id there.1 ∙ one) in
       let place : location_of c o ≡ l = ap (λ x. x.0) h in
-      ap identification_of (sym number) ∙ subst (λ (z : Location). 1 ≡ group_of z.module) place (first_group o.module_id there.1);
+      ap identification_of (sym number) ∙ subst (λ (z : Location). identification_of (iors.delivery_of_module o.module_id) ≡ group_of z.module) place (by_group o.module_id there.1);
 }
 
 entries_inside : (c : ℕ) (layout : Layout) (os : List Placed) → All (IsListed layout) os → (folder : ℕ)
@@ -97,7 +103,7 @@ objects_inside c layout objects (o ∷ os) there at = All-cons (BindsInside layo
 
 all_listed : (c : ℕ) (t : Tree) (objects : List Placed) → Sound c t objects → All (IsListed (layout_of c objects)) objects
 all_listed c t objects sound = all_in (IsListed (layout_of c objects)) objects (λ o has.
-    let range = in_all (λ q. (1 ≤ q.module_id) × (q.module_id ≤ 139)) objects o sound.modules has in
+    let range = in_all (λ q. (1 ≤ q.module_id) × (q.module_id ≤ GREATEST_ID)) objects o sound.modules has in
     ((λ h. none (module_in (layout_of c objects) o.module_id) (module_bytes c objects o.module_id) (module_found c objects o has range.0) h), range.1))
   where
     none : (found : Option Bytes) (bytes : Bytes) → found ≡ Some bytes → found ≡ None → ⊥

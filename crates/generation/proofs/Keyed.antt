@@ -1,7 +1,8 @@
 -- The keys of a generation's objects are apart and small.
-use Rattle.std.proofs.Common.{◌≡◌, ℕ, zero, suc, ◌+◌, ◌/◌, ◌%◌, ◌<◌, ◌≤◌, Bool, true, false, not, ◌&&◌, ◌||◌, ◌==◌, List, [], ◌∷◌, length, map, Option, Some, None, cond, refl, sym, ◌∙◌, ap, subst, arith, get_or}
+use Rattle.std.proofs.Common.{◌≡◌, ℕ, zero, suc, ◌+◌, ◌/◌, ◌%◌, ◌<◌, ◌≤◌, Bool, true, false, not, ◌||◌, ◌==◌, List, [], ◌∷◌, length, map, Option, Some, None, cond, refl, sym, ◌∙◌, ap, subst, arith, get_or}
 use Rattle.std.specs.List.{All, list_any, range_with_len, filter, find}
 use Rattle.std.specs.declared.cmp.Ordering.TheVariants.{Less, Equal}
+use Rattle.std.proofs.lemmas.Bool.{and_parts, not-true, or_from, or_parts}
 use Rattle.std.proofs.lemmas.Bool.Decides.{nat_tests}
 use Rattle.std.proofs.lemmas.Option.{same_Some}
 use Rattle.std.proofs.lemmas.List.Elements.{All-cons}
@@ -15,14 +16,6 @@ abbrev pub Distinct : List ℕ → Type 0
 Distinct [] = Unit {0}
 Distinct (k ∷ ks) = (list_any (λ j. j == k) ks ≡ false) × Distinct ks
 
-or_parts : (a b : Bool) → (a || b) ≡ false → (a ≡ false) × (b ≡ false)
-or_parts true b e = cc
-or_parts false b e = (refl, e)
-
-or_none : (a b : Bool) → a ≡ false → b ≡ false → (a || b) ≡ false
-or_none true b e f = cc
-or_none false b e f = f
-
 turn : (a b : ℕ) → (a == b) ≡ false → (b == a) ≡ false
 turn a b e = grind (arith, nat_tests, e)
 
@@ -30,15 +23,15 @@ turn a b e = grind (arith, nat_tests, e)
 
 filled_any : (keys : List (Option ℕ)) (free : List ℕ) (k : ℕ) → list_any (λ j. j == k) (taken_in keys) ≡ false → list_any (λ j. j == k) free ≡ false → list_any (λ j. j == k) (fill_keys keys free) ≡ false
 filled_any [] free k et ef = refl
-filled_any (Some j ∷ keys) free k et ef = let h = or_parts (j == k) _ et in or_none (j == k) _ h.0 (filled_any keys free k h.1 ef)
+filled_any (Some j ∷ keys) free k et ef = let h = or_parts (j == k) _ et in or_from (j == k) _ h.0 (filled_any keys free k h.1 ef)
 filled_any (None ∷ keys) [] k et ef = refl
-filled_any (None ∷ keys) (j ∷ free) k et ef = let h = or_parts (j == k) _ ef in or_none (j == k) _ h.0 (filled_any keys free k et h.1)
+filled_any (None ∷ keys) (j ∷ free) k et ef = let h = or_parts (j == k) _ ef in or_from (j == k) _ h.0 (filled_any keys free k et h.1)
 
 not_among : (k : ℕ) (rest free : List ℕ) → All (λ f. ((k == f) || list_any (λ j. j == f) rest) ≡ false) free → list_any (λ j. j == k) free ≡ false
 not_among k rest [] all = refl
 not_among k rest (f ∷ free) all =
     let h = or_parts (k == f) _ (all 0 f (omega arith)) in
-    or_none (f == k) _ (turn k f h.0) (not_among k rest free (λ i d lt. all (suc i) d (omega (arith, lt))))
+    or_from (f == k) _ (turn k f h.0) (not_among k rest free (λ i d lt. all (suc i) d (omega (arith, lt))))
 
 filled_distinct : (keys : List (Option ℕ)) (free : List ℕ) → Distinct (taken_in keys) → Distinct free → All (λ f. list_any (λ j. j == f) (taken_in keys) ≡ false) free → Distinct (fill_keys keys free)
 filled_distinct [] free dk df apart = tt
@@ -64,7 +57,7 @@ free_high : (test : ℕ → Bool) (a n k : ℕ) → k < a → list_any (λ j. j 
 free_high test a zero k lt = refl
 free_high test a (suc n) k lt = go (test a) (free_high test (a + 1) n k (omega (arith, lt))) where
   go : (b : Bool) → list_any (λ j. j == k) (filter test (range_with_len (a + 1) n)) ≡ false → list_any (λ j. j == k) (cond b (a ∷ filter test (range_with_len (a + 1) n)) (filter test (range_with_len (a + 1) n))) ≡ false
-  go true h = or_none (a == k) _ (grind (arith, nat_tests, lt)) h
+  go true h = or_from (a == k) _ (grind (arith, nat_tests, lt)) h
   go false h = h
 
 free_distinct : (test : ℕ → Bool) (a n : ℕ) → Distinct (filter test (range_with_len a n))
@@ -80,10 +73,6 @@ free_all P test a (suc n) h = go (test a) refl (free_all P test (a + 1) n (λ k 
   go : (b : Bool) → test a ≡ b → All P (filter test (range_with_len (a + 1) n)) → All P (cond b (a ∷ filter test (range_with_len (a + 1) n)) (filter test (range_with_len (a + 1) n)))
   go true e all = All-cons P a (filter test (range_with_len (a + 1) n)) (h a (omega arith) (omega arith) e) all
   go false e all = all
-
-not_true : (b : Bool) → not b ≡ true → b ≡ false
-not_true true e = cc
-not_true false e = refl
 
 -- ---- kept keys
 
@@ -117,22 +106,18 @@ one_object (x ∷ xs) d p q o r ep eq same = go (p x) (q x) refl refl (λ hp hq.
       let bad : (r.key == o.key) ≡ false = turn o.key r.key (subst (λ z. (o.key == z.key) ≡ false) is k) in cc
   go false false hp hq rest = rest (rw hp at ep) (rw hq at eq)
 
-and_first : (a b : Bool) → (a && b) ≡ true → a ≡ true
-and_first true b e = refl
-and_first false b e = cc
-
 kept_apart : (old : List Placed) → Distinct (map (λ x. x.key) old) → (s : Spot) (o : Placed) → placed_at old s ≡ Some o → (ss : List Spot) → All (λ r. path_cmp s.path r.path ≡ Less) ss
     → list_any (λ j. j == o.key) (taken_in (old_keys old ss)) ≡ false
 kept_apart old d s o e [] less = refl
 kept_apart old d s o e (r ∷ ss) less = go (placed_at old r) refl (kept_apart old d s o e ss (λ i x lt. less (suc i) x (omega (arith, lt)))) where
   go : (f : Option Placed) → placed_at old r ≡ f → list_any (λ j. j == o.key) (taken_in (old_keys old ss)) ≡ false → list_any (λ j. j == o.key) (taken_in (key_in f ∷ old_keys old ss)) ≡ false
   go None h rest = rest
-  go (Some q) h rest = or_none (q.key == o.key) _ (differs (q.key == o.key) refl) rest where
+  go (Some q) h rest = or_from (q.key == o.key) _ (differs (q.key == o.key) refl) rest where
     differs : (b : Bool) → (q.key == o.key) ≡ b → (q.key == o.key) ≡ false
     differs false same = same
     differs true same =
-        let left : o.spot.path ≡ s.path = same_path-is o.spot.path s.path (and_first _ _ (found_passes (λ x. is_same_spot x.spot s) old o e)) in
-        let right : o.spot.path ≡ r.path = same_path-is o.spot.path r.path (and_first _ _ (one_object old d (λ x. is_same_spot x.spot s) (λ x. is_same_spot x.spot r) o q e h same)) in
+        let left : o.spot.path ≡ s.path = same_path-is o.spot.path s.path ((and_parts _ _ (found_passes (λ x. is_same_spot x.spot s) old o e)).0) in
+        let right : o.spot.path ≡ r.path = same_path-is o.spot.path r.path ((and_parts _ _ (one_object old d (λ x. is_same_spot x.spot s) (λ x. is_same_spot x.spot r) o q e h same)).0) in
         let here : path_cmp s.path r.path ≡ Less = less 0 r (omega arith) in
         let self : path_cmp r.path r.path ≡ Less = subst (λ z. path_cmp z r.path ≡ Less) (sym left ∙ right) here in
         let bad : Equal ≡ Less = sym (path_cmp-refl r.path) ∙ self in cc
@@ -165,7 +150,7 @@ keys_distinct old spots d rising =
     let taken = taken_in (old_keys old spots) in
     filled_distinct (old_keys old spots) (free_keys taken (length spots)) (kept_distinct old d spots rising)
     (free_distinct (λ k. not (list_any (λ j. j == k) taken)) 2 (length spots))
-    (free_all (λ f. list_any (λ j. j == f) taken ≡ false) (λ k. not (list_any (λ j. j == k) taken)) 2 (length spots) (λ k l m t. not_true (list_any (λ j. j == k) taken) t))
+    (free_all (λ f. list_any (λ j. j == f) taken ≡ false) (λ k. not (list_any (λ j. j == k) taken)) 2 (length spots) (λ k l m t. not-true (list_any (λ j. j == k) taken) t))
 
 pub keys_small : (old : List Placed) (spots : List Spot) → All (λ o. o.key < 8194) old → length spots ≤ 8192 → All (λ k. k < 8194) (keys_of old spots)
 keys_small old spots small few =

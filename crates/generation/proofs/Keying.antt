@@ -1,8 +1,5 @@
 -- Keys: those that are kept, and those that are free.
-use Rattle.std.proofs.Common.{◌≡◌, ◌≢◌, ℕ, zero, suc, ◌+◌, ◌-◌, ◌<◌, ◌≤◌, Bool, true, false, not, ◌||◌, List, [], ◌∷◌, ◌++◌, length, take, set, get_or, cond, refl, sym, ◌∙◌, ap, add-zero, arith, append-nil, eqb, get_or-set_other}
-use Rattle.std.proofs.lemmas.Bool.Decides.{nat_tests}
-use Rattle.std.proofs.lemmas.Grind.{get_or-set_at}
-use Rattle.std.proofs.lemmas.List.{take_more}
+use Rattle.std.proofs.Common.{◌≡◌, ℕ, zero, suc, ◌+◌, ◌-◌, ◌≤◌, Bool, true, false, not, List, [], ◌∷◌, ◌++◌, cond, refl, sym, ◌∙◌, ap, add-zero, arith, append-nil, eqb}
 use Rattle.std.specs.List.{range_with_len, filter, list_any}
 use Rattle.generation.specs.Layouts.{free_keys}
 
@@ -33,42 +30,3 @@ free_taken taken xs k le so_far is = sym (free_more taken k le ∙ rw is (append
 
 pub free_found : (taken xs : List ℕ) (k : ℕ) → 2 ≤ k → xs ≡ free_keys taken (k - 2) → list_any (λ j. eqb j k) taken ≡ false → xs ++ k ∷ [] ≡ free_keys taken (k + 1 - 2)
 free_found taken xs k le so_far is = sym (free_more taken k le ∙ rw (is, so_far) refl)
-
--- ---- marks
-
-or_false : (b : Bool) → (b || false) ≡ b
-or_false true = refl
-or_false false = refl
-
-or_true : (b : Bool) → (b || true) ≡ true
-or_true true = refl
-or_true false = refl
-
-or_assoc : (a b c : Bool) → (a || (b || c)) ≡ ((a || b) || c)
-or_assoc true b c = refl
-or_assoc false b c = refl
-
-any_more : (k x : ℕ) (xs : List ℕ) → list_any (λ j. eqb j k) (xs ++ x ∷ []) ≡ (list_any (λ j. eqb j k) xs || eqb x k)
-any_more k x [] = or_false (eqb x k)
-any_more k x (y ∷ ys) = ap (λ b. eqb y k || b) (any_more k x ys) ∙ or_assoc (eqb y k) (list_any (λ j. eqb j k) ys) (eqb x k)
-
-other_number : (x k : ℕ) → eqb x k ≡ false → k ≢ x
-other_number x k e = λ h. grind (arith, nat_tests, e, h)
-
-marked : (marks : List Bool) (x k : ℕ) → k < length marks → get_or (set marks x true) k false ≡ (get_or marks k false || eqb x k)
-marked marks x k below = go (eqb x k) refl where
-  go : (b : Bool) → eqb x k ≡ b → get_or (set marks x true) k false ≡ (get_or marks k false || b)
-  go true e =
-      let is : k ≡ x = grind (arith, nat_tests, e) in
-      let within : x < length marks = omega (arith, is, below) in
-      get_or-set_at marks x k true false is within ∙ sym (or_true (get_or marks k false))
-  go false e = get_or-set_other marks x k true false (other_number x k e) ∙ sym (or_false (get_or marks k false))
-
--- one number more is marked
-pub mark_more : (marks : List Bool) (ns : List ℕ) (i k : ℕ) → i < length ns → k < length marks → get_or marks k false ≡ list_any (λ j. eqb j k) (take i ns)
-    → get_or (set marks (get_or ns i 0) true) k false ≡ list_any (λ j. eqb j k) (take (i + 1) ns)
-mark_more marks ns i k lt below so_far =
-    marked marks (get_or ns i 0) k below
-    ∙ (ap (λ b. b || eqb (get_or ns i 0) k) so_far
-    ∙ (sym (any_more k (get_or ns i 0) (take i ns))
-    ∙ ap (list_any (λ j. eqb j k)) (sym (take_more ns i 0 lt))))

@@ -7,13 +7,14 @@ pub mod Writing
 pub mod Placing
 pub mod Making
 pub mod Grouping
+pub mod Counting
 pub mod Lists
 pub mod Numbering
 pub mod Parents
 pub mod Rows
 pub mod Standing
 pub mod Linked
-pub mod Bindings
+pub mod Members
 pub mod Segmenting
 pub mod Weighing
 pub mod Merging
@@ -28,3 +29,5 @@ pub mod Octets
 pub mod Assembly
 pub mod Sharing
 pub mod CallerLemmas
+pub mod Searching
+pub mod Halves

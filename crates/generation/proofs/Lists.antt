@@ -1,78 +1,31 @@
 -- A generation is the one that the lists of trees and layouts give.
-use Rattle.std.proofs.Common.{◌≡◌, ℕ, zero, suc, ◌+◌, ◌-◌, ◌%◌, ◌<◌, ◌≤◌, Bool, true, false, ◌==◌, List, [], ◌∷◌, ◌++◌, length, take, map, Option, Some, None, cond, refl, sym, ◌∙◌, ap, subst, arith, get_or, length-append, inl, inr}
-use Rattle.std.proofs.lemmas.Bool.{cases_lt}
+use Rattle.std.proofs.Common.{◌≡◌, ℕ, zero, suc, ◌+◌, ◌-◌, ◌%◌, ◌<◌, ◌≤◌, Bool, true, false, ◌==◌, List, [], ◌∷◌, ◌++◌, length, take, map, Some, refl, sym, ◌∙◌, ap, subst, arith, get_or, length-append, inl, inr}
 use Rattle.std.proofs.lemmas.List.{get_or-map}
 use Rattle.std.proofs.lemmas.List.FromFn.{length-map-range_with_len, get_or-map-range_with_len}
 use Rattle.biop_object.specs.Objects.{gateway_kind}
 use Rattle.dsi_dii.specs.declared.ModuleLine.{ModuleLine}
 use Rattle.generation.proofs.Limiting.{len_map}
-use Rattle.std.specs.List.{All, Contains, filter, filter_map, flat_map, fold, range_with_len, list_any}
-use Rattle.std.specs.Option.{is_none, unwrap_or}
+use Rattle.std.specs.List.{All, Contains, filter_map, flat_map, fold, range_with_len, list_any}
+use Rattle.std.specs.Option.{unwrap_or}
 use Rattle.std.proofs.lemmas.Bool.Decides.{nat_tests}
 use Rattle.std.proofs.lemmas.Option.{same_Some}
-use Rattle.std.proofs.lemmas.List.Elements.{All-cons}
+use Rattle.std.proofs.lemmas.List.Elements.{All-cons, All-append, Contains-append_left, Contains-append_right}
 use Rattle.path_tree.specs.Paths.{Bytes}
 use Rattle.path_tree.specs.Trees.{Tree}
 use Rattle.biop_object.specs.Names.{Layout, module_in}
-use Rattle.cycle_planner.specs.Cycle.{Line}
+use Rattle.cycle_planner.specs.Cycle.{Line, diis_of, blocks_of, IsGroupOf}
 use Rattle.cycle_planner.specs.declared.Item.{Item}
 use Rattle.cycle_planner.specs.declared.Item.TheVariants.{Dsi, Dii, Block}
 use Rattle.ddb_block.specs.Blocks.{block_count_of}
 use Rattle.dsi_dii.specs.Controls.{DiiFields, dii_spelling, dsi_spelling}
 use Rattle.dsmcc_section.specs.Sections.{spelling}
-use Rattle.generation.specs.Groups.{group_in, transaction_of}
-use Rattle.generation.specs.Layouts.{GenerationState, Placed, first_of, next_of, counts_after, count_after, count_in, same_module, module_if_used, layout_of, is_in, module_bytes, items_of, lines_in, lines_of, section_of, dii_of, dii_lines, control_section, block_section, greatest, gateway_location}
-use Rattle.generation.specs.Lawful.{layout_at, tree_at, one_if_changed, count_of, version_in, dii_in, section_in, IsItem, AreInOneGroup}
+use Rattle.generation.specs.Groups.{group_in, dii_transaction}
+use Rattle.generation.specs.Layouts.{GenerationState, Placed, first_of, next_of, count_in, module_if_used, layout_of, is_in, module_bytes, items_of, lines_in, lines_of, section_of, dii_of, dii_lines, control_section, block_section, greatest, gateway_location}
+use Rattle.generation.specs.Lawful.{layout_at, tree_at, one_if_changed, count_of, version_in, dii_in, section_in, IsItem, HasDii}
 use Rattle.generation.specs.Kept.{states_from, layouts_of, IsGenerationOf, GenerationsAreOfTheLists}
-use Rattle.generation.proofs.Grouping.{at_layout, has_one}
-
--- ---- counts
-
-one_case : (b : Bool) (n : ℕ) → cond b n (n + 1) ≡ n + cond b 0 1
-one_case true n = omega arith
-one_case false n = omega arith
-
--- among the listed ones
-counted_some : (old new : Layout) (counts rest : List (ℕ × ℕ)) (m : ℕ) (b : Bytes) → module_in new m ≡ Some b
-    → count_in (map (count_after old counts) new ++ rest) m ≡ count_in counts m + one_if_changed (module_in old m) (Some b)
-counted_some old [] counts rest m b e = cc
-counted_some old (n ∷ ns) counts rest m b e = go (n.0 == m) refl (λ h. counted_some old ns counts rest m b h) where
-  go : (t : Bool) → (n.0 == m) ≡ t → (module_in ns m ≡ Some b → count_in (map (count_after old counts) ns ++ rest) m ≡ count_in counts m + one_if_changed (module_in old m) (Some b))
-      → count_in (map (count_after old counts) (n ∷ ns) ++ rest) m ≡ count_in counts m + one_if_changed (module_in old m) (Some b)
-  go true t later =
-      let is : n.0 ≡ m = grind (arith, nat_tests, t) in
-      let bytes : n.1 ≡ b = same_Some n.1 b (rw t at e) in
-      rw t (ap (λ k. cond (same_module (module_in old k) (Some n.1)) (count_in counts k) (count_in counts k + 1)) is
-      ∙ (ap (λ c. cond (same_module (module_in old m) (Some c)) (count_in counts m) (count_in counts m + 1)) bytes ∙ one_case (same_module (module_in old m) (Some b)) (count_in counts m)))
-  go false t later = rw t (later (rw t at e))
-
-counted_past : (old new : Layout) (counts rest : List (ℕ × ℕ)) (m : ℕ) → module_in new m ≡ None → count_in (map (count_after old counts) new ++ rest) m ≡ count_in rest m
-counted_past old [] counts rest m e = refl
-counted_past old (n ∷ ns) counts rest m e = go (n.0 == m) refl (λ h. counted_past old ns counts rest m h) where
-  go : (t : Bool) → (n.0 == m) ≡ t → (module_in ns m ≡ None → count_in (map (count_after old counts) ns ++ rest) m ≡ count_in rest m)
-      → count_in (map (count_after old counts) (n ∷ ns) ++ rest) m ≡ count_in rest m
-  go true t later = let h = rw t at e in cc
-  go false t later = rw t (later (rw t at e))
-
-kept_count : (new : Layout) (m : ℕ) → module_in new m ≡ None → (counts : List (ℕ × ℕ)) → count_in (filter (λ c. is_none (module_in new c.0)) counts) m ≡ count_in counts m
-kept_count new m e [] = refl
-kept_count new m e (c ∷ cs) = go (c.0 == m) (is_none (module_in new c.0)) refl refl (kept_count new m e cs) where
-  rest : List (ℕ × ℕ)
-  rest = filter (λ c. is_none (module_in new c.0)) cs
-
-  go : (s t : Bool) → (c.0 == m) ≡ s → is_none (module_in new c.0) ≡ t → count_in rest m ≡ count_in cs m → count_in (cond t (c ∷ rest) rest) m ≡ cond s c.1 (count_in cs m)
-  go s true es et h = bit s es h where
-    bit : (s : Bool) → (c.0 == m) ≡ s → count_in rest m ≡ count_in cs m → cond (c.0 == m) c.1 (count_in rest m) ≡ cond s c.1 (count_in cs m)
-    bit true es h = rw es refl
-    bit false es h = rw es h
-  go true false es et h = let is : c.0 ≡ m = grind (arith, nat_tests, es) in let none : is_none (module_in new c.0) ≡ true = ap (λ k. is_none (module_in new k)) is ∙ ap is_none e in cc
-  go false false es et h = h
-
-count_step : (old new : Layout) (counts : List (ℕ × ℕ)) (m : ℕ) → count_in (counts_after old new counts) m ≡ count_in counts m + one_if_changed (module_in old m) (module_in new m)
-count_step old new counts m = go (module_in new m) refl where
-  go : (b : Option Bytes) → module_in new m ≡ b → count_in (counts_after old new counts) m ≡ count_in counts m + one_if_changed (module_in old m) b
-  go (Some b) e = counted_some old new counts (filter (λ c. is_none (module_in new c.0)) counts) m b e
-  go None e = counted_past old new counts (filter (λ c. is_none (module_in new c.0)) counts) m e ∙ (kept_count new m e counts ∙ omega arith)
+use Rattle.generation.proofs.Counting.{count_step}
+use Rattle.generation.proofs.Grouping.{dii_of_lines}
+use Rattle.cycle_planner.proofs.CallerLemmas.{all_diis, all_blocks_of, group_known, group_has, dii_contained}
 
 -- ---- the states on the way
 
@@ -189,76 +142,43 @@ get_right [] ys k d le = ap (λ n. get_or ys n d) (omega arith)
 get_right (x ∷ xs) ys zero d le = absurd (omega (arith, le))
 get_right (x ∷ xs) ys (suc k) d le = get_right xs ys k d (omega (arith, le)) ∙ ap (λ n. get_or ys n d) (omega (arith, le))
 
-same_block : (m n b k : ℕ) → Block m b ≡ Block n k → (m ≡ n) × (b ≡ k)
-same_block m n b k e = (cc, cc)
-
 abbrev blocks_in : Line → List Item
 blocks_in l = map (λ b. Block l.0 b) (range_with_len 0 l.1)
 
 length-blocks_in : (l : Line) → length (blocks_in l) ≡ l.1
 length-blocks_in l = length-map-range_with_len (λ b. Block l.0 b) 0 l.1
 
--- a block among those of lines is one of a line
-block_in : (lines : List Line) (k m b : ℕ) → k < length (flat_map blocks_in lines) → get_or (flat_map blocks_in lines) k (Block m b) ≡ Block m b
-    → (i : ℕ) × (i < length lines) × ((get_or lines i (0, 0)).0 ≡ m) × (b < (get_or lines i (0, 0)).1)
-block_in [] k m b lt e = absurd (omega (arith, lt))
-block_in (l ∷ ls) k m b lt e = elim (cases_lt k l.1) [
-  | inl here ↦
-      let n = length-blocks_in l in
-      let at : Block l.0 k ≡ Block m b = sym (get_or-map-range_with_len (λ j. Block l.0 j) 0 l.1 k k (Block m b) here (omega arith))
-      ∙ (sym (get_left (blocks_in l) (flat_map blocks_in ls) k (Block m b) (omega (arith, n, here))) ∙ e) in
-      let h = same_block l.0 m k b at in
-      (0, omega arith, h.0, omega (arith, here, h.1))
-  | inr later ↦
-      let n = length-blocks_in l in
-      let r = block_in ls (k - length (blocks_in l)) m b (omega (arith, n, later, lt, length-append (blocks_in l) (flat_map blocks_in ls)))
-      (sym (get_right (blocks_in l) (flat_map blocks_in ls) k (Block m b) (omega (arith, n, later))) ∙ e) in
-      (suc r.0, omega (arith, r.1), r.2, r.3)
-]
-
--- no block is a DII
-blocks_of_line : (j : ℕ) (l : Line) (a n k : ℕ) → k < n → get_or (map (λ b. Block l.0 b) (range_with_len a n)) k (Dii j) ≡ Dii j → ⊥
-blocks_of_line j l a zero k lt e = omega (arith, lt)
-blocks_of_line j l a (suc n) zero lt e = cc
-blocks_of_line j l a (suc n) (suc k) lt e = blocks_of_line j l (a + 1) n k (omega (arith, lt)) e
-
-no_dii : (lines : List Line) (k j : ℕ) → k < length (flat_map blocks_in lines) → get_or (flat_map blocks_in lines) k (Dii j) ≡ Dii j → ⊥
-no_dii [] k j lt e = omega (arith, lt)
-no_dii (l ∷ ls) k j lt e = elim (cases_lt k l.1) [
-  | inl here ↦ let n = length-blocks_in l in blocks_of_line j l 0 l.1 k here (sym (get_left (blocks_in l) (flat_map blocks_in ls) k (Dii j) (omega (arith, n, here))) ∙ e)
-  | inr later ↦
-      let n = length-blocks_in l in
-      no_dii ls (k - length (blocks_in l)) j (omega (arith, n, later, lt, length-append (blocks_in l) (flat_map blocks_in ls)))
-      (sym (get_right (blocks_in l) (flat_map blocks_in ls) k (Dii j) (omega (arith, n, later))) ∙ e)
-]
-
-same_dii : (i j : ℕ) → Dii i ≡ Dii j → j ≡ i
-same_dii i j e = cc
-
--- among a generation's items is DII 1 alone
-pub only_one : (s : GenerationState) (j : ℕ) → Contains (items_of s) (Dii j) → j ≡ 1
-only_one s j (zero, lt, e) = cc
-only_one s j (suc zero, lt, e) = same_dii 1 j e
-only_one s j (suc (suc k), lt, e) = absurd (no_dii (lines_of s) k j (omega (arith, lt)) e)
-
-item_is : (ls : List Layout) (g : ℕ) (s : GenerationState) → g < length ls → s.layout ≡ layout_at ls g → s.layout ≡ layout_of s.carousel s.objects
-    → (item : Item) → Contains (items_of s) item → IsItem ls g item
-item_is ls g s within el made Dsi has = within
-item_is ls g s within el made (Dii j) has = let e = only_one s j has in (within, inl e, omega (arith, e), omega (arith, e))
-item_is ls g s within el made (Block m b) (zero, lt, e) = cc
-item_is ls g s within el made (Block m b) (suc zero, lt, e) = cc
-item_is ls g s within el made (Block m b) (suc (suc k), lt, e) =
-    let r = block_in (lines_of s) k m b (omega (arith, lt)) (e) in
-    let x = get_or s.layout r.0 (0, []) in
+-- the module of a line of the layout
+listed_at : (s : GenerationState) → s.layout ≡ layout_of s.carousel s.objects → (line : Line) → Contains (lines_of s) line
+    → (bytes : Bytes) × (module_in s.layout line.0 ≡ Some bytes) × (line.1 ≡ block_count_of (length bytes) 4066)
+listed_at s made line c =
+    let x = get_or s.layout c.0 (0, []) in
     let n : length (lines_of s) ≡ length s.layout = len_map _ s.layout in
-    let line : get_or (lines_of s) r.0 (0, 0) ≡ (x.0, block_count_of (length x.1) 4066) = get_or-map (λ l. (l.0, block_count_of (length l.1) 4066)) s.layout r.0 (0, []) (0, 0) (omega (arith, r.1, n)) in
-    let id : x.0 ≡ m = ap (λ l. l.0) (sym line) ∙ r.2 in
-    let below : b < block_count_of (length x.1) 4066 = rw line at r.3 in
-    let found : module_in s.layout x.0 ≡ Some x.1 = in_layout s.layout made r.0 (omega (arith, r.1, n)) in
-    (within, (x.1, ap (λ l. module_in l m) (sym el) ∙ (ap (λ k. module_in s.layout k) (sym id) ∙ found), below)) where
+    let is : line ≡ (x.0, block_count_of (length x.1) 4066) = sym c.2 ∙ get_or-map (λ l. (l.0, block_count_of (length l.1) 4066)) s.layout c.0 (0, []) line (omega (arith, c.1, n)) in
+    let found : module_in s.layout x.0 ≡ Some x.1 = in_layout s.layout made c.0 (omega (arith, c.1, n)) in
+    (x.1, ap (λ (l : Line). module_in s.layout l.0) is ∙ found, ap (λ (l : Line). l.1) is) where
       in_layout : (layout : Layout) → layout ≡ layout_of s.carousel s.objects → (i : ℕ) → i < length layout → module_in layout (get_or layout i (0, [])).0 ≡ Some (get_or layout i (0, [])).1
       in_layout layout e i lt = subst (λ l. i < length l → module_in l (get_or l i (0, [])).0 ≡ Some (get_or l i (0, [])).1) (sym e)
           (once s.carousel s.objects 1 (greatest (map (λ o. o.module_id) s.objects)) i (0, [])) lt
+
+dii_is : (ls : List Layout) (g : ℕ) (s : GenerationState) → s.layout ≡ layout_at ls g → s.layout ≡ layout_of s.carousel s.objects → (j : ℕ) → IsGroupOf (lines_of s) j → HasDii ls g j
+dii_is ls g s el made j (inl e) = inl e
+dii_is ls g s el made j (inr h) =
+    let r = listed_at s made h.0 h.1 in
+    inr (h.0.0, r.0, ap (λ l. module_in l h.0.0) (sym el) ∙ r.1, h.2)
+
+all_items : (ls : List Layout) (g : ℕ) (s : GenerationState) → g < length ls → s.layout ≡ layout_at ls g → s.layout ≡ layout_of s.carousel s.objects → All (IsItem ls g) (items_of s)
+all_items ls g s within el made =
+    let lines = lines_of s in
+    let diis = all_diis (IsItem ls g) lines (λ j is. (within, dii_is ls g s el made j (group_known lines j is.has), is.above, is.within)) in
+    let blocks = all_blocks_of (IsItem ls g) lines (λ line b c lt.
+    let r = listed_at s made line c in
+    (within, (r.0, ap (λ l. module_in l line.0) (sym el) ∙ r.1, subst (λ n. b < n) r.2 lt))) in
+    All-cons (IsItem ls g) Dsi (diis_of lines ++ flat_map blocks_of lines) within (All-append (IsItem ls g) (diis_of lines) (flat_map blocks_of lines) diis blocks)
+
+item_is : (ls : List Layout) (g : ℕ) (s : GenerationState) → g < length ls → s.layout ≡ layout_at ls g → s.layout ≡ layout_of s.carousel s.objects
+    → (item : Item) → Contains (items_of s) item → IsItem ls g item
+item_is ls g s within el made item has = subst (IsItem ls g) has.2 (all_items ls g s within el made has.0 item has.1)
 
 -- the blocks of a module of the layout stand among those of its lines
 block_listed : (layout : Layout) (m b : ℕ) (bytes : Bytes) → module_in layout m ≡ Some bytes → b < block_count_of (length bytes) 4066 → Contains (flat_map blocks_in (lines_in layout)) (Block m b)
@@ -289,15 +209,20 @@ block_listed (l ∷ ls) m b bytes e lt = go (l.0 == m) refl (block_listed ls m b
         get_right (blocks_in line) later (n + r.0) (Block m b) (omega arith) ∙ (ap (λ k. get_or later k (Block m b)) (omega arith) ∙ r.2),
       )
 
-pub item_one : (s : GenerationState) (item : Item) (j : ℕ) → Contains (items_of s) item → item ≡ Dii j → item ≡ Dii 1
-item_one s item j has e = e ∙ ap Dii (only_one s j (subst (Contains (items_of s)) e has))
+behind_dsi : (xs : List Item) (item : Item) → Contains xs item → Contains (Dsi ∷ xs) item
+behind_dsi xs item c = (suc c.0, omega (arith, c.1), c.2)
 
-item_listed : (ls : List Layout) (g : ℕ) (s : GenerationState) → s.layout ≡ layout_at ls g → AreInOneGroup ls → (item : Item) → IsItem ls g item → Contains (items_of s) item
-item_listed ls g s el few Dsi is = (0, omega arith, refl)
-item_listed ls g s el few (Dii j) is = subst (λ i. Contains (items_of s) (Dii i)) (sym (has_one ls g j (at_layout (λ l. All (λ m. m.0 ≤ 139) l) ls g few is.0) is.1)) (1, omega arith, refl)
-item_listed ls g s el few (Block m b) is =
-    let r = block_listed s.layout m b is.1.0 (ap (λ l. module_in l m) el ∙ is.1.1) is.1.2 in
-    (suc (suc r.0), omega (arith, r.1), r.2)
+item_listed : (ls : List Layout) (g : ℕ) (s : GenerationState) → s.layout ≡ layout_at ls g → (item : Item) → IsItem ls g item → Contains (items_of s) item
+item_listed ls g s el Dsi is = (0, omega arith, refl)
+item_listed ls g s el (Dii j) is =
+    let lines = lines_of s in
+    let of : IsGroupOf lines j = subst (λ l. IsGroupOf (lines_in l) j) (sym el) (dii_of_lines ls g j is.1) in
+    let there = dii_contained lines j (record { above = is.2; within = is.3; has = group_has lines j of }) in
+    behind_dsi (diis_of lines ++ flat_map blocks_of lines) (Dii j) (Contains-append_left (diis_of lines) (flat_map blocks_of lines) (Dii j) there)
+item_listed ls g s el (Block m b) is =
+    let lines = lines_of s in
+    let there = block_listed s.layout m b is.1.0 (ap (λ l. module_in l m) el ∙ is.1.1) is.1.2 in
+    behind_dsi (diis_of lines ++ flat_map blocks_of lines) (Block m b) (Contains-append_right (diis_of lines) (flat_map blocks_of lines) (Block m b) there)
 
 layout_made : (s : GenerationState) → s.layout ≡ layout_of s.carousel s.objects → (ts : List Tree) (g : ℕ) → (state_at s ts g).layout ≡ layout_of (state_at s ts g).carousel (state_at s ts g).objects
 unfolding state_at
@@ -309,9 +234,9 @@ layout_made s e (t ∷ ts) (suc g) = layout_made (next_of s t) refl ts g
 
 dii_same : (c g : ℕ) (ls : List Layout) (s : GenerationState) → s.carousel ≡ c → s.number ≡ g → s.layout ≡ layout_at ls g → ((m : ℕ) → count_in s.counts m ≡ count_of ls g m) → (j : ℕ) → dii_of s j ≡ dii_in c ls g j
 dii_same c g ls s ec en el ek j =
-    ap (λ k. let d : DiiFields = record { download = k; block_size = 4066; transaction = transaction_of s.number j; modules = dii_lines s.counts (group_in s.layout j) } in d) ec
-    ∙ (ap (λ n. let d : DiiFields = record { download = c; block_size = 4066; transaction = transaction_of n j; modules = dii_lines s.counts (group_in s.layout j) } in d) en
-    ∙ ap (λ ms. let d : DiiFields = record { download = c; block_size = 4066; transaction = transaction_of g j; modules = ms } in d)
+    ap (λ k. let d : DiiFields = record { download = k; block_size = 4066; transaction = dii_transaction s.number j; modules = dii_lines s.counts (group_in s.layout j) } in d) ec
+    ∙ (ap (λ n. let d : DiiFields = record { download = c; block_size = 4066; transaction = dii_transaction n j; modules = dii_lines s.counts (group_in s.layout j) } in d) en
+    ∙ ap (λ ms. let d : DiiFields = record { download = c; block_size = 4066; transaction = dii_transaction g j; modules = ms } in d)
     (map_ext (λ m. record { id = m.0; size = length m.1; version = count_in s.counts m.0 % 256; compressed = false }) (λ m. record { id = m.0; size = length m.1; version = version_in ls g m.0; compressed = false })
     (λ m. ap (λ k. let l : ModuleLine = record { id = m.0; size = length m.1; version = k % 256; compressed = false } in l) (ek m.0)) (group_in s.layout j)
     ∙ ap (λ l. map (λ m. let x : ModuleLine = record { id = m.0; size = length m.1; version = version_in ls g m.0; compressed = false } in x) (group_in l j)) el))
@@ -320,8 +245,8 @@ section_same : (c g : ℕ) (ls : List Layout) (s : GenerationState) → s.carous
     → (item : Item) → section_of s item ≡ section_in c ls g item
 section_same c g ls s ec en el ek Dsi = ap (λ k. spelling (control_section 0 (dsi_spelling 0x80000000 gateway_kind (gateway_location k)))) ec
 section_same c g ls s ec en el ek (Dii j) =
-    ap (λ n. spelling (control_section (transaction_of n j % 65536) (dii_spelling (dii_of s j)))) en
-    ∙ ap (λ d. spelling (control_section (transaction_of g j % 65536) (dii_spelling d))) (dii_same c g ls s ec en el ek j)
+    ap (λ n. spelling (control_section (dii_transaction n j % 65536) (dii_spelling (dii_of s j)))) en
+    ∙ ap (λ d. spelling (control_section (dii_transaction g j % 65536) (dii_spelling d))) (dii_same c g ls s ec en el ek j)
 section_same c g ls s ec en el ek (Block m b) =
     ap (λ k. spelling (block_section k m (count_in s.counts m % 256) b (unwrap_or (module_in s.layout m) []))) ec
     ∙ (ap (λ n. spelling (block_section c m (n % 256) b (unwrap_or (module_in s.layout m) []))) (ek m)

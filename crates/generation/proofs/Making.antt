@@ -1,16 +1,13 @@
 -- The generation after another.
-use Rattle.std.proofs.Common.{◌≡◌, ℕ, ◌+◌, ◌≤◌, Bool, true, false, List, [], ◌∷◌, ◌++◌, map, Some, cond, refl, sym, ◌∙◌, ap, arith, get_or}
-use Rattle.std.specs.List.{All, filter, fold}
-use Rattle.std.specs.Option.{is_none}
-use Rattle.std.proofs.lemmas.List.Elements.{All-map, All-append, All-filter}
+use Rattle.std.proofs.Common.{◌≡◌, ℕ, ◌+◌, List, [], ◌∷◌, ◌++◌, refl, sym, ◌∙◌, ap}
+use Rattle.std.specs.List.{fold}
 use Rattle.path_tree.specs.Trees.{Tree}
-use Rattle.biop_object.specs.Names.{Layout, module_in}
+use Rattle.biop_object.specs.Names.{Layout}
 use Rattle.generation.specs.Publication.{spots_of}
-use Rattle.generation.specs.Layouts.{GenerationState, Placed, modules_for, placed_all, keys_of, layout_of, counts_after, count_after, count_in, same_module, first_of, next_of, generation_of}
+use Rattle.generation.specs.Layouts.{GenerationState, Placed, modules_for, placed_all, keys_of, layout_of, counts_after, first_of, next_of, generation_of}
 use Rattle.generation.specs.Kept.{StandsFor}
-use Rattle.generation.proofs.Writing.{small_count}
 
-pub next_is : (s : GenerationState) (t : Tree) (objects : List Placed) (layout : Layout) (counts : List (ℕ × ℕ))
+pub next_is : (s : GenerationState) (t : Tree) (objects : List Placed) (layout : Layout) (counts : List ℕ)
     → objects ≡ placed_all (spots_of t) (keys_of s.objects (spots_of t)) (modules_for s.objects t) → layout ≡ layout_of s.carousel objects → counts ≡ counts_after s.layout layout s.counts
     → record { carousel = s.carousel; number = s.number + 1; tree = t; objects = objects; layout = layout; counts = counts } ≡ next_of s t
 next_is s t objects layout counts eo el ec =
@@ -27,13 +24,3 @@ fold_more g (x ∷ xs) t = fold_more (next_of g x) xs t
 
 pub stands_next : (s g : GenerationState) (t : Tree) → g ≡ next_of s t → (trees : List Tree) → StandsFor s trees → g ≡ generation_of s.carousel (trees ++ t ∷ [])
 stands_next s g t e trees stands = e ∙ (ap (λ x. next_of x t) stands ∙ sym (fold_more (first_of s.carousel) trees t))
-
--- counts rise by one at most
-pub small_counts : (old new : Layout) (counts : List (ℕ × ℕ)) (n : ℕ) → All (λ c. c.1 ≤ n) counts → All (λ c. c.1 ≤ n + 1) (counts_after old new counts)
-small_counts old new counts n all =
-    All-append (λ c. c.1 ≤ n + 1) (map (count_after old counts) new) (filter (λ c. is_none (module_in new c.0)) counts)
-    (All-map (λ c. c.1 ≤ n + 1) (count_after old counts) new (λ k d lt. after (get_or new k d).0 (same_module (module_in old (get_or new k d).0) (Some (get_or new k d).1)) (small_count counts (get_or new k d).0 n (λ i e l. let h = all i e l in omega (arith, h)))))
-    (All-filter (λ c. is_none (module_in new c.0)) (λ c. c.1 ≤ n + 1) counts (λ i e l. let h = all i e l in omega (arith, h))) where
-      after : (m : ℕ) (b : Bool) → count_in counts m ≤ n → cond b (count_in counts m) (count_in counts m + 1) ≤ n + 1
-      after m true h = omega (arith, h)
-      after m false h = omega (arith, h)

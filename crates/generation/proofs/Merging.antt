@@ -1,11 +1,11 @@
 -- Objects of one tree are found among those of another in one pass, since both stand in the order of paths.
-use Rattle.std.proofs.Common.{◌≡◌, ◌≢◌, ◌⊎◌, ℕ, zero, suc, ◌+◌, ◌<◌, ◌≤◌, Bool, true, false, List, [], ◌∷◌, ◌++◌, length, drop, map, Option, Some, None, cond, refl, sym, ◌∙◌, ap, subst, arith, add-one, get_or, inl, inr, append_assoc, append-nil}
+use Rattle.std.proofs.Common.{◌≡◌, ◌≢◌, ◌⊎◌, ℕ, zero, suc, ◌+◌, ◌<◌, Bool, true, false, List, [], ◌∷◌, ◌++◌, length, drop, map, Option, Some, None, cond, refl, sym, ◌∙◌, ap, subst, add-one, get_or, inl, inr, append_assoc}
 use Rattle.std.specs.List.{All}
 use Rattle.std.specs.Option.{option_map}
 use Rattle.std.specs.Ordering.{is_lt, ordering_reverse}
 use Rattle.std.specs.declared.cmp.Ordering.{Ordering}
 use Rattle.std.specs.declared.cmp.Ordering.TheVariants.{Less, Equal, Greater}
-use Rattle.std.proofs.lemmas.List.Elements.{All-head, All-tail, All-cons}
+use Rattle.std.proofs.lemmas.List.Elements.{All-head, All-tail}
 use Rattle.path_tree.specs.Paths.{PathNames, path_cmp, same_path}
 use Rattle.path_tree.specs.Trees.{Tree}
 use Rattle.path_tree.proofs.CallerLemmas.{path_cmp-is, path_total, same_path-refl}
@@ -17,6 +17,7 @@ use Rattle.generation.specs.declared.objects.Placed.{Placed as CodePlaced}
 use Rattle.generation.specs.declared.spots.Spot.{Spot as CodeSpot}
 use Rattle.generation.proofs.Fronts.{paths_differ, less_differ}
 use Rattle.generation.proofs.Limiting.{drop_or}
+use Rattle.generation.proofs.Placing.{all_unmap}
 use Rattle.generation.proofs.Spotting.{kind_apart, kind_same}
 
 -- ---- the order of paths
@@ -31,10 +32,6 @@ more_apart : (a b : PathNames) → path_cmp b a ≡ Less → same_path a b ≡ f
 more_apart a b e = paths_differ a b (λ h. less_differ b a e (sym h))
 
 -- ---- one object
-
-unmapped : (P : Spot → Type 0) (os : List Placed) → All P (map (λ o. o.spot) os) → All (λ o. P o.spot) os
-unmapped P [] all = λ k d lt. absurd (omega (arith, lt))
-unmapped P (o ∷ os) all = All-cons (λ q. P q.spot) o os (All-head P o.spot (map (λ q. q.spot) os) all) (unmapped P os (All-tail P o.spot (map (λ q. q.spot) os) all))
 
 none_later : (os : List Placed) (s : Spot) → All (λ o. path_cmp s.path o.spot.path ≡ Less) os → placed_at os s ≡ None
 none_later [] s all = refl
@@ -62,7 +59,7 @@ first_found : (os : List Placed) (s : Spot) → AreRising (map (λ o. o.spot) os
 first_found [] s rising = refl
 first_found (o ∷ os) s rising = go (path_cmp o.spot.path s.path) refl (first_found os s rising.1) where
   later : All (λ q. path_cmp o.spot.path q.spot.path ≡ Less) os
-  later = unmapped (λ r. path_cmp o.spot.path r.path ≡ Less) os rising.0
+  later = all_unmap (λ r. path_cmp o.spot.path r.path ≡ Less) (λ o. o.spot) os rising.0
 
   here : All (λ q. path_cmp s.path q.spot.path ≡ Less) os → placed_at (o ∷ os) s ≡ first_same (o ∷ os) s
   here all = ap (λ r. cond (is_same_spot o.spot s) (Some o) r) (none_later os s all)
@@ -118,15 +115,6 @@ found_more f view old left xs i d all found x lt rising later so_far is rest =
     ∙ (ap (λ l. found ++ (x ∷ map (λ r. f (placed_at l r)) ss)) (sym rest)
     ∙ (sym (append_assoc found (x ∷ []) (map (λ r. f (placed_at left r)) ss))
     ∙ ap (λ n. (found ++ x ∷ []) ++ map (λ r. f (placed_at left r)) (map view (drop n xs))) (sym (add-one i)))))))
-
-drop_past : {A : Type 0} (xs : List A) (i : ℕ) → length xs ≤ i → drop i xs ≡ []
-drop_past [] zero le = refl
-drop_past [] (suc i) le = refl
-drop_past (x ∷ xs) zero le = absurd (omega (arith, le))
-drop_past (x ∷ xs) (suc i) le = drop_past xs i (omega (arith, le))
-
-pub found_all : {A : Type 0} (g : Spot → A) (view : CodeSpot → Spot) (xs : List CodeSpot) (i : ℕ) (all found : List A) → length xs ≤ i → all ≡ found ++ map g (map view (drop i xs)) → found ≡ all
-found_all g view xs i all found le so_far = sym (so_far ∙ (ap (λ ys. found ++ map g (map view ys)) (drop_past xs i le) ∙ append-nil found))
 
 -- ---- what is read of an object that is there
 

@@ -51,14 +51,20 @@ message key kind info body ok_key small ok_kind ok_info ok_body =
 file : (k : ℕ) (b : Bytes) → IsBytes b → Octets (file_spelling (key_bytes k) b)
 file k b ok = message (key_bytes k) file_kind (eight_bytes (length b)) (four_bytes (length b) ++ b) (four k) (lit< tt) (tested file_kind refl) (eight (length b)) (both (four (length b)) (record { all = ok }))
 
+tap : (m : ℕ) → Octets (iors.tap_bytes (iors.written_tap m))
+tap m =
+    let selector : Octets (two_bytes 0x0001 ++ four_bytes (iors.delivery_of_module m) ++ four_bytes 0xFFFFFFFF) = both (both (two 0x0001) (four (iors.delivery_of_module m))) (four 0xFFFFFFFF) in
+    both (both (both (two 0) (two 0x0016)) (two 0x0001)) (more {x = 10} (lit< tt) selector)
+
 location : (kind : List ℕ) (c m k : ℕ) → Octets kind → Octets (iors.spelling kind (record { carousel = c; «module» = m; key = key_bytes k }))
 location kind c m k ok =
     let l : Location = record { carousel = c; «module» = m; key = key_bytes k } in
     let place : Octets (four_bytes c ++ two_bytes m ++ 1 ∷ 0 ∷ 4 ∷ key_bytes k) = both (both (four c) (two m)) (more {x = 1} (lit< tt) (more {x = 0} (lit< tt) (more {x = 4} (lit< tt) (four k)))) in
     let first : Octets (iors.component_bytes iors.location_tag (four_bytes c ++ two_bytes m ++ 1 ∷ 0 ∷ 4 ∷ key_bytes k)) = both (four iors.location_tag) (more {x = 13} (lit< tt) place) in
-    let second : Octets (iors.component_bytes iors.binder_tag (1 ∷ flat_map iors.tap_bytes (iors.written_tap ∷ []))) = tested (iors.component_bytes iors.binder_tag (1 ∷ flat_map iors.tap_bytes (iors.written_tap ∷ []))) refl in
-    let profile : Octets (iors.biop_bytes l (iors.written_tap ∷ [])) = both (more {x = 0} (lit< tt) (more {x = 2} (lit< tt) first)) second in
-    both (both (both (both (both (four 4) ok) (four 1)) (four iors.biop_tag)) (four (length (iors.biop_bytes l (iors.written_tap ∷ []))))) profile
+    let second : Octets (iors.component_bytes iors.binder_tag (1 ∷ flat_map iors.tap_bytes (iors.written_tap m ∷ []))) =
+    both (four iors.binder_tag) (more {x = 18} (lit< tt) (more {x = 1} (lit< tt) (both (tap m) none))) in
+    let profile : Octets (iors.biop_bytes l (iors.written_tap m ∷ [])) = both (more {x = 0} (lit< tt) (more {x = 2} (lit< tt) first)) second in
+    both (both (both (both (both (four 4) ok) (four 1)) (four iors.biop_tag)) (four (length (iors.biop_bytes l (iors.written_tap m ∷ []))))) profile
 
 kind_ok : (b : Option Bytes) → Octets (bound_kind (bound_of b))
 kind_ok (Some b) = tested file_kind refl

@@ -8,6 +8,7 @@ use Rattle.path_tree.specs.Nestings.{Nesting, Empty, FileThen, FolderThen, neste
 use Rattle.generation.specs.Publication.{Spot, gateway_spot, count_in, below, spots_in, spots_of}
 use Rattle.generation.specs.Standing.{IsIn, IsNumbered}
 use Rattle.generation.proofs.Numbering.{number_at, all_numbered, all_front, all_back}
+use Rattle.generation.proofs.Placing.{all_unmap}
 
 -- what is said of the number and the path of each folder
 abbrev EachFolder : (ℕ → PathNames → Type 0) → Spot → Type 0
@@ -25,10 +26,6 @@ under_below : (F : ℕ → PathNames → Type 0) (n : Bytes) (s : Spot) (o : Opt
 under_below F n s (Some p) u = (n ∷ u.0, ap (λ path. n ∷ path) u.1, u.2)
 under_below F n s None u = u
 
-unmapped : (P : Spot → Type 0) (f : Spot → Spot) (ss : List Spot) → All P (map f ss) → All (λ s. P (f s)) ss
-unmapped P f [] h = λ i d lt. absurd (omega (arith, lt))
-unmapped P f (s ∷ ss) h = All-cons (λ r. P (f r)) s ss (All-head P (f s) (map f ss) h) (unmapped P f ss (All-tail P (f s) (map f ss) h))
-
 under_all : (F : ℕ → PathNames → Type 0) (parent next : ℕ) (g : Nesting) → F parent [] → All (EachFolder F) (spots_in parent next g) → All (λ s. Under F s s.parent) (spots_in parent next g)
 under_all F parent next Empty here folders = λ i d lt. absurd (omega (arith, lt))
 under_all F parent next (FileThen n b rest) here folders =
@@ -39,7 +36,7 @@ under_all F parent next (FolderThen n made inside rest) here folders =
     let more = spots_in parent (suc (next + count_in inside)) rest in
     let later = All-tail (EachFolder F) _ (map (below n) down ++ more) folders in
     let own : F next (n ∷ []) = All-head (EachFolder F) _ (map (below n) down ++ more) folders refl in
-    let deep = under_all (within F n) next (suc next) inside own (unmapped (EachFolder F) (below n) down (all_front (EachFolder F) (map (below n) down) more later)) in
+    let deep = under_all (within F n) next (suc next) inside own (all_unmap (EachFolder F) (below n) down (all_front (EachFolder F) (map (below n) down) more later)) in
     All-cons (λ s. Under F s s.parent) _ (map (below n) down ++ more) ([], refl, here)
     (All-append (λ s. Under F s s.parent) (map (below n) down) more
     (All-map (λ s. Under F s s.parent) (below n) down (λ i d lt. under_below F n (get_or down i d) (get_or down i d).parent (deep i d lt)))

@@ -6,6 +6,7 @@ use Rattle.std.proofs.lemmas.Bool.Decides.{nat_tests}
 use Rattle.std.proofs.lemmas.List.Sums.{sum_by-cons}
 use Rattle.std.proofs.lemmas.List.Elements.{All-cons, filter_map-append}
 use Rattle.std.proofs.lemmas.List.{map-append, get_or-map}
+use Rattle.module_groups.specs.declared.TheConstants.{GREATEST_ID}
 use Rattle.generation.proofs.Keying.{range_more}
 use Rattle.path_tree.specs.Paths.{Bytes}
 use Rattle.path_tree.specs.Trees.{Tree, IsTree}
@@ -180,7 +181,7 @@ pub record Within (t : Tree) : Type 0 where
   pub few : length (spots_of t) ≤ 8192
   pub folders : find (is_large_folder (spots_of t)) (spots_of t) ≡ None
   pub total : sum (sizes_of t) ≤ 268435456
-  pub modules : modules_needed (sizes_of t) ≤ 139
+  pub modules : modules_needed (sizes_of t) ≤ GREATEST_ID
 
 passed_none : (a b : Option Passed) → or_else a b ≡ None → (a ≡ None) × (b ≡ None)
 passed_none (Some p) b e = cc
@@ -207,7 +208,7 @@ within_limits t e =
       few = at_most 8192 (length all) (over_none (nat_lt 8192 (length all)) (Objects (cap_at_u32 (length all))) a.0);
       folders = no_folder (find (is_large_folder all) all) b.0;
       total = at_most 268435456 (sum (sizes_of t)) (over_none _ (Total (cap_at_u64 (sum (sizes_of t)))) c.0);
-      modules = at_most 139 (modules_needed (sizes_of t)) (over_none _ (Modules (cap_at_u64 (modules_needed (sizes_of t)))) c.1);
+      modules = at_most GREATEST_ID (modules_needed (sizes_of t)) (over_none _ (Modules (cap_at_u64 (modules_needed (sizes_of t)))) c.1);
     }
 
 pub find_none : {A : Type 0} (p : A → Bool) (xs : List A) → find p xs ≡ None → All (λ x. p x ≡ false) xs
@@ -267,10 +268,6 @@ pub modules_seen : (t : Tree) (objects : List CodePlaced) → map (λ o. o.«mod
 modules_seen t [] = refl
 modules_seen t (o ∷ os) = ap (λ ms. o.«module» ∷ ms) (modules_seen t os)
 
-pub used_seen : (t : Tree) (objects : List CodePlaced) (id : ℕ) → list_any (λ o. o.«module» == id) objects ≡ list_any (is_in id) (map (view_placed t) objects)
-used_seen t [] id = refl
-used_seen t (o ∷ os) id = rw (used_seen t os id) refl
-
 ids_before : (f : ℕ → Option (ℕ × Bytes)) (k : ℕ) → 1 ≤ k → filter_map f (range_with_len 1 (k + 1 - 1)) ≡ filter_map f (range_with_len 1 (k - 1)) ++ cons_option (f k) []
 ids_before f k le =
     let n : k + 1 - 1 ≡ suc (k - 1) = omega (arith, le) in
@@ -305,11 +302,11 @@ are_foldered t objects spots =
 
 pub are_ready : (c : ℕ) (t : Tree) (objects : List CodePlaced) → IsTree t → limit_of t ≡ None → All (λ o. IsSpotIn t o.spot) objects
     → map (λ o. o.spot) (map (view_placed t) objects) ≡ spots_of t
-    → All (λ m. (1 ≤ m) × (m ≤ 139)) (map (λ o. o.module_id) (map (view_placed t) objects)) → AreReady c t objects
+    → All (λ m. (1 ≤ m) × (m ≤ GREATEST_ID)) (map (λ o. o.module_id) (map (view_placed t) objects)) → AreReady c t objects
 are_ready c t objects tree limit valid spots numbers =
     let w = within_limits t limit in
     let objs = map (view_placed t) objects in
-    let most : greatest (map (λ o. o.module_id) objs) ≤ 139 = greatest_most (map (λ o. o.module_id) objs) 139 numbers in
+    let most : greatest (map (λ o. o.module_id) objs) ≤ GREATEST_ID = greatest_most (map (λ o. o.module_id) objs) GREATEST_ID numbers in
     let total : sum_by (λ o. length (object_bytes c objs o)) objs ≤ 268435456 = rw (total_length c objs objs, spots) w.total in
     let folders : All (λ s. is_large_folder (spots_of t) s ≡ false) (spots_of t) = find_none (is_large_folder (spots_of t)) (spots_of t) w.folders in
     record {
@@ -322,6 +319,7 @@ are_ready c t objects tree limit valid spots numbers =
           all_unmap (λ q. is_large_folder (spots_of t) q.spot ≡ false) (view_placed t) objects (all_unmap (λ s. is_large_folder (spots_of t) s ≡ false) (λ q. q.spot) objs (rw spots folders)) k d lt in
           let is : length (object_bytes c objs (view_placed t o)) ≡ size_of (spots_of t) (view_placed t o).spot = length-object_bytes c objs (view_placed t o) ∙ ap (λ all. size_of all (view_placed t o).spot) spots in
           rw is (folder_small (spots_of t) (view_placed t o).spot (rw whole refl) small);
+      listed = all_unmap (λ m. (1 ≤ m) × (m ≤ GREATEST_ID)) (λ (o : CodePlaced). o.module) objects (rw (modules_seen t objects) numbers);
       numbers = rw (modules_seen t objects) most;
       modules = omega (arith, listed_length c objs (range_with_len 1 (greatest (map (λ o. o.module_id) objs))), length-range_with_len 1 (greatest (map (λ o. o.module_id) objs)), most);
       sizes = listed_small c objs 268435456 total (range_with_len 1 (greatest (map (λ o. o.module_id) objs)));
@@ -335,7 +333,7 @@ objects_arm (Ok v) t old modules spots keys ms es ek em is = ap (λ os. map (vie
 objects_arm (Err e) t old modules spots keys ms es ek em is = is
 
 pub ready_arm : {E : Type 0} (r : Result (Vec CodePlaced Global) E) (t : Tree) (old : List Placed) (modules : List ℕ) (spots : List CodeSpot) (keys ms : List ℕ)
-    → IsTree t → limit_of t ≡ None → All (IsSpotIn t) spots → IsPlacement 139 (sizes_of t) modules
+    → IsTree t → limit_of t ≡ None → All (IsSpotIn t) spots → IsPlacement GREATEST_ID (sizes_of t) modules
     → map (view_spot t) spots ≡ spots_of t → keys ≡ keys_of old (spots_of t) → ms ≡ modules
     → IfOk r (λ v. v.items ≡ placed_from spots keys ms)
     → IfOk r (λ v. (c : ℕ) → AreReady c t v.items)
@@ -346,7 +344,7 @@ ready_arm (Ok v) t old modules spots keys ms tree limit valid placement es ek em
     let nm : length modules ≡ length (spots_of t) = placement.each ∙ len_map (size_of (spots_of t)) (spots_of t) in
     λ c. are_ready c t v.items tree limit (rw is (placed_valid t spots keys ms valid))
     (ap (map (λ o. o.spot)) made ∙ placed_spots (spots_of t) (keys_of old (spots_of t)) modules nk nm)
-    (subst (All (λ m. (1 ≤ m) × (m ≤ 139))) (sym (ap (map (λ o. o.module_id)) made ∙ placed_modules (spots_of t) (keys_of old (spots_of t)) modules nk nm)) placement.numbers)
+    (subst (All (λ m. (1 ≤ m) × (m ≤ GREATEST_ID))) (sym (ap (map (λ o. o.module_id)) made ∙ placed_modules (spots_of t) (keys_of old (spots_of t)) modules nk nm)) placement.numbers)
 ready_arm (Err e) t old modules spots keys ms tree limit valid placement es ek em is = is
 
 pub listed_some : (c : ℕ) (objects : List Placed) (id : ℕ) (b : Bytes) → list_any (is_in id) objects ≡ true → b ≡ module_bytes c objects id → Some (id, b) ≡ module_if_used c objects id

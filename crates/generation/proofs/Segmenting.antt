@@ -1,10 +1,11 @@
 -- The entries of a folder, one after another: those of one name together are an object and what stands in it.
 use Rattle.std.proofs.Common.{◌≡◌, ◌≢◌, ℕ, zero, suc, ◌+◌, ◌-◌, ◌<◌, ◌≤◌, ◌==◌, ◌&&◌, Bool, true, false, List, [], ◌∷◌, ◌++◌, length, take, drop, map, get_or, Option, Some, None, cond, refl, sym, ◌∙◌, ap, subst, inl, inr, ◌⊎◌, arith, append_assoc, append-nil, length-append, length-take, length-drop}
+use Rattle.std.proofs.Math.Seq.{take-add}
 use Rattle.std.specs.List.{All}
 use Rattle.std.proofs.lemmas.Bool.{cases_eq}
 use Rattle.std.proofs.lemmas.Bool.Decides.{nat_tests}
 use Rattle.std.proofs.lemmas.List.Elements.{All-cons}
-use Rattle.std.proofs.lemmas.List.{map-append, get_or-map, get_or-take, get_or-drop, drop-drop, drop_more, take_more, take_all}
+use Rattle.std.proofs.lemmas.List.{map-id, map-append, get_or-map, get_or-take, get_or-drop, drop-drop, drop_more, take_more, take_all}
 use Rattle.path_tree.specs.Paths.{Bytes, PathNames, same_name}
 use Rattle.path_tree.specs.Trees.{Tree, IsTree, is_a_file}
 use Rattle.path_tree.specs.Nestings.{under, nested}
@@ -17,27 +18,18 @@ use Rattle.generation.specs.View.{view_spot, path_at, content_in, bytes_at, is_f
 use Rattle.generation.specs.Inner.Segments.{segment, stripped, within, name_at, IsFolderAt, HaveName, first_inside, first_spot}
 use Rattle.generation.proofs.Limiting.{len_map}
 use Rattle.generation.proofs.Numbering.{length-spots}
+use Rattle.generation.proofs.Spotting.{path_get}
 
 -- ---- segments
 
 pub length-segment : (t : Tree) (a b : ℕ) → b ≤ length t → length (segment t a b) ≡ b - a
 length-segment t a b le = omega (arith, length-take (b - a) (drop a t), length-drop a t, le)
 
-take_both : {X : Type 0} (m n : ℕ) (xs : List X) → take (m + n) xs ≡ take m xs ++ take n (drop m xs)
-take_both zero n xs = ap (λ k. take k xs) (omega arith)
-take_both (suc m) n [] = go n where
-  go : {X : Type 0} (n : ℕ) → take {A = X} (suc m + n) [] ≡ take n []
-  go n = let e : suc m + n ≡ suc (m + n) = omega arith in ap (λ k. take k []) e ∙ nothing n where
-    nothing : {X : Type 0} (n : ℕ) → [] ≡ take {A = X} n []
-    nothing zero = refl
-    nothing (suc n) = refl
-take_both (suc m) n (x ∷ xs) = let e : suc m + n ≡ suc (m + n) = omega arith in ap (λ k. take k (x ∷ xs)) e ∙ ap (λ l. x ∷ l) (take_both m n xs)
-
 pub segment_both : (t : Tree) (a b c : ℕ) → a ≤ b → b ≤ c → segment t a c ≡ segment t a b ++ segment t b c
 segment_both t a b c le le' =
     let n : c - a ≡ (b - a) + (c - b) = omega (arith, le, le') in
     let m : a + (b - a) ≡ b = omega (arith, le) in
-    ap (λ k. take k (drop a t)) n ∙ (take_both (b - a) (c - b) (drop a t) ∙ ap (λ l. take (b - a) (drop a t) ++ take (c - b) l) (drop-drop (b - a) a t ∙ ap (λ k. drop k t) m))
+    ap (λ k. take k (drop a t)) n ∙ (take-add (b - a) (c - b) (drop a t) ∙ ap (λ l. take (b - a) (drop a t) ++ take (c - b) l) (drop-drop (b - a) a t ∙ ap (λ k. drop k t) m))
 
 pub segment_first : (t : Tree) (a b : ℕ) (d : Item) → a < b → b ≤ length t → segment t a b ≡ get_or t a d ∷ segment t (a + 1) b
 segment_first t a b d lt le =
@@ -58,19 +50,11 @@ segment_all t = take_all (length t - 0) t (omega arith)
 no_item : Item
 no_item = ([], entries.Folder)
 
-pub path_is : (t : Tree) (i : ℕ) (d : Item) → i < length t → (get_or t i d).0 ≡ path_at t i
-path_is [] i d lt = absurd (omega (arith, lt))
-path_is (e ∷ es) zero d lt = refl
-path_is (e ∷ es) (suc i) d lt = path_is es i d (omega (arith, lt))
-
 dropped_some : (p : PathNames) (k : ℕ) → drop k p ≢ [] → k < length p
 dropped_some [] zero ne = absurd (ne refl)
 dropped_some [] (suc k) ne = absurd (ne refl)
 dropped_some (n ∷ ns) zero ne = omega arith
 dropped_some (n ∷ ns) (suc k) ne = omega (arith, dropped_some ns k ne)
-
-some_dropped : (p : PathNames) (k : ℕ) → k < length p → drop k p ≢ []
-some_dropped p k lt none = let n = length-drop k p in absurd (omega (arith, n, lt, ap length none))
 
 -- each path goes on below the folder
 pub deep_at : (t : Tree) (from to depth i : ℕ) → IsFolderAt t from to depth → from ≤ i → i < to → depth < length (path_at t i)
@@ -81,13 +65,13 @@ deep_at t from to depth i h low high =
     get_or-map (λ e. (drop depth e.0, e.1)) (segment t from to) (i - from) no_item no_item (omega (arith, n, within))
     ∙ ap (λ (x : Item). (drop depth x.0, x.1)) (segment_at t from to (i - from) no_item within ∙ ap (λ k. get_or t k no_item) (omega (arith, low))) in
     let some : drop depth (get_or t i no_item).0 ≢ [] = λ none. h.deep (i - from) no_item (omega (arith, n, within, len_map {B = Item} (λ (e : Item). (drop depth e.0, e.1)) (segment t from to))) (ap (λ (x : Item). x.0) e ∙ none) in
-    subst (λ (p : PathNames). depth < length p) (path_is t i no_item (omega (arith, high, h.inside))) (dropped_some (get_or t i no_item).0 depth some)
+    subst (λ (p : PathNames). depth < length p) (path_get t i no_item (omega (arith, high, h.inside))) (dropped_some (get_or t i no_item).0 depth some)
 
 -- a folder in which an entry lies has fewer names than a path has at most
 pub few_names : (t : Tree) (from to depth : ℕ) → IsTree t → IsFolderAt t from to depth → from < to → depth < 16
 few_names t from to depth tree h lt =
     let inside : from < length t = omega (arith, lt, h.inside) in
-    omega (arith, deep_at t from to depth from h (omega arith) lt, (tree.paths from no_item inside).0.depth, ap length (path_is t from no_item inside))
+    omega (arith, deep_at t from to depth from h (omega arith) lt, (tree.paths from no_item inside).0.depth, ap length (path_get t from no_item inside))
 
 -- ---- the entries of one name
 
@@ -105,7 +89,7 @@ pub group_strip : (t : Tree) (from to end depth : ℕ) (n : Bytes) → IsFolderA
 group_strip t from to end depth n h le same = strip_one depth n (segment t from end) (λ i d lt.
     let k : length (segment t from end) ≡ end - from = length-segment t from end (omega (arith, le, h.inside)) in
     let inside : from + i < length t = omega (arith, lt, k, le, h.inside) in
-    let e : (get_or (segment t from end) i d).0 ≡ path_at t (from + i) = ap (λ (x : Item). x.0) (segment_at t from end i d (omega (arith, lt, k))) ∙ path_is t (from + i) d inside in (
+    let e : (get_or (segment t from end) i d).0 ≡ path_at t (from + i) = ap (λ (x : Item). x.0) (segment_at t from end i d (omega (arith, lt, k))) ∙ path_get t (from + i) d inside in (
       subst (λ (p : PathNames). depth < length p) (sym e) (deep_at t from to depth (from + i) h (omega arith) (omega (arith, lt, k, le))),
       ap (λ p. get_or p depth []) e ∙ same (from + i) (omega arith) (omega (arith, lt, k)),
     ))
@@ -182,17 +166,13 @@ folder_rest t from end to depth h up le =
     (rises_back (stripped depth (segment t from end)) (stripped depth (segment t end to)) (subst Rises (both_parts t from end to depth up le) (folder_rises t from to depth h)))
     (λ i low high. h.front i (omega (arith, low, up)) high ∙ sym (h.front end up (omega (arith, low, high))))
 
-unstripped : (t : Tree) → stripped 0 t ≡ t
-unstripped [] = refl
-unstripped (e ∷ es) = ap (λ l. e ∷ l) (unstripped es)
-
 -- all entries of a tree lie in the gateway
 pub gateway_folder : (t : Tree) → IsTree t → IsFolderAt t 0 (length t) 0
 gateway_folder t tree =
-    folder_from t 0 (length t) 0 (omega arith) (omega arith) (subst Rises (sym (ap (stripped 0) (segment_all t) ∙ unstripped t)) (rises_tree t tree)) (λ i low high. refl)
+    folder_from t 0 (length t) 0 (omega arith) (omega arith) (subst Rises (sym (ap (stripped 0) (segment_all t) ∙ map-id t)) (rises_tree t tree)) (λ i low high. refl)
 
 pub gateway_all : (t : Tree) → stripped 0 (segment t 0 (length t)) ≡ t
-gateway_all t = ap (stripped 0) (segment_all t) ∙ unstripped t
+gateway_all t = ap (stripped 0) (segment_all t) ∙ map-id t
 
 -- ---- one object of a folder
 
@@ -214,7 +194,7 @@ item_at t i = get_or t i no_item
 group_first : (t : Tree) (at end depth : ℕ) → at < end → end ≤ length t → stripped (depth + 1) (segment t at end) ≡ (drop (depth + 1) (path_at t at), (item_at t at).1) ∷ stripped (depth + 1) (segment t (at + 1) end)
 group_first t at end depth lt le =
     ap (stripped (depth + 1)) (segment_first t at end no_item lt le)
-    ∙ ap (λ p. (drop (depth + 1) p, (item_at t at).1) ∷ stripped (depth + 1) (segment t (at + 1) end)) (path_is t at no_item (omega (arith, lt, le)))
+    ∙ ap (λ p. (drop (depth + 1) p, (item_at t at).1) ∷ stripped (depth + 1) (segment t (at + 1) end)) (path_get t at no_item (omega (arith, lt, le)))
 
 starts_else : (t : Tree) (at end to depth : ℕ) → IsGroup t at end to depth → StartsElse (name_at t at depth) (stripped depth (segment t end to))
 starts_else t at end to depth g = elim (lt_or_is end to g.within) [
@@ -223,7 +203,7 @@ starts_else t at end to depth g = elim (lt_or_is end to g.within) [
       let deep = deep_at t end to depth end rest (omega arith) lt in
       let first : stripped depth (segment t end to) ≡ (name_at t end depth ∷ drop (depth + 1) (path_at t end), (item_at t end).1) ∷ stripped depth (segment t (end + 1) to) =
       ap (stripped depth) (segment_first t end to no_item lt g.folder.inside)
-      ∙ ap (λ p. (p, (item_at t end).1) ∷ stripped depth (segment t (end + 1) to)) (ap (drop depth) (path_is t end no_item (omega (arith, lt, g.folder.inside))) ∙ named_strip depth (name_at t end depth) (path_at t end) deep refl) in
+      ∙ ap (λ p. (p, (item_at t end).1) ∷ stripped depth (segment t (end + 1) to)) (ap (drop depth) (path_get t end no_item (omega (arith, lt, g.folder.inside))) ∙ named_strip depth (name_at t end depth) (path_at t end) deep refl) in
       subst (StartsElse (name_at t at depth)) (sym first) (g.other lt)
   | inr is ↦ subst (StartsElse (name_at t at depth)) (sym (ap (λ k. stripped depth (segment t k to)) is ∙ ap (stripped depth) (segment_none t to))) tt
 ] where
@@ -417,11 +397,7 @@ listed_end t at to depth parent number viewed whole is so_far =
 -- the gateway, and all entries in it
 pub listed_whole : (t : Tree) (spots : List CodeSpot) (viewed : List Spot) → viewed ≡ gateway_spot ∷ [] → map (view_spot t) spots ≡ viewed ++ listed_from t 0 (length t) 0 0 1 → map (view_spot t) spots ≡ spots_of t
 listed_whole t spots viewed is e = e ∙ (ap (λ l. l ++ listed_from t 0 (length t) 0 0 1) is
-    ∙ ap (λ l. gateway_spot ∷ l) (within_none (spots_in 0 1 (nested (stripped 0 (segment t 0 (length t))))) ∙ ap (λ l. spots_in 0 1 (nested l)) (gateway_all t)))
-  where
-    within_none : (ss : List Spot) → map (within []) ss ≡ ss
-    within_none [] = refl
-    within_none (s ∷ ss) = ap (λ l. s ∷ l) (within_none ss)
+    ∙ ap (λ l. gateway_spot ∷ l) (map-id (spots_in 0 1 (nested (stripped 0 (segment t 0 (length t))))) ∙ ap (λ l. spots_in 0 1 (nested l)) (gateway_all t)))
 
 -- the same of entries that were lent, with the gateway listed before
 pub listed_lent : (es t : Tree) (spots before : List CodeSpot) (d : CodeSpot) → es ≡ t → before ≡ d ∷ [] → view_spot t d ≡ gateway_spot

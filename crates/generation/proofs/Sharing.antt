@@ -1,14 +1,14 @@
 -- Modules whose objects are as before have the same bytes.
-use Rattle.std.proofs.Common.{◌≡◌, ◌≢◌, ℕ, zero, suc, ◌+◌, ◌<◌, ◌≤◌, Bool, true, false, ◌||◌, not, ◌==◌, List, [], ◌∷◌, ◌++◌, length, take, drop, map, Some, None, Ok, cond, refl, sym, ◌∙◌, ap, subst, arith, add-one, get_or, set, ◌⊎◌, inl, inr}
+use Rattle.std.proofs.Common.{◌≡◌, ◌≢◌, ℕ, zero, suc, ◌<◌, Bool, true, false, List, [], ◌∷◌, ◌++◌, length, take, Some, None, Ok, refl, sym, ◌∙◌, ap, subst, arith, get_or, set, ◌⊎◌, inl, inr}
 use Rattle.std.specs.Prelude.{slice_get}
-use Rattle.std.specs.List.{All, AllByRecursion, filter, list_any}
-use Rattle.std.specs.Option.{option_map, is_none}
+use Rattle.std.specs.List.{All, AllByRecursion}
+use Rattle.std.specs.Option.{option_map}
 use Rattle.std.specs.Ordering.{is_eq}
 use Rattle.std.specs.declared.cmp.Ordering.{Ordering}
 use Rattle.std.specs.declared.cmp.Ordering.TheVariants.{Less, Equal, Greater}
-use Rattle.std.proofs.lemmas.Bool.Decides.{nat_tests}
+use Rattle.std.proofs.Math.Seq.{take-length}
 use Rattle.std.proofs.lemmas.Option.{same_Some}
-use Rattle.std.proofs.lemmas.List.Elements.{All-push, All-head, All-tail}
+use Rattle.std.proofs.lemmas.List.Elements.{All-push}
 use Rattle.path_tree.specs.Paths.{Bytes, PathNames, path_cmp, same_name, same_path}
 use Rattle.path_tree.specs.Trees.{Tree, IsTree, file_in, entry_at, content_at}
 use Rattle.path_tree.specs.declared.entry.Entry.TheVariants as entries
@@ -16,15 +16,13 @@ use Rattle.path_tree.specs.Edits.{apply_all, path_in, OthersStay}
 use Rattle.path_tree.specs.declared.tree.Edit.{Edit}
 use Rattle.path_tree.proofs.CallerLemmas.{path_cmp-is, same_name-refl, same_path-refl, Item, Apart, Rises, rises_tree}
 use Rattle.biop_object.specs.Names.{Layout, module_in}
-use Rattle.generation.specs.Layouts.{Placed, key_bytes, object_bytes, module_bytes, layout_of, same_module, count_in, count_after, counts_after}
-use Rattle.generation.specs.Inner.Stays.{AreAsBefore, part_bytes, SameModules, AreTheirs}
-use Rattle.generation.specs.View.{view_placed, view_spot, view_listed, path_at, bytes_at, is_file_at, IsSpotIn, IsMarked, AreMarked, counted_by}
-use Rattle.generation.specs.declared.made.Listed.{Listed}
+use Rattle.generation.specs.Layouts.{Placed, key_bytes, object_bytes, module_bytes, layout_of, same_module}
+use Rattle.generation.specs.Inner.Stays.{AreAsBefore, SameModules, AreTheirs}
+use Rattle.generation.specs.View.{view_placed, view_spot, path_at, bytes_at, is_file_at, IsSpotIn}
 use Rattle.generation.specs.declared.objects.Placed.{Placed as CodePlaced}
 use Rattle.generation.specs.declared.spots.Spot.{Spot as CodeSpot}
 use Rattle.biop_object.specs.Objects.{file_spelling}
 use Rattle.generation.proofs.Fronts.{paths_differ, less_differ}
-use Rattle.generation.proofs.Limiting.{drop_or}
 use Rattle.generation.proofs.Inside.{listed_bytes}
 
 -- ---- a tree's entries by number
@@ -106,12 +104,8 @@ as_before law t flags edits tree named old applied = λ i lt file still. ap file
 file_bytes : (c : ℕ) (all : List Placed) (t : Tree) (o : CodePlaced) → o.spot.whole ≡ true → object_bytes c all (view_placed t o) ≡ file_spelling (key_bytes o.key) (bytes_at t o.spot.entry)
 file_bytes c all t o whole = rw whole refl
 
-take_all : {A : Type 0} (xs : List A) → take (length xs) xs ≡ xs
-take_all [] = refl
-take_all (x ∷ xs) = ap (λ ys. x ∷ ys) (take_all xs)
-
 file_path : (t : Tree) (s : CodeSpot) → IsSpotIn t s → s.whole ≡ true → (view_spot t s).path ≡ path_at t s.entry
-file_path t s valid whole = ap (λ n. take n (path_at t s.entry)) (valid.whole whole).1 ∙ take_all (path_at t s.entry)
+file_path t s valid whole = ap (λ n. take n (path_at t s.entry)) (valid.whole whole).1 ∙ take-length (path_at t s.entry)
 
 pub same_file : (old t : Tree) (b o : CodePlaced) (flags : List Bool) → IsTree old → IsSpotIn old b.spot → IsSpotIn t o.spot → AreAsBefore old t flags
     → b.spot.whole ≡ true → o.spot.whole ≡ true → b.key ≡ o.key → get_or flags o.spot.entry true ≡ false
@@ -127,37 +121,6 @@ same_file old t b o flags tree bv ov known bw ow key still same c olds news =
     ∙ (ap (λ k. file_spelling (key_bytes k) (bytes_at old b.spot.entry)) key
     ∙ (ap (file_spelling (key_bytes o.key)) bytes
     ∙ sym (file_bytes c news t o ow)))
-
--- ---- the objects of a module
-
-pub part_other : (c : ℕ) (all : List Placed) (t : Tree) (os : List CodePlaced) (i m : ℕ) (d : CodePlaced) → i < length os → (get_or os i d).«module» ≢ m
-    → part_bytes c all (map (view_placed t) (drop i os)) m ≡ part_bytes c all (map (view_placed t) (drop (i + 1) os)) m
-part_other c all t os i m d lt ne =
-    let other : ((get_or os i d).«module» == m) ≡ false = grind (arith, nat_tests, ne) in
-    rw (add-one i, drop_or os i d lt, other) refl
-
-pub part_one : (c : ℕ) (all : List Placed) (t : Tree) (os : List CodePlaced) (i m : ℕ) (d : CodePlaced) → i < length os → (get_or os i d).«module» ≡ m
-    → part_bytes c all (map (view_placed t) (drop i os)) m ≡ object_bytes c all (view_placed t (get_or os i d)) ++ part_bytes c all (map (view_placed t) (drop (i + 1) os)) m
-part_one c all t os i m d lt is =
-    let one : ((get_or os i d).«module» == m) ≡ true = grind (arith, nat_tests, is) in
-    rw (add-one i, drop_or os i d lt, one) refl
-
-pub part_none : (c : ℕ) (all : List Placed) (t : Tree) (os : List CodePlaced) (m : ℕ) → list_any (λ o. o.«module» == m) os ≡ false → part_bytes c all (map (view_placed t) os) m ≡ []
-part_none c all t [] m none = refl
-part_none c all t (o ∷ os) m none = go (o.«module» == m) refl none (λ rest. part_none c all t os m rest) where
-  go : (b : Bool) → (o.«module» == m) ≡ b → (b || list_any (λ q. q.«module» == m) os) ≡ false
-      → (list_any (λ q. q.«module» == m) os ≡ false → part_bytes c all (map (view_placed t) os) m ≡ []) → part_bytes c all (map (view_placed t) (o ∷ os)) m ≡ []
-  go true is bad later = cc
-  go false is rest later = rw is (later rest)
-
-drop_past : {A : Type 0} (xs : List A) (i : ℕ) → length xs ≤ i → drop i xs ≡ []
-drop_past [] zero le = refl
-drop_past [] (suc i) le = refl
-drop_past (x ∷ xs) zero le = absurd (omega (arith, le))
-drop_past (x ∷ xs) (suc i) le = drop_past xs i (omega (arith, le))
-
-pub part_over : (c : ℕ) (all : List Placed) (t : Tree) (os : List CodePlaced) (i m : ℕ) → length os ≤ i → part_bytes c all (map (view_placed t) (drop i os)) m ≡ []
-part_over c all t os i m le = ap (λ l. part_bytes c all (map (view_placed t) l) m) (drop_past os i le)
 
 -- ---- flags of modules
 
@@ -184,41 +147,9 @@ are_theirs c olds news layout flags is same = λ m bytes on has.
 pub marked_here : (before : Layout) (id : ℕ) (bytes other : Bytes) → module_in before id ≡ Some other → bytes ≡ other → true ≡ same_module (module_in before id) (Some bytes)
 marked_here before id bytes other has is = sym (ap (λ o. same_module o (Some bytes)) has ∙ (ap (same_name other) is ∙ same_name-refl other))
 
--- the counts by the marks
-pub counts_are : (before : Layout) (modules : List Listed) (counts : List (ℕ × ℕ)) → AreMarked before modules
-    → map (counted_by counts) modules ++ filter (λ c. is_none (module_in (map view_listed modules) c.0)) counts ≡ counts_after before (map view_listed modules) counts
-counts_are before modules counts marked = ap (λ xs. xs ++ filter (λ c. is_none (module_in (map view_listed modules) c.0)) counts) (each modules marked) where
-  each : (ls : List Listed) → AreMarked before ls → map (counted_by counts) ls ≡ map (count_after before counts) (map view_listed ls)
-  each [] all = refl
-  each (l ∷ ls) all =
-      ap (λ b. (l.id, cond b (count_in counts l.id) (count_in counts l.id + 1)) ∷ map (counted_by counts) ls) (All-head (IsMarked before) l ls all)
-      ∙ ap (λ xs. count_after before counts (view_listed l) ∷ xs) (each ls (All-tail (IsMarked before) l ls all))
-
--- ---- one step over both lists
+-- ---- what tests say
 
 pub equal_order : (o : Ordering) → is_eq o ≡ true → o ≡ Equal
 equal_order Less e = cc
 equal_order Equal e = refl
 equal_order Greater e = cc
-
-pub not_on : (b : Bool) → not b ≡ true → b ≡ false
-not_on true e = cc
-not_on false e = refl
-
-pub not_off : (b : Bool) → not b ≡ false → b ≡ true
-not_off true e = refl
-not_off false e = cc
-
-pub step_same : (c : ℕ) (olds news : List Placed) (t u : Tree) (left after os : List CodePlaced) (i id : ℕ) (d : CodePlaced) → i < length os → (get_or os i d).«module» ≡ id
-    → part_bytes c olds (map (view_placed t) left) (get_or os i d).«module» ≡ object_bytes c news (view_placed u (get_or os i d)) ++ part_bytes c olds (map (view_placed t) after) (get_or os i d).«module»
-    → part_bytes c olds (map (view_placed t) after) id ≡ part_bytes c news (map (view_placed u) (drop (i + 1) os)) id
-    → part_bytes c olds (map (view_placed t) left) id ≡ part_bytes c news (map (view_placed u) (drop i os)) id
-step_same c olds news t u left after os i id d lt is bytes rest =
-    subst (λ m. part_bytes c olds (map (view_placed t) left) m ≡ object_bytes c news (view_placed u (get_or os i d)) ++ part_bytes c olds (map (view_placed t) after) m) is bytes
-    ∙ (ap (λ x. object_bytes c news (view_placed u (get_or os i d)) ++ x) rest ∙ sym (part_one c news u os i id d lt is))
-
-pub take_whole : {A : Type 0} (xs : List A) (i : ℕ) → length xs ≤ i → take i xs ≡ xs
-take_whole [] zero le = refl
-take_whole [] (suc i) le = refl
-take_whole (x ∷ xs) zero le = absurd (omega (arith, le))
-take_whole (x ∷ xs) (suc i) le = ap (λ ys. x ∷ ys) (take_whole xs i (omega (arith, le)))

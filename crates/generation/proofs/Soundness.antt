@@ -11,6 +11,7 @@ use Rattle.biop_object.specs.Objects.{folder_spelling}
 use Rattle.biop_object.specs.Spelled.{IsSpellable, IsSpellableEntry}
 use Rattle.module_packer.specs.Placement.{IsPlacement}
 use Rattle.module_packer.specs.Kept.{KeptIsAPlacement}
+use Rattle.module_groups.specs.declared.TheConstants.{GREATEST_ID}
 use Rattle.generation.specs.Publication.{Spot, gateway_spot, spots_of, spots_in, sizes_of, size_of, is_child, limit_of, is_large_folder}
 use Rattle.generation.specs.Layouts.{Placed, modules_for, placed_all, placed_at, key_in, old_keys, taken_in, free_keys, fill_keys, keys_of, key_bytes, entries_of, folder_kind_of, object_bytes, is_same_spot}
 use Rattle.generation.specs.View.{AreOld}
@@ -29,19 +30,16 @@ all_sizes t tree i d lt = (all_valid t tree i d lt).small
 
 -- ---- entries
 
-entries_valid : (c folder : ℕ) (os : List Placed) → c < 4294967296 → All (λ o. IsValidSpot o.spot) os → All (λ o. (1 ≤ o.module_id) × (o.module_id ≤ 139)) os → All IsSpellableEntry (entries_of c os folder)
+entries_valid : (c folder : ℕ) (os : List Placed) → c < 4294967296 → All (λ o. IsValidSpot o.spot) os → All (λ o. (1 ≤ o.module_id) × (o.module_id ≤ GREATEST_ID)) os → All IsSpellableEntry (entries_of c os folder)
 entries_valid c folder [] small valid ids = λ i d lt. absurd (omega (arith, lt))
 entries_valid c folder (o ∷ os) small valid ids =
     go (is_child folder o.spot) refl (entries_valid c folder os small (λ i d lt. valid (suc i) d (omega (arith, lt))) (λ i d lt. ids (suc i) d (omega (arith, lt)))) where
-      id : o.module_id ≤ 139
-      id = (ids 0 o (omega arith)).1
-
       go : (b : Bool) → is_child folder o.spot ≡ b → All IsSpellableEntry (entries_of c os folder) → All IsSpellableEntry (entries_of c (o ∷ os) folder)
       go false e rest = rw e rest
       go true e rest =
           let p = child_has folder o.spot e in
           let h = (valid 0 o (omega arith)).name p.0 p.1 in
-          rw e (All-cons IsSpellableEntry _ (entries_of c os folder) (record { name = (h.at_least, h.at_most); location = (refl, small, omega (arith, id)) }) rest)
+          rw e (All-cons IsSpellableEntry _ (entries_of c os folder) (record { name = (h.at_least, h.at_most); location = (refl, small); listed = ids 0 o (omega arith) }) rest)
 
 entries_few : (c folder : ℕ) (os : List Placed) → length (entries_of c os folder) ≤ length os
 entries_few c folder [] = omega arith
@@ -53,7 +51,7 @@ entries_few c folder (o ∷ os) = go (is_child folder o.spot) refl (entries_few 
 -- ---- an object can be spelled
 
 spellable : (c : ℕ) (t : Tree) (objects : List Placed) → c < 4294967296 → Within t → map (λ o. o.spot) objects ≡ spots_of t
-    → All (λ o. IsValidSpot o.spot) objects → All (λ o. (1 ≤ o.module_id) × (o.module_id ≤ 139)) objects
+    → All (λ o. IsValidSpot o.spot) objects → All (λ o. (1 ≤ o.module_id) × (o.module_id ≤ GREATEST_ID)) objects
     → (o : Placed) → IsSized o.spot → is_large_folder (spots_of t) o.spot ≡ false → IsSpellable (spelled c objects o)
 spellable c t objects small within spots names ids o sized fits = go o.spot.content refl where
   count : length objects ≤ 8192
@@ -92,7 +90,7 @@ first_one (m ∷ ms) e = (ms, ap (λ k. k ∷ ms) (same_Some m 1 e))
 pub record Made (c : ℕ) (t : Tree) (objects : List Placed) : Type 0 where
   pub sound : Sound c t objects
   pub before : Before objects
-  pub placement : IsPlacement 139 (sizes_of t) (map (λ o. o.module_id) objects)
+  pub placement : IsPlacement GREATEST_ID (sizes_of t) (map (λ o. o.module_id) objects)
   pub within : Within t
 
 pub made_of : KeptIsAPlacement → (c : ℕ) (t : Tree) (old : List Placed) → c < 4294967296 → IsTree t → limit_of t ≡ None → Before old
@@ -104,7 +102,7 @@ made_of law c t old small tree limit b =
     let ms : List ℕ = modules_for old t in
     let objects = placed_all spots keys ms in
     let nsizes : length (sizes_of t) ≡ length spots = len_map (size_of spots) spots in
-    let placement : IsPlacement 139 (sizes_of t) ms = placement_for law old t b.within within.modules in
+    let placement : IsPlacement GREATEST_ID (sizes_of t) ms = placement_for law old t b.within within.modules in
     let nk = length-keys_of old spots in
     let nm : length ms ≡ length spots = placement.each ∙ nsizes in
     let es = placed_spots spots keys ms nk nm in
@@ -112,7 +110,7 @@ made_of law c t old small tree limit b =
     let em = placed_modules spots keys ms nk nm in
     let dk : Distinct (map (λ o. o.key) objects) = subst Distinct (sym ek) (keys_distinct old spots b.keys (rising_all t tree)) in
     let sk : AreSmall objects = all_unmap (λ k. k < 8194) (λ o. o.key) objects (subst (All (λ k. k < 8194)) (sym ek) (keys_small old spots b.small within.few)) in
-    let ids : All (λ o. (1 ≤ o.module_id) × (o.module_id ≤ 139)) objects = all_unmap (λ m. (1 ≤ m) × (m ≤ 139)) (λ o. o.module_id) objects (subst (All (λ m. (1 ≤ m) × (m ≤ 139))) (sym em) placement.numbers) in
+    let ids : All (λ o. (1 ≤ o.module_id) × (o.module_id ≤ GREATEST_ID)) objects = all_unmap (λ m. (1 ≤ m) × (m ≤ GREATEST_ID)) (λ o. o.module_id) objects (subst (All (λ m. (1 ≤ m) × (m ≤ GREATEST_ID))) (sym em) placement.numbers) in
     let names : All (λ o. IsValidSpot o.spot) objects = all_unmap IsValidSpot (λ o. o.spot) objects (subst (All IsValidSpot) (sym es) (all_valid t tree)) in
     let sized : All (λ o. IsSized o.spot) objects = all_unmap IsSized (λ o. o.spot) objects (subst (All IsSized) (sym es) (all_sizes t tree)) in
     let fits : All (λ o. is_large_folder spots o.spot ≡ false) objects = all_unmap (λ s. is_large_folder spots s ≡ false) (λ o. o.spot) objects (subst (All (λ s. is_large_folder spots s ≡ false)) (sym es) (find_none (is_large_folder spots) spots within.folders)) in
@@ -135,6 +133,6 @@ made_of law c t old small tree limit b =
         is_gateway = (refl, refl, refl);
       };
       before = record { keys = dk; small = sk; gateway = g; rest = rest; first = first; within = old_after t keys ms tree es placement; is = (refl, refl, refl) };
-      placement = subst (IsPlacement 139 (sizes_of t)) (sym em) placement;
+      placement = subst (IsPlacement GREATEST_ID (sizes_of t)) (sym em) placement;
       within = within;
     }

@@ -1,12 +1,12 @@
 -- Objects that are named by an entry and a number of names.
-use Rattle.std.proofs.Common.{◌≡◌, ◌≢◌, ℕ, zero, suc, ◌+◌, ◌<◌, ◌≤◌, ◌==◌, Bool, true, false, not, ◌&&◌, [], ◌∷◌, List, length, take, Some, None, cond, refl, sym, ◌∙◌, ap, subst, add-one, arith, get_or}
-use mathlib.Core.Bool.{beq}
+use Rattle.std.proofs.Common.{◌≡◌, ◌≢◌, ℕ, zero, suc, ◌+◌, ◌<◌, ◌≤◌, ◌==◌, Bool, true, false, ◌&&◌, [], ◌∷◌, length, take, Some, None, cond, refl, sym, ◌∙◌, ap, subst, add-one, arith, get_or}
 use Rattle.std.specs.Prelude.{slice_get}
 use Rattle.std.specs.List.{All}
 use Rattle.std.proofs.lemmas.Bool.{eq-eqb, ne_eqb}
+use Rattle.std.proofs.lemmas.List.Elements.{All-head, All-tail}
 use Rattle.std.proofs.lemmas.Option.{same_Some}
 use Rattle.path_tree.specs.Paths.{Bytes, PathNames, IsPath, IsName, same_name}
-use Rattle.path_tree.specs.Trees.{Tree, Fits, is_a_file}
+use Rattle.path_tree.specs.Trees.{Tree, is_a_file}
 use Rattle.path_tree.specs.declared.entry.Entry.{Entry}
 use Rattle.path_tree.specs.declared.entry.Entry.TheVariants as entries
 use Rattle.generation.specs.declared.spots.Spot.{Spot as CodeSpot}
@@ -51,12 +51,6 @@ path_at_within [] i lt = absurd (omega (arith, lt))
 path_at_within (x ∷ xs) zero lt = omega arith
 path_at_within (x ∷ xs) (suc i) lt = omega (arith, path_at_within xs i lt)
 
-pub kinds : (a b : Bool) (x y : Bytes) → same_kind (cond a (Some x) None) (cond b (Some y) None) ≡ true → a ≡ b
-kinds true true x y e = refl
-kinds true false x y e = cc
-kinds false true x y e = cc
-kinds false false x y e = refl
-
 pub kind_apart : (a b s : Bool) (x y : Bytes) → a ≢ b → (s && same_kind (cond a (Some x) None) (cond b (Some y) None)) ≡ false
 kind_apart true true s x y ne = absurd (ne refl)
 kind_apart true false true x y ne = refl
@@ -73,43 +67,15 @@ kind_same false false false x y e = refl
 kind_same true false s x y e = cc
 kind_same false true s x y e = cc
 
-pub unlike : (a b : Bool) → not (beq a b) ≡ true → a ≢ b
-unlike true true e = cc
-unlike true false e = λ h. cc
-unlike false true e = λ h. cc
-unlike false false e = cc
-
-pub alike : (a b : Bool) → not (beq a b) ≡ false → a ≡ b
-alike true true e = refl
-alike true false e = cc
-alike false true e = cc
-alike false false e = refl
-
-pub and_first : (a b : Bool) → a ≡ false → (a && b) ≡ false
-and_first true b e = cc
-and_first false b e = refl
-
-all_here : {A : Type 0} (P : A → Type 0) (x : A) (xs : List A) → All P (x ∷ xs) → P x
-all_here P x xs all = all 0 x (omega (arith))
-
-all_later : {A : Type 0} (P : A → Type 0) (x : A) (xs : List A) → All P (x ∷ xs) → All P xs
-all_later P x xs all = λ k d lt. all (suc k) d (omega (arith, lt))
-
 pub path_valid : (t : Tree) (i : ℕ) → All (λ e. IsPath e.0 × (e.0 ≢ [])) t → All IsName (path_at t i)
 path_valid [] i all = λ k d lt. absurd (omega (arith, lt))
-path_valid (e ∷ es) zero all = (all_here (λ e. IsPath e.0 × (e.0 ≢ [])) e es all).0.names
-path_valid (e ∷ es) (suc i) all = path_valid es i (all_later (λ e. IsPath e.0 × (e.0 ≢ [])) e es all)
+path_valid (e ∷ es) zero all = (All-head (λ e. IsPath e.0 × (e.0 ≢ [])) e es all).0.names
+path_valid (e ∷ es) (suc i) all = path_valid es i (All-tail (λ e. IsPath e.0 × (e.0 ≢ [])) e es all)
 
 pub name_valid : (p : PathNames) (i : ℕ) (n : Bytes) → All IsName p → slice_get p i ≡ Some n → (1 ≤ length n) × (length n ≤ 254)
 name_valid [] i n all e = cc
-name_valid (m ∷ ms) zero n all e = let h = all_here IsName m ms all in (rw (← same_Some m n e) h.at_least, rw (← same_Some m n e) h.at_most)
-name_valid (m ∷ ms) (suc i) n all e = name_valid ms i n (all_later IsName m ms all) e
-
-pub content_small : (t : Tree) (i : ℕ) → All (λ e. Fits e.1) t → length (bytes_at t i) ≤ 16777216
-content_small [] i all = omega arith
-content_small ((p, entries.File b) ∷ es) zero all = all_here (λ e. Fits e.1) (p, entries.File b) es all
-content_small ((p, entries.Folder) ∷ es) zero all = omega arith
-content_small (e ∷ es) (suc i) all = content_small es i (all_later (λ e. Fits e.1) e es all)
+name_valid (m ∷ ms) zero n all e = let h = All-head IsName m ms all in (rw (← same_Some m n e) h.at_least, rw (← same_Some m n e) h.at_most)
+name_valid (m ∷ ms) (suc i) n all e = name_valid ms i n (All-tail IsName m ms all) e
 
 -- ---- names of paths
 

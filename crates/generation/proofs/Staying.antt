@@ -8,6 +8,7 @@ use Rattle.path_tree.specs.Trees.{Tree, IsTree}
 use Rattle.path_tree.specs.Nestings.{nested}
 use Rattle.module_packer.specs.Placement.{modules_needed, IsPlacement}
 use Rattle.module_packer.specs.Kept.{Placed as Sized, sizes_in, kept_modules, AreObjects, KeptIsAPlacement}
+use Rattle.module_groups.specs.declared.TheConstants.{GREATEST_ID}
 use Rattle.generation.specs.declared.objects.Placed.{Placed as CodePlaced}
 use Rattle.generation.specs.Publication.{Spot, gateway_spot, spots_of, spots_in, sizes_of, size_of, limit_of, AreRising}
 use Rattle.generation.specs.Layouts.{Placed, placed_all, placed_at, key_in, module_of, old_keys, old_modules, keys_of, modules_for, is_same_spot}
@@ -43,20 +44,20 @@ module_found P (o ∷ os) s all m e = go (is_same_spot o.spot s) e (λ f. module
   go true f rest = subst P (same_Some o.module_id m f) (All-head (λ q. P q.module_id) o os all)
   go false f rest = rest f
 
-pub are_objects : (old : List Placed) (t : Tree) → AreOld old → modules_needed (sizes_of t) ≤ 139 → AreObjects 139 (zip (sizes_of t) (old_modules old (spots_of t)))
+pub are_objects : (old : List Placed) (t : Tree) → AreOld old → modules_needed (sizes_of t) ≤ GREATEST_ID → AreObjects GREATEST_ID (zip (sizes_of t) (old_modules old (spots_of t)))
 are_objects old t are few =
-    let Was : Option ℕ → Type 0 = λ o. (m : ℕ) → o ≡ Some m → (1 ≤ m) × (m ≤ 139) in
+    let Was : Option ℕ → Type 0 = λ o. (m : ℕ) → o ≡ Some m → (1 ≤ m) × (m ≤ GREATEST_ID) in
     record {
       some = omega arith;
-      few = subst (λ sizes. modules_needed sizes ≤ 139) (sym (sizes_are old t)) few;
+      few = subst (λ sizes. modules_needed sizes ≤ GREATEST_ID) (sym (sizes_are old t)) few;
       first = are.gateway;
       old = old_zip Was (sizes_of t) (old_modules old (spots_of t))
-          (All-map Was (λ s. module_of (placed_at old s)) (spots_of t) (λ k d lt m e. module_found (λ n. (1 ≤ n) × (n ≤ 139)) old (get_or (spots_of t) k d) are.ids m e));
+          (All-map Was (λ s. module_of (placed_at old s)) (spots_of t) (λ k d lt m e. module_found (λ n. (1 ≤ n) × (n ≤ GREATEST_ID)) old (get_or (spots_of t) k d) are.ids m e));
     }
 
 -- where the objects stay or go is a placement
-pub placement_for : KeptIsAPlacement → (old : List Placed) (t : Tree) → AreOld old → modules_needed (sizes_of t) ≤ 139 → IsPlacement 139 (sizes_of t) (modules_for old t)
-placement_for law old t are few = subst (λ sizes. IsPlacement 139 sizes (modules_for old t)) (sizes_are old t) (law 139 (zip (sizes_of t) (old_modules old (spots_of t))) (are_objects old t are few))
+pub placement_for : KeptIsAPlacement → (old : List Placed) (t : Tree) → AreOld old → modules_needed (sizes_of t) ≤ GREATEST_ID → IsPlacement GREATEST_ID (sizes_of t) (modules_for old t)
+placement_for law old t are few = subst (λ sizes. IsPlacement GREATEST_ID sizes (modules_for old t)) (sizes_are old t) (law GREATEST_ID (zip (sizes_of t) (old_modules old (spots_of t))) (are_objects old t are few))
 
 -- ---- after objects that are placed others can be placed
 
@@ -71,14 +72,14 @@ first_placed spots [] ms first m e = cc
 first_placed spots (k ∷ ks) [] first m e = cc
 first_placed spots (k ∷ ks) (n ∷ ns) first m e = sym (same_Some n m e) ∙ same_Some n 1 first
 
-pub old_after : (t : Tree) (keys ms : List ℕ) → IsTree t → map (λ o. o.spot) (placed_all (spots_of t) keys ms) ≡ spots_of t → IsPlacement 139 (sizes_of t) ms → AreOld (placed_all (spots_of t) keys ms)
+pub old_after : (t : Tree) (keys ms : List ℕ) → IsTree t → map (λ o. o.spot) (placed_all (spots_of t) keys ms) ≡ spots_of t → IsPlacement GREATEST_ID (sizes_of t) ms → AreOld (placed_all (spots_of t) keys ms)
 old_after t keys ms tree are placement = record {
   rising = subst AreRising (sym are) (rising_all t tree);
-  ids = all_placed (λ m. (1 ≤ m) × (m ≤ 139)) (spots_of t) keys ms placement.numbers;
+  ids = all_placed (λ m. (1 ≤ m) × (m ≤ GREATEST_ID)) (spots_of t) keys ms placement.numbers;
   gateway = first_placed (spots_in 0 1 (nested t)) keys ms placement.first;
 }
 
-pub old_arm : {E : Type 0} (r : Result (Vec CodePlaced Global) E) (t : Tree) (old : List Placed) (ms : List ℕ) → IsTree t → IsPlacement 139 (sizes_of t) ms
+pub old_arm : {E : Type 0} (r : Result (Vec CodePlaced Global) E) (t : Tree) (old : List Placed) (ms : List ℕ) → IsTree t → IsPlacement GREATEST_ID (sizes_of t) ms
     → IfOk r (λ v. map (view_placed t) v.items ≡ placed_all (spots_of t) (keys_of old (spots_of t)) ms) → IfOk r (λ v. AreOld (map (view_placed t) v.items))
 old_arm (Ok v) t old ms tree placement is =
     let many : length ms ≡ length (spots_of t) = placement.each ∙ len_map (size_of (spots_of t)) (spots_of t) in
@@ -96,13 +97,13 @@ pub read_objects : (t : Tree) (old : List Placed) (spots : List Spot) (sizes : L
     → zip sizes olds ≡ zip (sizes_of t) (old_modules old (spots_of t))
 read_objects t old spots sizes olds es ez eo = ap (λ n. zip n olds) ez ∙ ap (λ o. zip (sizes_of t) o) (eo ∙ ap (old_modules old) es)
 
-pub placed_for : (t : Tree) (old : List Placed) (objects : List Sized) (ms : List ℕ) → objects ≡ zip (sizes_of t) (old_modules old (spots_of t)) → ms ≡ kept_modules 139 objects → IsPlacement 139 (sizes_in objects) ms
-    → (ms ≡ modules_for old t) × IsPlacement 139 (sizes_of t) (modules_for old t)
+pub placed_for : (t : Tree) (old : List Placed) (objects : List Sized) (ms : List ℕ) → objects ≡ zip (sizes_of t) (old_modules old (spots_of t)) → ms ≡ kept_modules GREATEST_ID objects → IsPlacement GREATEST_ID (sizes_in objects) ms
+    → (ms ≡ modules_for old t) × IsPlacement GREATEST_ID (sizes_of t) (modules_for old t)
 placed_for t old objects ms er em placement =
-    let same : ms ≡ modules_for old t = em ∙ ap (kept_modules 139) er in
-    (same, subst (IsPlacement 139 (sizes_of t)) same (subst (λ sizes. IsPlacement 139 sizes ms) (ap sizes_in er ∙ sizes_are old t) placement))
+    let same : ms ≡ modules_for old t = em ∙ ap (kept_modules GREATEST_ID) er in
+    (same, subst (IsPlacement GREATEST_ID (sizes_of t)) same (subst (λ sizes. IsPlacement GREATEST_ID sizes ms) (ap sizes_in er ∙ sizes_are old t) placement))
 
 -- the same of what is read of them
 pub placed_read : (t : Tree) (old : List Placed) (sizes : List ℕ) (olds : List (Option ℕ)) (ms : List ℕ) → zip sizes olds ≡ zip (sizes_of t) (old_modules old (spots_of t))
-    → ms ≡ kept_modules 139 (zip sizes olds) → IsPlacement 139 (sizes_in (zip sizes olds)) ms → (ms ≡ modules_for old t) × IsPlacement 139 (sizes_of t) (modules_for old t)
+    → ms ≡ kept_modules GREATEST_ID (zip sizes olds) → IsPlacement GREATEST_ID (sizes_in (zip sizes olds)) ms → (ms ≡ modules_for old t) × IsPlacement GREATEST_ID (sizes_of t) (modules_for old t)
 placed_read t old sizes olds ms er em placement = placed_for t old (zip sizes olds) ms er em placement

@@ -1,10 +1,9 @@
 -- What is written of a generation: bindings, modules, messages.
-use Rattle.std.proofs.Common.{◌≡◌, ℕ, zero, suc, ◌+◌, ◌-◌, ◌*◌, ◌%◌, ◌<◌, ◌≤◌, min, Bool, true, false, List, [], ◌∷◌, ◌++◌, length, take, drop, map, Option, Some, None, cond, ◌==◌, refl, sym, subst, ◌∙◌, ap, arith, get_or, append-nil, length-append, length-drop, length-take, Vec, Global, Result, inl, inr, lit≤}
-use Rattle.std.specs.List.{All, filter_map, flat_map}
+use Rattle.std.proofs.Common.{◌≡◌, ℕ, zero, suc, ◌+◌, ◌-◌, ◌*◌, ◌%◌, ◌<◌, ◌≤◌, min, Bool, true, false, List, [], ◌∷◌, ◌++◌, length, take, drop, map, Option, Some, cond, ◌==◌, refl, sym, subst, ◌∙◌, ap, arith, get_or, length-append, length-drop, length-take, Vec, Global, Result, inl, inr, lit≤}
+use Rattle.std.specs.List.{All, flat_map}
 use Rattle.std.specs.Prelude.{IfOk}
 use Rattle.std.proofs.lemmas.Bool.{cases_lt}
-use Rattle.std.proofs.lemmas.List.Elements.{filter_map-append, All-map}
-use Rattle.std.proofs.lemmas.List.{map_more}
+use Rattle.std.proofs.lemmas.List.Elements.{All-map}
 use Rattle.path_tree.specs.Paths.{Bytes}
 use Rattle.biop_object.specs.Objects.{gateway_kind}
 use Rattle.ior_tap.specs.Iors as iors
@@ -19,11 +18,11 @@ use Rattle.generation.specs.Layouts.{Placed, key_in, placed_at, old_keys, taken_
 use Rattle.biop_object.specs.Names.{module_in}
 use Rattle.std.specs.Option.{unwrap_or}
 use Rattle.cycle_planner.specs.declared.Item.{Item}
-use Rattle.cycle_planner.specs.declared.Item.TheVariants.{Dii}
-use Rattle.generation.specs.Groups.{transaction_of}
+use Rattle.generation.specs.Groups.{group_in}
 use Rattle.generation.specs.View.{view_listed}
 use Rattle.generation.proofs.Limiting.{len_map}
-use Rattle.generation.proofs.Grouping.{all_in_group}
+use Rattle.generation.specs.View.{IsRising}
+use Rattle.generation.proofs.Grouping.{few_of_group}
 
 pub keys_are : (old : List Placed) (spots : List SpotFields) (keys : List (Option ℕ)) → keys ≡ old_keys old spots → fill_keys keys (free_keys (taken_in keys) (length keys)) ≡ keys_of old spots
 keys_are old spots keys e =
@@ -31,16 +30,6 @@ keys_are old spots keys e =
     ∙ ap (λ n. fill_keys (old_keys old spots) (free_keys (taken_in (old_keys old spots)) n)) (len_map (λ s. key_in (placed_at old s)) spots)
 
 -- ---- bindings
-
-pub entries_same : {A B C : Type 0} (f : B → Option C) (v : A → B) (xs : List A) (i : ℕ) (d : A) (e : List C) → i < length xs
-    → e ≡ filter_map f (map v (take i xs)) → f (v (get_or xs i d)) ≡ None → e ≡ filter_map f (map v (take (i + 1) xs))
-entries_same f v xs i d e lt so_far none =
-    so_far ∙ sym (ap (λ ys. filter_map f ys) (map_more v xs i d lt) ∙ (filter_map-append f (map v (take i xs)) (v (get_or xs i d) ∷ []) ∙ rw none (append-nil (filter_map f (map v (take i xs))))))
-
-pub entries_more : {A B C : Type 0} (f : B → Option C) (v : A → B) (xs : List A) (i : ℕ) (d : A) (e : List C) (w : C) → i < length xs
-    → e ≡ filter_map f (map v (take i xs)) → f (v (get_or xs i d)) ≡ Some w → e ++ w ∷ [] ≡ filter_map f (map v (take (i + 1) xs))
-entries_more f v xs i d e w lt so_far some =
-    sym (ap (λ ys. filter_map f ys) (map_more v xs i d lt) ∙ (filter_map-append f (map v (take i xs)) (v (get_or xs i d) ∷ []) ∙ rw (some, so_far) refl))
 
 -- ---- modules
 
@@ -50,14 +39,10 @@ small_module [] i d all lt = absurd (omega (arith, lt))
 small_module (m ∷ ms) zero d all lt = all 0 (view_listed d) (omega arith)
 small_module (m ∷ ms) (suc i) d all lt = small_module ms i d (λ k e l. all (suc k) e (omega (arith, l))) (omega (arith, lt))
 
-pub small_count : (counts : List (ℕ × ℕ)) (id most : ℕ) → All (λ c. c.1 < most + 1) counts → count_in counts id ≤ most
-small_count [] id most all = omega arith
-small_count (c ∷ cs) id most all =
-    let here : c.1 < most + 1 = all 0 (0, 0) (omega arith) in
-    go (c.0 == id) (omega (arith, here)) (small_count cs id most (λ k e l. all (suc k) e (omega (arith, l)))) where
-      go : (b : Bool) → c.1 ≤ most → count_in cs id ≤ most → cond b c.1 (count_in cs id) ≤ most
-      go true here rest = here
-      go false here rest = rest
+pub small_count : (counts : List ℕ) (id most : ℕ) → 0 < most → All (λ c. c < most) counts → count_in counts id < most
+small_count [] id most some all = omega (arith, some)
+small_count (c ∷ cs) zero most some all = let here : c < most = all 0 c (omega arith) in omega (arith, here)
+small_count (c ∷ cs) (suc id) most some all = small_count cs id most some (λ k e l. all (suc k) e (omega (arith, l)))
 
 -- ---- blocks
 
@@ -105,28 +90,29 @@ lines_length (m ∷ ms) = omega (arith, lines_length ms)
 pub dii_short : (d : DiiFields) → length d.modules ≤ 139 → length (dii_spelling d) ≤ 4084
 dii_short d few = let n : length (flat_map line_bytes d.modules ++ 0 ∷ 0 ∷ []) ≡ length (flat_map line_bytes d.modules) + 2 = length-append (flat_map line_bytes d.modules) (0 ∷ 0 ∷ []) in omega (arith, n, lines_length d.modules, few)
 
-pub plain_lines : (counts : List (ℕ × ℕ)) (layout : List (ℕ × Bytes)) → All (λ l. l.compressed ≡ false) (dii_lines counts layout)
+pub plain_lines : (counts : List ℕ) (layout : List (ℕ × Bytes)) → All (λ l. l.compressed ≡ false) (dii_lines counts layout)
 plain_lines counts layout = All-map (λ l. l.compressed ≡ false) (λ m. record { id = m.0; size = length m.1; version = count_in counts m.0 % 256; compressed = false }) layout (λ k d lt. refl)
 
 pub gateway_written : (c : ℕ) (ior : iors.Fields) → ior ≡ iors.written_form gateway_kind (gateway_location c) → iors.IsWritten ior (gateway_location c)
-gateway_written c ior e = subst (λ v. iors.IsWritten v (gateway_location c)) (sym e) (record { form = refl; four = refl; key = refl })
+gateway_written c ior e = subst (λ v. iors.IsWritten v (gateway_location c)) (sym e) (record { form = refl; four = refl; key = refl; listed = (lit≤ tt, lit≤ tt) })
 
 pub dsi_is : (c : ℕ) (payload : List ℕ) (ior : iors.Fields) (t : ℕ) → ior ≡ iors.written_form gateway_kind (gateway_location c) → t ≡ 0x80000000
     → payload ≡ dsi_spelling t ior.kind (gateway_location c) → payload ≡ dsi_spelling 0x80000000 gateway_kind (gateway_location c)
 dsi_is c payload ior t ei et e = e ∙ (ap (λ k. dsi_spelling t k (gateway_location c)) (ap (λ v. v.kind) ei) ∙ ap (λ u. dsi_spelling u gateway_kind (gateway_location c)) et)
 
-pub dii_is : (c g t : ℕ) (counts : List (ℕ × ℕ)) (layout : List (ℕ × Bytes)) (ms : List ModuleLine) (payload : List ℕ) → t ≡ dii_transaction g → ms ≡ dii_lines counts layout
+pub dii_is : (c g group t : ℕ) (counts : List ℕ) (layout : List (ℕ × Bytes)) (ms : List ModuleLine) (payload : List ℕ) → t ≡ dii_transaction g group → ms ≡ dii_lines counts layout
     → payload ≡ dii_spelling (record { download = c; block_size = 4066; transaction = t; modules = ms })
-    → payload ≡ dii_spelling (record { download = c; block_size = 4066; transaction = dii_transaction g; modules = dii_lines counts layout })
-dii_is c g t counts layout ms payload et em e =
+    → payload ≡ dii_spelling (record { download = c; block_size = 4066; transaction = dii_transaction g group; modules = dii_lines counts layout })
+dii_is c g group t counts layout ms payload et em e =
     e ∙ (ap (λ u. dii_spelling (record { download = c; block_size = 4066; transaction = u; modules = ms })) et
-    ∙ ap (λ ns. dii_spelling (record { download = c; block_size = 4066; transaction = dii_transaction g; modules = ns })) em)
+    ∙ ap (λ ns. dii_spelling (record { download = c; block_size = 4066; transaction = dii_transaction g group; modules = ns })) em)
 
-pub dii_fits : (c g : ℕ) (counts : List (ℕ × ℕ)) (layout : List (ℕ × Bytes)) (payload : List ℕ) → length layout ≤ 139
-    → payload ≡ dii_spelling (record { download = c; block_size = 4066; transaction = dii_transaction g; modules = dii_lines counts layout }) → length payload ≤ 4084
-dii_fits c g counts layout payload few e =
-    let n : length (dii_lines counts layout) ≡ length layout = len_map _ layout in
-    let short = dii_short (record { download = c; block_size = 4066; transaction = dii_transaction g; modules = dii_lines counts layout }) (omega (arith, n, few)) in
+pub dii_fits : (c g group : ℕ) (counts : List ℕ) (layout : List (ℕ × Bytes)) (payload : List ℕ) → IsRising layout → 1 ≤ group
+    → payload ≡ dii_spelling (record { download = c; block_size = 4066; transaction = dii_transaction g group; modules = dii_lines counts (group_in layout group) }) → length payload ≤ 4084
+dii_fits c g group counts layout payload rising some e =
+    let listed = group_in layout group in
+    let n : length (dii_lines counts listed) ≡ length listed = len_map _ listed in
+    let short = dii_short (record { download = c; block_size = 4066; transaction = dii_transaction g group; modules = dii_lines counts listed }) (omega (arith, n, few_of_group layout group rising some)) in
     omega (arith, short, ap length e)
 
 pub block_short : (bytes : List ℕ) (a e : ℕ) → e ≤ a + 4066 → length (take (e - a) (drop a bytes)) ≤ 4066
@@ -153,34 +139,17 @@ block_arm r c id block n n' bytes bytes' en eb is =
     (subst (λ b. IfOk r (λ v. v.items ≡ sections.spelling (block_section c id (n' % 256) block b))) eb is)
 
 -- what is sent of listed modules, where they stand after a reference
-abbrev pub DiiSection : {E : Type 0} → Result (Vec ℕ Global) E → (carousel number : ℕ) → List (ℕ × ℕ) → List Listed → Type 0
-DiiSection r c g counts modules = IfOk r (λ v. v.items ≡ sections.spelling (control_section (dii_transaction g % 65536)
-    (dii_spelling (record { download = c; block_size = 4066; transaction = dii_transaction g; modules = dii_lines counts (map view_listed modules) }))))
+abbrev pub DiiSection : {E : Type 0} → Result (Vec ℕ Global) E → (carousel number group : ℕ) → List ℕ → List Listed → Type 0
+DiiSection r c g group counts modules = IfOk r (λ v. v.items ≡ sections.spelling (control_section (dii_transaction g group % 65536)
+    (dii_spelling (record { download = c; block_size = 4066; transaction = dii_transaction g group; modules = dii_lines counts (group_in (map view_listed modules) group) }))))
 
-pub dii_arm : {E : Type 0} (r : Result (Vec ℕ Global) E) (c g : ℕ) (counts counts' : List (ℕ × ℕ)) (modules modules' : List Listed) → counts' ≡ counts → modules' ≡ modules
-    → DiiSection r c g counts' modules' → DiiSection r c g counts modules
-dii_arm r c g counts counts' modules modules' ec em is = subst (λ k. DiiSection r c g k modules) ec (subst (λ m. DiiSection r c g counts' m) em is)
+pub dii_arm : {E : Type 0} (r : Result (Vec ℕ Global) E) (c g group : ℕ) (counts counts' : List ℕ) (modules modules' : List Listed) → counts' ≡ counts → modules' ≡ modules
+    → DiiSection r c g group counts' modules' → DiiSection r c g group counts modules
+dii_arm r c g group counts counts' modules modules' ec em is = subst (λ k. DiiSection r c g group k modules) ec (subst (λ m. DiiSection r c g group counts' m) em is)
 
--- DII 1 lists all modules, where each is of the first group
-pub one_section : (s : GenerationState) → All (λ m. m.0 ≤ 139) s.layout
-    → sections.spelling (control_section (dii_transaction s.number % 65536) (dii_spelling (record { download = s.carousel; block_size = 4066; transaction = dii_transaction s.number; modules = dii_lines s.counts s.layout })))
-    ≡ section_of s (Dii 1)
-one_section s few =
-    ap (λ t. sections.spelling (control_section (t % 65536) (dii_spelling (record { download = s.carousel; block_size = 4066; transaction = t; modules = dii_lines s.counts s.layout })))) (same s.number)
-    ∙ ap (λ l. sections.spelling (control_section (transaction_of s.number 1 % 65536) (dii_spelling (record { download = s.carousel; block_size = 4066; transaction = transaction_of s.number 1; modules = dii_lines s.counts l }))))
-    (sym (all_in_group s.layout few))
-  where
-    same : (g : ℕ) → dii_transaction g ≡ transaction_of g 1
-    same g = omega arith
-
-pub one_arm : {E : Type 0} (r : Result (Vec ℕ Global) E) (s : GenerationState) → All (λ m. m.0 ≤ 139) s.layout
-    → IfOk r (λ v. v.items ≡ sections.spelling (control_section (dii_transaction s.number % 65536) (dii_spelling (record { download = s.carousel; block_size = 4066; transaction = dii_transaction s.number; modules = dii_lines s.counts s.layout }))))
-    → IfOk r (λ v. v.items ≡ section_of s (Dii 1))
-one_arm r s few is = subst (λ b. IfOk r (λ v. v.items ≡ b)) (one_section s few) is
-
-abbrev pub BlockSection : {E : Type 0} → Result (Vec ℕ Global) E → (carousel id block : ℕ) → List (ℕ × ℕ) → List Listed → Type 0
+abbrev pub BlockSection : {E : Type 0} → Result (Vec ℕ Global) E → (carousel id block : ℕ) → List ℕ → List Listed → Type 0
 BlockSection r c id block counts modules = IfOk r (λ v. v.items ≡ sections.spelling (block_section c id (count_in counts id % 256) block (unwrap_or (module_in (map view_listed modules) id) [])))
 
-pub listed_arm : {E : Type 0} (r : Result (Vec ℕ Global) E) (c id block : ℕ) (counts counts' : List (ℕ × ℕ)) (modules modules' : List Listed) → counts' ≡ counts → modules' ≡ modules
+pub listed_arm : {E : Type 0} (r : Result (Vec ℕ Global) E) (c id block : ℕ) (counts counts' : List ℕ) (modules modules' : List Listed) → counts' ≡ counts → modules' ≡ modules
     → BlockSection r c id block counts' modules' → BlockSection r c id block counts modules
 listed_arm r c id block counts counts' modules modules' ec em is = subst (λ k. BlockSection r c id block k modules) ec (subst (λ m. BlockSection r c id block counts' m) em is)

@@ -1,5 +1,5 @@
 -- How a tree becomes modules, one generation after another.
-use Rattle.std.specs.Prelude.{ℕ, ◌+◌, ◌-◌, ◌%◌, Bool, true, false, not, ◌&&◌, List, [], ◌∷◌, ◌++◌, length, map, Option, Some, None, is_none, ◌==◌, min, max, if◌then◌else◌}
+use Rattle.std.specs.Prelude.{ℕ, ◌+◌, ◌-◌, ◌%◌, Bool, true, false, not, ◌&&◌, List, [], ◌∷◌, ◌++◌, length, map, get_or, Option, Some, None, ◌==◌, min, max, if◌then◌else◌}
 use Rattle.std.specs.Option.{unwrap_or}
 use Rattle.std.specs.List.{flat_map, filter, filter_map, find, fold, list_any, range_with_len, zip}
 use Rattle.oc_bytes.specs.Numbers.{four_bytes}
@@ -19,12 +19,13 @@ use Rattle.dsi_dii.specs.declared.ModuleLine.{ModuleLine}
 use Rattle.dsmcc_section.specs.Sections as sections
 use Rattle.dsmcc_section.specs.declared.Table.TheVariants as tables
 use Rattle.module_packer.specs.Kept.{kept_modules}
-use Rattle.cycle_planner.specs.Cycle.{Line}
+use Rattle.cycle_planner.specs.Cycle.{Line, diis_of, blocks_of}
 use Rattle.cycle_planner.specs.declared.Item.{Item}
 use Rattle.cycle_planner.specs.declared.Item.TheVariants.{Dsi, Dii, Block}
-use Rattle.generation.specs.Groups.{group_in, transaction_of}
+use Rattle.generation.specs.Groups.{group_in, dii_transaction}
 use Rattle.generation.specs.Publication.{Spot, gateway_spot, spots_of, sizes_of, is_child}
-use Rattle.dsi_dii.specs.declared.TheConstants.{BLOCK_SIZE, MOST_MODULES}
+use Rattle.dsi_dii.specs.declared.TheConstants.{BLOCK_SIZE}
+use Rattle.module_groups.specs.declared.TheConstants.{GREATEST_ID}
 
 -- an object with its key and its module
 pub record Placed : Type 0 where
@@ -32,14 +33,14 @@ pub record Placed : Type 0 where
   pub key : ℕ
   pub module_id : ℕ
 
--- one generation: its tree, its objects, its modules, and how often each module has changed
+-- one generation: its tree, its objects, its modules, and how often the module of each id has changed
 pub record GenerationState : Type 0 where
   pub carousel : ℕ
   pub number : ℕ
   pub tree : Tree
   pub objects : List Placed
   pub layout : Layout
-  pub counts : List (ℕ × ℕ)
+  pub counts : List ℕ
 
 abbrev pub same_kind : Option Bytes → Option Bytes → Bool
 same_kind (Some a) (Some b) = true
@@ -134,21 +135,28 @@ module_if_used carousel objects m = if list_any (is_in m) objects then Some (m, 
 abbrev pub layout_of : ℕ → List Placed → Layout
 layout_of carousel objects = filter_map (module_if_used carousel objects) (range_with_len 1 (greatest (map (λ o. o.module_id) objects)))
 
-abbrev pub count_in : List (ℕ × ℕ) → ℕ → ℕ
-count_in [] m = 0
-count_in (c ∷ cs) m = if c.0 == m then c.1 else count_in cs m
+-- the number that stands under an id, from 0 on
+abbrev pub count_in : List ℕ → ℕ → ℕ
+count_in counts m = get_or counts m 0
 
 abbrev pub same_module : Option Bytes → Option Bytes → Bool
 same_module (Some a) (Some b) = same_name a b
 same_module _ _ = false
 
--- a listed module's count: one more where it is new or has other bytes
-abbrev pub count_after : Layout → List (ℕ × ℕ) → ℕ × Bytes → ℕ × ℕ
-count_after old counts m = (m.0, if same_module (module_in old m.0) (Some m.1) then count_in counts m.0 else count_in counts m.0 + 1)
+abbrev pub one_if_changed : Option Bytes → Option Bytes → ℕ
+one_if_changed before None = 0
+one_if_changed before (Some b) = if same_module before (Some b) then 0 else 1
 
--- each listed module's count, and the counts of those that aren't listed
-abbrev pub counts_after : Layout → Layout → List (ℕ × ℕ) → List (ℕ × ℕ)
-counts_after old new counts = map (count_after old counts) new ++ filter (λ c. is_none (module_in new c.0)) counts
+-- a module's count: one more where it is listed, and is new or has other bytes
+abbrev pub count_after : Layout → Layout → List ℕ → ℕ → ℕ
+count_after old new counts m = count_in counts m + one_if_changed (module_in old m) (module_in new m)
+
+-- how many ids are counted, from 0 on: those that were, and those up to the greatest that is listed
+abbrev pub ids_counted : Layout → List ℕ → ℕ
+ids_counted layout counts = fold (λ end m. max end (m.0 + 1)) (length counts) layout
+
+abbrev pub counts_after : Layout → Layout → List ℕ → List ℕ
+counts_after old new counts = map (count_after old new counts) (range_with_len 0 (ids_counted new counts))
 
 -- the modules of the objects that were there before under the same path and kind
 abbrev pub old_modules : List Placed → List Spot → List (Option ℕ)
@@ -156,9 +164,9 @@ old_modules old spots = map (λ s. module_of (placed_at old s)) spots
 
 -- the module of each object: the one where it was, as far as there is room
 abbrev pub modules_for : List Placed → Tree → List ℕ
-modules_for old t = kept_modules MOST_MODULES (zip (sizes_of t) (old_modules old (spots_of t)))
+modules_for old t = kept_modules GREATEST_ID (zip (sizes_of t) (old_modules old (spots_of t)))
 
-abbrev pub make_generation : ℕ → ℕ → Tree → List Placed → Layout → List (ℕ × ℕ) → GenerationState
+abbrev pub make_generation : ℕ → ℕ → Tree → List Placed → Layout → List ℕ → GenerationState
 make_generation carousel number t old before counts =
     let spots = spots_of t in
     let objects = placed_all spots (keys_of old spots) (modules_for old t) in
@@ -188,12 +196,12 @@ abbrev pub lines_of : GenerationState → List Line
 lines_of g = lines_in g.layout
 
 -- modules as a DII lists them
-abbrev pub dii_lines : List (ℕ × ℕ) → Layout → List ModuleLine
+abbrev pub dii_lines : List ℕ → Layout → List ModuleLine
 dii_lines counts layout = map (λ m. record { id = m.0; size = length m.1; version = count_in counts m.0 % 256; compressed = false }) layout
 
 -- DII j lists the modules of group j
 abbrev pub dii_of : GenerationState → ℕ → controls.DiiFields
-dii_of g j = record { download = g.carousel; block_size = BLOCK_SIZE; transaction = transaction_of g.number j; modules = dii_lines g.counts (group_in g.layout j) }
+dii_of g j = record { download = g.carousel; block_size = BLOCK_SIZE; transaction = dii_transaction g.number j; modules = dii_lines g.counts (group_in g.layout j) }
 
 abbrev pub gateway_location : ℕ → Location
 gateway_location carousel = record { carousel = carousel; «module» = 1; key = key_bytes 1 }
@@ -214,9 +222,9 @@ block_section carousel m version b bytes = record {
 -- the section of an item
 abbrev pub section_of : GenerationState → Item → Bytes
 section_of g Dsi = sections.spelling (control_section 0 (controls.dsi_spelling 0x80000000 gateway_kind (gateway_location g.carousel)))
-section_of g (Dii j) = sections.spelling (control_section (transaction_of g.number j % 65536) (controls.dii_spelling (dii_of g j)))
+section_of g (Dii j) = sections.spelling (control_section (dii_transaction g.number j % 65536) (controls.dii_spelling (dii_of g j)))
 section_of g (Block m b) = sections.spelling (block_section g.carousel m (count_in g.counts m % 256) b (unwrap_or (module_in g.layout m) []))
 
--- one DII alone is sent, and the rules above place each object in a module that it lists
+-- the DSI, the DII of each group that has one, and each block of each module
 abbrev pub items_of : GenerationState → List Item
-items_of g = Dsi ∷ Dii 1 ∷ flat_map (λ l. map (λ b. Block l.0 b) (range_with_len 0 l.1)) (lines_of g)
+items_of g = Dsi ∷ (diis_of (lines_of g) ++ flat_map blocks_of (lines_of g))

@@ -9,7 +9,8 @@ use Rattle.path_tree.specs.Trees.{Tree}
 use Rattle.path_tree.specs.Nestings.{Nesting, Empty, FileThen, FolderThen, nested}
 use Rattle.module_packer.specs.Placement.{modules_needed}
 use Rattle.biop_object.specs.declared.written.TheConstants.{MOST_FOLDER_SIZE, FILE_FRONT, FOLDER_FRONT, FILE_BINDING, FOLDER_BINDING}
-use Rattle.dsi_dii.specs.declared.TheConstants.{MOST_MODULES, MOST_TOTAL_SIZE}
+use Rattle.dsi_dii.specs.declared.TheConstants.{MOST_TOTAL_SIZE}
+use Rattle.module_groups.specs.declared.TheConstants.{GREATEST_ID}
 use Rattle.generation.specs.declared.limit.TheConstants.{MOST_OBJECTS}
 
 -- An object: its path, the last name of that, its bytes where it is a file, its number among the objects, and the number of
@@ -107,4 +108,4 @@ limit_of t =
     or_else (over (nat_lt MOST_OBJECTS (length (spots_of t))) (Objects (cap_at_u32 (length (spots_of t)))))
     (or_else (large_folder (find (is_large_folder (spots_of t)) (spots_of t)))
     (or_else (over (nat_lt MOST_TOTAL_SIZE (sum (sizes_of t))) (Total (cap_at_u64 (sum (sizes_of t)))))
-    (over (nat_lt MOST_MODULES (modules_needed (sizes_of t))) (Modules (cap_at_u64 (modules_needed (sizes_of t)))))))
+    (over (nat_lt GREATEST_ID (modules_needed (sizes_of t))) (Modules (cap_at_u64 (modules_needed (sizes_of t)))))))

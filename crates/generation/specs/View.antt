@@ -1,6 +1,6 @@
 -- What a generation keeps, as one value.
-use Rattle.std.specs.Prelude.{◌≡◌, ◌≤◌, ◌<◌, ◌+◌, if◌then◌else◌, ℕ, Bool, true, false, List, [], ◌∷◌, zero, suc, length, map, take, get_or, Some, None, cond}
-use Rattle.std.specs.List.{All, zip}
+use Rattle.std.specs.Prelude.{◌≡◌, ◌≤◌, ◌<◌, ℕ, ◌==◌, ◌&&◌, Bool, true, false, not, List, [], ◌∷◌, zero, suc, length, map, take, get_or, Some, None, cond}
+use Rattle.std.specs.List.{All, AllPairs, zip}
 use Rattle.path_tree.specs.Paths.{Bytes, PathNames}
 use Rattle.path_tree.specs.Trees.{Tree, IsTree, is_a_file}
 use Rattle.path_tree.specs.declared.entry.Entry.{Entry}
@@ -10,7 +10,7 @@ use Rattle.biop_object.specs.declared.written.FolderKind.{FolderKind}
 use Rattle.biop_object.specs.declared.written.FolderKind.TheVariants.{Directory, Gateway}
 use Rattle.cycle_planner.specs.Cycle.{AreLines}
 use Rattle.generation.specs.Publication.{Spot as SpotFields, spots_of, sizes_of, limit_of, gateway_spot, AreRising}
-use Rattle.generation.specs.Layouts.{GenerationState, Placed as PlacedState, lines_of, object_bytes, layout_of, greatest, placed_at, module_of, same_module, count_in}
+use Rattle.generation.specs.Layouts.{GenerationState, Placed as PlacedState, lines_of, object_bytes, layout_of, greatest, placed_at, module_of, same_module}
 use Rattle.generation.specs.Inner.Linking.{IsBelow}
 use Rattle.generation.specs.declared.spots.Spot.{Spot}
 use Rattle.generation.specs.declared.limit.Publishable.TheInside.{Inside as CheckedInside}
@@ -19,7 +19,8 @@ use Rattle.generation.specs.declared.objects.Placed.{Placed}
 use Rattle.generation.specs.declared.made.Listed.{Listed}
 use Rattle.generation.specs.declared.made.Generation.TheInside.{Inside}
 use Rattle.biop_object.specs.declared.written.TheConstants.{MOST_FOLDER_SIZE}
-use Rattle.dsi_dii.specs.declared.TheConstants.{LAST_GENERATION, MOST_MODULES, MOST_TOTAL_SIZE}
+use Rattle.dsi_dii.specs.declared.TheConstants.{LAST_GENERATION, MOST_TOTAL_SIZE}
+use Rattle.module_groups.specs.declared.TheConstants.{GREATEST_ID}
 
 -- the path and the bytes of an entry by its number; a kept folder has none
 abbrev pub path_at : Tree → ℕ → PathNames
@@ -82,6 +83,11 @@ view_placed t o = record { spot = view_spot t o.spot; key = o.key; module_id = o
 abbrev pub view_listed : Listed → ℕ × Bytes
 view_listed l = (l.id, l.bytes)
 
+-- modules by rising id, from 1 on
+pub record IsRising (layout : Layout) : Type 0 where
+  pub rising : AllPairs (λ m n. m.0 < n.0) layout
+  pub from_one : All (λ m. 1 ≤ m.0) layout
+
 -- a module is marked exactly where the layout before has its bytes under its id
 abbrev pub IsMarked : Layout → Listed → Type 0
 IsMarked before l = l.stays ≡ same_module (module_in before l.id) (Some l.bytes)
@@ -89,9 +95,9 @@ IsMarked before l = l.stays ≡ same_module (module_in before l.id) (Some l.byte
 abbrev pub AreMarked : Layout → List Listed → Type 0
 AreMarked before ls = All (IsMarked before) ls
 
--- a marked module's count stays, and each other one's rises
-abbrev pub counted_by : List (ℕ × ℕ) → Listed → ℕ × ℕ
-counted_by counts l = (l.id, if l.stays then count_in counts l.id else count_in counts l.id + 1)
+-- the module has this id and isn't marked, so that its count rises
+abbrev pub is_raised : ℕ → Listed → Bool
+is_raised m l = (l.id == m) && not l.stays
 
 abbrev pub view_generation : Inside → GenerationState
 view_generation g = record {
@@ -103,11 +109,15 @@ view_generation g = record {
   counts = g.counts.items;
 }
 
+-- the id of a module
+abbrev pub IsId : ℕ → Type 0
+IsId m = (1 ≤ m) × (m ≤ GREATEST_ID)
+
 -- objects after which others can be placed: they stand in the order of paths, each has a module within the limit, and
 -- the gateway has module 1
 pub record AreOld (old : List PlacedState) : Type 0 where
   pub rising : AreRising (map (λ o. o.spot) old)
-  pub ids : All (λ o. (1 ≤ o.module_id) × (o.module_id ≤ MOST_MODULES)) old
+  pub ids : All (λ o. IsId o.module_id) old
   pub gateway : (m : ℕ) → module_of (placed_at old gateway_spot) ≡ Some m → m ≡ 1
 
 -- what holds of what is kept: the layout is that of the objects, the lines are those of the layout and make a cycle, and
@@ -118,8 +128,8 @@ pub record IsMade (g : Inside) : Type 0 where
   pub lines : g.lines.items ≡ lines_of (view_generation g)
   pub cycle : AreLines g.lines.items
   pub number : g.number ≤ LAST_GENERATION
-  pub counts : All (λ c. c.1 ≤ g.number) g.counts.items
-  pub modules : length g.modules.items ≤ MOST_MODULES
+  pub counts : All (λ c. c ≤ g.number) g.counts.items
+  pub modules : length g.modules.items ≤ GREATEST_ID
   pub sizes : All (λ m. length m.1 ≤ MOST_TOTAL_SIZE) (map view_listed g.modules.items)
   pub spots : All (λ o. IsSpotIn g.tree o.spot) g.objects.items
   pub old : AreOld (view_generation g).objects
@@ -135,8 +145,9 @@ pub record AreReady (carousel : ℕ) (t : Tree) (objects : List Placed) : Type 0
   pub spots : All (λ o. IsSpotIn t o.spot) objects
   pub foldered : AreFoldered objects
   pub folders : All (λ o. o.spot.whole ≡ false → length (object_bytes carousel (map (view_placed t) objects) (view_placed t o)) ≤ MOST_FOLDER_SIZE) objects
-  pub numbers : greatest (map (λ o. o.module) objects) ≤ MOST_MODULES
-  pub modules : length (layout_of carousel (map (view_placed t) objects)) ≤ MOST_MODULES
+  pub listed : All (λ o. IsId o.module) objects
+  pub numbers : greatest (map (λ o. o.module) objects) ≤ GREATEST_ID
+  pub modules : length (layout_of carousel (map (view_placed t) objects)) ≤ GREATEST_ID
   pub sizes : All (λ m. length m.1 ≤ MOST_TOTAL_SIZE) (layout_of carousel (map (view_placed t) objects))
 
 -- the gateway is the folder of no names

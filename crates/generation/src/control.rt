@@ -4,16 +4,19 @@ ghost use Rattle.std.specs.List.{All};
 ghost use Rattle.std.specs.Option.{unwrap_or};
 ghost use Rattle.biop_object.specs.Names.{module_in};
 ghost use Rattle.generation.specs.Layouts.{dii_lines, control_section, block_section as section_of_block, gateway_location, count_in};
-ghost use Rattle.generation.specs.View.{view_listed};
+ghost use Rattle.generation.specs.Groups.{group_in};
+ghost use Rattle.generation.specs.View.{IsRising, view_listed};
 ghost use Rattle.biop_object.specs.Objects.{gateway_kind};
 ghost use Rattle.dsmcc_section.specs.Sections.{IsFramed, fields_with, spelling};
 ghost use Rattle.ior_tap.specs.Iors.{view, written_form};
 ghost use Rattle.ddb_block.specs.Blocks.{block_of};
 ghost use Rattle.dsi_dii.specs.Controls.{dsi_spelling, dii_spelling, dii_transaction, DiiFields};
 ghost use Rattle.dsi_dii.specs.declared.ModuleLine.{ModuleLine};
-ghost use Rattle.dsi_dii.specs.declared.TheConstants.{LAST_GENERATION, MOST_MODULES, MOST_TOTAL_SIZE};
+ghost use Rattle.dsi_dii.specs.declared.TheConstants.{LAST_GENERATION, MOST_TOTAL_SIZE};
+ghost use Rattle.module_groups.specs.declared.TheConstants.{MOST_GROUPS};
 ghost use Rattle.dsmcc_section.specs.declared.TheConstants.{MOST_PAYLOAD};
 
+use crate::groups::group_modules;
 use crate::made::{Listed, count_in as count_of, find_module};
 use ddb_block::{Parts, block_count, block_front};
 use dsi_dii::{BLOCK_SIZE, Dii, DiiFault, Dsi, ModuleLine, TransactionId, encode_dii, encode_dsi};
@@ -63,27 +66,35 @@ fn gateway(alloc: Global, carousel: u32) -> Result<Ior, NoMemory>
     })
 }
 
-/// The section of the DII: it lists each module with its size and its version.
+/// The section of the DII of a group: it lists each module of the group with its size and its version.
 pub(crate) fn dii_section(
     alloc: Global,
     carousel: u32,
     number: u64,
+    group: u16,
     modules: &[Listed],
-    counts: &[(u16, u64)],
+    counts: &[u64],
 ) -> Result<Vec<u8>, NoMemory>
     requires number { number ≤ LAST_GENERATION }
-    requires modules { length modules.now ≤ MOST_MODULES }
+    requires group { (1 ≤ group) × (group ≤ MOST_GROUPS) }
+    requires rising { IsRising (map view_listed modules.now) }
     requires sizes { All (λ m. length m.1 ≤ MOST_TOTAL_SIZE) (map view_listed modules.now) }
-    ensures spells { IfOk result (λ v. v.items ≡ spelling (control_section (dii_transaction number % 65536) (dii_spelling (record { download = carousel; block_size = BLOCK_SIZE; transaction = dii_transaction number; modules = dii_lines counts.now (map view_listed modules.now) })))) }
+    ensures spells { IfOk result (λ v. v.items
+        ≡ spelling (control_section (dii_transaction number group % 65536) (dii_spelling (record {
+          download = carousel;
+          block_size = BLOCK_SIZE;
+          transaction = dii_transaction number group;
+          modules = dii_lines counts.now (group_in (map view_listed modules.now) group);
+        })))) }
     ensures framed { IfOk result (λ v. IsFramed v.items) }
 {
-    let transaction = TransactionId::dii(number);
+    let transaction = TransactionId::dii(number, group);
     let extension = (transaction.0 % 65536) as u16;
     let dii = Dii {
         download: carousel,
         block_size: BLOCK_SIZE,
         transaction,
-        modules: module_lines(alloc, modules, counts)?,
+        modules: module_lines(alloc, group_modules(modules, group), counts)?,
     };
     match encode_dii(alloc, &dii) {
         Ok(payload) => control(alloc, extension, payload),
@@ -95,7 +106,7 @@ pub(crate) fn dii_section(
 fn module_lines(
     alloc: Global,
     modules: &[Listed],
-    counts: &[(u16, u64)],
+    counts: &[u64],
 ) -> Result<Vec<ModuleLine>, NoMemory>
     requires { All (λ m. length m.1 ≤ MOST_TOTAL_SIZE) (map view_listed modules.now) }
     ensures { IfOk result (λ v. v.items ≡ dii_lines counts.now (map view_listed modules.now)) }
@@ -105,7 +116,7 @@ fn module_lines(
         lines.push(ModuleLine {
             id: listed.id,
             size: listed.bytes.bytes().len() as u32,
-            version: (count_of(counts, listed.id) % 256) as u8,
+            version: (count_of(counts, usize::from(listed.id)) % 256) as u8,
             compressed: false,
         })?;
     }
@@ -147,20 +158,22 @@ pub(crate) fn block_of_module(
     alloc: Global,
     carousel: u32,
     modules: &[Listed],
-    counts: &[(u16, u64)],
+    counts: &[u64],
     id: u16,
     block: u16,
 ) -> Result<Vec<u8>, NoMemory>
-    requires { All (λ m. length m.1 ≤ MOST_TOTAL_SIZE) (map view_listed modules.now) }
+    requires rising { IsRising (map view_listed modules.now) }
+    requires sizes { All (λ m. length m.1 ≤ MOST_TOTAL_SIZE) (map view_listed modules.now) }
     ensures spells { IfOk result (λ v. v.items ≡ spelling (section_of_block carousel id (count_in counts.now id % 256) block (unwrap_or (module_in (map view_listed modules.now) id) []))) }
     ensures framed { IfOk result (λ v. IsFramed v.items) }
 {
-    let version = (count_of(counts, id) % 256) as u8;
+    let version = (count_of(counts, usize::from(id)) % 256) as u8;
     block_section(alloc, carousel, id, version, block, bytes_of(modules, id))
 }
 
 /// The bytes of the module of an id, or none where it isn't listed.
 fn bytes_of(modules: &[Listed], id: u16) -> &[u8]
+    requires { IsRising (map view_listed modules.now) }
     ensures { result.now ≡ unwrap_or (module_in (map view_listed modules.now) id) [] }
 {
     match find_module(modules, id) {

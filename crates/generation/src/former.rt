@@ -9,7 +9,7 @@ ghost use Rattle.generation.specs.Inner.Merging.{from_path, first_same};
 ghost use Rattle.generation.specs.View.{view_spot, view_placed, IsSpotIn};
 ghost use Rattle.module_packer.specs.Placement.{IsPlacement};
 ghost use Rattle.module_packer.specs.Kept.{AreObjects, kept_modules, sizes_in};
-ghost use Rattle.dsi_dii.specs.declared.TheConstants.{MOST_MODULES};
+ghost use Rattle.module_groups.specs.declared.TheConstants.{GREATEST_ID};
 
 use crate::objects::Placed;
 use crate::spots::{Spot, compare};
@@ -110,9 +110,9 @@ pub(crate) fn modules(
     sizes: &[u32],
     former: &[Option<u16>],
 ) -> Result<Vec<u16>, NoMemory>
-    requires { AreObjects MOST_MODULES (zip sizes.now former.now) }
-    ensures kept { IfOk result (λ ms. ms.items ≡ kept_modules MOST_MODULES (zip sizes.now former.now)) }
-    ensures fits { IfOk result (λ ms. IsPlacement MOST_MODULES (sizes_in (zip sizes.now former.now)) ms.items) }
+    requires { AreObjects GREATEST_ID (zip sizes.now former.now) }
+    ensures kept { IfOk result (λ ms. ms.items ≡ kept_modules GREATEST_ID (zip sizes.now former.now)) }
+    ensures fits { IfOk result (λ ms. IsPlacement GREATEST_ID (sizes_in (zip sizes.now former.now)) ms.items) }
 {
     let objects = with_former(alloc, sizes, former)?;
     place(alloc, &objects)

@@ -1,7 +1,7 @@
 //! What holds of every list of trees and layouts, as functions that do nothing.
 ghost use Rattle.std.specs.Prelude.{List};
 ghost use Rattle.biop_object.specs.Names.{Layout};
-ghost use Rattle.generation.specs.Kept.{GenerationsAreOfTheLists, LayoutsAreInOneGroup, LayoutsAreLawful};
+ghost use Rattle.generation.specs.Kept.{GenerationsAreOfTheLists, LayoutsAreLawful};
 ghost use Rattle.generation.specs.Standing.{ObjectsAreWhatStands};
 ghost use Rattle.generation.specs.Lawful.{EqualCountsMeanEqualBytes, EqualVersionsMeanEqualBytes};
 
@@ -16,22 +16,19 @@ pub fn objects_are_what_stands()
 /// The layouts of a list of trees that can be published are lawful for these trees, generation 0 having the empty tree:
 /// in each of them every path names, from the gateway on, just what stands there in the tree, each module reads to its
 /// end, every binding leads into a listed module and says, where it says it, by which DII that module is listed, and the
-/// limits of this project hold. Lawful are layouts whose modules up to 16 DIIs list, 139 ids each; in these layouts every
-/// module has an id from 1 to 139, so that DII 1 lists them all.
+/// limits of this project hold. The modules are those that up to 16 DIIs list, 139 ids each.
 ///
 /// It stands on two laws of the crates below: spellings are read back as their objects, and a placement that leaves
 /// objects where they were is a placement.
 pub fn layouts_are_lawful()
-    ensures lawful { LayoutsAreLawful }
-    ensures one { LayoutsAreInOneGroup }
+    ensures { LayoutsAreLawful }
 {
     biop_object::spellings_read_back();
     module_packer::kept_is_a_placement();
 }
 
 /// A generation has the number, the tree, the layout, the counts and the sections that the lists of trees and layouts give,
-/// and each of its items is the DSI, one of its DIIs or a block of one of its modules. Where DII 1 lists all modules, its
-/// items are just the DSI, that DII and each block of each module.
+/// and its items are just the DSI, the DII of each group that has one and each block of each module.
 pub fn generations_are_of_the_lists()
     ensures { GenerationsAreOfTheLists }
 {}

@@ -14,6 +14,7 @@
 
 mod control;
 mod former;
+mod groups;
 mod keys;
 mod laws;
 mod limit;

@@ -11,7 +11,8 @@ ghost use Rattle.generation.specs.View.{view_spot, IsSpotIn, AreSpotsOf, IsWeigh
 
 use crate::spots::{Spot, content_of, name_of, path_of, spots};
 use biop_object::{FILE_BINDING, FILE_FRONT, FOLDER_BINDING, FOLDER_FRONT, MOST_FOLDER_SIZE};
-use dsi_dii::{MOST_MODULES, MOST_TOTAL_SIZE};
+use dsi_dii::MOST_TOTAL_SIZE;
+use module_groups::GREATEST_ID;
 use module_packer::need;
 use oc_bytes::NoMemory;
 use path_tree::{Path, Tree};
@@ -34,8 +35,8 @@ pub enum Limit {
     /// More than [`MOST_TOTAL_SIZE`] bytes in all objects: how many.
     #[error("the objects have {0} bytes, more than 268,435,456")]
     TooManyBytes(u64),
-    /// More than [`MOST_MODULES`] modules: how many the fresh placement takes.
-    #[error("the objects take {0} modules, more than 139")]
+    /// More than [`GREATEST_ID`] modules: how many the fresh placement takes.
+    #[error("the objects take {0} modules, more than 2,224")]
     TooManyModules(usize),
     /// Out of memory.
     #[error("out of memory")]
@@ -122,7 +123,7 @@ pub(crate) fn weigh(alloc: Global, tree: &Tree) -> Result<Weighed, Limit>
         return Err(Limit::TooManyBytes(total));
     }
     let modules = need(&sizes);
-    if modules > MOST_MODULES {
+    if modules > GREATEST_ID {
         return Err(Limit::TooManyModules(modules));
     }
     Ok(Weighed { spots, sizes })

@@ -27,7 +27,7 @@ pub struct Object {
     pub path: Path,
     /// What it is.
     pub kind: ObjectKind,
-    /// The id of the module that it lies in, 1 to [`dsi_dii::MOST_MODULES`].
+    /// The id of the module that it lies in, 1 to [`module_groups::GREATEST_ID`].
     pub module: u16,
 }
 

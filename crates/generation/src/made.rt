@@ -1,27 +1,27 @@
-ghost use Rattle.std.specs.Prelude.{◌≡◌, ◌==◌, ◌<◌, ◌≤◌, ◌+◌, ◌++◌, ◌∷◌, [], List, ℕ, None, Some, Ok, map, length, get_or, true, false, IfOk, IfSome, IsSome, OnErr};
-ghost use Rattle.std.specs.List.{All, Contains, filter, list_any};
-ghost use Rattle.std.specs.Option.{option_map, is_none};
+ghost use Rattle.std.specs.Prelude.{◌≡◌, ◌==◌, ◌<◌, ◌≤◌, ◌+◌, ◌++◌, ◌∷◌, [], List, ℕ, None, Some, Ok, map, length, get_or, nat_lt, true, false, IfOk, IfSome, IsSome, OnErr};
+ghost use Rattle.std.specs.List.{All, Contains, count_by, range_with_len};
+ghost use Rattle.std.specs.Option.{option_map};
 ghost use Rattle.path_tree.specs.Edits.{apply_all};
 ghost use Rattle.path_tree.specs.Trees.{Tree};
 ghost use Rattle.biop_object.specs.Names.{Layout, module_in};
 ghost use Rattle.cycle_planner.specs.Cycle.{AreLines};
 ghost use Rattle.dsmcc_section.specs.Sections.{IsFramed};
-ghost use Rattle.generation.specs.Layouts.{GenerationState, first_of, next_of, lines_of, lines_in, items_of, section_of, count_in as count_at, layout_of, module_if_used, greatest, placed_all, keys_of, modules_for};
+ghost use Rattle.generation.specs.Layouts.{GenerationState, first_of, next_of, lines_of, lines_in, items_of, section_of, count_in as count_at, ids_counted as ids, layout_of, module_if_used, greatest, placed_all, keys_of, modules_for};
 ghost use Rattle.generation.specs.Kept.{StandsFor};
 ghost use Rattle.generation.specs.Publication.{limit_of, spots_of};
 ghost use Rattle.generation.specs.Objects.{object_of};
 ghost use Rattle.generation.specs.Inner.Stays.{AreAsBefore, AreTheirs};
-ghost use Rattle.generation.specs.Inner.Linking.{AreLinks};
-ghost use Rattle.generation.specs.View.{IsWeighed, view_listed, view_placed, AreReady, AreOld, IsMarked, AreMarked, IsSpotIn, counted_by};
+ghost use Rattle.generation.specs.Inner.Grouped.{AreGrouped};
+ghost use Rattle.generation.specs.View.{IsWeighed, view_listed, view_placed, AreReady, AreOld, IsMarked, AreMarked, IsRising, IsSpotIn, is_raised};
 ghost use Rattle.dsi_dii.specs.declared.TheConstants.{LAST_GENERATION, MOST_TOTAL_SIZE};
+ghost use Rattle.module_groups.specs.declared.TheConstants.{GREATEST_ID};
 
 use crate::control::{block_of_module, dii_section, dsi_section};
 use crate::former::{former_of, modules};
 use crate::keys::keys;
 use crate::limit::{Publishable, Weighed, measure};
-use crate::links::{Members, link_members};
 use crate::listing::{Object, list_objects};
-use crate::objects::{Placed, folders, module_bytes, place_all};
+use crate::objects::{Grouped, Placed, group_all, module_bytes, place_all};
 use crate::spots::{Spot, is_equal};
 use crate::unchanged::{modules_that_stay, named_entries};
 use biop_object::Module;
@@ -55,7 +55,7 @@ pub struct Generation {
     objects: Vec<Placed>,
     modules: Vec<Listed>,
     lines: Vec<(u16, u32)>,
-    counts: Vec<(u16, u64)>,
+    counts: Vec<u64>,
 }
 
 impl Model for Generation {
@@ -206,8 +206,8 @@ impl Generation {
         list_objects(self.alloc, &self.tree, &self.objects)
     }
 
-    /// The modules' ids, from 1 to [`dsi_dii::MOST_MODULES`] and rising, each with its number of blocks of [`BLOCK_SIZE`] bytes. There is at least one, and
-    /// each block's number is one of 16 bits.
+    /// The modules' ids, from 1 to [`module_groups::GREATEST_ID`] and rising, each with its number of
+    /// blocks of [`BLOCK_SIZE`] bytes. There is at least one, and each block's number is one of 16 bits.
     pub fn lines(&self) -> &[(u16, u32)]
         ensures exact { result.now ≡ lines_of self.now }
         ensures lines { AreLines result.now }
@@ -240,15 +240,16 @@ impl Generation {
     }
 
     /// How often the module of an id was new or had other bytes, up to this generation. The module's version in the DII
-    /// is this count modulo 256.
+    /// that lists it is this count modulo 256.
     pub fn count(&self, id: u16) -> u64
         ensures { result ≡ count_at self.now.counts id }
     {
-        count_in(&self.counts, id)
+        count_in(&self.counts, usize::from(id))
     }
 
-    /// The section of one of the generation's items: the DSI, the DII of group 1, or a block of a listed module whose number is
-    /// below the module's number of blocks. A stream of sections can be cut by it. The only refusal is out of memory.
+    /// The section of one of the generation's items: the DSI, the DII of a group that has one, or a block
+    /// of a listed module whose number is below the module's number of blocks. Each DII has the version of
+    /// the generation. A stream of sections can be cut by it. The only refusal is out of memory.
     pub fn section(&self, item: Item) -> Result<Vec<u8>, NoMemory>
         requires { Contains (items_of self.now) item }
         ensures exact { IfOk result (λ bytes. bytes.items ≡ section_of self.now item) }
@@ -256,10 +257,11 @@ impl Generation {
     {
         match item {
             Item::Dsi => dsi_section(self.alloc, self.carousel),
-            Item::Dii(_) => dii_section(
+            Item::Dii(group) => dii_section(
                 self.alloc,
                 self.carousel,
                 self.number,
+                group,
                 &self.modules,
                 &self.counts,
             ),
@@ -310,16 +312,16 @@ fn modules_of(
     staying: &[bool],
 ) -> Result<Vec<Listed>, NoMemory>
     requires ready { AreReady carousel tree.now objects.now }
+    requires before { IsRising (map view_listed before.now) }
     requires staying { AreTheirs carousel (map (view_placed tree.now) objects.now) (map view_listed before.now) staying.now }
     ensures layout { IfOk result (λ v. map view_listed v.items ≡ layout_of carousel (map (view_placed tree.now) objects.now)) }
     ensures stays { IfOk result (λ v. AreMarked (map view_listed before.now) v.items) }
 {
-    let folders = folders(alloc, objects)?;
-    let children = link_members(alloc, &folders, objects.len())?;
+    let grouped = group_all(alloc, objects)?;
     let mut modules = Vec::new(alloc);
     for id in 1..last_module(objects) + 1 {
         if let Some(listed) = listed_at(
-            alloc, carousel, tree, objects, &children, before, staying, id,
+            alloc, carousel, tree, objects, &grouped, before, staying, id,
         )? {
             modules.push(listed)?;
         }
@@ -338,31 +340,25 @@ pub(crate) fn last_module(objects: &[Placed]) -> u16
     last
 }
 
-/// Whether an object lies in the module.
-pub(crate) fn is_used(objects: &[Placed], id: u16) -> bool
-    ensures { result ≡ list_any (λ o. o.module == id) objects.now }
-{
-    objects.iter().any(|object| object.module == id)
-}
-
 /// The module of an id, where an object lies in it.
 fn listed_at(
     alloc: Global,
     carousel: u32,
     tree: &Tree,
     objects: &[Placed],
-    children: &Members,
+    grouped: &Grouped,
     before: &[Listed],
     staying: &[bool],
     id: u16,
 ) -> Result<Option<Listed>, NoMemory>
     requires ready { AreReady carousel tree.now objects.now }
-    requires children { AreLinks (map (λ o. o.spot.parent) objects.now) (length objects.now) children.now.first.items children.now.next.items }
+    requires grouped { AreGrouped objects.now grouped.now }
+    requires before { IsRising (map view_listed before.now) }
     requires staying { AreTheirs carousel (map (view_placed tree.now) objects.now) (map view_listed before.now) staying.now }
     ensures listed { IfOk result (λ l. option_map view_listed l ≡ module_if_used carousel (map (view_placed tree.now) objects.now) id) }
     ensures stays { IfOk result (λ l. IfSome l (IsMarked (map view_listed before.now))) }
 {
-    if !is_used(objects, id) {
+    if !grouped.modules.has_any(usize::from(id)) {
         return Ok(None);
     }
     if let Some(bytes) = staying_module(before, staying, id) {
@@ -372,12 +368,13 @@ fn listed_at(
             stays: true,
         }));
     }
-    let bytes = module_bytes(alloc, carousel, tree, objects, children, id)?;
+    let bytes = module_bytes(alloc, carousel, tree, objects, grouped, id)?;
     Ok(Some(module_after(alloc, before, id, bytes)?))
 }
 
 /// The module of an id before, if it is known to stay.
 fn staying_module<'a>(before: &'a [Listed], staying: &[bool], id: u16) -> Option<&'a Blob>
+    requires { IsRising (map view_listed before.now) }
     ensures { IfSome result (λ b. (get_or staying.now id false ≡ true) × (module_in (map view_listed before.now) id ≡ Some b.now)) }
 {
     if is_on(staying, usize::from(id)) {
@@ -401,6 +398,7 @@ fn module_after(
     id: u16,
     bytes: Vec<u8>,
 ) -> Result<Listed, NoMemory>
+    requires { IsRising (map view_listed before.now) }
     ensures listed { IfOk result (λ l. view_listed l ≡ (id, bytes.items)) }
     ensures stays { IfOk result (IsMarked (map view_listed before.now)) }
 {
@@ -420,57 +418,68 @@ fn module_after(
     })
 }
 
-/// The bytes of the module of an id among these.
+/// The bytes of the module of an id among these, which rise by id. It is found by halves.
 pub(crate) fn find_module(modules: &[Listed], id: u16) -> Option<&Blob>
+    requires { IsRising (map view_listed modules.now) }
     ensures { option_map (λ b. b.now) result ≡ module_in (map view_listed modules.now) id }
 {
-    for listed in modules {
-        if listed.id == id {
-            return Some(&listed.bytes);
-        }
+    let first = modules.partition_point(
+        |listed: &Listed| -> bool
+            ensures { result ≡ nat_lt listed.now.id id }
+        { listed.id < id },
+    );
+    if first < modules.len() && modules[first].id == id {
+        Some(&modules[first].bytes)
+    } else {
+        None
     }
-    None
 }
 
-/// How often each module has changed: of the listed ones, and then of those that aren't listed any more.
-fn counts_next(
-    alloc: Global,
-    modules: &[Listed],
-    counts: &[(u16, u64)],
-) -> Result<Vec<(u16, u64)>, NoMemory>
-    requires { All (λ c. c.1 < LAST_GENERATION) counts.now }
-    ensures { IfOk result (λ v. v.items ≡ map (counted_by counts.now) modules.now ++ filter (λ c. is_none (module_in (map view_listed modules.now) c.0)) counts.now) }
+/// How often the module of each id has changed: once more where it is listed, and is new or has other
+/// bytes.
+fn counts_next(alloc: Global, modules: &[Listed], counts: &[u64]) -> Result<Vec<u64>, NoMemory>
+    requires counts { All (λ n. n < LAST_GENERATION) counts.now }
+    requires few { length modules.now ≤ GREATEST_ID }
+    ensures many { IfOk result (λ v. length v.items ≡ ids (map view_listed modules.now) counts.now) }
+    ensures each { IfOk result (λ v. (m : ℕ)
+        → count_at v.items m ≡ count_at counts.now m + count_by (is_raised m) modules.now) }
 {
-    let mut after = Vec::new(alloc);
+    let mut after = counts_before(alloc, counts, ids_counted(modules, counts))?;
     for listed in modules {
-        after.push((listed.id, count_after(listed, counts)))?;
-    }
-    for count in counts {
-        if find_module(modules, count.0).is_none() {
-            after.push(*count)?;
+        if !listed.stays {
+            after[usize::from(listed.id)] += 1;
         }
     }
     Ok(after)
 }
 
-/// How often a listed module has changed: once more where it is new or has other bytes.
-fn count_after(listed: &Listed, counts: &[(u16, u64)]) -> u64
-    requires { All (λ c. c.1 < LAST_GENERATION) counts.now }
-    ensures { (listed.now.id, result) ≡ counted_by counts.now listed.now }
+/// How many ids are counted, from 0 on.
+fn ids_counted(modules: &[Listed], counts: &[u64]) -> usize
+    ensures { result ≡ ids (map view_listed modules.now) counts.now }
 {
-    let count = count_in(counts, listed.id);
-    if listed.stays { count } else { count + 1 }
+    let mut end = counts.len();
+    for listed in modules {
+        end = end.max(usize::from(listed.id) + 1);
+    }
+    end
 }
 
-pub(crate) fn count_in(counts: &[(u16, u64)], id: u16) -> u64
+/// The count of each id below an end.
+fn counts_before(alloc: Global, counts: &[u64], end: usize) -> Result<Vec<u64>, NoMemory>
+    ensures { IfOk result (λ v. v.items ≡ map (count_at counts.now) (range_with_len 0 end)) }
+{
+    let mut before = Vec::with_capacity(alloc, end)?;
+    for id in 0..end {
+        before.push(count_in(counts, id))?;
+    }
+    Ok(before)
+}
+
+/// The count of an id, 0 where it isn't counted.
+pub(crate) fn count_in(counts: &[u64], id: usize) -> u64
     ensures { result ≡ count_at counts.now id }
 {
-    for (module, count) in counts {
-        if *module == id {
-            return *count;
-        }
-    }
-    0
+    if id < counts.len() { counts[id] } else { 0 }
 }
 
 /// Each module with its number of blocks.

@@ -2,13 +2,15 @@
 ghost use Rattle.std.specs.Prelude.{◌≡◌, ◌≤◌, ◌<◌, ◌++◌, length, map, IfOk, OnOk, false};
 ghost use Rattle.std.specs.List.{All};
 ghost use Rattle.path_tree.specs.Trees.{IsTree};
-ghost use Rattle.generation.specs.Inner.Linking.{AreLinks};
+ghost use Rattle.generation.specs.Inner.Grouped.{AreGrouped};
+ghost use Rattle.generation.specs.Inner.Linking.{members_in};
 ghost use Rattle.generation.specs.Layouts.{location_of, entries_of, object_bytes as bytes_of, module_bytes as bytes_in, key_bytes, bound_of};
-ghost use Rattle.generation.specs.View.{view_spot, view_placed, IsSpotIn, placed_from, AreReady, kind_in};
+ghost use Rattle.generation.specs.View.{view_spot, view_placed, IsId, IsSpotIn, placed_from, AreFoldered, AreReady, kind_in};
 ghost use Rattle.biop_object.specs.Objects.{folder_spelling, IsEntry};
 ghost use Rattle.biop_object.specs.declared.written.TheConstants.{MOST_FOLDER_SIZE};
 
 use crate::links::Members;
+use crate::made::last_module;
 use crate::spots::{Spot, content_of, name_of};
 use biop_object::{Bound, FolderKind, ObjectFault, Written, encode_file, encode_folder};
 use ior_tap::{Key, Location};
@@ -54,8 +56,58 @@ fn key_of(alloc: Global, key: u32) -> Result<Key, NoMemory>
     Ok(Key::new(bytes))
 }
 
+/// Objects by the folder that each stands in, and by the module that each lies in.
+#[derive(Drop)]
+pub(crate) struct Grouped {
+    pub(crate) folders: Members,
+    pub(crate) modules: Members,
+}
+
+/// Puts each object to its folder and to its module, in one pass for each.
+pub(crate) fn group_all(alloc: Global, objects: &[Placed]) -> Result<Grouped, NoMemory>
+    requires { AreFoldered objects.now }
+    ensures { IfOk result (AreGrouped objects.now) }
+{
+    let folders = folders(alloc, objects)?;
+    Ok(Grouped {
+        folders: Members::new(alloc, folders, objects.len())?,
+        modules: by_module(alloc, objects)?,
+    })
+}
+
+/// Objects by the module that each lies in.
+pub(crate) fn by_module(alloc: Global, objects: &[Placed]) -> Result<Members, NoMemory>
+    ensures { IfOk result (λ m. m ≡ map (λ o. Some o.module) objects.now) }
+{
+    let ids = module_ids(alloc, objects)?;
+    Members::new(alloc, ids, usize::from(last_module(objects)) + 1)
+}
+
+/// The objects that lie in a module, in their order.
+pub(crate) fn members_of(
+    alloc: Global,
+    objects: &[Placed],
+    modules: &Members,
+    id: u16,
+) -> Result<Vec<Placed>, NoMemory>
+    requires { modules.now ≡ map (λ o. Some o.module) objects.now }
+    ensures { IfOk result (λ v. v.items ≡ members_in id (map (λ o. Some o.module) objects.now) objects.now) }
+{
+    modules.of(alloc, objects, usize::from(id))
+}
+
+/// The id of the module of each object.
+fn module_ids(alloc: Global, objects: &[Placed]) -> Result<Vec<Option<usize>>, NoMemory>
+    ensures { IfOk result (λ v. v.items ≡ map (λ o. Some o.module) objects.now) }
+{
+    objects
+        .iter()
+        .map(|object| Some(usize::from(object.module)))
+        .collect(alloc)
+}
+
 /// The folder that each object stands in, by number.
-pub(crate) fn folders(alloc: Global, objects: &[Placed]) -> Result<Vec<Option<usize>>, NoMemory>
+fn folders(alloc: Global, objects: &[Placed]) -> Result<Vec<Option<usize>>, NoMemory>
     ensures { IfOk result (λ v. v.items ≡ map (λ o. o.spot.parent) objects.now) }
 {
     objects
@@ -64,7 +116,7 @@ pub(crate) fn folders(alloc: Global, objects: &[Placed]) -> Result<Vec<Option<us
         .collect(alloc)
 }
 
-/// The bindings of the folder of a number: the objects that stand right in it, which are linked.
+/// The bindings of the folder of a number: the objects that stand right in it.
 fn entries(
     alloc: Global,
     carousel: u32,
@@ -75,16 +127,15 @@ fn entries(
 ) -> Result<Vec<Written>, NoMemory>
     requires tree { IsTree tree.now }
     requires objects { All (λ o. IsSpotIn tree.now o.spot) objects.now }
-    requires children { AreLinks (map (λ o. o.spot.parent) objects.now) (length objects.now) children.now.first.items children.now.next.items }
-    requires folder { folder < length objects.now }
+    requires children { children.now ≡ map (λ o. o.spot.parent) objects.now }
+    requires listed { All (λ o. IsId o.«module») objects.now }
     ensures valid { IfOk result (λ v. All IsEntry v.items) }
     ensures entries { IfOk result (λ v. v.items ≡ entries_of carousel (map (view_placed tree.now) objects.now) folder) }
 {
+    let members = children.of(alloc, objects, folder)?;
     let mut entries = Vec::new(alloc);
-    let mut child = children.first[folder];
-    while let Some(number) = child {
-        entries.push(written(alloc, carousel, tree, objects[number])?)?;
-        child = children.next[number];
+    for child in &members {
+        entries.push(written(alloc, carousel, tree, *child)?)?;
     }
     Ok(entries)
 }
@@ -94,6 +145,7 @@ fn written(alloc: Global, carousel: u32, tree: &Tree, object: Placed) -> Result<
     requires tree { IsTree tree.now }
     requires object { IsSpotIn tree.now object.spot }
     requires named { 1 ≤ object.spot.names }
+    requires listed { IsId object.«module» }
     ensures valid { IfOk result IsEntry }
     ensures written { IfOk result (λ w. w ≡ record { name = (view_spot tree.now object.spot).name; bound = bound_of (view_spot tree.now object.spot).content; location = location_of carousel (view_placed tree.now object) }) }
 {
@@ -127,9 +179,9 @@ fn object_bytes(
 ) -> Result<Vec<u8>, NoMemory>
     requires tree { IsTree tree.now }
     requires objects { All (λ o. IsSpotIn tree.now o.spot) objects.now }
-    requires children { AreLinks (map (λ o. o.spot.parent) objects.now) (length objects.now) children.now.first.items children.now.next.items }
+    requires children { children.now ≡ map (λ o. o.spot.parent) objects.now }
     requires object { IsSpotIn tree.now object.spot }
-    requires number { object.spot.number < length objects.now }
+    requires listed { All (λ o. IsId o.«module») objects.now }
     requires small { object.spot.whole ≡ false → length (bytes_of carousel (map (view_placed tree.now) objects.now) (view_placed tree.now object)) ≤ MOST_FOLDER_SIZE }
     ensures { IfOk result (λ v. v.items ≡ bytes_of carousel (map (view_placed tree.now) objects.now) (view_placed tree.now object)) }
 {
@@ -171,21 +223,20 @@ pub(crate) fn module_bytes(
     carousel: u32,
     tree: &Tree,
     objects: &[Placed],
-    children: &Members,
+    grouped: &Grouped,
     id: u16,
 ) -> Result<Vec<u8>, NoMemory>
     requires ready { AreReady carousel tree.now objects.now }
-    requires children { AreLinks (map (λ o. o.spot.parent) objects.now) (length objects.now) children.now.first.items children.now.next.items }
+    requires grouped { AreGrouped objects.now grouped.now }
     ensures { IfOk result (λ v. v.items ≡ bytes_in carousel (map (view_placed tree.now) objects.now) id) }
 {
+    let members = members_of(alloc, objects, &grouped.modules, id)?;
     let mut bytes = Vec::new(alloc);
-    for object in objects {
-        if object.module == id {
-            append(
-                &mut bytes,
-                object_bytes(alloc, carousel, tree, objects, children, *object)?,
-            )?;
-        }
+    for object in &members {
+        append(
+            &mut bytes,
+            object_bytes(alloc, carousel, tree, objects, &grouped.folders, *object)?,
+        )?;
     }
     Ok(bytes)
 }

@@ -4,13 +4,13 @@ ghost use Rattle.std.specs.Prelude.{◌≡◌, ◌≤◌, ◌<◌, ◌++◌, Lis
 ghost use Rattle.std.specs.List.{All};
 ghost use Rattle.path_tree.specs.Edits.{apply_all};
 ghost use Rattle.path_tree.specs.Trees.{Tree as TreeFiles, IsTree};
-ghost use Rattle.generation.specs.Layouts.{Placed as PlacedState, greatest, module_bytes, object_bytes};
-ghost use Rattle.generation.specs.Inner.Stays.{AreAsBefore, SameModules, part_bytes};
+ghost use Rattle.generation.specs.Layouts.{Placed as PlacedState, greatest, object_bytes};
+ghost use Rattle.generation.specs.Inner.Stays.{AreAsBefore, SameModules, bytes_of_all};
 ghost use Rattle.generation.specs.View.{view_placed, IsSpotIn};
-ghost use Rattle.dsi_dii.specs.declared.TheConstants.{MOST_MODULES};
+ghost use Rattle.module_groups.specs.declared.TheConstants.{GREATEST_ID};
 
-use crate::made::{is_used, last_module};
-use crate::objects::Placed;
+use crate::made::last_module;
+use crate::objects::{Placed, by_module, members_of};
 use crate::spots::compare;
 use oc_bytes::NoMemory;
 use path_tree::{Edit, Tree, others_stay};
@@ -47,71 +47,44 @@ pub(crate) fn modules_that_stay(
     requires tree { IsTree tree.now }
     requires old { All (λ o. IsSpotIn old_tree.now o.spot) old.now }
     requires objects { All (λ o. IsSpotIn tree.now o.spot) objects.now }
-    requires numbers { greatest (map (λ o. o.«module») objects.now) ≤ MOST_MODULES }
+    requires numbers { greatest (map (λ o. o.«module») objects.now) ≤ GREATEST_ID }
     requires named { AreAsBefore old_tree.now tree.now named.now }
     ensures { IfOk result (λ v. SameModules (map (view_placed old_tree.now) old.now) (map (view_placed tree.now) objects.now) v.items) }
 {
+    let old_members = by_module(alloc, old)?;
+    let members = by_module(alloc, objects)?;
     let mut staying = Vec::new(alloc);
     for id in 0..last_module(objects) + 1 {
-        staying.push(stays(old, old_tree, objects, tree, named, id))?;
+        let before = members_of(alloc, old, &old_members, id)?;
+        let after = members_of(alloc, objects, &members, id)?;
+        staying.push(are_same_files(old_tree, &before, tree, &after, named))?;
     }
     Ok(staying)
 }
 
-/// Whether a module has the same objects as before, all of them files that are as before.
-fn stays(
-    old: &[Placed],
+/// Whether objects are the files that others are, one after another, and no edit names any of them.
+fn are_same_files(
     old_tree: &Tree,
-    objects: &[Placed],
+    before: &[Placed],
     tree: &Tree,
+    after: &[Placed],
     named: &[bool],
-    id: u16,
 ) -> bool
     requires old_tree { IsTree old_tree.now }
-    requires tree { IsTree tree.now }
-    requires old { All (λ o. IsSpotIn old_tree.now o.spot) old.now }
-    requires objects { All (λ o. IsSpotIn tree.now o.spot) objects.now }
+    requires before { All (λ o. IsSpotIn old_tree.now o.spot) before.now }
+    requires after { All (λ o. IsSpotIn tree.now o.spot) after.now }
     requires named { AreAsBefore old_tree.now tree.now named.now }
-    ensures { result ≡ true → (c : ℕ) → module_bytes c (map (view_placed old_tree.now) old.now) id ≡ module_bytes c (map (view_placed tree.now) objects.now) id }
+    ensures { result ≡ true → (c : ℕ) (olds objects : List PlacedState) → bytes_of_all c olds old_tree.now before.now ≡ bytes_of_all c objects tree.now after.now }
 {
-    let mut left = old;
-    for object in objects {
-        if object.module == id {
-            let Some(after) = after_same_file(left, old_tree, *object, tree, named) else {
-                return false;
-            };
-            left = after;
+    if before.len() != after.len() {
+        return false;
+    }
+    for (place, object) in after.iter().enumerate() {
+        if !is_same_file(old_tree, before[place], tree, *object, named) {
+            return false;
         }
     }
-    !is_used(left, id)
-}
-
-/// What comes after the first of the objects in another object's module, where it is the same file as that one.
-fn after_same_file<'a>(
-    left: &'a [Placed],
-    old_tree: &Tree,
-    object: Placed,
-    tree: &Tree,
-    named: &[bool],
-) -> Option<&'a [Placed]>
-    requires old_tree { IsTree old_tree.now }
-    requires tree { IsTree tree.now }
-    requires left { All (λ o. IsSpotIn old_tree.now o.spot) left.now }
-    requires object { IsSpotIn tree.now object.spot }
-    requires named { AreAsBefore old_tree.now tree.now named.now }
-    ensures valid { IfSome result (λ after. All (λ o. IsSpotIn old_tree.now o.spot) after.now) }
-    ensures bytes { IfSome result (λ after. (c : ℕ) (olds objects : List PlacedState) → part_bytes c olds (map (view_placed old_tree.now) left.now) object.«module»
-        ≡ object_bytes c objects (view_placed tree.now object) ++ part_bytes c olds (map (view_placed old_tree.now) after.now) object.«module») }
-{
-    for (passed, before) in left.iter().enumerate() {
-        if before.module == object.module {
-            if !is_same_file(old_tree, *before, tree, object, named) {
-                return None;
-            }
-            return Some(&left[passed + 1..]);
-        }
-    }
-    None
+    true
 }
 
 /// Whether two objects are one file under one key, and no edit names it.

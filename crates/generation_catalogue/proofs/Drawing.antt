@@ -31,6 +31,10 @@ one_more_item cycle items more first at x le m e here =
     ∙ sym (take_more (drop first cycle) (at - first) x (omega (arith, lt, left, le)) ∙ ap (λ (y : Item). take (at - first) (drop first cycle) ++ y ∷ []) there)
     ∙ ap (λ (k : ℕ). take k (drop first cycle)) next
 
+-- where nothing is left, the place is behind the last item
+pub none_left : (cycle : List Item) (at : ℕ) → drop at cycle ≡ [] → length cycle ≤ at
+none_left cycle at e = let none = ap length e in let left = length-drop at cycle in omega (arith, none, left)
+
 pub as_many : (cycle items : List Item) (first at count : ℕ) → at ≡ first + count → count ≤ length cycle - first → items ≡ take (at - first) (drop first cycle)
     → (items ≡ take count (drop first cycle)) × (length items ≡ count)
 as_many cycle items first at count e le i =

@@ -33,8 +33,8 @@ pub enum Refusal {
     /// The objects would have so many bytes, more than [`dsi_dii::MOST_TOTAL_SIZE`].
     #[error("the objects would have {0} bytes, more than 268,435,456")]
     TooManyBytes(u64),
-    /// The objects would take so many modules, more than [`dsi_dii::MOST_MODULES`].
-    #[error("the objects would take {0} modules, more than 139")]
+    /// The objects would take so many modules, more than [`cycle_planner::GREATEST_ID`].
+    #[error("the objects would take {0} modules, more than 2,224")]
     TooManyModules(usize),
 }
 

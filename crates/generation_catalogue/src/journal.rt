@@ -11,7 +11,7 @@ ghost use Rattle.generation_catalogue.specs.Calls.{IsCommitted, IsDrawn};
 ghost use Rattle.cycle_planner.specs.declared.TheConstants.{MOST_DRAWN};
 
 use crate::entry::{Batch, CommitFault, DrawFault, Entry, Refusal};
-use cycle_planner::{GREATEST_ID, Item, Weigh, cycle_len, item_at};
+use cycle_planner::{GREATEST_ID, Item, Walk, Weigh, cycle_len};
 use dsi_dii::LAST_GENERATION;
 use generation::{Generation, checked};
 use oc_bytes::NoMemory;
@@ -234,8 +234,12 @@ impl Journal {
         let first = self.cursor;
         let count = u64::from(asked).min(cycle_len(lines, weigh) - first);
         let mut items = Vec::with_capacity(self.alloc, count as usize)?;
-        for at in first..first + count {
-            items.push(item_at(lines, weigh, at))?;
+        let mut walk = Walk::at(lines, weigh, first);
+        for _at in first..first + count {
+            let Some(item) = walk.next(lines, weigh) else {
+                unreachable!();
+            };
+            items.push(item)?;
         }
         Ok(items)
     }

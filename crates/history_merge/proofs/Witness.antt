@@ -11,6 +11,7 @@ use Rattle.dsi_dii.specs.ControlReading.{dii_at, dsi_at, frame_at, private_at}
 use Rattle.biop_object.specs.ObjectReading.{object_at}
 use Rattle.path_resolver.specs.declared.answer.Answer.TheVariants as answers
 use Rattle.module_packer.specs.Kept as placement
+use Rattle.cycle_planner.specs.Cycle as cycles
 use Rattle.cycle_planner.specs.declared.Item.TheVariants.{Dsi, Dii, Block}
 use Rattle.generation.specs.Layouts.{GenerationState}
 use Rattle.generation.specs.Lawful.{ArePublishable}
@@ -66,23 +67,23 @@ at k x e h is = let s : x ≡ e = cc in subst (λ (y : Entry). y ≡ entry_after
 
 -- each entry is what the rules give after those before it
 first_commit : entries.Commit 0 (puts (1 ∷ 2 ∷ 3 ∷ [])) (Ok 1) ≡ entry_after (state_of 1 ones (take 0 those)) (entries.Commit 0 (puts (1 ∷ 2 ∷ 3 ∷ [])) (Ok 1))
-unfolding placement.kept_modules placement.least_with
+unfolding placement.kept_modules placement.least_with cycles.groups_from
 first_commit = refl
 
 first_draw : entries.Draw 1048576 1 0 3 ≡ entry_after (state_of 1 ones (take 1 those)) (entries.Draw 1048576 1 0 3)
-unfolding placement.kept_modules placement.least_with
+unfolding placement.kept_modules placement.least_with cycles.groups_from
 first_draw = refl
 
 second_commit : entries.Commit 1 (puts (4 ∷ 5 ∷ 6 ∷ [])) (Ok 2) ≡ entry_after (state_of 1 ones (take 2 those)) (entries.Commit 1 (puts (4 ∷ 5 ∷ 6 ∷ [])) (Ok 2))
-unfolding placement.kept_modules placement.least_with
+unfolding placement.kept_modules placement.least_with cycles.groups_from
 second_commit = refl
 
 second_draw : entries.Draw 1048576 2 0 3 ≡ entry_after (state_of 1 ones (take 3 those)) (entries.Draw 1048576 2 0 3)
-unfolding placement.kept_modules placement.least_with
+unfolding placement.kept_modules placement.least_with cycles.groups_from
 second_draw = refl
 
 last_draw : entries.Draw 1048576 2 0 3 ≡ entry_after (state_of 1 ones (take 4 those)) (entries.Draw 1048576 2 0 3)
-unfolding placement.kept_modules placement.least_with
+unfolding placement.kept_modules placement.least_with cycles.groups_from
 last_draw = refl
 
 each_in : (k : ℕ) (e : Entry) → slice_get those k ≡ Some e → e ≡ entry_after (state_of 1 ones (take k those)) e
@@ -147,7 +148,7 @@ drawn =
     ∷ cycle_drawn (generation_with 2 (4 ∷ 5 ∷ 6 ∷ []) 2) (Keep ∷ Flip 800 ∷ Keep ∷ []) ∷ cycle_drawn (generation_with 2 (4 ∷ 5 ∷ 6 ∷ []) 2) [] ∷ []
 
 drawn_is : drawn ≡ drawings_of kept all_fates
-unfolding placement.kept_modules placement.least_with
+unfolding placement.kept_modules placement.least_with cycles.groups_from
 drawn_is = refl
 
 answered : AreAnswered drawn readers

@@ -1,15 +1,13 @@
 -- Reading an IOR and the relation of its bytes say the same, and the written form has its spelling.
-use Rattle.std.proofs.Common.{◌≡◌, ℕ, ◌+◌, ◌==◌, Bool, true, cond, List, [], ◌∷◌, ◌++◌, length, Option, Some, None, Ok, refl, sym, ap, subst, ◌∙◌, append_assoc, arith}
-use Rattle.std.proofs.lemmas.Bool.{eq-eqb}
+use Rattle.std.proofs.Common.{◌≡◌, ℕ, ◌+◌, List, [], ◌∷◌, ◌++◌, length, Some, Ok, refl, sym, ap, subst, ◌∙◌, append_assoc, arith}
 use Rattle.std.proofs.lemmas.List.{append-nil, length-append}
-use Rattle.std.specs.List.{flat_map}
 use Rattle.oc_bytes.specs.Numbers.{two_bytes, four_bytes}
-use Rattle.oc_bytes.specs.Cursor.{Cursor, Reading, from_start, read_from_start}
+use Rattle.oc_bytes.specs.Cursor.{Reading, from_start, read_from_start}
 use Rattle.oc_bytes.specs.Agreement.{at, Agrees, InBytes}
-use Rattle.oc_bytes.specs.Grammar.{Fits, spell, read, front_of}
+use Rattle.oc_bytes.specs.Grammar.{Fits, spell, front_of}
 use Rattle.oc_bytes.proofs.CallerLemmas.{agrees_by, grammar_agrees, fits_reads, spelled_again, spelled_front, front_spelled}
 use Rattle.ior_tap.specs.declared.Location.{Location}
-use Rattle.ior_tap.specs.Iors.{TapFields, Component, ProfileFields, Biop, Fields, tap, location, taps, component, components, profile, ior, biop_tag, location_tag, binder_tag, both, biop_in, or_other, tag_of, content_of, ReadsTap, Reads, written_tap, written_form, IsWritten, IsLocation, tap_bytes, component_bytes, location_bytes, biop_bytes, spelling}
+use Rattle.ior_tap.specs.Iors.{TapFields, ProfileFields, Biop, Fields, tap, location, taps, components, profile, ior, biop_tag, location_tag, binder_tag, biop_in, or_other, tag_of, content_of, ReadsTap, Reads, written_tap, written_form, IsWritten, IsLocation, tap_bytes, component_bytes, location_bytes, biop_bytes, spelling}
 use Rattle.ior_tap.specs.IorReading.{tap_at, ior_at}
 
 pub tap_agrees : Agrees tap_at ReadsTap
@@ -21,14 +19,14 @@ ior_agrees = agrees_by (grammar_agrees ior) (λ s i fits h. record { fit = fits;
 
 -- ---- the spelling, byte by byte, is the grammar's
 
-abbrev written_taps : List TapFields
-written_taps = written_tap ∷ []
+abbrev written_taps : Location → List TapFields
+written_taps l = written_tap l.module ∷ []
 
 abbrev written_content : Location → List ℕ
-written_content l = content_of (Biop l written_taps)
+written_content l = content_of (Biop l (written_taps l))
 
 abbrev spelled_content : Location → List ℕ
-spelled_content l = biop_bytes l written_taps
+spelled_content l = biop_bytes l (written_taps l)
 
 location_whole : (l : Location) → spell location l ≡ location_bytes l
 unfolding spell
@@ -41,11 +39,11 @@ both_whole a b = rw (append-nil a) (simp append-nil)
 content_is : (l : Location) → written_content l ≡ spelled_content l
 unfolding spell
 content_is l =
-    both_whole (spell location l) (spell taps written_taps)
-    ∙ ap (λ (s : List ℕ). 0 ∷ 2 ∷ component_bytes location_tag s ++ component_bytes binder_tag (spell taps written_taps)) (location_whole l)
+    both_whole (spell location l) (spell taps (written_taps l))
+    ∙ ap (λ (s : List ℕ). 0 ∷ 2 ∷ component_bytes location_tag s ++ component_bytes binder_tag (spell taps (written_taps l))) (location_whole l)
 
 spelled_length : (l : Location) → length l.key ≡ 4 → length (spelled_content l) ≡ 43
-spelled_length l key = omega (arith, key, length-append l.key (component_bytes binder_tag (1 ∷ tap_bytes written_tap)))
+spelled_length l key = omega (arith, key, length-append l.key (component_bytes binder_tag (1 ∷ tap_bytes (written_tap l.module))))
 
 -- what stands around the content of the one profile
 abbrev around : List ℕ → ℕ → List ℕ → List ℕ
@@ -62,7 +60,7 @@ spelling_whole : (kind : List ℕ) (l : Location) → spelling kind l ≡ around
 spelling_whole kind l = grouped (four_bytes 4) kind (four_bytes 1) (four_bytes biop_tag) (four_bytes (length (spelled_content l))) (spelled_content l)
 
 spelling_is : (kind : List ℕ) (l : Location) → spell ior (written_form kind l) ≡ spelling kind l
-spelling_is kind l = form_whole kind (Biop l written_taps) ∙ ap (around kind biop_tag) (content_is l) ∙ sym (spelling_whole kind l)
+spelling_is kind l = form_whole kind (Biop l (written_taps l)) ∙ ap (around kind biop_tag) (content_is l) ∙ sym (spelling_whole kind l)
 
 pub spelling_length : (kind : List ℕ) (l : Location) → length kind ≡ 4 → length l.key ≡ 4 → length (spelling kind l) ≡ 63
 spelling_length kind l four key =
@@ -71,7 +69,7 @@ spelling_length kind l four key =
 
 -- the parts that are put are the spelling
 pub put_is : (kind : List ℕ) (l : Location) → length l.key ≡ 4 → four_bytes 4 ++ (kind ++ (four_bytes 1 ++ (four_bytes biop_tag ++ (four_bytes 43 ++ (0 ∷ 2 ∷ four_bytes location_tag
-    ++ (13 ∷ four_bytes l.carousel ++ (two_bytes l.module ++ (1 ∷ 0 ∷ 4 ∷ l.key ++ component_bytes binder_tag (1 ∷ tap_bytes written_tap))))))))) ≡ spelling kind l
+    ++ (13 ∷ four_bytes l.carousel ++ (two_bytes l.module ++ (1 ∷ 0 ∷ 4 ∷ l.key ++ component_bytes binder_tag (1 ∷ tap_bytes (written_tap l.module)))))))))) ≡ spelling kind l
 put_is kind l key = sym (spelling_whole kind l ∙ rw (spelled_length l key, key) refl)
 
 -- ---- the written form
@@ -80,23 +78,23 @@ location_fits : (l : Location) → length l.key ≡ 4 → IsLocation l → Fits 
 unfolding Fits
 location_fits l key room = (room.carousel, (room.module_id, ((omega arith, refl), (omega (arith, key), refl))))
 
-taps_fit : Fits taps written_taps
+taps_fit : (l : Location) → Fits taps (written_taps l)
 unfolding Fits
-taps_fit = (omega arith, (refl, ((omega arith, (omega arith, (omega arith, (omega arith, refl)))), tt)))
+taps_fit l = (omega arith, (refl, ((omega arith, (omega arith, (omega arith, (omega arith, refl)))), tt)))
 
-parts_fit : (l : Location) → length l.key ≡ 4 → Fits components ((location_tag, spell location l) ∷ (binder_tag, spell taps written_taps) ∷ [])
+parts_fit : (l : Location) → length l.key ≡ 4 → Fits components ((location_tag, spell location l) ∷ (binder_tag, spell taps (written_taps l)) ∷ [])
 unfolding Fits spell
 parts_fit l key = ((omega arith, refl), (omega arith, (refl, ((omega arith, (omega (arith, key, ap length (location_whole l)), refl)), ((omega arith, (omega arith, refl)), tt)))))
 
-biop_found : (l : Location) → length l.key ≡ 4 → IsLocation l → biop_in (front_of components (written_content l)) ≡ Some (Biop l written_taps)
+biop_found : (l : Location) → length l.key ≡ 4 → IsLocation l → biop_in (front_of components (written_content l)) ≡ Some (Biop l (written_taps l))
 biop_found l key room =
     rw (
-      front_spelled components ((location_tag, spell location l) ∷ (binder_tag, spell taps written_taps) ∷ []) (parts_fit l key),
+      front_spelled components ((location_tag, spell location l) ∷ (binder_tag, spell taps (written_taps l)) ∷ []) (parts_fit l key),
       front_spelled location l (location_fits l key room),
-      front_spelled taps written_taps taps_fit,
+      front_spelled taps (written_taps l) (taps_fit l),
     )
 
-profile_fits : (l : Location) → length l.key ≡ 4 → IsLocation l → Fits profile (Biop l written_taps)
+profile_fits : (l : Location) → length l.key ≡ 4 → IsLocation l → Fits profile (Biop l (written_taps l))
 unfolding Fits
 profile_fits l key room =
     (omega arith, (omega (arith, ap length (content_is l), spelled_length l key), sym (ap (or_other biop_tag (written_content l)) (biop_found l key room))))

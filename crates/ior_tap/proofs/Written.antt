@@ -11,7 +11,7 @@ some x = Some x
 location_is : (ior : Fields) (l m : Location) (taps : List TapFields) → IsWritten ior l → some (m, taps) ≡ biop_of_profiles ior.profiles → m ≡ l
 location_is ior l m taps form e =
     let first = ap (λ (i : Fields). biop_of_profiles i.profiles) form.form in
-    let both : (m, taps) ≡ (l, written_tap ∷ []) = cc in
+    let both : (m, taps) ≡ (l, written_tap l.module ∷ []) = cc in
     ap (λ (x : Location × List TapFields). x.0) both
 
 -- the bytes are the one spelling of a reference, which they read as

@@ -1,8 +1,10 @@
 -- IORs: object references with a location and taps.
-use Rattle.std.specs.Prelude.{◌≡◌, ℕ, ◌<◌, List, [], ◌∷◌, ◌++◌, length, map, take, drop, Option, Some, None, nat_le, ◌==◌, ◌&&◌, if◌then◌else◌}
+use Rattle.std.specs.Prelude.{◌≡◌, ℕ, ◌+◌, ◌*◌, ◌<◌, ◌≤◌, List, [], ◌∷◌, ◌++◌, length, map, take, drop, Option, Some, None, nat_le, ◌==◌, ◌&&◌, if◌then◌else◌}
 use Rattle.std.specs.List.{flat_map}
 use Rattle.oc_bytes.specs.Numbers.{two_bytes, four_bytes, number_of}
 use Rattle.oc_bytes.specs.Grammar.{Grammar, one, two, four, number, bytes, sized, each, field, gives, this, front_of, spell, Reads as ReadsBy}
+use Rattle.module_groups.specs.declared.TheConstants.{GREATEST_ID}
+use Rattle.module_groups.specs.Groups.{group_of}
 use Rattle.ior_tap.specs.declared.Location.{Location}
 use Rattle.ior_tap.specs.declared.Tap.{Tap}
 use Rattle.ior_tap.specs.declared.Profile.{Profile}
@@ -146,18 +148,23 @@ Reads = ReadsBy ior
 
 -- ---- what is written
 
--- the tap that is written: delivery by the control messages
-abbrev pub written_tap : TapFields
-written_tap = record { id = 0; use_code = 0x0016; assoc = 0x0001; selector = two_bytes 0x0001 ++ four_bytes 0x80000002 ++ four_bytes 0xFFFFFFFF }
+-- the transactionId by which a module is delivered: the identification is that of the DII that lists it, its group; version and flag are 0
+abbrev pub delivery_of_module : ℕ → ℕ
+delivery_of_module m = 0x80000000 + 2 * group_of m
 
--- the one form that is written: a profile with a location and that tap
+-- the tap that is written for a module: delivery by the control messages
+abbrev pub written_tap : ℕ → TapFields
+written_tap m = record { id = 0; use_code = 0x0016; assoc = 0x0001; selector = two_bytes 0x0001 ++ four_bytes (delivery_of_module m) ++ four_bytes 0xFFFFFFFF }
+
+-- the one form that is written: a profile with a location and the tap of its module
 abbrev pub written_form : List ℕ → Location → Fields
-written_form kind l = record { kind = kind; profiles = Biop l (written_tap ∷ []) ∷ [] }
+written_form kind l = record { kind = kind; profiles = Biop l (written_tap l.module ∷ []) ∷ [] }
 
 pub record IsWritten (ior : Fields) (l : Location) : Type 0 where
   pub form : ior ≡ written_form ior.kind l
   pub four : length ior.kind ≡ 4
   pub key : length l.key ≡ 4
+  pub listed : (1 ≤ l.module) × (l.module ≤ GREATEST_ID)
 
 -- a location whose numbers have room in their fields
 pub record IsLocation (l : Location) : Type 0 where
@@ -179,7 +186,7 @@ biop_bytes l ts = 0 ∷ 2 ∷ component_bytes location_tag (location_bytes l)
 
 -- the one spelling of a location of objects of this kind, byte by byte: what the grammar spells for the written form
 abbrev pub spelling : List ℕ → Location → List ℕ
-spelling kind l = let content = biop_bytes l (written_tap ∷ []) in
+spelling kind l = let content = biop_bytes l (written_tap l.module ∷ []) in
     four_bytes 4 ++ kind ++ four_bytes 1 ++ four_bytes biop_tag ++ four_bytes (length content) ++ content
 
 -- the first profile that has a location

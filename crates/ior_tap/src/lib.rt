@@ -28,7 +28,7 @@ use oc_bytes::Cut;
 pub use reading::{decode, one_reading};
 use std::alloc::{AllocError, AllocFailed};
 use thiserror::Error;
-pub use writing::{encode, put_reference};
+pub use writing::{delivery_of_module, encode, put_reference};
 
 /// A tap: how a stream of the network is reached (ISO/IEC 13818-6, clause 5.6).
 #[derive(Debug, Drop)]

@@ -1,16 +1,19 @@
-ghost use Rattle.std.specs.Prelude.{◌≡◌, ◌++◌, length, IfOk, OnOk, OnErr};
-ghost use Rattle.ior_tap.specs.Iors.{view, Reads, IsWritten, IsLocation, spelling};
+ghost use Rattle.std.specs.Prelude.{◌≡◌, ◌≤◌, ◌++◌, length, IfOk, OnOk, OnErr};
+ghost use Rattle.ior_tap.specs.Iors.{view, Reads, IsWritten, IsLocation, delivery_of_module, spelling};
 ghost use Rattle.ior_tap.specs.declared.Location.{Location};
+ghost use Rattle.module_groups.specs.declared.TheConstants.{GREATEST_ID};
 
 use crate::{BINDER_TAG, BIOP_TAG, Ior, LOCATION_TAG, Location, biop_of};
+use module_groups::group_of;
 use oc_bytes::{NoMemory, Writer};
 use std::alloc::Global;
 
 /// The one spelling of an IOR, 63 bytes.
 ///
-/// The IOR has the written form: one BIOP profile of a location with a key of 4 bytes and of one tap, which delivers
-/// the control messages (use 0x0016, association tag 0x0001, selector type 0x0001, transactionId 0x80000002, no
-/// time-out). The location stands first, the tap second.
+/// The IOR has the written form: one BIOP profile of a location with a key of 4 bytes and a module from 1 to
+/// [`module_groups::GREATEST_ID`], and of one tap, which delivers the control messages (use 0x0016, association tag 0x0001,
+/// selector type 0x0001, the transactionId of the DII that lists the module with version and flag 0, no time-out). The location
+/// stands first, the tap second.
 /// (ISO/IEC 13818-6, clause 11.3; ETSI TR 101 202, clauses 4.7.3 and 4.7.5.)
 pub fn encode(alloc: Global, ior: &Ior) -> Result<Vec<u8>, NoMemory>
     requires { (l : Location) × IsWritten (view ior.now) l }
@@ -24,18 +27,29 @@ pub fn encode(alloc: Global, ior: &Ior) -> Result<Vec<u8>, NoMemory>
     Ok(out.done())
 }
 
-/// The ConnBinder that is written: one tap of id 0, use 0x0016 and association tag 0x0001, with a selector of type
-/// 0x0001, the DSI's transactionId and no time-out.
-const BINDER: [u8; 18] = [
-    1, 0, 0, 0, 0x16, 0, 1, 10, 0, 1, 0x80, 0, 0, 2, 0xFF, 0xFF, 0xFF, 0xFF,
-];
+/// The ConnBinder that is written, up to its transactionId: one tap of id 0, use 0x0016 and association tag 0x0001, with a selector
+/// of type 0x0001.
+const BINDER_FRONT: [u8; 10] = [1, 0, 0, 0, 0x16, 0, 1, 10, 0, 1];
+
+/// No time-out.
+const NO_TIME_OUT: [u8; 4] = [0xFF; 4];
+
+/// The transactionId by which a module is delivered, by the module's id, 1 to [`module_groups::GREATEST_ID`]: that of the DII that
+/// lists the module, with version and flag 0, so that it stays from generation to generation. (ISO/IEC 13818-6, clause 11.3; that version
+/// and flag are 0 is this project's own rule.) Takes no memory.
+pub fn delivery_of_module(id: u16) -> u32
+    ensures { result ≡ delivery_of_module id }
+{
+    0x8000_0000 + 2 * u32::from(group_of(id))
+}
 
 /// Puts the spelling of a reference to an object, 63 bytes: what `encode` gives for the IOR of this kind and location.
 ///
-/// The kind has 4 bytes by the standard's profile, and the location's key has 4 bytes. After a refusal the writer is as it
-/// was.
+/// The kind has 4 bytes by the standard's profile, the location's key has 4 bytes, and its module is 1 to
+/// [`module_groups::GREATEST_ID`]. After a refusal the writer is as it was.
 pub fn put_reference(out: &mut Writer, kind: &[u8], location: &Location) -> Result<(), NoMemory>
-    requires { length location.now.key ≡ 4 }
+    requires key { length location.now.key ≡ 4 }
+    requires listed { (1 ≤ location.now.module) × (location.now.module ≤ GREATEST_ID) }
     ensures put { OnOk result (out.new ≡ out.old ++ spelling kind.now location.now) }
     ensures room { OnOk result (IsLocation location.now) }
     ensures err { OnErr result (out.new ≡ out.old) }
@@ -60,6 +74,8 @@ pub fn put_reference(out: &mut Writer, kind: &[u8], location: &Location) -> Resu
         key.bytes(),
         &BINDER_TAG.to_be_bytes(),
         &[18],
-        &BINDER,
+        &BINDER_FRONT,
+        &delivery_of_module(*module).to_be_bytes(),
+        &NO_TIME_OUT,
     ])
 }

@@ -35,12 +35,18 @@ after_says b x = go (eqb x.line.version b.version) where
   go true = refl
   go false = refl
 
+pub said_after : (b : ddb.Block) (xs : List Line) → map (λ x. x.line) (lines_after b xs) ≡ map (λ x. x.line) xs
+said_after b xs = same_says _ (line_after b) (after_says b) xs
+
+pub said_keeping : (xs old : List Line) → map (λ x. x.line) (fold lines_keeping xs old) ≡ map (λ x. x.line) xs
+said_keeping xs [] = refl
+said_keeping xs (x ∷ old) = said_keeping (lines_keeping xs x) old ∙ same_says _ (line_keeping x) (keeping_says x) xs
+
 pub once_after : (b : ddb.Block) (xs : List Line) → no_id_twice (map (λ x. x.line) xs) ≡ true → no_id_twice (map (λ x. x.line) (lines_after b xs)) ≡ true
-once_after b xs e = ap no_id_twice (same_says _ (line_after b) (after_says b) xs) ∙ e
+once_after b xs e = ap no_id_twice (said_after b xs) ∙ e
 
 pub once_keeping : (xs old : List Line) → no_id_twice (map (λ x. x.line) xs) ≡ true → no_id_twice (map (λ x. x.line) (fold lines_keeping xs old)) ≡ true
-once_keeping xs [] e = e
-once_keeping xs (x ∷ old) e = once_keeping (lines_keeping xs x) old (ap no_id_twice (same_says _ (line_keeping x) (keeping_says x) xs) ∙ e)
+once_keeping xs old e = ap no_id_twice (said_keeping xs old) ∙ e
 
 -- the lines of modules say the modules' own lines
 pub fresh_says : (block_size : ℕ) (ms : List ModuleLine) → map (λ x. x.line) (map (line_fresh block_size) ms) ≡ ms

@@ -3,6 +3,7 @@ pub mod Offers
 pub mod Places
 pub mod Contents
 pub mod Keeping
+pub mod Reaching
 pub mod Same
 pub mod Spanning
 pub mod Turning

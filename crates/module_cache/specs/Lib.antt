@@ -9,6 +9,7 @@ pub mod Chains
 pub mod Turns
 pub mod Joining
 pub mod Calls
+pub mod Reaches
 pub mod TunedView
 pub mod CacheView
 pub mod Inner

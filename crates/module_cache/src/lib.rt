@@ -22,6 +22,7 @@ mod beside;
 mod cache;
 mod laws;
 mod limits;
+mod reach;
 mod stored;
 mod taken;
 mod tuned;

@@ -14,6 +14,7 @@ ghost use Rattle.module_cache.specs.Spans.{same_line};
 ghost use Rattle.module_cache.specs.Held.{line_fresh, fresh_tuned, taken_line, taken_tuned, line_after, lines_after, tuned_after};
 ghost use Rattle.ddb_block.specs.declared.TheConstants.{MOST_BLOCK_SIZE};
 
+use crate::reach::{Reach, reach_of};
 use crate::stored::{Line, Stored};
 use crate::taken::Taken;
 use ddb_block::Parts;
@@ -29,6 +30,8 @@ pub struct Tuned {
     block_size: u16,
     identification: u16,
     version: u16,
+    /// The range of the lines' ids, where their order shows it.
+    reach: Option<Reach>,
     lines: Vec<Line>,
 }
 
@@ -157,6 +160,7 @@ impl Tuned {
             block_size: dii.block_size,
             identification: dii.transaction.identification(),
             version: dii.transaction.version(),
+            reach: reach_of(&dii.modules),
             lines,
         })
     }
@@ -189,14 +193,17 @@ impl Tuned {
     pub(crate) fn has_line_for(&self, parts: &Parts<'_>) -> bool
         ensures { result ≡ has_line (parts_view parts.now) self.now }
     {
-        self.download == parts.download && lists_module(&self.lines, parts.module)
+        self.download == parts.download && self.lists(parts.module)
     }
 
     /// The DII lists this module.
     pub(crate) fn lists(&self, id: u16) -> bool
         ensures { result ≡ list_any (λ x. x.line.id == id) self.now.lines }
     {
-        lists_module(&self.lines, id)
+        match self.reach {
+            Some(reach) if !reach.has(id) => false,
+            _ => lists_module(&self.lines, id),
+        }
     }
 
     /// The DII's identification: 0 to 32,767.

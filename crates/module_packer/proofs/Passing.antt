@@ -5,7 +5,7 @@ use Rattle.std.proofs.lemmas.List.{at_drop_more, at_drop_all, take_rest}
 use Rattle.std.proofs.lemmas.List.Sums.{AllPass-from_list_all, list_all-from_AllPass}
 use Rattle.std.proofs.lemmas.List.Elements.{All-push, All-take, All-drop}
 use Rattle.std.proofs.lemmas.Bool.Decides.{nat_tests}
-use Rattle.dsi_dii.specs.declared.TheConstants.{MOST_MODULES}
+use Rattle.module_groups.specs.declared.TheConstants.{GREATEST_ID}
 use Rattle.module_packer.specs.Kept.{Placed, Filled, if_stays, filled_with, first_pass, first_filled, settled_in, filled_after, second_pass, two_passes, within, kept_modules, sizes_in, WereWithin, AreObjects}
 use Rattle.module_packer.specs.Sums.{Tells, sum_at}
 use Rattle.module_packer.specs.Placement.{fresh, IsPlacement}
@@ -175,6 +175,6 @@ pub afresh_is : {E : Type 0} (r : Result (Vec ℕ Global) E) (objects : List Pla
 afresh_is (Ok ms) objects ks e is = is ∙ e
 afresh_is (Err x) objects ks e is = is
 
-pub placed_is : {E : Type 0} (r : Result (Vec ℕ Global) E) (objects : List Placed) → AreObjects MOST_MODULES objects → IfOk r (λ ms. ms.items ≡ kept_modules MOST_MODULES objects) → IfOk r (λ ms. IsPlacement MOST_MODULES (sizes_in objects) ms.items)
-placed_is (Ok ms) objects are is = subst (λ (ks : List ℕ). IsPlacement MOST_MODULES (sizes_in objects) ks) (sym is) (kept_is MOST_MODULES objects are)
+pub placed_is : {E : Type 0} (r : Result (Vec ℕ Global) E) (objects : List Placed) → AreObjects GREATEST_ID objects → IfOk r (λ ms. ms.items ≡ kept_modules GREATEST_ID objects) → IfOk r (λ ms. IsPlacement GREATEST_ID (sizes_in objects) ms.items)
+placed_is (Ok ms) objects are is = subst (λ (ks : List ℕ). IsPlacement GREATEST_ID (sizes_in objects) ks) (sym is) (kept_is GREATEST_ID objects are)
 placed_is (Err x) objects are is = is

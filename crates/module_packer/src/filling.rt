@@ -7,30 +7,30 @@ ghost use Rattle.module_packer.specs.Kept.{Filled, if_stays, filled_with, settle
 ghost use Rattle.module_packer.specs.Sums.{Tells, takes_more as takes, stays_by, sum_at, number_at, shared_of, moved_by};
 
 use crate::packing::ROOM;
-use dsi_dii::MOST_MODULES;
+use module_groups::GREATEST_ID;
 
 /// The modules that are in use, with the bytes of the objects in each.
 #[derive(Drop)]
 pub struct Filling {
     /// From module 1 on.
-    sums: [Option<u32>; MOST_MODULES],
+    sums: [Option<u32>; GREATEST_ID],
 }
 
 impl Filling {
     /// No object is placed yet.
     pub fn new() -> Filling
-        ensures { Tells MOST_MODULES result.sums [] }
+        ensures { Tells GREATEST_ID result.sums [] }
     {
         Filling {
-            sums: [None; MOST_MODULES],
+            sums: [None; GREATEST_ID],
         }
     }
 
     /// Places an object in its old module, if it stays there, and answers that module.
     pub fn keep(&mut self, size: u32, old: Option<u16>) -> Option<u16>
-        requires { (m : ℕ) → old ≡ Some m → (1 ≤ m) × (m ≤ MOST_MODULES) }
-        ensures answer { (f : Filled) → Tells MOST_MODULES self.old.sums f → result ≡ if_stays f size old }
-        ensures after { (f : Filled) → Tells MOST_MODULES self.old.sums f → Tells MOST_MODULES self.new.sums (filled_with f (if_stays f size old) size) }
+        requires { (m : ℕ) → old ≡ Some m → (1 ≤ m) × (m ≤ GREATEST_ID) }
+        ensures answer { (f : Filled) → Tells GREATEST_ID self.old.sums f → result ≡ if_stays f size old }
+        ensures after { (f : Filled) → Tells GREATEST_ID self.old.sums f → Tells GREATEST_ID self.new.sums (filled_with f (if_stays f size old) size) }
     {
         match old {
             Some(number) if self.stays(size, number) => {
@@ -44,10 +44,10 @@ impl Filling {
     /// The module of an object that may stay in one. If it doesn't stay, it is placed; nothing comes where it would need
     /// a module above the limit.
     pub fn settle(&mut self, size: u32, stays: Option<u16>) -> Option<u16>
-        requires { (m : ℕ) → stays ≡ Some m → (1 ≤ m) × (m ≤ MOST_MODULES) }
-        ensures number { (f : Filled) → Tells MOST_MODULES self.old.sums f → MatchOption result (MOST_MODULES < settled_in MOST_MODULES f size stays)
-            (λ m. (m ≡ settled_in MOST_MODULES f size stays) × (m ≤ MOST_MODULES)) }
-        ensures after { (f : Filled) → Tells MOST_MODULES self.old.sums f → OnSome result (Tells MOST_MODULES self.new.sums (filled_after MOST_MODULES f size stays)) }
+        requires { (m : ℕ) → stays ≡ Some m → (1 ≤ m) × (m ≤ GREATEST_ID) }
+        ensures number { (f : Filled) → Tells GREATEST_ID self.old.sums f → MatchOption result (GREATEST_ID < settled_in GREATEST_ID f size stays)
+            (λ m. (m ≡ settled_in GREATEST_ID f size stays) × (m ≤ GREATEST_ID)) }
+        ensures after { (f : Filled) → Tells GREATEST_ID self.old.sums f → OnSome result (Tells GREATEST_ID self.new.sums (filled_after GREATEST_ID f size stays)) }
     {
         match stays {
             Some(number) => Some(number),
@@ -58,7 +58,7 @@ impl Filling {
     /// Places an object that doesn't stay, and answers its module, if there is one for it.
     fn move_in(&mut self, size: u32) -> Option<u16>
         ensures answer { result ≡ moved_by size self.old.sums }
-        ensures after { (f : Filled) → Tells MOST_MODULES self.old.sums f → OnSome result (Tells MOST_MODULES self.new.sums (filled_after MOST_MODULES f size None)) }
+        ensures after { (f : Filled) → Tells GREATEST_ID self.old.sums f → OnSome result (Tells GREATEST_ID self.new.sums (filled_after GREATEST_ID f size None)) }
     {
         match self.room_for(size) {
             Some(number) => {
@@ -71,7 +71,7 @@ impl Filling {
 
     /// Places an object in a module, from 1 to the limit.
     pub fn put(&mut self, size: u32, number: u16)
-        requires number { (1 ≤ number) × (number ≤ MOST_MODULES) }
+        requires number { (1 ≤ number) × (number ≤ GREATEST_ID) }
         requires fits { sum_at self.old.sums (number - 1) + size < 2 ^ 32 }
         ensures { self.new.sums ≡ slice_set self.old.sums (number - 1) (Some (sum_at self.old.sums (number - 1) + size)) }
     {
@@ -81,7 +81,7 @@ impl Filling {
 
     /// The bytes in a module.
     fn sum(&self, number: u16) -> u32
-        requires { (1 ≤ number) × (number ≤ MOST_MODULES) }
+        requires { (1 ≤ number) × (number ≤ GREATEST_ID) }
         ensures { result ≡ sum_at self.now.sums (number - 1) }
     {
         self.sums[usize::from(number - 1)].unwrap_or(0)
@@ -89,7 +89,7 @@ impl Filling {
 
     /// Whether an object stays in a module: a small one where there is room for it, a large one where nothing is.
     fn stays(&self, size: u32, number: u16) -> bool
-        requires { (1 ≤ number) × (number ≤ MOST_MODULES) }
+        requires { (1 ≤ number) × (number ≤ GREATEST_ID) }
         ensures { result ≡ stays_by size (slice_index_or self.now.sums (number - 1) None) }
     {
         if size <= ROOM {
@@ -146,7 +146,7 @@ fn first_unused(sums: &[Option<u32>]) -> Option<usize>
 
 /// The number of the module at a place.
 fn number_of(place: Option<usize>) -> Option<u16>
-    requires { IfSome place (λ k. k < MOST_MODULES) }
+    requires { IfSome place (λ k. k < GREATEST_ID) }
     ensures { result ≡ number_at place }
 {
     match place {

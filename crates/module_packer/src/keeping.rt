@@ -7,11 +7,11 @@ ghost use Rattle.module_packer.specs.Sums.{Tells};
 
 use crate::filling::Filling;
 use crate::place_fresh;
-use dsi_dii::MOST_MODULES;
+use module_groups::GREATEST_ID;
 use oc_bytes::NoMemory;
 use std::alloc::Global;
 
-/// The module of each object, a number from 1 to [`MOST_MODULES`], where an object keeps the module that it had as long as that one
+/// The module of each object, a number from 1 to [`GREATEST_ID`], where an object keeps the module that it had as long as that one
 /// doesn't grow too large.
 ///
 /// `objects` has each object's size in bytes, in object order, and the module that it had, if any.
@@ -20,14 +20,14 @@ use std::alloc::Global;
 ///   at most `ROOM` bytes with it, and a larger object if nothing lies there yet.
 /// - What is left is placed last, in object order: up to `ROOM` bytes in the lowest numbered module that isn't empty and has
 ///   at most `ROOM` bytes with it. Where there is none, and for any larger object, it is the lowest numbered empty one.
-/// - If a number above [`MOST_MODULES`] came out, no module is kept, and the answer is that of `place_fresh`.
+/// - If a number above [`GREATEST_ID`] came out, no module is kept, and the answer is that of `place_fresh`.
 ///
-/// `objects` isn't empty, and `need` of the sizes is at most [`MOST_MODULES`]. The first object had module 1 or none, and each other one
-/// a module from 1 to [`MOST_MODULES`] or none. Out of memory is the only refusal. The rule is this project's own.
+/// `objects` isn't empty, and `need` of the sizes is at most [`GREATEST_ID`]. The first object had module 1 or none, and each other one
+/// a module from 1 to [`GREATEST_ID`] or none. Out of memory is the only refusal. The rule is this project's own.
 pub fn place(alloc: Global, objects: &[(u32, Option<u16>)]) -> Result<Vec<u16>, NoMemory>
-    requires { AreObjects MOST_MODULES objects.now }
-    ensures kept { IfOk result (λ ms. ms.items ≡ kept_modules MOST_MODULES objects.now) }
-    ensures fits { IfOk result (λ ms. IsPlacement MOST_MODULES (sizes_in objects.now) ms.items) }
+    requires { AreObjects GREATEST_ID objects.now }
+    ensures kept { IfOk result (λ ms. ms.items ≡ kept_modules GREATEST_ID objects.now) }
+    ensures fits { IfOk result (λ ms. IsPlacement GREATEST_ID (sizes_in objects.now) ms.items) }
 {
     let mut filling = Filling::new();
     filling.put(objects[0].0, 1);
@@ -44,9 +44,9 @@ fn stay(
     filling: &mut Filling,
     objects: &[(u32, Option<u16>)],
 ) -> Result<Vec<(u32, Option<u16>)>, NoMemory>
-    requires { WereWithin MOST_MODULES objects.now }
-    ensures passed { (f : Filled) → Tells MOST_MODULES filling.old.sums f → IfOk result (λ v. v.items ≡ first_pass f objects.now) }
-    ensures filled { (f : Filled) → Tells MOST_MODULES filling.old.sums f → OnOk result (Tells MOST_MODULES filling.new.sums (first_filled f objects.now)) }
+    requires { WereWithin GREATEST_ID objects.now }
+    ensures passed { (f : Filled) → Tells GREATEST_ID filling.old.sums f → IfOk result (λ v. v.items ≡ first_pass f objects.now) }
+    ensures filled { (f : Filled) → Tells GREATEST_ID filling.old.sums f → OnOk result (Tells GREATEST_ID filling.new.sums (first_filled f objects.now)) }
 {
     let mut stayed = Vec::with_capacity(alloc, objects.len())?;
     for (size, old) in objects {
@@ -63,9 +63,9 @@ fn numbers(
     filling: &mut Filling,
     others: &[(u32, Option<u16>)],
 ) -> Result<Option<Vec<u16>>, NoMemory>
-    requires { WereWithin MOST_MODULES others.now }
-    ensures { (f : Filled) → Tells MOST_MODULES filling.old.sums f → IfOk result (λ r. MatchOption r (within MOST_MODULES (1 ∷ second_pass MOST_MODULES f others.now) ≡ false)
-        (λ ms. (ms.items ≡ 1 ∷ second_pass MOST_MODULES f others.now) × (within MOST_MODULES ms.items ≡ true))) }
+    requires { WereWithin GREATEST_ID others.now }
+    ensures { (f : Filled) → Tells GREATEST_ID filling.old.sums f → IfOk result (λ r. MatchOption r (within GREATEST_ID (1 ∷ second_pass GREATEST_ID f others.now) ≡ false)
+        (λ ms. (ms.items ≡ 1 ∷ second_pass GREATEST_ID f others.now) × (within GREATEST_ID ms.items ≡ true))) }
 {
     let mut modules = vec![in alloc; 1]?;
     for (size, stays) in others {
@@ -79,7 +79,7 @@ fn numbers(
 
 /// The fresh placement of objects.
 fn afresh(alloc: Global, objects: &[(u32, Option<u16>)]) -> Result<Vec<u16>, NoMemory>
-    requires { AreObjects MOST_MODULES objects.now }
+    requires { AreObjects GREATEST_ID objects.now }
     ensures { IfOk result (λ ms. ms.items ≡ fresh (sizes_in objects.now)) }
 {
     let sizes: Vec<u32> = objects.iter().map(|object| object.0).collect(alloc)?;

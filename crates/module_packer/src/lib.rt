@@ -22,9 +22,9 @@ mod keeping;
 mod limits;
 mod packing;
 
-use dsi_dii::MOST_MODULES;
 pub use keeping::place;
 pub use limits::limits_are_numbers;
+use module_groups::GREATEST_ID;
 use oc_bytes::NoMemory;
 use packing::Packing;
 pub use packing::ROOM;
@@ -43,18 +43,18 @@ pub fn need(sizes: &[u32]) -> usize
     packing.modules()
 }
 
-/// The module of each object, a number from 1 to [`MOST_MODULES`], of a fresh placement.
+/// The module of each object, a number from 1 to [`GREATEST_ID`], of a fresh placement.
 ///
 /// The objects are taken in order. One of more than [`ROOM`] bytes gets a module of its own. Any other goes into the
 /// module that was opened last for such objects while the sum of sizes stays at most [`ROOM`] there, and else opens a new
 /// one. Modules are numbered from 1 in order of opening, so the first object is in module 1.
 ///
-/// `sizes` isn't empty, and `need` of it is at most [`MOST_MODULES`]. Out of memory is the only refusal.
+/// `sizes` isn't empty, and `need` of it is at most [`GREATEST_ID`]. Out of memory is the only refusal.
 pub fn place_fresh(alloc: Global, sizes: &[u32]) -> Result<Vec<u16>, NoMemory>
     requires some { 0 < length sizes.now }
-    requires few { modules_needed sizes.now ≤ MOST_MODULES }
+    requires few { modules_needed sizes.now ≤ GREATEST_ID }
     ensures fresh { IfOk result (λ ms. ms.items ≡ fresh sizes.now) }
-    ensures fits { IfOk result (λ ms. IsPlacement MOST_MODULES sizes.now ms.items) }
+    ensures fits { IfOk result (λ ms. IsPlacement GREATEST_ID sizes.now ms.items) }
 {
     let mut packing = Packing::new();
     let mut modules = Vec::with_capacity(alloc, sizes.len())?;

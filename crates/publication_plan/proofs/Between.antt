@@ -1,5 +1,5 @@
 -- What was passed over, at its place between the objects.
-use Rattle.std.proofs.Common.{◌≡◌, ℕ, zero, suc, ◌+◌, ◌-◌, ◌<◌, ◌≤◌, Bool, true, false, cond, List, [], ◌∷◌, ◌++◌, length, map, take, drop, get_or, refl, ◌∙◌, sym, ap, arith, append_assoc, append-nil, add-one, length-drop}
+use Rattle.std.proofs.Common.{◌≡◌, ℕ, zero, suc, ◌+◌, ◌-◌, ◌<◌, ◌≤◌, Bool, true, false, cond, List, [], ◌∷◌, ◌++◌, length, map, take, drop, get_or, Result, Ok, Err, is_ok, refl, ◌∙◌, sym, ap, arith, append_assoc, append-nil, add-one, length-drop}
 use Rattle.std.specs.List.{flat_map}
 use Rattle.std.proofs.lemmas.Grind.{flat_map-append}
 use Rattle.std.proofs.lemmas.List.{drop-drop, drop-map, get_or-map, length-map, take-map, take_all, take_more}
@@ -12,7 +12,7 @@ use Rattle.generation.specs.Objects.{object_of}
 use Rattle.generation.specs.declared.listing.Object.{Object}
 use Rattle.folder_store.specs.declared.sights.Standing.{Standing}
 use Rattle.folder_store.specs.Surveys.{Stands, names_at, view_standing}
-use Rattle.std.specs.Prelude.{codes}
+use Rattle.std.specs.Prelude.{codes, OnOk, if◌then◌else◌}
 use Rattle.shell_words.specs.Texts.{line}
 use Rattle.publication_plan.specs.Telling.{cycle_line, cycle_packets, entry_lines, four_fields, hidden_text, left_first, left_line, left_rest, module_line, object_line, plan_text, stands_before}
 
@@ -148,22 +148,30 @@ mapped_more view f xs i x text line next begun within is t l n =
 
 -- ---- the whole text
 
-pub plan_made : (weights : List ℕ) (bitrate : ℕ) (g : GenerationState) (left : List Stands) (tree : Tree) (objects : List Object) (sections packets : ℕ) (empty first second third line : Bytes)
-    → empty ≡ [] → tree ≡ g.tree → objects ≡ map object_of g.objects → sections ≡ length (cycle_of weights (lines_of g)) → packets ≡ length (cycle_packets weights g)
-    → first ≡ empty ++ entry_lines tree objects left → second ≡ first ++ flat_map (module_line weights g) (lines_of g) → line ≡ cycle_line sections packets bitrate → third ≡ second ++ line
-    → third ≡ plan_text weights bitrate g left
-plan_made weights bitrate g left tree objects sections packets empty first second third line none t o n p f s l d =
+pub plan_made : (weights : List ℕ) (bitrate : ℕ) (g : GenerationState) (left : List Stands) (empty first second third : Bytes)
+    → empty ≡ [] → first ≡ empty ++ entry_lines g.tree (map object_of g.objects) left → second ≡ first ++ flat_map (module_line weights g) (lines_of g)
+    → third ≡ second ++ cycle_line (length (cycle_of weights (lines_of g))) (length (cycle_packets weights g)) bitrate → third ≡ plan_text weights bitrate g left
+plan_made weights bitrate g left empty first second third none f s d =
     let entries : Bytes = entry_lines g.tree (map object_of g.objects) left in
     let modules : Bytes = flat_map (module_line weights g) (lines_of g) in
-    let front : first ≡ entries = f ∙ ap (λ (bs : Bytes). bs ++ entry_lines tree objects left) none ∙ ap (λ (x : Tree). entry_lines x objects left) t ∙ ap (λ (os : List Object). entry_lines g.tree os left) o in
-    let last : line ≡ cycle_line (length (cycle_of weights (lines_of g))) (length (cycle_packets weights g)) bitrate =
-    l ∙ ap (λ k. cycle_line k packets bitrate) n ∙ ap (λ k. cycle_line (length (cycle_of weights (lines_of g))) k bitrate) p in
-    d ∙ ap (λ (bs : Bytes). bs ++ line) (s ∙ ap (λ (bs : Bytes). bs ++ modules) front) ∙ append_assoc entries modules line ∙ ap (λ (bs : Bytes). entries ++ (modules ++ bs)) last
+    let last : Bytes = cycle_line (length (cycle_of weights (lines_of g))) (length (cycle_packets weights g)) bitrate in
+    let front : first ≡ entries = f ∙ ap (λ (bs : Bytes). bs ++ entries) none in
+    d ∙ ap (λ (bs : Bytes). bs ++ last) (s ∙ ap (λ (bs : Bytes). bs ++ modules) front) ∙ append_assoc entries modules last
+
+-- a line that was put, by what it tells
+pub put_made : {T E : Type 0} (r : Result T E) (old line told new : Bytes) → line ≡ told → new ≡ (if is_ok r then old ++ line else old) → OnOk r (new ≡ old ++ told)
+put_made (Ok x) old line told new e n = n ∙ ap (λ (bs : Bytes). old ++ bs) e
+put_made (Err x) old line told new e n = tt
 
 -- equal fields make equal lines
-pub same_fields : (a b c d p q r s : Bytes) → a ≡ p → b ≡ q → c ≡ r → d ≡ s → four_fields a b c d ≡ four_fields p q r s
+same_fields : (a b c d p q r s : Bytes) → a ≡ p → b ≡ q → c ≡ r → d ≡ s → four_fields a b c d ≡ four_fields p q r s
 same_fields a b c d p q r s e f g h =
     ap (λ (x : Bytes). four_fields x b c d) e ∙ ap (λ (x : Bytes). four_fields p x c d) f ∙ ap (λ (x : Bytes). four_fields p q x d) g ∙ ap (λ (x : Bytes). four_fields p q r x) h
+
+-- equal fields, two by two, make equal lines
+pub same_pairs : (front back a b c d p q r s : Bytes) → front ≡ a ++ 32 ∷ b → back ≡ c ++ 32 ∷ d → a ≡ p → b ≡ q → c ≡ r → d ≡ s → line (front ++ 32 ∷ back) ≡ four_fields p q r s
+same_pairs front back a b c d p q r s f g =
+    λ e h i j. ap (λ (x : Bytes). line (x ++ 32 ∷ back)) f ∙ ap (λ (x : Bytes). line (a ++ 32 ∷ b ++ 32 ∷ x)) g ∙ ap line (sym (append_assoc (a ++ 32 ∷ b) (32 ∷ c) (32 ∷ d))) ∙ same_fields a b c d p q r s e h i j
 
 pub same_left : (path hidden : Bytes) (s : Stands) → path ≡ text_of (names_at s) → hidden ≡ hidden_text (names_at s) → line (codes "left " ++ path ++ hidden) ≡ left_line s
 same_left path hidden s e f =

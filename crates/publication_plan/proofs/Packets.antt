@@ -97,5 +97,5 @@ few_blocks lines are =
 pub few_in_cycle : {X : Type 0} (f : X → Bytes) (m : MuxState) (all : List X) (n : ℕ) → All IsSectionLike (map f all) → length all ≤ n → length (packets_of_all m (map f all)) ≤ 23 * n
 few_in_cycle f m all n like few = let most = few_all m (map f all) like in let size = length-map all f in omega (arith, most, size, few)
 
-pub few_items : (ws : List ℕ) (lines : List Line) → AreWeights ws → AreLines lines → length (cycle_of ws lines) ≤ 1166016521
+pub few_items : (ws : List ℕ) (lines : List Line) → AreWeights ws → AreLines lines → length (cycle_of ws lines) ≤ 1166016641
 few_items ws lines weights are = let most = cycle_at_most ws lines weights in let blocks = few_blocks lines are in omega (arith, most, blocks)

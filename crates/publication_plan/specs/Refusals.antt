@@ -11,7 +11,8 @@ use Rattle.path_tree.specs.declared.tree.EditFault.{EditFault}
 use Rattle.path_tree.specs.declared.tree.EditFault.TheVariants as edits
 use Rattle.path_tree.specs.declared.tree.TheConstants.{MOST_CONTENT}
 use Rattle.biop_object.specs.declared.written.TheConstants.{MOST_FOLDER_SIZE}
-use Rattle.dsi_dii.specs.declared.TheConstants.{MOST_MODULES, MOST_TOTAL_SIZE}
+use Rattle.dsi_dii.specs.declared.TheConstants.{MOST_TOTAL_SIZE}
+use Rattle.module_groups.specs.declared.TheConstants.{GREATEST_ID}
 use Rattle.generation.specs.Sizes.{large_size}
 use Rattle.generation.specs.declared.limit.TheConstants.{MOST_OBJECTS}
 use Rattle.generation_catalogue.specs.declared.entry.Refusal.{Refusal}
@@ -59,7 +60,7 @@ limit_of (refusals.Edit place edits.FileTooLarge) = Some MOST_CONTENT
 limit_of (refusals.TooManyObjects n) = Some MOST_OBJECTS
 limit_of (refusals.FolderTooLarge p) = Some MOST_FOLDER_SIZE
 limit_of (refusals.TooManyBytes n) = Some MOST_TOTAL_SIZE
-limit_of (refusals.TooManyModules n) = Some MOST_MODULES
+limit_of (refusals.TooManyModules n) = Some GREATEST_ID
 limit_of _ = None
 
 abbrev pub commit_line : FolderTree → Look → List Edit → Result Tree (ℕ × EditFault) → Refusal → Bytes

@@ -1,15 +1,18 @@
 //! The lines of a plan.
 
-ghost use Rattle.std.specs.Prelude.{◌≡◌, ◌≤◌, ◌++◌, [], length, map, IfOk, OnOk, codes, if◌then◌else◌};
+ghost use Rattle.std.specs.Prelude.{◌≡◌, ◌≤◌, ◌++◌, ◌∷◌, [], length, map, IfOk, OnOk, codes, if◌then◌else◌};
 ghost use Rattle.std.specs.List.{flat_map, All};
 ghost use Rattle.std.specs.Option.{unwrap_or};
 ghost use Rattle.std.specs.String.{string_bytes};
 ghost use Rattle.biop_object.specs.Names.{module_in};
 ghost use Rattle.path_tree.specs.Trees.{node_at};
+ghost use Rattle.cycle_planner.specs.Cycle.{cycle_of};
+ghost use Rattle.module_groups.specs.declared.TheConstants.{GREATEST_ID};
 ghost use Rattle.generation.specs.Layouts.{lines_of};
+ghost use Rattle.generation.specs.Objects.{object_of};
 ghost use Rattle.section_stream.specs.Packing.{IsSectionLike};
 ghost use Rattle.folder_store.specs.Surveys.{names_at, view_standing};
-ghost use Rattle.publication_plan.specs.Telling.{count_of, cycle_line, cycle_sections, entry_lines, four_fields, hidden_text, is_hidden, is_hidden_name, kind_line, kind_text, left_first, left_line, module_line, object_line, plan_text, stands_before};
+ghost use Rattle.publication_plan.specs.Telling.{count_of, cycle_line, cycle_packets, cycle_sections, entry_lines, hidden_text, is_hidden, is_hidden_name, kind_line, kind_text, left_first, left_line, module_line, object_line, plan_text, stands_before};
 ghost use Rattle.shell_words.specs.Texts.{line, with_number};
 ghost use Rattle.publication_plan.specs.declared.counting.TheConstants.{MOST_PACKETS};
 
@@ -33,17 +36,27 @@ pub(crate) fn plan_lines(
     requires rate { 1 ≤ bitrate }
     ensures { IfOk result (λ text. string_bytes text ≡ plan_text weigh.now.weights bitrate generation.now (map view_standing left.now)) }
 {
-    let objects = generation.objects()?;
     let mut text = String::new(alloc);
-    put_entries(alloc, generation.tree(), &objects, left, &mut text)?;
+    put_objects(alloc, generation, left, &mut text)?;
     put_modules(alloc, generation, weigh, &mut text)?;
-    let cycle = count_cycle(alloc, generation, weigh)?;
-    let line = cycle_text(alloc, cycle, bitrate)?;
-    text.push_str(&line)?;
+    put_cycle(alloc, generation, weigh, bitrate, &mut text)?;
     Ok(text)
 }
 
 // ---- objects, and what was passed over
+
+/// The objects of a generation in order, and between them what was passed over.
+fn put_objects(
+    alloc: Global,
+    generation: &Generation,
+    left: &[Standing],
+    text: &mut String,
+) -> Result<(), NoMemory>
+    ensures { OnOk result (string_bytes text.new ≡ string_bytes text.old ++ entry_lines generation.now.tree (map object_of generation.now.objects) (map view_standing left.now)) }
+{
+    let objects = generation.objects()?;
+    put_entries(alloc, generation.tree(), &objects, left, text)
+}
 
 /// The objects in order, and between them what was passed over.
 fn put_entries(
@@ -221,14 +234,19 @@ fn module_text(
     id: u16,
     blocks: u32,
 ) -> Result<String, NoMemory>
-    requires { (1 ≤ id) × (id ≤ 2224) }
+    requires { (1 ≤ id) × (id ≤ GREATEST_ID) }
     ensures { IfOk result (λ text. string_bytes text ≡ module_line weigh.now.weights generation.now (id, blocks)) }
 {
-    let name = field(alloc, "module", u64::from(id))?;
-    let size = field(alloc, "size", module_size(generation, id) as u64)?;
-    let blocks = field(alloc, "blocks", u64::from(blocks))?;
-    let weight = field(alloc, "weight", u64::from(weigh.of(id)))?;
-    four_fields(alloc, &name, &size, &blocks, &weight)
+    let size = module_size(generation, id) as u64;
+    let front = two_fields(alloc, "module", u64::from(id), "size", size)?;
+    let back = two_fields(
+        alloc,
+        "blocks",
+        u64::from(blocks),
+        "weight",
+        u64::from(weigh.of(id)),
+    )?;
+    four_fields(alloc, &front, &back)
 }
 
 fn module_size(generation: &Generation, id: u16) -> usize
@@ -240,34 +258,57 @@ fn module_size(generation: &Generation, id: u16) -> usize
     }
 }
 
+/// The line of a cycle.
+fn put_cycle(
+    alloc: Global,
+    generation: &Generation,
+    weigh: &Weigh,
+    bitrate: u32,
+    text: &mut String,
+) -> Result<(), NoMemory>
+    requires like { All IsSectionLike (cycle_sections weigh.now.weights generation.now) }
+    requires rate { 1 ≤ bitrate }
+    ensures { OnOk result (string_bytes text.new ≡ string_bytes text.old ++ cycle_line (length (cycle_of weigh.now.weights (lines_of generation.now))) (length (cycle_packets weigh.now.weights generation.now)) bitrate) }
+{
+    let cycle = count_cycle(alloc, generation, weigh)?;
+    let line = cycle_text(alloc, cycle, bitrate)?;
+    text.push_str(&line)
+}
+
 fn cycle_text(alloc: Global, cycle: Cycle, bitrate: u32) -> Result<String, NoMemory>
     requires rate { 1 ≤ bitrate }
     requires few { cycle.packets ≤ MOST_PACKETS }
     ensures { IfOk result (λ text. string_bytes text ≡ cycle_line cycle.sections cycle.packets bitrate) }
 {
     let bytes = 188 * cycle.packets;
-    let sections = field(alloc, "cycle sections", cycle.sections)?;
-    let packets = field(alloc, "packets", cycle.packets)?;
-    let time = field(alloc, "milliseconds", time_of(bytes, bitrate))?;
-    let bytes = field(alloc, "bytes", bytes)?;
-    four_fields(alloc, &sections, &packets, &bytes, &time)
+    let time = time_of(bytes, bitrate);
+    let front = two_fields(
+        alloc,
+        "cycle sections",
+        cycle.sections,
+        "packets",
+        cycle.packets,
+    )?;
+    let back = two_fields(alloc, "bytes", bytes, "milliseconds", time)?;
+    four_fields(alloc, &front, &back)
 }
 
-/// A name and its number.
-fn field(alloc: Global, name: &str, number: u64) -> Result<String, NoMemory>
-    ensures { IfOk result (λ text. string_bytes text ≡ with_number name.now number) }
-{
-    format!(in alloc; "{name} {number}")
-}
-
-fn four_fields(
+/// Two names, each with its number.
+fn two_fields(
     alloc: Global,
     first: &str,
+    number: u64,
     second: &str,
-    third: &str,
-    fourth: &str,
+    other: u64,
 ) -> Result<String, NoMemory>
-    ensures { IfOk result (λ text. string_bytes text ≡ four_fields first.now second.now third.now fourth.now) }
+    ensures { IfOk result (λ text. string_bytes text ≡ with_number first.now number ++ 32 ∷ with_number second.now other) }
 {
-    format!(in alloc; "{first} {second} {third} {fourth}\n")
+    format!(in alloc; "{first} {number} {second} {other}")
+}
+
+/// The line of four fields, two by two.
+fn four_fields(alloc: Global, front: &str, back: &str) -> Result<String, NoMemory>
+    ensures { IfOk result (λ text. string_bytes text ≡ line (front.now ++ 32 ∷ back.now)) }
+{
+    format!(in alloc; "{front} {back}\n")
 }

@@ -13,7 +13,8 @@ ghost use Rattle.publication_plan.specs.Telling.{number_text, refused_line, unre
 ghost use Rattle.shell_words.specs.Texts.{line};
 
 use biop_object::MOST_FOLDER_SIZE;
-use dsi_dii::{MOST_MODULES, MOST_TOTAL_SIZE};
+use cycle_planner::GREATEST_ID;
+use dsi_dii::MOST_TOTAL_SIZE;
 use folder_store::{FolderFault, Folders, Surveyed};
 use generation::{MOST_OBJECTS, large_folder_size};
 use generation_catalogue::{MOST_PUT_BYTES, Refusal};
@@ -113,7 +114,7 @@ pub(crate) fn limit_in(refusal: &Refusal) -> Option<u64>
         Refusal::TooManyObjects(_) => Some(MOST_OBJECTS as u64),
         Refusal::FolderTooLarge(_) => Some(u64::from(MOST_FOLDER_SIZE)),
         Refusal::TooManyBytes(_) => Some(u64::from(MOST_TOTAL_SIZE)),
-        Refusal::TooManyModules(_) => Some(MOST_MODULES as u64),
+        Refusal::TooManyModules(_) => Some(GREATEST_ID as u64),
         Refusal::SeasonFull(_) | Refusal::Edit(..) => None,
     }
 }

@@ -3,12 +3,13 @@
 use Rattle.std.specs.Prelude.{◌≡◌}
 use Rattle.path_tree.specs.declared.text.TheConstants.{MOST_NAMES}
 use Rattle.path_tree.specs.declared.tree.TheConstants.{MOST_CONTENT}
+use Rattle.module_groups.specs.declared.TheConstants.{GROUP_SIZE, MOST_GROUPS, GREATEST_ID}
 use Rattle.ddb_block.specs.declared.TheConstants.{MOST_BLOCK_SIZE, MOST_BLOCKS}
 use Rattle.dsi_dii.specs.declared.TheConstants.{MOST_MODULES, BLOCK_SIZE}
 use Rattle.dsi_dii.specs.declared.TheConstants.{MOST_TOTAL_SIZE, LAST_GENERATION}
 use Rattle.biop_object.specs.declared.written.TheConstants.{MOST_FOLDER_SIZE}
 use Rattle.block_assembler.specs.declared.TheConstants.{MOST_MODULE_SIZE}
-use Rattle.cycle_planner.specs.declared.weigh.TheConstants.{GREATEST_ID, GREATEST_WEIGHT}
+use Rattle.cycle_planner.specs.declared.weigh.TheConstants.{GREATEST_WEIGHT}
 use Rattle.cycle_planner.specs.declared.TheConstants.{MOST_DRAWN}
 use Rattle.generation.specs.declared.limit.TheConstants.{MOST_OBJECTS}
 use Rattle.generation_catalogue.specs.declared.journal.TheConstants.{MOST_DRAWS, MOST_PUT_BYTES}
@@ -62,14 +63,16 @@ pub record Limits : Type 0 where
   pub last_generation : LAST_GENERATION ≡ 16383
   pub put_bytes : MOST_PUT_BYTES ≡ 536870912
   pub draws : MOST_DRAWS ≡ 16777216
-  -- modules and their blocks
-  pub modules : MOST_MODULES ≡ 139
+  -- modules by their ids, the groups that have a DII each, and their blocks
+  pub modules : GREATEST_ID ≡ 2224
+  pub groups : MOST_GROUPS ≡ 16
+  pub group_size : GROUP_SIZE ≡ 139
+  pub dii_modules : MOST_MODULES ≡ 139
   pub total_size : MOST_TOTAL_SIZE ≡ 268435456
   pub module_size : MOST_MODULE_SIZE ≡ 16842752
   pub block_size : BLOCK_SIZE ≡ 4066
   pub most_block_size : MOST_BLOCK_SIZE ≡ 4066
   pub blocks : MOST_BLOCKS ≡ 65536
   -- the order of a cycle
-  pub weighed : GREATEST_ID ≡ 2224
   pub weight : GREATEST_WEIGHT ≡ 8
   pub drawn : MOST_DRAWN ≡ 1048576

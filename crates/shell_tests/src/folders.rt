@@ -8,7 +8,7 @@ use oc_bytes::{MemSink, MemSource, NoMemory};
 use std::alloc::Global;
 use std::test::Fail;
 
-/// A folder with 139 files of 65,493 bytes. With the 44 bytes before them each is an object of 65,537 bytes, which has a
+/// A folder with 2,224 files of 65,493 bytes. With the 44 bytes before them each is an object of 65,537 bytes, which has a
 /// module of its own. What stands in the folder isn't known.
 #[derive(Drop)]
 struct ManyFiles;
@@ -16,7 +16,7 @@ struct ManyFiles;
 impl ManyFiles {
     fn entries(alloc: Global) -> Result<Vec<FolderEntry>, NoMemory> {
         let mut entries = Vec::new(alloc);
-        for number in 0..139u32 {
+        for number in 0..2_224u32 {
             entries.push(FolderEntry {
                 name: format!(in alloc; "{number}")?,
                 kind: EntryKind::File,
@@ -76,12 +76,12 @@ fn trees_that_are_too_large_are_refused(rt: HostRuntime) -> Result<(), Fail> {
     let line = status.line(alloc)?.ok_or("no line")?;
     assert_eq!(rt;
         line.as_str(),
-        "carousel: tree refused: too-many-modules 140"
+        "carousel: tree refused: too-many-modules 2225"
     );
     assert!(rt;
         matches!(
             status,
-            Status::TreeRefused(TreeFault::Commit(Refusal::TooManyModules(140)))
+            Status::TreeRefused(TreeFault::Commit(Refusal::TooManyModules(2225)))
         )
     );
     Ok(())

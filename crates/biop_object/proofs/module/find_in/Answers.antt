@@ -1,4 +1,4 @@
-use Rattle.std.proofs.Common.{◌≡◌, ◌∙◌, ap, sym}
+use Rattle.std.proofs.Common.{◌∙◌, ap, sym}
 use Rattle.biop_object.specs.ObjectReading.{missing_or_bad}
 use Rattle.biop_object.proofs.Finding.{object_found, object_missed, folder_has}
 use Rattle.biop_object.proofs.module.find_in.Goals as goal

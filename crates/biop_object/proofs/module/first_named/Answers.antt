@@ -1,4 +1,4 @@
-use Rattle.std.proofs.Common.{◌≡◌, sym}
+use Rattle.std.proofs.Common.{sym}
 use Rattle.biop_object.proofs.Finding.{binding_found, binding_missed}
 use Rattle.biop_object.proofs.module.first_named.Goals as goal
 

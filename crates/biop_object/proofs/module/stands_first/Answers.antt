@@ -1,4 +1,4 @@
-use Rattle.std.proofs.Common.{◌≡◌, ◌∙◌, sym}
+use Rattle.std.proofs.Common.{◌∙◌}
 use Rattle.biop_object.proofs.Finding.{stands_first}
 use Rattle.biop_object.proofs.module.stands_first.Goals as goal
 

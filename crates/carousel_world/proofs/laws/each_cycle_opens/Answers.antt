@@ -2,7 +2,7 @@ use Rattle.carousel_world.proofs.Opening.{each_cycle}
 use Rattle.carousel_world.proofs.laws.each_cycle_opens.Goals as goal
 
 pub returns : goal.returns
-returns c = each_cycle c.every_publication_meets.ensures c.packets_give_the_groups.ensures c.layouts_are_lawful.ensures.lawful c.layouts_are_lawful.ensures.one (record {
+returns c = each_cycle c.every_publication_meets.ensures c.packets_give_the_groups.ensures c.layouts_are_lawful.ensures (record {
   section = c.spellings_read.ensures.is_read;
   block = c.spellings_read-2.ensures.is_read;
   block_size = c.spellings_read-2.ensures.length;

@@ -6,7 +6,7 @@ returns c =
     every_run (record {
       grow = c.histories_grow.ensures;
       lists = c.generations_are_of_the_lists.ensures;
-      lawful = c.layouts_are_lawful.ensures.lawful;
+      lawful = c.layouts_are_lawful.ensures;
       receptions = c.every_reception_meets.ensures;
       labels = c.labels_never_fall.ensures;
     })

@@ -10,4 +10,4 @@ returns c = can_be_met (record {
   dii_size = c.spellings_read_back.ensures.dii_size;
   dsi = c.spellings_read_back.ensures.dsi;
   dsi_size = c.spellings_read_back.ensures.dsi_size;
-}) c.layouts_are_lawful.ensures.lawful c.layouts_are_lawful.ensures.one c.every_publication_meets.ensures
+}) c.layouts_are_lawful.ensures c.every_publication_meets.ensures

@@ -1,31 +1,41 @@
-use Rattle.std.proofs.Common.{◌≡◌, ◌%◌, subst, map, arith, refl}
+use Rattle.std.proofs.Common.{◌≡◌, ℕ, ◌≤◌, ◌%◌, ◌∙◌, ap, sym, subst, length, map, refl}
 use Rattle.std.specs.Prelude.{IfOk}
+use Rattle.std.specs.List.{All}
+use Rattle.std.proofs.lemmas.List.Elements.{All-filter}
+use Rattle.path_tree.specs.Paths.{Bytes}
 use Rattle.dsmcc_section.specs.Sections.{spelling}
 use Rattle.dsi_dii.specs.Controls.{dii_spelling, dii_transaction}
+use Rattle.dsi_dii.specs.declared.TheConstants.{BLOCK_SIZE, MOST_TOTAL_SIZE}
+use Rattle.generation.specs.Groups.{is_in_group, group_in}
 use Rattle.generation.specs.Layouts.{control_section, dii_lines}
 use Rattle.generation.specs.View.{view_listed}
-use Rattle.generation.proofs.Limiting.{len_map}
 use Rattle.generation.proofs.Writing.{dii_is, dii_fits, plain_lines}
 use Rattle.generation.proofs.control.dii_section.Goals as goal
+
+pub module_lines-requires : goal.module_lines-requires
+module_lines-requires c =
+    let Fits : ℕ × Bytes → Type 0 = λ m. length m.1 ≤ MOST_TOTAL_SIZE in
+    subst (All Fits) (sym c.group_modules.ensures.group) (All-filter (is_in_group c.args.group) Fits (map view_listed c.args.modules.now) c.requires.sizes)
 
 pub encode_dii-requires : goal.encode_dii-requires
 encode_dii-requires c = record {
   blocks = refl;
-  plain = rw c.in_ok-module_lines.ensures (plain_lines c.args.counts.now (map view_listed c.args.modules.now));
+  plain = rw c.in_ok-module_lines.ensures (plain_lines c.args.counts.now (map view_listed c.group_modules.result.now));
 }
 
 pub control-requires : goal.control-requires
 control-requires c =
     let layout = map view_listed c.args.modules.now in
-    let n = len_map view_listed c.args.modules.now in
-    dii_fits c.args.carousel c.args.number c.args.counts.now layout c.in-Ok.payload.items (omega (arith, n))
-    (dii_is c.args.carousel c.args.number c.dii-transaction.result.0 c.args.counts.now layout c.in_ok-module_lines.field-0.items c.in-Ok.payload.items c.dii-transaction.ensures c.in_ok-module_lines.ensures c.in-Ok.ensures.spells)
+    let lines = c.in_ok-module_lines.ensures ∙ ap (dii_lines c.args.counts.now) c.group_modules.ensures.group in
+    dii_fits c.args.carousel c.args.number c.args.group c.args.counts.now layout c.in-Ok.payload.items c.requires.rising c.requires.group.0
+    (dii_is c.args.carousel c.args.number c.args.group c.dii-transaction.result.0 c.args.counts.now (group_in layout c.args.group) c.in_ok-module_lines.field-0.items c.in-Ok.payload.items c.dii-transaction.ensures.transaction lines c.in-Ok.ensures.spells)
 
 pub returns-in-Ok-clause-spells : goal.returns-in-Ok-clause-spells
 returns-in-Ok-clause-spells c =
-    let layout = map view_listed c.args.modules.now in
-    subst (λ t. IfOk c.control.result (λ v. v.items ≡ spelling (control_section (t % 65536) (dii_spelling (record { download = c.args.carousel; block_size = 4066; transaction = dii_transaction c.args.number; modules = dii_lines c.args.counts.now layout })))))
-    c.dii-transaction.ensures
+    let listed = group_in (map view_listed c.args.modules.now) c.args.group in
+    let lines = c.in_ok-module_lines.ensures ∙ ap (dii_lines c.args.counts.now) c.group_modules.ensures.group in
+    subst (λ t. IfOk c.control.result (λ v. v.items ≡ spelling (control_section (t % 65536) (dii_spelling (record { download = c.args.carousel; block_size = BLOCK_SIZE; transaction = dii_transaction c.args.number c.args.group; modules = dii_lines c.args.counts.now listed })))))
+    c.dii-transaction.ensures.transaction
     (subst (λ p. IfOk c.control.result (λ v. v.items ≡ spelling (control_section (c.dii-transaction.result.0 % 65536) p)))
-    (dii_is c.args.carousel c.args.number c.dii-transaction.result.0 c.args.counts.now layout c.in_ok-module_lines.field-0.items c.in-Ok.payload.items c.dii-transaction.ensures c.in_ok-module_lines.ensures c.in-Ok.ensures.spells)
+    (dii_is c.args.carousel c.args.number c.args.group c.dii-transaction.result.0 c.args.counts.now listed c.in_ok-module_lines.field-0.items c.in-Ok.payload.items c.dii-transaction.ensures.transaction lines c.in-Ok.ensures.spells)
     c.control.ensures.spells)

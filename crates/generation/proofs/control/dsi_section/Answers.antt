@@ -6,6 +6,9 @@ use Rattle.generation.specs.Layouts.{gateway_location, control_section}
 use Rattle.generation.proofs.Writing.{dsi_short, gateway_written, dsi_is}
 use Rattle.generation.proofs.control.dsi_section.Goals as goal
 
+pub encode_dsi-requires : goal.encode_dsi-requires
+encode_dsi-requires c = (gateway_location c.args.carousel, gateway_written c.args.carousel (iors.view c.in_ok-gateway.field-0) c.in_ok-gateway.ensures)
+
 pub control-requires : goal.control-requires
 control-requires c =
     let l = gateway_location c.args.carousel in

@@ -1,6 +1,7 @@
-use Rattle.std.proofs.Common.{◌≡◌, sym, ◌∙◌, ap, map, Some}
+use Rattle.std.proofs.Common.{◌≡◌, ◌∙◌, ap, map, Some}
 use Rattle.generation.specs.View.{view_placed, view_listed}
-use Rattle.generation.proofs.Placing.{used_seen, listed_some, listed_none}
+use Rattle.generation.proofs.Members.{used_in}
+use Rattle.generation.proofs.Placing.{listed_some, listed_none}
 use Rattle.generation.proofs.Sharing.{marked_here}
 use Rattle.generation.proofs.made.listed_at.Goals as goal
 
@@ -8,14 +9,14 @@ pub returns-clause-listed : goal.returns-clause-listed
 returns-clause-listed c =
     ap Some c.in_ok-module_after.ensures.listed
     ∙ listed_some c.args.carousel (map (view_placed c.args.tree.now) c.args.objects.now) c.args.id c.in_ok-bytes.bytes.items
-    (sym (used_seen c.args.tree.now c.args.objects.now c.args.id) ∙ (sym c.is_used.ensures ∙ c.if-not-is_used.false))
+    (used_in c.args.tree.now c.args.id c.from.result c.args.objects.now c.args.grouped.now.modules c.has_any.result c.requires.grouped.modules c.from.ensures c.has_any.ensures ∙ c.if-not-has_any.false)
     c.in_ok-bytes.ensures
 
 pub returns-in-Some-clause-listed : goal.returns-in-Some-clause-listed
 returns-in-Some-clause-listed c =
     let is : c.in_ok-share.field-0 ≡ c.in-Some.bytes.now = cc (c.in_ok-share.ensures) in
     listed_some c.args.carousel (map (view_placed c.args.tree.now) c.args.objects.now) c.args.id c.in_ok-share.field-0
-    (sym (used_seen c.args.tree.now c.args.objects.now c.args.id) ∙ (sym c.is_used.ensures ∙ c.if-not-is_used.false))
+    (used_in c.args.tree.now c.args.id c.from.result c.args.objects.now c.args.grouped.now.modules c.has_any.result c.requires.grouped.modules c.from.ensures c.has_any.ensures ∙ c.if-not-has_any.false)
     (is ∙ c.requires.staying c.args.id c.in-Some.bytes.now c.in-Some.ensures.0 c.in-Some.ensures.1)
 
 pub returns-in-Some-clause-stays : goal.returns-in-Some-clause-stays
@@ -23,6 +24,6 @@ returns-in-Some-clause-stays c =
     let is : c.in_ok-share.field-0 ≡ c.in-Some.bytes.now = cc (c.in_ok-share.ensures) in
     marked_here (map view_listed c.args.before.now) c.args.id c.in_ok-share.field-0 c.in-Some.bytes.now c.in-Some.ensures.1 is
 
-pub returns-then-not-is_used-clause-listed : goal.returns-then-not-is_used-clause-listed
-returns-then-not-is_used-clause-listed c = listed_none c.args.carousel (map (view_placed c.args.tree.now) c.args.objects.now) c.args.id
-    (sym (used_seen c.args.tree.now c.args.objects.now c.args.id) ∙ (sym c.is_used.ensures ∙ c.if-not-is_used.true))
+pub returns-then-not-has_any-clause-listed : goal.returns-then-not-has_any-clause-listed
+returns-then-not-has_any-clause-listed c = listed_none c.args.carousel (map (view_placed c.args.tree.now) c.args.objects.now) c.args.id
+    (used_in c.args.tree.now c.args.id c.from.result c.args.objects.now c.args.grouped.now.modules c.has_any.result c.requires.grouped.modules c.from.ensures c.has_any.ensures ∙ c.if-not-has_any.true)

@@ -1,30 +1,18 @@
-use Rattle.std.proofs.Common.{sym, ◌∙◌, ap, map, length, subst, arith}
+use Rattle.std.proofs.Common.{sym, ◌∙◌, ap, map, subst, arith}
 use Rattle.std.specs.Prelude.{IfSome}
-use Rattle.std.specs.List.{All}
 use Rattle.std.specs.Option.{option_map}
-use Rattle.std.proofs.lemmas.List.Elements.{All-map, All-push}
-use Rattle.generation.specs.declared.objects.Placed.{Placed}
+use Rattle.std.proofs.lemmas.List.Elements.{All-push}
 use Rattle.generation.specs.Layouts.{module_if_used}
-use Rattle.generation.specs.Inner.Linking.{AreLinks, IsBelow}
 use Rattle.generation.specs.View.{view_placed, view_listed, IsMarked}
 use Rattle.generation.proofs.Placing.{ids_more, ids_same, all_ids}
 use Rattle.generation.proofs.made.modules_of.Goals as goal
 use Rattle.generation.proofs.made.modules_of.Goals.{in-Some+in_ok-push, in_default}
 
-pub link_members-requires : goal.link_members-requires
-link_members-requires c =
-    subst (All (IsBelow (length c.args.objects.now))) (sym (c.deref.ensures.value ∙ c.in_ok-folders.ensures))
-    (All-map (IsBelow (length c.args.objects.now)) (λ (o : Placed). o.spot.parent) c.args.objects.now c.requires.ready.foldered.parents)
-
-pub listed_at-requires-clause-children : goal.listed_at-requires-clause-children
-listed_at-requires-clause-children c =
-    subst (λ groups. AreLinks groups (length c.args.objects.now) c.in_ok-children.children.first.items c.in_ok-children.children.next.items) (c.deref.ensures.value ∙ c.in_ok-folders.ensures) c.in_ok-children.ensures
-
 pub loop-id-preserved : goal.loop-id-preserved
 loop-id-preserved c =
     let f = module_if_used c.args.carousel (map (view_placed c.args.tree.now) c.args.objects.now) in
     let marked = IsMarked (map view_listed c.args.before.now) in
-    elim c.match-branch-4.branch [
+    elim c.match-branch-3.branch [
       | in-Some+in_ok-push w ↦ record {
         layout = rw (w.modules-is, w.in_ok-push.ensures.items) (ids_more f view_listed c.loop-id.id c.loop-id.modules.items w.in-Some.listed (omega arith) c.loop-id.invariant.layout (ap (option_map view_listed) (sym w.in-Some.is) ∙ c.in_ok-listed.ensures.listed));
         marked = rw (w.modules-is, w.in_ok-push.ensures.items) (All-push marked c.loop-id.modules.items w.in-Some.listed c.loop-id.invariant.marked (subst (λ o. IfSome o marked) w.in-Some.is c.in_ok-listed.ensures.stays));

@@ -1,6 +1,7 @@
 use Rattle.std.proofs.Common.{◌≡◌, ◌∙◌, ap, map, sym, subst}
 use Rattle.std.specs.List.{All}
 use Rattle.module_packer.specs.Kept.{AreObjects}
+use Rattle.module_groups.specs.declared.TheConstants.{GREATEST_ID}
 use Rattle.generation.specs.Publication.{spots_of, sizes_of, AreRising}
 use Rattle.generation.specs.Layouts.{old_keys, old_modules, keys_of, modules_for}
 use Rattle.generation.specs.View.{view_spot, view_placed, IsSpotIn}
@@ -26,7 +27,7 @@ modules-requires c =
     let spots : map (view_spot t) c.deref.result.now ≡ spots_of t = ap (map (view_spot t)) c.deref.ensures.value ∙ c.requires.weighed.spots.each in
     let sizes : c.deref-2.result.now ≡ sizes_of t = c.deref-2.ensures.value ∙ c.requires.weighed.sizes in
     let olds : c.deref-3.result.now ≡ old_modules old (map (view_spot t) c.deref.result.now) = c.deref-3.ensures.value ∙ c.in_ok-former.ensures.modules in
-    subst (AreObjects 139) (sym (read_objects t old (map (view_spot t) c.deref.result.now) c.deref-2.result.now c.deref-3.result.now spots sizes olds)) (are_objects old t c.requires.old (within_limits t c.requires.tree).modules)
+    subst (AreObjects GREATEST_ID) (sym (read_objects t old (map (view_spot t) c.deref.result.now) c.deref-2.result.now c.deref-3.result.now spots sizes olds)) (are_objects old t c.requires.old (within_limits t c.requires.tree).modules)
 
 pub keys-requires : goal.keys-requires
 keys-requires c =

@@ -1,8 +1,7 @@
 use Rattle.std.proofs.Common.{◌≡◌, take, map}
-use Rattle.std.specs.List.{flat_map, filter}
-use Rattle.generation.specs.Layouts.{object_bytes, is_in}
+use Rattle.generation.specs.Inner.Stays.{bytes_of_all}
 use Rattle.generation.specs.View.{view_placed}
 use Rattle.generation.proofs.objects.module_bytes.Given as goal
 
 abbrev pub invariant-loop-object : goal.invariant-loop-object
-invariant-loop-object l = l.bytes.items ≡ flat_map (object_bytes l.carousel (map (view_placed l.tree) l.objects)) (filter (is_in l.id) (map (view_placed l.tree) (take l.object-index l.objects)))
+invariant-loop-object l = l.bytes.items ≡ bytes_of_all l.carousel (map (view_placed l.tree) l.objects) l.tree (take l.object-index l.object-items)

@@ -2,9 +2,9 @@ use Rattle.std.proofs.Common.{◌≡◌, ◌+◌, ◌++◌, ◌∷◌, [], true,
 use Rattle.std.specs.Prelude.{IfNone}
 use Rattle.std.proofs.Math.ListN.{length-set}
 use Rattle.std.proofs.lemmas.Grind.{common_steps}
-use Rattle.std.proofs.lemmas.List.{take_more}
+use Rattle.std.proofs.lemmas.List.{take_more, take_all}
 use Rattle.path_tree.specs.Trees.{entry_at}
-use Rattle.generation.proofs.Sharing.{AreNamed, as_before, take_whole, one_named, none_there}
+use Rattle.generation.proofs.Sharing.{AreNamed, as_before, one_named, none_there}
 use Rattle.generation.proofs.unchanged.named_entries.Goals as goal
 use Rattle.generation.proofs.unchanged.named_entries.Goals.{in-Some, in_default}
 
@@ -37,4 +37,4 @@ loop-edit-preserved c =
 
 pub returns : goal.returns
 returns c = λ old applied. as_before c.others_stay.ensures c.args.tree.now c.loop-edit.named.items c.args.edits.now c.entries.ensures.tree
-    (subst (AreNamed c.args.tree.now c.loop-edit.named.items) (take_whole c.args.edits.now c.loop-edit.edit-index (omega arith)) c.loop-edit.invariant.named) old applied
+    (subst (AreNamed c.args.tree.now c.loop-edit.named.items) (take_all c.loop-edit.edit-index c.args.edits.now (omega arith)) c.loop-edit.invariant.named) old applied

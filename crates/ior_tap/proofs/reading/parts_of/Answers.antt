@@ -1,5 +1,4 @@
 use Rattle.std.proofs.Common.{refl, ap, List, [], ◌∷◌, ◌++◌, Ok}
-use Rattle.std.specs.Option.{option_copied}
 use Rattle.std.proofs.lemmas.Result.{err_from_is_err_and}
 use Rattle.oc_bytes.specs.Cause.{place_of}
 use Rattle.oc_bytes.specs.Cursor.{Reading, ◌>>=◌, each_at}

@@ -38,7 +38,7 @@ overflow_add-packets g c =
     let ws = c.args.weigh.now.weights in
     let all = cycle_of ws (lines_of gen) in
     let within = counting_within (section_of gen) (idle 256 0) c.loop-item.counter.mux all _ _ c.in-Some.item c.loop-item.packets c.in_ok-packets.field-0 c.in-Some.ensures.items c.in_ok-packets.ensures.count c.loop-item.invariant.counting in
-    let few : length (packets_of_all (idle 256 0) (map (section_of gen) all)) ≤ 23 * 1166016521 = few_in_cycle (section_of gen) (idle 256 0) all 1166016521 c.requires (few_items ws (lines_of gen) c.args.weigh.now.range (subst AreLines c.lines-lines.ensures.exact c.lines-lines.ensures.lines)) in
+    let few : length (packets_of_all (idle 256 0) (map (section_of gen) all)) ≤ 23 * 1166016641 = few_in_cycle (section_of gen) (idle 256 0) all 1166016641 c.requires (few_items ws (lines_of gen) c.args.weigh.now.range (subst AreLines c.lines-lines.ensures.exact c.lines-lines.ensures.lines)) in
     omega (arith, within, few)
 
 pub loop-item-preserved : goal.loop-item-preserved
@@ -57,7 +57,7 @@ overflow_add-packets-2 g c =
     let ws = c.args.weigh.now.weights in
     let all = cycle_of ws (lines_of gen) in
     let ends = counting_ends (section_of gen) (idle 256 0) c.loop-item.counter.mux all _ c.loop-item.packets c.in_default.ensures.items.0 c.loop-item.invariant.counting in
-    let few : length (packets_of_all (idle 256 0) (map (section_of gen) all)) ≤ 23 * 1166016521 = few_in_cycle (section_of gen) (idle 256 0) all 1166016521 c.requires (few_items ws (lines_of gen) c.args.weigh.now.range (subst AreLines c.lines-lines.ensures.exact c.lines-lines.ensures.lines)) in
+    let few : length (packets_of_all (idle 256 0) (map (section_of gen) all)) ≤ 23 * 1166016641 = few_in_cycle (section_of gen) (idle 256 0) all 1166016641 c.requires (few_items ws (lines_of gen) c.args.weigh.now.range (subst AreLines c.lines-lines.ensures.exact c.lines-lines.ensures.lines)) in
     omega (arith, ends.0, few, few_last c.loop-item.counter.mux, c.in_ok-packets-2.ensures)
 
 pub returns-clause-packets : goal.returns-clause-packets
@@ -73,5 +73,5 @@ returns-clause-few g c =
     let ws = c.args.weigh.now.weights in
     let all = cycle_of ws (lines_of gen) in
     let ends = counting_ends (section_of gen) (idle 256 0) c.loop-item.counter.mux all _ c.loop-item.packets c.in_default.ensures.items.0 c.loop-item.invariant.counting in
-    let few : length (packets_of_all (idle 256 0) (map (section_of gen) all)) ≤ 23 * 1166016521 = few_in_cycle (section_of gen) (idle 256 0) all 1166016521 c.requires (few_items ws (lines_of gen) c.args.weigh.now.range (subst AreLines c.lines-lines.ensures.exact c.lines-lines.ensures.lines)) in
+    let few : length (packets_of_all (idle 256 0) (map (section_of gen) all)) ≤ 23 * 1166016641 = few_in_cycle (section_of gen) (idle 256 0) all 1166016641 c.requires (few_items ws (lines_of gen) c.args.weigh.now.range (subst AreLines c.lines-lines.ensures.exact c.lines-lines.ensures.lines)) in
     omega (arith, ends.0, few, few_last c.loop-item.counter.mux, c.in_ok-packets-2.ensures)

@@ -1,13 +1,16 @@
 use Rattle.std.proofs.Common.{◌≡◌, ◌≤◌, ◌+◌, sym, subst, ap, ◌∙◌, map, length, arith, ◌++◌, ◌∷◌, []}
 use Rattle.std.specs.List.{All}
+use Rattle.module_groups.specs.declared.TheConstants.{GREATEST_ID}
 use Rattle.generation.specs.Layouts.{modules_for, next_of, layout_of, lines_in, keys_of, placed_all, counts_after, generation_of, greatest}
 use Rattle.generation.specs.Publication.{spots_of}
 use Rattle.cycle_planner.specs.Cycle.{AreLines}
 use Rattle.generation.specs.Inner.Stays.{AreAsBefore, SameModules}
-use Rattle.generation.specs.View.{AreReady, AreMarked, IsSpotIn, view_generation, view_listed, view_placed}
+use Rattle.generation.specs.View.{AreReady, AreMarked, IsRising, IsSpotIn, view_generation, view_listed, view_placed}
 use Rattle.generation.proofs.Limiting.{len_map}
-use Rattle.generation.proofs.Making.{next_is, stands_next, small_counts}
-use Rattle.generation.proofs.Sharing.{are_theirs, counts_are}
+use Rattle.generation.proofs.Counting.{small_counts, counts_are}
+use Rattle.generation.proofs.Grouping.{rising_of}
+use Rattle.generation.proofs.Making.{next_is, stands_next}
+use Rattle.generation.proofs.Sharing.{are_theirs}
 use Rattle.generation.proofs.made.Generation.renewed.Goals as goal
 
 pub modules_that_stay-requires-clause-old_tree : goal.modules_that_stay-requires-clause-old_tree
@@ -23,13 +26,17 @@ pub modules_that_stay-requires-clause-objects : goal.modules_that_stay-requires-
 modules_that_stay-requires-clause-objects c = subst (All (λ o. IsSpotIn c.args.tree o.spot)) (sym c.deref-3.ensures.value) (c.in_ok-objects.ensures.ready 0).spots
 
 pub modules_that_stay-requires-clause-numbers : goal.modules_that_stay-requires-clause-numbers
-modules_that_stay-requires-clause-numbers c = subst (λ os. greatest (map (λ o. o.«module») os) ≤ 139) (sym c.deref-3.ensures.value) (c.in_ok-objects.ensures.ready 0).numbers
+modules_that_stay-requires-clause-numbers c = subst (λ os. greatest (map (λ o. o.«module») os) ≤ GREATEST_ID) (sym c.deref-3.ensures.value) (c.in_ok-objects.ensures.ready 0).numbers
 
 pub modules_that_stay-requires-clause-named : goal.modules_that_stay-requires-clause-named
 modules_that_stay-requires-clause-named c = subst (λ g. AreAsBefore g.tree c.args.tree c.args.flags.now) (sym c.self.view_is) c.requires.flags
 
 pub modules_of-requires-clause-ready : goal.modules_of-requires-clause-ready
 modules_of-requires-clause-ready c = subst (λ os. AreReady c.self.inside.carousel c.args.tree os) (sym c.deref-4.ensures.value) (c.in_ok-objects.ensures.ready c.self.inside.carousel)
+
+pub modules_of-requires-clause-before : goal.modules_of-requires-clause-before
+modules_of-requires-clause-before c =
+    subst (λ ms. IsRising (map view_listed ms)) (sym c.deref-5.ensures.value) (rising_of (map view_listed c.self.inside.modules.items) (subst AreLines c.self.invariant.lines c.self.invariant.cycle))
 
 pub modules_of-requires-clause-staying : goal.modules_of-requires-clause-staying
 modules_of-requires-clause-staying c =
@@ -42,20 +49,29 @@ modules_of-requires-clause-staying c =
     (are_theirs c.self.inside.carousel (map (view_placed t) c.self.inside.objects.items) (map (view_placed u) c.in_ok-objects.objects.items) (map view_listed c.self.inside.modules.items) c.in_ok-staying.staying.items
     c.self.invariant.layout same)
 
+pub counts_next-requires-clause-few : goal.counts_next-requires-clause-few
+counts_next-requires-clause-few c =
+    let ready = c.in_ok-objects.ensures.ready c.self.inside.carousel in
+    let layout = c.in_ok-modules.ensures.layout ∙ ap (λ os. layout_of c.self.inside.carousel (map (view_placed c.args.tree) os)) c.deref-4.ensures.value in
+    omega (arith, ready.modules, ap length layout, len_map view_listed c.in_ok-modules.modules.items, ap length c.deref-7.ensures.value)
+
 pub invariant_of-result : goal.invariant_of-result
 invariant_of-result c =
     let ready = c.in_ok-objects.ensures.ready c.self.inside.carousel in
     let layout = c.in_ok-modules.ensures.layout ∙ ap (λ os. layout_of c.self.inside.carousel (map (view_placed c.args.tree) os)) c.deref-4.ensures.value in
+    let rising = rising_of (layout_of c.self.inside.carousel (map (view_placed c.args.tree) c.in_ok-objects.objects.items)) (c.in_ok-objects.ensures.lines c.self.inside.carousel) in
+    let listed = ap (map view_listed) c.deref-7.ensures.value ∙ (c.in_ok-modules.ensures.layout ∙ ap (λ os. layout_of c.self.inside.carousel (map (view_placed c.args.tree) os)) c.deref-4.ensures.value) in
     let counted : c.in_ok-counts.counts.items ≡ counts_after (map view_listed c.deref-5.result.now) (map view_listed c.deref-7.result.now) c.deref-8.result.now =
-    c.in_ok-counts.ensures ∙ counts_are (map view_listed c.deref-5.result.now) c.deref-7.result.now c.deref-8.result.now (subst (AreMarked (map view_listed c.deref-5.result.now)) (sym c.deref-7.ensures.value) c.in_ok-modules.ensures.stays) in
+    counts_are (map view_listed c.deref-5.result.now) c.deref-7.result.now c.deref-8.result.now c.in_ok-counts.counts.items (subst IsRising (sym listed) rising)
+    (subst (AreMarked (map view_listed c.deref-5.result.now)) (sym c.deref-7.ensures.value) c.in_ok-modules.ensures.stays) c.in_ok-counts.ensures.many c.in_ok-counts.ensures.each in
     record {
       tree = ready.tree;
       layout = layout;
       lines = c.in_ok-lines.ensures ∙ ap (λ m. lines_in (map view_listed m)) c.deref-9.ensures.value;
       cycle = subst AreLines (sym (c.in_ok-lines.ensures ∙ (ap (λ m. lines_in (map view_listed m)) c.deref-9.ensures.value ∙ ap lines_in layout))) (c.in_ok-objects.ensures.lines c.self.inside.carousel);
       number = omega (arith, c.requires.number, ap (λ g. g.number) c.self.view_is);
-      counts = subst (All (λ k. k.1 ≤ c.self.inside.number + 1)) (sym counted)
-          (small_counts (map view_listed c.deref-5.result.now) (map view_listed c.deref-7.result.now) c.deref-8.result.now c.self.inside.number (subst (All (λ k. k.1 ≤ c.self.inside.number)) (sym c.deref-8.ensures.value) c.self.invariant.counts));
+      counts = subst (All (λ k. k ≤ c.self.inside.number + 1)) (sym counted)
+          (small_counts (map view_listed c.deref-5.result.now) (map view_listed c.deref-7.result.now) c.deref-8.result.now c.self.inside.number (subst (All (λ k. k ≤ c.self.inside.number)) (sym c.deref-8.ensures.value) c.self.invariant.counts));
       modules = omega (arith, ready.modules, ap length layout, len_map view_listed c.in_ok-modules.modules.items);
       sizes = subst (All (λ m. length m.1 ≤ 268435456)) (sym layout) ready.sizes;
       spots = ready.spots;
@@ -65,8 +81,11 @@ invariant_of-result c =
 pub returns-clause-exact : goal.returns-clause-exact
 returns-clause-exact c =
     let t = c.args.tree in
+    let rising = rising_of (layout_of c.self.inside.carousel (map (view_placed c.args.tree) c.in_ok-objects.objects.items)) (c.in_ok-objects.ensures.lines c.self.inside.carousel) in
+    let listed = ap (map view_listed) c.deref-7.ensures.value ∙ (c.in_ok-modules.ensures.layout ∙ ap (λ os. layout_of c.self.inside.carousel (map (view_placed c.args.tree) os)) c.deref-4.ensures.value) in
     let counted : c.in_ok-counts.counts.items ≡ counts_after (map view_listed c.deref-5.result.now) (map view_listed c.deref-7.result.now) c.deref-8.result.now =
-    c.in_ok-counts.ensures ∙ counts_are (map view_listed c.deref-5.result.now) c.deref-7.result.now c.deref-8.result.now (subst (AreMarked (map view_listed c.deref-5.result.now)) (sym c.deref-7.ensures.value) c.in_ok-modules.ensures.stays) in
+    counts_are (map view_listed c.deref-5.result.now) c.deref-7.result.now c.deref-8.result.now c.in_ok-counts.counts.items (subst IsRising (sym listed) rising)
+    (subst (AreMarked (map view_listed c.deref-5.result.now)) (sym c.deref-7.ensures.value) c.in_ok-modules.ensures.stays) c.in_ok-counts.ensures.many c.in_ok-counts.ensures.each in
     next_is (view_generation c.self.inside) t (map (view_placed t) c.in_ok-objects.objects.items) (map view_listed c.in_ok-modules.modules.items) c.in_ok-counts.counts.items
     (c.in_ok-objects.ensures.objects ∙ ap (λ os. placed_all (spots_of t) (keys_of (map (view_placed c.self.inside.tree) os) (spots_of t)) (modules_for (map (view_placed c.self.inside.tree) os) t)) c.deref.ensures.value)
     (c.in_ok-modules.ensures.layout ∙ ap (λ os. layout_of c.self.inside.carousel (map (view_placed t) os)) c.deref-4.ensures.value)

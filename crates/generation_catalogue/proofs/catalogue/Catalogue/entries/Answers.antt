@@ -5,4 +5,4 @@ use Rattle.generation_catalogue.proofs.catalogue.Catalogue.entries.Goals as goal
 pub returns-clause-lawful : goal.returns-clause-lawful
 returns-clause-lawful g c =
     let s = state c.args.self.now in
-    c.layouts_are_lawful.ensures.lawful s.carousel (trees_of s) c.entries.ensures.history.published
+    c.layouts_are_lawful.ensures s.carousel (trees_of s) c.entries.ensures.history.published

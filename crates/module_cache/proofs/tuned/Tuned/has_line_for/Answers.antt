@@ -11,7 +11,7 @@ pub returns-then-self-parts : goal.returns-then-self-parts
 returns-then-self-parts c =
     let b = parts_view c.args.parts.now in
     let t = view_tuned c.self.inside in
-    c.lists_module.ensures ∙ ap (list_any (λ x. eqb x.line.id b.module_id)) c.deref.ensures.value
+    c.lists.ensures ∙ ap (λ s. list_any (λ x. eqb x.line.id b.module_id) s.lines) (sym c.self.view_is)
     ∙ sym (any_map (λ x. x.line) (λ l. eqb l.id b.module_id) c.self.inside.lines.items)
     ∙ sym (ap (λ a. a && lists (outline_held t) b.module_id) (eq-eqb t.download b.download c.if-self-parts.true))
     ∙ ap (has_line b) c.self.view_is

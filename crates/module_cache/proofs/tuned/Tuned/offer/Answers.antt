@@ -1,4 +1,5 @@
-use Rattle.std.proofs.Common.{◌≡◌, ◌∙◌, ap, map, length, true}
+use Rattle.std.proofs.Common.{◌≡◌, ◌∙◌, ap, subst, sym, map, length, List}
+use Rattle.dsi_dii.specs.declared.ModuleLine.{ModuleLine}
 use Rattle.std.proofs.lemmas.List.{with_items_is}
 use Rattle.std.proofs.lemmas.Result.{IfOk-weaker}
 use Rattle.ddb_block.specs.Blocks.{parts_view}
@@ -6,7 +7,9 @@ use Rattle.module_cache.proofs.Places.{of_download}
 use Rattle.module_cache.specs.Held.{taken_tuned, lines_after}
 use Rattle.module_cache.specs.Limits.{no_id_twice}
 use Rattle.module_cache.proofs.Calling.{either_way}
-use Rattle.module_cache.proofs.Keeping.{once_after}
+use Rattle.module_cache.proofs.Keeping.{said_after}
+use Rattle.module_cache.specs.declared.stored.Line.{Line}
+use Rattle.module_cache.specs.Reaches.{AreWithin}
 use Rattle.module_cache.proofs.tuned.Tuned.offer.Goals as goal
 
 pub returns-clause-answer : goal.returns-clause-answer
@@ -21,11 +24,14 @@ pub invariant_of-self : goal.invariant_of-self
 invariant_of-self c =
     let b = parts_view c.args.parts.now in
     let whole : length c.offer_lines.new.lines ≡ c.self.inside.lines.len = c.offer_lines.auto.lines ∙ c.deref_mut.ensures.len in
+    let says : List Line → List ModuleLine = map (λ x. x.line) in
+    let same : says c.offer_lines.new.lines ≡ says c.self.inside.lines.items =
+    either_way c.offer_lines.result _ _ (says c.offer_lines.new.lines ≡ says c.self.inside.lines.items) c.offer_lines.ensures.ok c.offer_lines.ensures.err
+    (λ e. ap says (e ∙ ap (lines_after b) c.deref_mut.ensures.value) ∙ said_after b c.self.inside.lines.items)
+    (λ e. ap says (e ∙ c.deref_mut.ensures.value)) in
+    let said = ap says (with_items_is c.self.inside.lines c.offer_lines.new.lines whole) ∙ same in
     record {
       version = c.self.invariant.version;
-      once =
-          ap (λ xs. no_id_twice (map (λ x. x.line) xs)) (with_items_is c.self.inside.lines c.offer_lines.new.lines whole)
-          ∙ either_way c.offer_lines.result _ _ (no_id_twice (map (λ x. x.line) c.offer_lines.new.lines) ≡ true) c.offer_lines.ensures.ok c.offer_lines.ensures.err
-          (λ e. ap (λ xs. no_id_twice (map (λ x. x.line) xs)) (e ∙ ap (lines_after b) c.deref_mut.ensures.value) ∙ once_after b c.self.inside.lines.items c.self.invariant.once)
-          (λ e. ap (λ xs. no_id_twice (map (λ x. x.line) xs)) (e ∙ c.deref_mut.ensures.value) ∙ c.self.invariant.once);
+      once = ap no_id_twice said ∙ c.self.invariant.once;
+      within = subst (AreWithin c.self.inside.reach) (sym said) c.self.invariant.within;
     }

@@ -1,4 +1,4 @@
-use Rattle.dsi_dii.specs.declared.TheConstants.{MOST_MODULES}
+use Rattle.module_groups.specs.declared.TheConstants.{GREATEST_ID}
 use Rattle.module_packer.proofs.Telling.{moved_has, moved_after}
 use Rattle.module_packer.proofs.filling.Filling.move_in.Goals as goal
 
@@ -7,4 +7,4 @@ put-requires-clause-fits c = (moved_has c.args.size c.in-Some.number c.args.self
 
 pub returns-in-Some-clause-after : goal.returns-in-Some-clause-after
 returns-in-Some-clause-after c = λ f tells.
-    moved_after MOST_MODULES c.args.self.now.sums c.put.new.self.sums f c.args.size c.in-Some.number c.ranges.size.fits c.in-Some.ensures c.put.ensures tells
+    moved_after GREATEST_ID c.args.self.now.sums c.put.new.self.sums f c.args.size c.in-Some.number c.ranges.size.fits c.in-Some.ensures c.put.ensures tells

@@ -1,0 +1,8 @@
+use Rattle.std.proofs.Common.{◌≡◌, ◌+◌, map, drop, max}
+use Rattle.std.specs.List.{fold}
+use Rattle.generation.specs.Layouts.{ids_counted}
+use Rattle.generation.specs.View.{view_listed}
+use Rattle.generation.proofs.made.ids_counted.Given as goal
+
+abbrev pub invariant-loop-listed : goal.invariant-loop-listed
+invariant-loop-listed l = ids_counted (map view_listed l.modules) l.counts ≡ fold (λ end m. max end (m.0 + 1)) l.end (map view_listed (drop l.listed-index l.modules))
