@@ -1,19 +1,22 @@
-ghost use Rattle.std.specs.Prelude.{◌≡◌, ◌<◌, ◌≤◌, ◌^◌, ◌+◌, ◌++◌, ◌∷◌, [], List, ℕ, false, true, map, length, IfOk, IsErr, OnOk, OnErr};
+ghost use Rattle.std.specs.Prelude.{◌≡◌, ◌<◌, ◌≤◌, ◌^◌, ◌+◌, ◌++◌, ◌∷◌, [], List, ℕ, false, true, map, length, IfOk, IsErr, IsTrue, OnOk, OnErr};
 ghost use Rattle.std.specs.Arc.{arc_value};
 ghost use Rattle.std.specs.List.{All};
 ghost use Rattle.path_tree.specs.Paths.{Bytes};
+ghost use Rattle.path_resolver.specs.Resolving.{is_shared};
 ghost use Rattle.path_resolver.specs.Shots as shots;
 ghost use Rattle.section_stream.specs.Kept.{view_bytes};
 ghost use Rattle.section_stream.specs.Packing.{IsSectionLike, after_finish, last_of};
 ghost use Rattle.section_stream.specs.Cuts.{candidates};
 ghost use Rattle.tuner_core.specs.Stands as tuning;
-ghost use Rattle.tuner_core.specs.LookBack.{snapshot_after};
+ghost use Rattle.tuner_core.specs.LookBack.{answer_after, snapshot_after};
 ghost use Rattle.carousel_world.specs.Fates.{fate_of, received_under};
 ghost use Rattle.carousel_world.specs.DownView.{DownlinkStands, Hears, begun_with, ended_with, packets_given, past_given};
+ghost use Rattle.carousel_world.specs.Receptions.{label_after};
 ghost use Rattle.cycle_planner.specs.declared.TheConstants.{MOST_DRAWN};
 
 use oc_bytes::NoMemory;
-use path_resolver::Shot;
+use path_resolver::{Answer, Holding, Shot};
+use path_tree::Path;
 use section_stream::{Mux, PacketDemux};
 use std::alloc::{AllocError, Global};
 use std::marker::Model;
@@ -195,6 +198,27 @@ impl Downlink {
             → shots.view (arc_value s) ≡ snapshot_after number draws (candidates pid packets)) }
     {
         self.tuner.shot(number, draws)
+    }
+
+    /// The label of what is held, and the answer to the path on it, by the rules of [`path_resolver::resolve`]: those of a shot that is
+    /// taken now, but no shot is made. A file or a folder shares the module that holds it. Out of memory is the only refusal; it comes
+    /// only where the answer is a file or a folder, and changes nothing.
+    pub fn open(&self, path: &Path) -> Result<(Option<u64>, Answer), NoMemory>
+        ensures label { IfOk result (λ opened.
+            (pid : ℕ) (groups : List (List Bytes)) (begun packets : List Bytes)
+            → DownlinkStands self.now pid groups begun packets
+            → opened.0 ≡ label_after (candidates pid packets)) }
+        ensures answer { IfOk result (λ opened.
+            (pid : ℕ) (groups : List (List Bytes)) (begun packets : List Bytes)
+            → DownlinkStands self.now pid groups begun packets
+            → opened.1 ≡ answer_after (candidates pid packets) path.now) }
+        ensures memory { OnErr result (
+            (pid : ℕ) (groups : List (List Bytes)) (begun packets : List Bytes)
+            → DownlinkStands self.now pid groups begun packets
+            → IsTrue (is_shared (answer_after (candidates pid packets) path.now))) }
+    {
+        let answer = self.tuner.resolve(path)?;
+        Ok((self.tuner.label(), answer))
     }
 }
 

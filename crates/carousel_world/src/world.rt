@@ -20,7 +20,6 @@ use cycle_planner::{Item, Weigh};
 use generation::Generation;
 use generation_catalogue::{Batch, CommitFault, DrawFault, Journal};
 use oc_bytes::NoMemory;
-use path_resolver::resolve;
 use path_tree::{Edits, Path};
 use std::alloc::{AllocError, Global};
 use ts_packet::Fate;
@@ -142,12 +141,8 @@ impl World {
     fn open(&self, path: &Path) -> Result<Reply, NoMemory>
         ensures { IfOk result (λ r. (w : WorldState) (reader : ℕ) → StandsFor (kept_in self.now) w → r ≡ reply_to w (Open reader path.now)) }
     {
-        let shot = self.downlink.shot(0, 0)?;
-        let answer = resolve(&shot, path)?;
-        Ok(Reply::Opened {
-            label: shot.label,
-            answer,
-        })
+        let (label, answer) = self.downlink.open(path)?;
+        Ok(Reply::Opened { label, answer })
     }
 
     /// Makes events happen in turn, and gives their replies, or out of memory at the first that finds none.

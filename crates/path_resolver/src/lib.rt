@@ -22,11 +22,13 @@
 mod answer;
 mod comparing;
 mod crossing;
+mod holding;
 mod shot;
 mod walking;
 
 pub use answer::{Answer, FileRef, FolderRef};
 pub use comparing::same;
 pub use crossing::cross_threads;
+pub use holding::{Holding, Listed};
 pub use shot::{Gateway, Held, Shot};
-pub use walking::{home_of, resolve};
+pub use walking::{answer_on, home_of, resolve};

@@ -1,5 +1,4 @@
-ghost use Rattle.std.specs.Prelude.{◌≡◌, ◌==◌, ◌&&◌, Option, Some, map, IsTrue, IfOk, OnErr, MatchResult};
-ghost use Rattle.std.specs.List.{find, list_any};
+ghost use Rattle.std.specs.Prelude.{◌≡◌, Some, IsTrue, IfOk, OnErr, MatchResult};
 ghost use Rattle.std.specs.Option.{option_map};
 ghost use Rattle.std.specs.Arc.{arc_value};
 ghost use Rattle.biop_object.specs.Objects.{view_binding};
@@ -8,11 +7,12 @@ ghost use Rattle.path_resolver.specs.Resolving as resolving;
 ghost use Rattle.path_resolver.specs.Resolving.{answer_of, last, walk, module_of, is_shared};
 ghost use Rattle.path_resolver.specs.Places as places;
 ghost use Rattle.path_resolver.specs.Places.{last_target, module_at_end};
-ghost use Rattle.path_resolver.specs.Shots.{held_of, view_held};
+ghost use Rattle.path_resolver.specs.Shots.{held_of, view_listed};
 ghost use Rattle.path_resolver.specs.Inner.Targets.{view_target, BindingGoes, ObjectGoes, StepGoes, IsModuleAt, IsNoModule};
 
 use crate::answer::{Answer, FileRef, FolderRef};
-use crate::shot::{Gateway, Held, Shot};
+use crate::holding::{Holding, Listed};
+use crate::shot::{Gateway, Shot};
 use biop_object::{Binding, Found, Module};
 use dsi_dii::TransactionId;
 use ior_tap::{Location, biop_of, delivery_of};
@@ -34,37 +34,6 @@ enum Step<'a> {
     Ends(Answer),
 }
 
-/// What the table holds of a module.
-fn held_in(table: &[Held], id: u16) -> Option<&Held>
-    ensures { option_map (λ h. view_held h.now) result ≡ find (λ h. h.line.id == id) (map view_held table.now) }
-{
-    for held in table {
-        if held.line.id == id {
-            return Some(held);
-        }
-    }
-    None
-}
-
-/// What the table holds of a module by the DII of an identification.
-fn delivered_in(table: &[Held], identification: u16, id: u16) -> Option<&Held>
-    ensures { option_map (λ h. view_held h.now) result ≡ find (λ h. (h.identification == identification) && (h.line.id == id)) (map view_held table.now) }
-{
-    for held in table {
-        if held.identification == identification && held.line.id == id {
-            return Some(held);
-        }
-    }
-    None
-}
-
-/// A DII of this identification is held.
-fn is_held(held: &[u16], identification: u16) -> bool
-    ensures { result ≡ list_any (λ i. i == identification) held.now }
-{
-    held.iter().any(|i| *i == identification)
-}
-
 /// Whether a location lies outside of the carousel.
 fn is_elsewhere(carousel: u32, target: &Target) -> bool
     ensures { result ≡ resolving.is_elsewhere carousel (view_target target.now) }
@@ -77,27 +46,26 @@ fn is_elsewhere(carousel: u32, target: &Target) -> bool
 }
 
 /// The module of a location: where its delivery is known, as that DII lists it, and else as any held DII does.
-fn sought<'a>(shot: &'a Shot, target: &Target) -> Option<&'a Held>
-    ensures { option_map (λ h. view_held h.now) result ≡ module_of (held_of shot.now) (view_target target.now) }
+fn sought<'a, H: Holding>(held: &'a H, target: &Target) -> Option<Listed<'a>>
+    ensures { option_map view_listed result
+        ≡ module_of (H.state held.now) (view_target target.now) }
 {
     let id = target.location.module;
     match target.delivery {
-        None => held_in(&shot.table, id),
-        Some(transaction) => {
-            delivered_in(&shot.table, TransactionId(transaction).identification(), id)
-        }
+        None => held.listed(id),
+        Some(transaction) => held.delivered(TransactionId(transaction).identification(), id),
     }
 }
 
 /// The answer where the module of a location isn't listed.
-fn unlisted(shot: &Shot, target: &Target) -> Answer
-    ensures { result ≡ resolving.unlisted (held_of shot.now) (view_target target.now) }
+fn unlisted<H: Holding>(held: &H, target: &Target) -> Answer
+    ensures { result ≡ resolving.unlisted (H.state held.now) (view_target target.now) }
 {
     let id = target.location.module;
     match target.delivery {
         None => Answer::NotYet(id),
         Some(transaction) => {
-            if is_held(&shot.held, TransactionId(transaction).identification()) {
+            if held.is_held(TransactionId(transaction).identification()) {
                 Answer::Dangling(id)
             } else {
                 Answer::NotYet(id)
@@ -107,21 +75,25 @@ fn unlisted(shot: &Shot, target: &Target) -> Answer
 }
 
 /// The module of a location, where it is whole; else the answer.
-fn module_at<'a>(shot: &'a Shot, carousel: u32, target: &Target) -> Result<&'a Arc<Module>, Answer>
-    ensures { MatchResult result (λ m. IsModuleAt carousel (held_of shot.now) (view_target target.now) (arc_value m.now))
-        (λ a. IsNoModule carousel (held_of shot.now) (view_target target.now) a) }
+fn module_at<'a, H: Holding>(
+    held: &'a H,
+    carousel: u32,
+    target: &Target,
+) -> Result<&'a Arc<Module>, Answer>
+    ensures { MatchResult result (λ m. IsModuleAt carousel (H.state held.now) (view_target target.now) (arc_value m.now))
+        (λ a. IsNoModule carousel (H.state held.now) (view_target target.now) a) }
 {
     let id = target.location.module;
     if is_elsewhere(carousel, target) {
         return Err(Answer::Elsewhere);
     }
-    match sought(shot, target) {
-        None => Err(unlisted(shot, target)),
-        Some(held) => {
-            if held.line.compressed {
+    match sought(held, target) {
+        None => Err(unlisted(held, target)),
+        Some(listed) => {
+            if listed.line.compressed {
                 return Err(Answer::Compressed(id));
             }
-            match &held.module {
+            match listed.module {
                 None => Err(Answer::NotYet(id)),
                 Some(module) => Ok(module),
             }
@@ -145,11 +117,11 @@ fn object_answer(module: &Arc<Module>, location: &Location) -> Result<Answer, No
 }
 
 /// The answer at a location, where no name is left.
-fn end_of(shot: &Shot, carousel: u32, target: &Target) -> Result<Answer, NoMemory>
-    ensures answer { IfOk result (λ a. a ≡ last carousel (held_of shot.now) (view_target target.now)) }
-    ensures memory { OnErr result (IsTrue (is_shared (last carousel (held_of shot.now) (view_target target.now)))) }
+fn end_of<H: Holding>(held: &H, carousel: u32, target: &Target) -> Result<Answer, NoMemory>
+    ensures answer { IfOk result (λ a. a ≡ last carousel (H.state held.now) (view_target target.now)) }
+    ensures memory { OnErr result (IsTrue (is_shared (last carousel (H.state held.now) (view_target target.now)))) }
 {
-    match module_at(shot, carousel, target) {
+    match module_at(held, carousel, target) {
         Ok(module) => object_answer(module, target.location),
         Err(answer) => Ok(answer),
     }
@@ -187,19 +159,19 @@ fn next_in<'a>(module: &'a Arc<Module>, location: &Location, name: &[u8]) -> Ste
 }
 
 /// Where a name leads from a location.
-fn leads<'a>(shot: &'a Shot, carousel: u32, target: &Target, name: &[u8]) -> Step<'a>
-    ensures { StepGoes carousel (held_of shot.now) name.now (view_target target.now) result }
+fn leads<'a, H: Holding>(held: &'a H, carousel: u32, target: &Target, name: &[u8]) -> Step<'a>
+    ensures { StepGoes carousel (H.state held.now) name.now (view_target target.now) result }
 {
-    match module_at(shot, carousel, target) {
+    match module_at(held, carousel, target) {
         Ok(module) => next_in(module, target.location, name),
         Err(answer) => Step::Ends(answer),
     }
 }
 
 /// The walk from the gateway along all names.
-fn walk_from(shot: &Shot, gateway: &Gateway, path: &Path) -> Result<Answer, NoMemory>
-    ensures answer { IfOk result (λ a. a ≡ walk gateway.now.location.carousel (held_of shot.now) path.now (gateway.now.location, gateway.now.delivery)) }
-    ensures memory { OnErr result (IsTrue (is_shared (walk gateway.now.location.carousel (held_of shot.now) path.now (gateway.now.location, gateway.now.delivery)))) }
+fn walk_from<H: Holding>(held: &H, gateway: &Gateway, path: &Path) -> Result<Answer, NoMemory>
+    ensures answer { IfOk result (λ a. a ≡ walk gateway.now.location.carousel (H.state held.now) path.now (gateway.now.location, gateway.now.delivery)) }
+    ensures memory { OnErr result (IsTrue (is_shared (walk gateway.now.location.carousel (H.state held.now) path.now (gateway.now.location, gateway.now.delivery)))) }
 {
     let carousel = gateway.location.carousel;
     let mut target = Target {
@@ -207,17 +179,17 @@ fn walk_from(shot: &Shot, gateway: &Gateway, path: &Path) -> Result<Answer, NoMe
         delivery: gateway.delivery,
     };
     for i in 0..path.len() {
-        match leads(shot, carousel, &target, path.name(i)) {
+        match leads(held, carousel, &target, path.name(i)) {
             Step::On(next) => target = next,
             Step::Ends(answer) => return Ok(answer),
         }
     }
-    end_of(shot, carousel, &target)
+    end_of(held, carousel, &target)
 }
 
 /// The module of the last location on the walk along all names, where the walk comes so far.
-fn home_from(shot: &Shot, gateway: &Gateway, path: &Path) -> Option<u16>
-    ensures { result ≡ module_at_end (last_target gateway.now.location.carousel (held_of shot.now) path.now (Some (gateway.now.location, gateway.now.delivery))) }
+fn home_from<H: Holding>(held: &H, gateway: &Gateway, path: &Path) -> Option<u16>
+    ensures { result ≡ module_at_end (last_target gateway.now.location.carousel (H.state held.now) path.now (Some (gateway.now.location, gateway.now.delivery))) }
 {
     let carousel = gateway.location.carousel;
     let mut target = Target {
@@ -225,7 +197,7 @@ fn home_from(shot: &Shot, gateway: &Gateway, path: &Path) -> Option<u16>
         delivery: gateway.delivery,
     };
     for i in 0..path.len() {
-        match leads(shot, carousel, &target, path.name(i)) {
+        match leads(held, carousel, &target, path.name(i)) {
             Step::On(next) => target = next,
             Step::Ends(_) => return None,
         }
@@ -260,8 +232,18 @@ pub fn resolve(shot: &Shot, path: &Path) -> Result<Answer, NoMemory>
     ensures answer { IfOk result (λ a. a ≡ answer_of (held_of shot.now) path.now) }
     ensures memory { OnErr result (IsTrue (is_shared (answer_of (held_of shot.now) path.now))) }
 {
-    match (&shot.gateway, shot.label) {
-        (Some(gateway), Some(_)) => walk_from(shot, gateway, path),
+    answer_on(shot, path)
+}
+
+/// The answer to the whole path on what is held, by the rules of `resolve`: on a shot, or on the receiver itself, of which no shot has to
+/// be made then. Each step of the walk looks up one module. A file or a folder shares the module that holds it; the one refusal is out
+/// of memory, in sharing it, so that it comes only where the answer is a file or a folder.
+pub fn answer_on<H: Holding>(held: &H, path: &Path) -> Result<Answer, NoMemory>
+    ensures answer { IfOk result (λ a. a ≡ answer_of (H.state held.now) path.now) }
+    ensures memory { OnErr result (IsTrue (is_shared (answer_of (H.state held.now) path.now))) }
+{
+    match (held.gateway(), held.label()) {
+        (Some(gateway), Some(_)) => walk_from(held, gateway, path),
         _ => Ok(Answer::NoCarousel),
     }
 }

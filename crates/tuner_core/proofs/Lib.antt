@@ -9,6 +9,7 @@ pub mod Cutting
 pub mod Asking
 pub mod Answering
 pub mod Showing
+pub mod Seeking
 pub mod Stepping
 pub mod CallerLemmas
 mod Rows

@@ -1,4 +1,4 @@
--- A shot is all that looking back gives.
+-- A shot is all that looking back gives, and so are answers.
 use Rattle.std.proofs.Common.{ℕ, ◌≡◌, List, [], ◌∷◌, ◌++◌, map, Option, refl, ap, ◌∙◌}
 use Rattle.std.specs.List.{flat_map}
 use Rattle.block_assembler.specs.Blocks.{Bytes}
@@ -9,13 +9,14 @@ use Rattle.module_cache.specs.Joining.{tuned_of}
 use Rattle.module_cache.specs.Joining as joining
 use Rattle.module_cache.specs.Turns.{admitted, newest, before}
 use Rattle.module_cache.proofs.CallerLemmas.{bytes_among, map_map}
-use Rattle.path_resolver.specs.Resolving.{HeldModule, Root}
+use Rattle.path_tree.specs.Paths.{PathNames}
+use Rattle.path_resolver.specs.Resolving.{HeldModule, Root, answer_of}
 use Rattle.path_resolver.specs.Shots.{Snapshot}
 use Rattle.tuner_core.specs.Heard.{as_heard}
 use Rattle.tuner_core.specs.Said.{block_in}
 use Rattle.tuner_core.specs.Spans.{Span, identification, stretch}
-use Rattle.tuner_core.specs.Stands.{TunerState, StandsFor, modules_of, snapshot_of}
-use Rattle.tuner_core.specs.Turns.{Turn, turns_of, held_module, modules_in, table_in, snapshot_after}
+use Rattle.tuner_core.specs.Stands.{TunerState, StandsFor, held_by, modules_of, snapshot_of}
+use Rattle.tuner_core.specs.Turns.{Turn, turns_of, held_module, modules_in, table_in, answer_after, snapshot_after}
 
 module_with : ℕ → ModuleLine → Option Bytes → HeldModule
 module_with i l b = record { identification = i; line = l; bytes = b }
@@ -56,3 +57,6 @@ shot_is number draws t cs s =
     (ap (λ c. map (λ u. u.identification) c.held) s.cache ∙ held_is ts)
     s.gateway
     (ap (λ c. flat_map modules_of c.held) s.cache ∙ table_is ts)
+
+pub answer_is : (t : TunerState) (candidates : List Bytes) (path : PathNames) → StandsFor t candidates → answer_of (held_by t) path ≡ answer_after candidates path
+answer_is t cs path s = ap (λ (shot : Snapshot). answer_of shot.held path) (shot_is 0 0 t cs s)

@@ -14,7 +14,7 @@ use Rattle.module_cache.specs.Joining.{CacheState, empty, Outline, outline_held,
 use Rattle.module_cache.specs.Limits.{is_within}
 use Rattle.module_cache.specs.declared.taken.Taken.{Taken}
 use Rattle.module_cache.specs.declared.taken.Taken.TheVariants as taken
-use Rattle.path_resolver.specs.Resolving.{HeldModule}
+use Rattle.path_resolver.specs.Resolving.{Held, HeldModule}
 use Rattle.path_resolver.specs.Shots.{Snapshot, view_gateway}
 use Rattle.path_resolver.specs.declared.shot.Gateway.{Gateway}
 use Rattle.tuner_core.specs.Heard.{Heard, Skipped, NoControl, NoBlock, ADsi, ADii, ABlock, as_heard}
@@ -181,16 +181,14 @@ asks c (ABlock b) = is_new (taken_of c b)
 abbrev pub modules_of : TunedState → List HeldModule
 modules_of t = map (λ x. record { identification = t.identification; line = x.line; bytes = bytes_of x.stored.content }) t.lines
 
-abbrev pub snapshot_of : ℕ → ℕ → TunerState → Snapshot
-snapshot_of number draws t = record {
-  number = number;
-  draws = draws;
-  mark = t.mark;
-  epoch = t.epoch;
-  held = record {
-    label = t.label;
-    held = map (λ u. u.identification) t.cache.held;
-    gateway = option_map view_gateway t.gateway;
-    table = flat_map modules_of t.cache.held;
-  };
+-- what an answer depends on
+abbrev pub held_by : TunerState → Held
+held_by t = record {
+  label = t.label;
+  held = map (λ u. u.identification) t.cache.held;
+  gateway = option_map view_gateway t.gateway;
+  table = flat_map modules_of t.cache.held;
 }
+
+abbrev pub snapshot_of : ℕ → ℕ → TunerState → Snapshot
+snapshot_of number draws t = record { number = number; draws = draws; mark = t.mark; epoch = t.epoch; held = held_by t }

@@ -1,4 +1,4 @@
-//! The receiver of one carousel: from candidates for sections to what is held of the modules, and shots of it.
+//! The receiver of one carousel: from candidates for sections to what is held of the modules, answers on it, and shots of it.
 //!
 //! The receiver follows one generation after another. A generation is described by one to 16 DIIs (ISO/IEC 13818-6,
 //! DownloadInfoIndication) of one version, each of an identification of its own. The first of another version takes the place of all
@@ -25,6 +25,7 @@
 mod gateway;
 mod hearing;
 mod laws;
+mod lending;
 mod told;
 mod tuner;
 mod turns;

@@ -2,20 +2,23 @@ ghost use Rattle.std.specs.Prelude.{◌≡◌, ◌≢◌, ◌↔◌, ◌++◌, �
 ghost use Rattle.std.specs.Arc.{arc_value};
 ghost use Rattle.std.specs.List.{flat_map};
 ghost use Rattle.path_tree.specs.Paths.{Bytes};
+ghost use Rattle.path_resolver.specs.Resolving.{answer_of, is_shared};
 ghost use Rattle.path_resolver.specs.Shots as shots;
 ghost use Rattle.module_cache.specs.Contents.{bytes_of};
 ghost use Rattle.tuner_core.specs.Answers.{fed_after};
 ghost use Rattle.tuner_core.specs.Heard.{as_heard};
-ghost use Rattle.tuner_core.specs.Stands.{StandsFor, fresh, step, with_next_mark, after_heard, asks, held_diis, modules_of, snapshot_of};
-ghost use Rattle.tuner_core.specs.Turns.{snapshot_after};
+ghost use Rattle.tuner_core.specs.Stands.{StandsFor, fresh, step, with_next_mark, after_heard, asks, held_by, held_diis, modules_of, snapshot_of};
+ghost use Rattle.tuner_core.specs.Turns.{answer_after, snapshot_after};
 
 use crate::gateway::{copy_of_held, take_dsi};
 use crate::hearing::{Told, hear};
+use crate::lending::{delivered_in, is_held_in, lent, listed_in};
 use crate::told::{Cause, Fed};
 use crate::turns::{Turns, take_block, take_dii};
-use module_cache::{Cache, Line, Slot, Tuned};
+use module_cache::{Cache, Line, Tuned};
 use oc_bytes::NoMemory;
-use path_resolver::{Gateway, Held, Shot};
+use path_resolver::{Answer, Gateway, Held, Holding, Listed, Shot, answer_on};
+use path_tree::Path;
 use std::alloc::Global;
 use std::marker::Model;
 use std::sync::Arc;
@@ -56,13 +59,14 @@ impl Model for Tuner {
 fn held_line(identification: u16, line: &Line) -> Result<Held, NoMemory>
     ensures { IfOk result (λ h. shots.view_held h ≡ record { identification = identification; line = line.now.line; bytes = bytes_of line.now.stored.content }) }
 {
-    let module = match line.stored.slot() {
-        Slot::Whole(module) => Some(Arc::try_clone(module)?),
-        _ => None,
+    let lent = lent(identification, line);
+    let module = match lent.module {
+        Some(module) => Some(Arc::try_clone(module)?),
+        None => None,
     };
     Ok(Held {
         identification,
-        line: line.line,
+        line: lent.line,
         module,
     })
 }
@@ -228,5 +232,45 @@ impl Tuner {
         let shot = self.made_shot(number, draws)?;
         let shared = Arc::new(self.alloc, shot)?;
         Ok(shared)
+    }
+
+    /// The answer to the whole path on what is held: that of [`path_resolver::resolve`] on a shot which is taken now, but no shot is made.
+    /// A file or a folder shares the module that holds it, whatever is heard later; the one refusal is out of memory, in sharing it, so
+    /// that it comes only where the answer is a file or a folder.
+    pub fn resolve(&self, path: &Path) -> Result<Answer, NoMemory>
+        ensures answer { IfOk result (λ a. a ≡ answer_of (held_by self.now) path.now) }
+        ensures looks_back { IfOk result (λ a. (candidates : List Bytes)
+            → StandsFor self.now candidates → a ≡ answer_after candidates path.now) }
+        ensures memory { OnErr result (IsTrue (is_shared (answer_of (held_by self.now) path.now))) }
+    {
+        answer_on(self, path)
+    }
+}
+
+/// What the receiver itself lends for an answer. A module whose delivery is known is sought among the lines of that DII alone.
+impl Holding for Tuner {
+    ghost use Rattle.tuner_core.specs.Stands.{held_by};
+
+    ghost state = { held_by };
+
+    fn label(&self) -> Option<u64> {
+        self.turns.label
+    }
+
+    fn gateway(&self) -> Option<&Gateway> {
+        self.gateway.as_ref()
+    }
+
+    #[tactic(auto, using(module_cache::proofs::CallerLemmas::any_map))]
+    fn is_held(&self, identification: u16) -> bool {
+        is_held_in(self.held(), identification)
+    }
+
+    fn listed(&self, id: u16) -> Option<Listed<'_>> {
+        listed_in(self.held(), id)
+    }
+
+    fn delivered(&self, identification: u16, id: u16) -> Option<Listed<'_>> {
+        delivered_in(self.held(), identification, id)
     }
 }

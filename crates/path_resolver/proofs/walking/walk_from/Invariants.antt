@@ -1,8 +1,9 @@
 use Rattle.std.proofs.Common.{◌≡◌, drop}
 use Rattle.path_resolver.specs.Resolving.{walk}
-use Rattle.path_resolver.specs.Shots.{held_of}
 use Rattle.path_resolver.specs.Inner.Targets.{view_target}
 use Rattle.path_resolver.proofs.walking.walk_from.Given as goal
 
 abbrev pub invariant-loop-i : goal.invariant-loop-i
-invariant-loop-i l = walk l.carousel (held_of l.shot) (drop l.i l.path) (view_target l.target) ≡ walk l.carousel (held_of l.shot) l.path (l.gateway.location, l.gateway.delivery)
+invariant-loop-i g l =
+    walk l.carousel (g.H.Holding.state l.held) (drop l.i l.path) (view_target l.target)
+    ≡ walk l.carousel (g.H.Holding.state l.held) l.path (l.gateway.location, l.gateway.delivery)
