@@ -103,7 +103,7 @@ InRange (Commit editor edits) = (1 ≤ editor) × (editor ≤ 64)
 InRange (Draw asked fates) = (1 ≤ asked) × (asked ≤ MOST_DRAWN)
 InRange (Open reader path) = (1 ≤ reader) × (reader ≤ 64)
 
--- ---- what asks for memory: a commit that makes an entry, a draw where there is room for one more, and each open
+-- ---- what may ask for memory: a commit that makes an entry, a draw where there is room for one more, and each open
 
 abbrev pub AsksForMemory : WorldState → Step → Type 0
 AsksForMemory w (Commit editor edits) = is_entered (outcome_of w.catalogue edits) ≡ true

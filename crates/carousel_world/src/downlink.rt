@@ -202,7 +202,8 @@ impl Downlink {
 
     /// The label of what is held, and the answer to the path on it, by the rules of [`path_resolver::resolve`]: those of a shot that is
     /// taken now, but no shot is made. A file or a folder shares the module that holds it. Out of memory is the only refusal; it comes
-    /// only where the answer is a file or a folder, and changes nothing.
+    /// only where the answer is a file or a folder, and changes nothing. Of a spent downlink nothing is promised, and there is no label
+    /// where no DII is held.
     pub fn open(&self, path: &Path) -> Result<(Option<u64>, Answer), NoMemory>
         ensures label { IfOk result (λ opened.
             (pid : ℕ) (groups : List (List Bytes)) (begun packets : List Bytes)

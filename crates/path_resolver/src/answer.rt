@@ -125,7 +125,7 @@ impl FolderRef {
     }
 }
 
-/// The answer to a path on one shot. Module ids are those of the location at which the walk ended.
+/// The answer to a path on what is held. Module ids are those of the location at which the walk ended.
 #[derive(Drop)]
 pub enum Answer {
     /// The path is a file: its content.

@@ -27,11 +27,11 @@ pub trait Holding {
     // What an answer depends on.
     ghost state: { Self → HeldState };
 
-    /// The generation as the receiver counts it, where a DII is held.
+    /// The generation as the receiver counts it, none where no DII is held.
     fn label(&self) -> Option<u64>
         ensures { result ≡ (state self.now).label };
 
-    /// The gateway, where a DSI is held.
+    /// The gateway of the last DSI that has one, none before.
     fn gateway(&self) -> Option<&Gateway>
         ensures { option_map (λ g. view_gateway g.now) result ≡ (state self.now).gateway };
 
@@ -39,12 +39,13 @@ pub trait Holding {
     fn is_held(&self, identification: u16) -> bool
         ensures { result ≡ list_any (λ i. i == identification) (state self.now).held };
 
-    /// The module of this id, 0 to 65,535, by the first of the held DIIs that lists it.
+    /// The module of this id, 0 to 65,535, by the first of the held DIIs that lists it, none where no held one does.
     fn listed(&self, id: u16) -> Option<Listed<'_>>
         ensures { option_map view_listed result
             ≡ find (λ h. h.line.id == id) (state self.now).table };
 
-    /// The module of this id, 0 to 65,535, by the held DII of this identification, 0 to 32,767.
+    /// The module of this id, 0 to 65,535, by the held DII of this identification, 0 to 32,767, none where that one isn't held or
+    /// doesn't list it.
     fn delivered(&self, identification: u16, id: u16) -> Option<Listed<'_>>
         ensures { option_map view_listed result
             ≡ find (λ h. (h.identification == identification) && (h.line.id == id))

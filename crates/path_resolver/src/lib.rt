@@ -1,5 +1,5 @@
-//! Shots of a receiver, and the answers to paths on them: a whole path is resolved on one shot, through the folders
-//! of the modules that it holds, without copying a byte or a name.
+//! Shots of a receiver, and the answers to paths on them or on the receiver itself: a whole path is resolved on what is
+//! held at one moment, through the folders of the modules that are there, without copying a byte or a name.
 //!
 //! A receiver has heard where the gateway lies, and nothing yet of the module that holds it:
 //!

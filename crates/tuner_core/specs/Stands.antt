@@ -176,7 +176,7 @@ asks c (ADsi d) = true
 asks c (ADii d) = true
 asks c (ABlock b) = is_new (taken_of c b)
 
--- ---- a shot
+-- ---- what is answered on, and a shot
 
 abbrev pub modules_of : TunedState → List HeldModule
 modules_of t = map (λ x. record { identification = t.identification; line = x.line; bytes = bytes_of x.stored.content }) t.lines
