@@ -6,7 +6,7 @@ use crate::notices::Lines;
 use crate::texts::{bytes_text, output_text, spelled};
 use crate::watchers::prefixes_of;
 use crate::weights::{run_first_twice, run_once};
-use crate::words::{size_of, words_of};
+use crate::words::words_of;
 use folder_store::MemStore;
 use oc_bytes::{MemSink, MemSource};
 use path_tree::Path;
@@ -51,12 +51,6 @@ impl Commands {
     /// What a row that sets an end, runs a command or asks for its status answers.
     pub(crate) fn call(&mut self, alloc: Global, row: &Row<'_>) -> Result<String, RowFault> {
         match row.name() {
-            "pieces" => self.set_pieces(alloc, row),
-            "folder" => self.set_folder(alloc, row),
-            "watchers" => self.set_watchers(alloc, row),
-            "input" => self.set_input(alloc, row.bytes(alloc, 0)?),
-            "script" => self.set_input(alloc, spelled(alloc, row)?.into_bytes()),
-            "take" => self.take(alloc),
             "run" => self.run(alloc, row, false),
             "run-first-twice" => self.run(alloc, row, true),
             "written" => self.written(alloc, row),
@@ -64,6 +58,19 @@ impl Commands {
             "notices" => Ok(output_text(alloc, self.notices.as_bytes())?),
             "stored" => self.stored(alloc, row),
             "line" => self.line(alloc),
+            _ => self.set(alloc, row),
+        }
+    }
+
+    /// What a row that sets an end or a status answers.
+    fn set(&mut self, alloc: Global, row: &Row<'_>) -> Result<String, RowFault> {
+        match row.name() {
+            "pieces" => self.set_pieces(alloc, row),
+            "folder" => self.set_folder(alloc, row),
+            "watchers" => self.set_watchers(alloc, row),
+            "input" => self.set_input(alloc, row.octets(0)),
+            "script" => self.set_input(alloc, spelled(alloc, row).into_bytes()),
+            "take" => self.take(alloc),
             "status" => self.set_status(alloc, row),
             _ => Err(RowFault::BadRow),
         }
@@ -71,8 +78,8 @@ impl Commands {
 
     /// `pieces READ WRITTEN`: how many bytes one read gives and one write takes at most.
     fn set_pieces(&mut self, alloc: Global, row: &Row<'_>) -> Result<String, RowFault> {
-        self.read_piece = size_of(row, 0)?;
-        self.written_piece = size_of(row, 1)?;
+        self.read_piece = row.count(0);
+        self.written_piece = row.count(1);
         Ok(String::from_str(alloc, "set")?)
     }
 
@@ -108,7 +115,7 @@ impl Commands {
         row: &Row<'_>,
         is_first_twice: bool,
     ) -> Result<String, RowFault> {
-        let words = words_of(alloc, row)?;
+        let words = words_of(alloc, row);
         let mut ends = self.ends(alloc)?;
         self.status = if is_first_twice {
             run_first_twice(alloc, &words, &self.prefixes, &mut ends, &mut self.store)?
@@ -180,12 +187,9 @@ impl Commands {
 
     /// `status done` and `status incomplete BLOCK`: the last command ended so.
     fn set_status(&mut self, alloc: Global, row: &Row<'_>) -> Result<String, RowFault> {
-        self.status = match row.word(0)? {
+        self.status = match row.text(0) {
             "done" => Status::Done,
-            "incomplete" => match u32::try_from(row.number(1)?) {
-                Ok(block) => Status::Incomplete(block),
-                Err(_) => return Err(RowFault::BadRow),
-            },
+            "incomplete" => Status::Incomplete(row.long(1)),
             _ => return Err(RowFault::BadRow),
         };
         let code = self.status.code();

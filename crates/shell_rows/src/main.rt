@@ -26,11 +26,11 @@ struct Shell {
 
 impl Calls for Shell {
     fn call(&mut self, alloc: Global, row: &Row<'_>) -> Result<String, RowFault> {
-        if let Some(text) = scripts::call(alloc, row)? {
-            return Ok(text);
+        if let Some(line) = scripts::call(alloc, row) {
+            return line.done();
         }
-        if let Some(text) = words::call(alloc, row)? {
-            return Ok(text);
+        if let Some(line) = words::call(alloc, row) {
+            return line.done();
         }
         if let Some(text) = reports::call(alloc, row)? {
             return Ok(text);

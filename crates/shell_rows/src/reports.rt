@@ -20,7 +20,7 @@ pub(crate) fn call(alloc: Global, row: &Row<'_>) -> Result<Option<String>, RowFa
 
 /// `rehearse TEXT`: the report of the script, where each module is sent once a cycle.
 fn report(alloc: Global, row: &Row<'_>) -> Result<String, RowFault> {
-    let text = spelled(alloc, row)?;
+    let text = spelled(alloc, row);
     let Ok(parts) = read_parts(alloc, text.as_bytes()) else {
         return Err(RowFault::BadRow);
     };

@@ -1,147 +1,158 @@
 //! Scripts of sessions.
 
 use crate::texts::spelled;
-use session_script::{Action, Line, Script, ScriptFault, Stage, parse};
-use std::alloc::{AllocError, Global};
-use test_rows::{Row, RowFault, hex_text};
+use session_script::{Action, Line as ScriptLine, Script, ScriptFault, Stage, parse};
+use std::alloc::Global;
+use test_rows::{Line, Row, RowFault};
 use ts_packet::Fate;
 
 /// What a call of a script's text answers.
-pub(crate) fn call(alloc: Global, row: &Row<'_>) -> Result<Option<String>, RowFault> {
+pub(crate) fn call(alloc: Global, row: &Row<'_>) -> Option<Line> {
     match row.name() {
-        "parse" => Ok(Some(parsed(alloc, row)?)),
-        "fates" => Ok(Some(fates_of_the_first_line(alloc, row)?)),
-        "fault" => Ok(Some(fault(alloc, row)?)),
-        _ => Ok(None),
+        "parse" => Some(parsed(alloc, row)),
+        "fates" => Some(fates_of_the_first_line(alloc, row)),
+        "fault" => Some(fault(alloc, row)),
+        _ => None,
     }
 }
 
 /// `parse TEXT`: the script of the text, or the line that doesn't fit and its cause.
-fn parsed(alloc: Global, row: &Row<'_>) -> Result<String, RowFault> {
-    let text = spelled(alloc, row)?;
+fn parsed(alloc: Global, row: &Row<'_>) -> Line {
+    let text = spelled(alloc, row);
     match parse(alloc, text.as_bytes()) {
-        Ok(script) => Ok(shown(alloc, &script)?),
-        Err(ScriptFault::BadLine(number, cause)) => Ok(format!(in alloc; "{number}: {cause}")?),
-        Err(ScriptFault::NoMemory) => Err(RowFault::NoMemory),
+        Ok(script) => shown(row.line(), &script),
+        Err(ScriptFault::BadLine(number, cause)) => {
+            row.line().value("", &number).value(": ", &cause)
+        }
+        Err(ScriptFault::NoMemory) => row.failed(RowFault::NoMemory),
     }
 }
 
 /// `fault TEXT`: the text of the fault.
-fn fault(alloc: Global, row: &Row<'_>) -> Result<String, RowFault> {
-    let text = spelled(alloc, row)?;
+fn fault(alloc: Global, row: &Row<'_>) -> Line {
+    let text = spelled(alloc, row);
     match parse(alloc, text.as_bytes()) {
-        Ok(_) => Ok(String::from_str(alloc, "none")?),
-        Err(fault) => Ok(format!(in alloc; "{fault}")?),
+        Ok(_) => row.line().text("none"),
+        Err(fault) => row.line().value("", &fault),
     }
 }
 
 /// `fates TEXT`: how many lines the script has, how many sections its first line draws, how many fates that has, and the first and
 /// the last of them.
-fn fates_of_the_first_line(alloc: Global, row: &Row<'_>) -> Result<String, RowFault> {
-    let text = spelled(alloc, row)?;
-    let Ok(script) = parse(alloc, text.as_bytes()) else {
-        return Err(RowFault::BadRow);
-    };
-    crosses_threads(&script);
-    let count = script.lines.len();
-    let Some(line) = script.lines.first() else {
-        return Err(RowFault::BadRow);
-    };
-    let Action::Draw(asked, fates) = &line.action else {
-        return Err(RowFault::BadRow);
-    };
-    let (Some(first), Some(last)) = (fates.first(), fates.last()) else {
-        return Err(RowFault::BadRow);
-    };
-    let first = fate_text(alloc, first)?;
-    let last = fate_text(alloc, last)?;
-    let fates = fates.len();
-    Ok(format!(in alloc; "{count} line, draw {asked}, {fates} fates, {first} to {last}")?)
+fn fates_of_the_first_line(alloc: Global, row: &Row<'_>) -> Line {
+    let text = spelled(alloc, row);
+    match parse(alloc, text.as_bytes()) {
+        Ok(script) => first_line_text(row, &script),
+        Err(_) => row.failed(RowFault::BadRow),
+    }
+}
+
+fn first_line_text(row: &Row<'_>, script: &Script) -> Line {
+    crosses_threads(script);
+    let line = row
+        .line()
+        .value("", &script.lines.len())
+        .text(" line, draw ");
+    match script.lines.first() {
+        Some(first) => draw_text(line, &first.action),
+        None => line.failed(RowFault::BadRow),
+    }
+}
+
+fn draw_text(line: Line, action: &Action) -> Line {
+    match action {
+        Action::Draw(asked, fates) => {
+            let line = line.value("", asked).value(", ", &fates.len());
+            ends_text(line.text(" fates, "), fates)
+        }
+        _ => line.failed(RowFault::BadRow),
+    }
+}
+
+/// Puts the first and the last fate behind what stands.
+fn ends_text(line: Line, fates: &[Fate]) -> Line {
+    match (fates.first(), fates.last()) {
+        (Some(first), Some(last)) => fate_text(fate_text(line, first).text(" to "), last),
+        _ => line.failed(RowFault::BadRow),
+    }
 }
 
 /// A script can be made in one thread and run in others.
 fn crosses_threads<T: Send + Sync>(_: &T) {}
 
 /// The editors, the readers, and each line with its number and its stage.
-fn shown(alloc: Global, script: &Script) -> Result<String, AllocError> {
-    let mut text = String::from_str(alloc, "editors")?;
-    for editor in &script.editors {
-        text.push_str(format!(in alloc; " {editor}")?.as_str())?;
-    }
-    text.push_str(", readers")?;
-    for reader in &script.readers {
-        text.push_str(format!(in alloc; " {reader}")?.as_str())?;
-    }
-    for line in &script.lines {
-        text.push_str(line_text(alloc, line)?.as_str())?;
-    }
-    Ok(text)
+fn shown(line: Line, script: &Script) -> Line {
+    let line = numbers_text(line.text("editors"), &script.editors);
+    let line = numbers_text(line.text(", readers"), &script.readers);
+    lines_text(line, &script.lines)
 }
 
-fn line_text(alloc: Global, line: &Line) -> Result<String, AllocError> {
-    let number = line.number;
-    let stage = stage_text(line.stage);
-    let action = action_text(alloc, &line.action)?;
-    format!(in alloc; "; {number} {stage} {action}")
+fn numbers_text(mut line: Line, numbers: &[u32]) -> Line {
+    for number in numbers {
+        line = line.value(" ", number);
+    }
+    line
+}
+
+fn lines_text(mut line: Line, lines: &[ScriptLine]) -> Line {
+    for one in lines {
+        line = line_text(line, one);
+    }
+    line
+}
+
+fn line_text(line: Line, one: &ScriptLine) -> Line {
+    let line = line.value("; ", &one.number).text(stage_text(one.stage));
+    action_text(line, &one.action)
 }
 
 fn stage_text(stage: Stage) -> &'static str {
     match stage {
-        Stage::Before => "before",
-        Stage::During => "during",
-        Stage::After => "after",
+        Stage::Before => " before ",
+        Stage::During => " during ",
+        Stage::After => " after ",
     }
 }
 
-fn action_text(alloc: Global, action: &Action) -> Result<String, AllocError> {
+fn action_text(line: Line, action: &Action) -> Line {
     match action {
-        Action::Put(editor, path, content) => {
-            let path = path.print()?;
-            let hex = hex_text(alloc, content.bytes())?;
-            format!(in alloc; "put {editor} {path} {hex}")
-        }
-        Action::Fill(editor, path, size, from) => {
-            let path = path.print()?;
-            format!(in alloc; "fill {editor} {path} {size} {from}")
-        }
-        Action::Remove(editor, path) => {
-            let path = path.print()?;
-            format!(in alloc; "remove {editor} {path}")
-        }
-        Action::MakeFolder(editor, path) => {
-            let path = path.print()?;
-            format!(in alloc; "mkdir {editor} {path}")
-        }
-        Action::RemoveFolder(editor, path) => {
-            let path = path.print()?;
-            format!(in alloc; "rmdir {editor} {path}")
-        }
-        Action::Commit(editor) => format!(in alloc; "commit {editor}"),
-        Action::Draw(asked, fates) => {
-            let fates = fates_text(alloc, fates)?;
-            format!(in alloc; "draw {asked}{fates}")
-        }
-        Action::Open(reader, path) => {
-            let path = path.print()?;
-            format!(in alloc; "open {reader} {path}")
-        }
-        Action::Settle => String::from_str(alloc, "settle"),
+        Action::Commit(editor) => line.value("commit ", editor),
+        Action::Draw(asked, fates) => fates_text(line.value("draw ", asked), fates),
+        Action::Open(reader, path) => line.value("open ", reader).value(" ", path),
+        Action::Settle => line.text("settle"),
+        edit => edit_text(line, edit),
     }
 }
 
-fn fates_text(alloc: Global, fates: &[Fate]) -> Result<String, AllocError> {
-    let mut text = String::new(alloc);
+fn edit_text(line: Line, action: &Action) -> Line {
+    match action {
+        Action::Put(editor, path, content) => line
+            .value("put ", editor)
+            .value(" ", path)
+            .bytes(" ", content.bytes()),
+        Action::Fill(editor, path, size, from) => line
+            .value("fill ", editor)
+            .value(" ", path)
+            .value(" ", size)
+            .value(" ", from),
+        Action::Remove(editor, path) => line.value("remove ", editor).value(" ", path),
+        Action::MakeFolder(editor, path) => line.value("mkdir ", editor).value(" ", path),
+        Action::RemoveFolder(editor, path) => line.value("rmdir ", editor).value(" ", path),
+        _ => line,
+    }
+}
+
+fn fates_text(mut line: Line, fates: &[Fate]) -> Line {
     for fate in fates {
-        text.push(' ')?;
-        text.push_str(fate_text(alloc, fate)?.as_str())?;
+        line = fate_text(line.text(" "), fate);
     }
-    Ok(text)
+    line
 }
 
-fn fate_text(alloc: Global, fate: &Fate) -> Result<String, AllocError> {
+fn fate_text(line: Line, fate: &Fate) -> Line {
     match fate {
-        Fate::Keep => String::from_str(alloc, "k"),
-        Fate::Lose => String::from_str(alloc, "d"),
-        Fate::Flip(bit) => format!(in alloc; "f{bit}"),
+        Fate::Keep => line.text("k"),
+        Fate::Lose => line.text("d"),
+        Fate::Flip(bit) => line.value("f", bit),
     }
 }

@@ -1,27 +1,30 @@
 //! Texts of several lines as the words of a row, and on one line.
 
 use std::alloc::{AllocError, Global};
-use test_rows::{Row, RowFault};
+use test_rows::Row;
 
 /// The text that a row's words spell: `;` ends a line, a space stands between two other words, `''` is an empty word, and `\r` and
 /// `\t` in a word are a carriage return and a tab.
-pub(crate) fn spelled(alloc: Global, row: &Row<'_>) -> Result<String, RowFault> {
+pub(crate) fn spelled(alloc: Global, row: &Row<'_>) -> String {
     let mut text = String::new(alloc);
     let mut is_front = true;
     for place in 0..row.len() {
-        let word = row.word(place)?;
-        if word == ";" {
-            text.push('\n')?;
-            is_front = true;
-        } else {
-            if !is_front {
-                text.push(' ')?;
-            }
-            push_word(&mut text, word)?;
-            is_front = false;
-        }
+        let word = row.text(place);
+        row.keep(push_spelled(&mut text, word, is_front));
+        is_front = word == ";";
     }
-    Ok(text)
+    text
+}
+
+/// Puts what a word spells behind what stands, with a space between where it isn't the front of a line.
+fn push_spelled(text: &mut String, word: &str, is_front: bool) -> Result<(), AllocError> {
+    if word == ";" {
+        return text.push('\n');
+    }
+    if !is_front {
+        text.push(' ')?;
+    }
+    push_word(text, word)
 }
 
 fn push_word(text: &mut String, word: &str) -> Result<(), AllocError> {
