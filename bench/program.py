@@ -1,6 +1,6 @@
 """What the scripts of this folder share: where the program is, how it is run, and how differences are reported.
 
-The program is the one that ./carousel builds, or the one that the environment variable CAROUSEL names; that of
+The program is the whole one that ./carousel builds, or the one that the environment variable CAROUSEL names; that of
 crates/bench_programs is the one that BENCH_PROGRAMS names, or rt builds it.
 """
 
@@ -19,12 +19,12 @@ Ended = namedtuple("Ended", "status out error")
 
 
 def find():
-    """The program's file. The launcher builds it first where it is missing or old."""
+    """The whole program's file. The launcher builds it first where it is missing or old; an empty session has it do so, and writes nothing."""
     given = os.environ.get("CAROUSEL")
     if given:
         return given
     built = os.path.join(TOP, "crates", "carousel", "out", "carousel")
-    if subprocess.run([os.path.join(TOP, "carousel"), "record", "256"], stdin=subprocess.DEVNULL).returncode or not os.path.exists(built):
+    if subprocess.run([os.path.join(TOP, "carousel"), "session"], stdin=subprocess.DEVNULL).returncode or not os.path.exists(built):
         sys.exit("the program isn't there")
     return built
 

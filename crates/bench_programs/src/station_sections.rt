@@ -36,7 +36,8 @@ fn puts(alloc: Global) -> Result<Vec<Edit>, NoMemory> {
 /// The first items of a carousel that has the files.
 fn first_batch(alloc: Global) -> Result<Batch, NoMemory>
     ensures count { IfOk result (λ b. length b.items.items ≤ 1024) }
-    ensures items { IfOk result (λ b. All (λ item. Contains (items_of (arc_value b.generation)) item) b.items.items) }
+    ensures items { IfOk result (λ b.
+        All (λ item. Contains (items_of (arc_value b.generation)) item) b.items.items) }
 {
     let call = Box::new(
         alloc,

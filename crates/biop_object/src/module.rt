@@ -123,7 +123,9 @@ impl Model for Module {
 
 fn find_in(index: &Labelled<Indexed>, stop: Option<usize>, key: &[u8]) -> Found
     ensures found { result ≡ found_from 0 key.now (view_index index.now) stop }
-    ensures folder { (k : ℕ) → result ≡ Found.Folder k → IsSome (bindings_in (view_index index.now) k) }
+    ensures folder { (k : ℕ)
+        → result ≡ Found.Folder k
+        → IsSome (bindings_in (view_index index.now) k) }
 {
     match (index.first(key), stop) {
         (Some(number), _) => index.items()[number].kind.found(number),
@@ -144,7 +146,8 @@ fn bindings_at(index: &[Indexed], folder: usize) -> &Labelled<Binding>
 }
 
 fn first_named<'a>(bindings: &'a Labelled<Binding>, name: &[u8]) -> Option<&'a Binding>
-    ensures { option_map (λ b. view_binding b.now) result ≡ find (λ b. same_name name.now b.name) (map view_binding bindings.now) }
+    ensures { option_map (λ b. view_binding b.now) result
+        ≡ find (λ b. same_name name.now b.name) (map view_binding bindings.now) }
 {
     let place = bindings.first(name)?;
     Some(&bindings.items()[place])
@@ -173,7 +176,8 @@ impl Module {
         ensures memory { IsErr result → BeginsFramed bytes.items }
         // The index that the other calls answer by is the one reading of the bytes.
         ensures reads { IfOk result (λ m. ReadsModule 0 m (objects_of m) (stop_of m)) }
-        ensures only { (objects : List Object) (stop : Option ℕ) → ReadsModule 0 bytes.items objects stop
+        ensures only { (objects : List Object) (stop : Option ℕ)
+            → ReadsModule 0 bytes.items objects stop
             → IfOk result (λ m. (objects, stop) ≡ index_of m) }
     {
         match read_index(alloc, &bytes) {
@@ -208,7 +212,9 @@ impl Module {
         ensures found { result ≡ found_of self.now key.now }
         // What is asked of a caller of `bindings`.
         ensures folder { (k : ℕ) → result ≡ Found.Folder k → IsSome (bindings_of self.now k) }
-        ensures inside { (span : Span) → result ≡ Found.File span → span.first + span.length ≤ length self.now }
+        ensures inside { (span : Span)
+            → result ≡ Found.File span
+            → span.first + span.length ≤ length self.now }
     {
         find_in(&self.index, self.stop, key)
     }
@@ -226,7 +232,8 @@ impl Module {
     /// None where no binding has the name. It takes no memory, and finds the name by halves.
     pub fn binding(&self, folder: usize, name: &[u8]) -> Option<&Binding>
         requires { IsSome (bindings_of self.now folder) }
-        ensures { option_map (λ b. view_binding b.now) result ≡ binding_in name.now (bindings_of self.now folder) }
+        ensures { option_map (λ b. view_binding b.now) result
+            ≡ binding_in name.now (bindings_of self.now folder) }
     {
         first_named(self.folder(folder), name)
     }

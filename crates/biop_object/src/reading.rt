@@ -96,7 +96,8 @@ fn bindings_of(
     fields: &mut Fields<'_>,
     count: u16,
 ) -> Result<Labelled<Binding>, ReadFault>
-    ensures { Gives (λ bindings. (map view_binding bindings, fields.new)) cause result (each_at (read binding) count fields.old) }
+    ensures { Gives (λ bindings. (map view_binding bindings, fields.new)) cause result
+        (each_at (read binding) count fields.old) }
 {
     let mut bindings = Labelled::new(alloc);
     for _ in 0..count {
@@ -117,7 +118,8 @@ fn folder_of(alloc: Global, fields: &mut Fields<'_>) -> Result<Kind, ReadFault>
 
 #[tactic(auto, unfolding(oc_bytes::specs::Grammar::read, oc_bytes::specs::Cursor::sized_at))]
 fn file_of(fields: &mut Fields<'_>) -> Result<Span, Cut>
-    ensures { Gives (λ span. (IsFile span.first span.length, fields.new)) place_of result (read (file fields.old.place) fields.old) }
+    ensures { Gives (λ span. (IsFile span.first span.length, fields.new)) place_of result
+        (read (file fields.old.place) fields.old) }
 {
     let length = fields.u32()? as usize;
     let first = fields.place();
@@ -128,7 +130,8 @@ fn file_of(fields: &mut Fields<'_>) -> Result<Span, Cut>
 /// A service context, passed over.
 #[tactic(auto, unfolding(oc_bytes::specs::Grammar::read))]
 fn pass_context(fields: &mut Fields<'_>) -> Result<(), Cut>
-    ensures { Gives (λ _. (tt, fields.new)) place_of result (skip_reading (read context fields.old)) }
+    ensures { Gives (λ _. (tt, fields.new)) place_of result
+        (skip_reading (read context fields.old)) }
 {
     fields.u32()?;
     fields.sized16()?;
@@ -136,7 +139,8 @@ fn pass_context(fields: &mut Fields<'_>) -> Result<(), Cut>
 }
 
 fn pass_contexts(fields: &mut Fields<'_>, count: u8) -> Result<(), Cut>
-    ensures { Gives (λ _. (tt, fields.new)) place_of result (skip_reading (each_at (read context) count fields.old)) }
+    ensures { Gives (λ _. (tt, fields.new)) place_of result
+        (skip_reading (each_at (read context) count fields.old)) }
 {
     for _ in 0..count {
         pass_context(fields)?;
@@ -153,7 +157,8 @@ pub(crate) const GATEWAY: [u8; 4] = *b"srg\0";
 /// What a message's body says, by the message's kind.
 #[tactic(auto, unfolding(oc_bytes::specs::Grammar::read))]
 fn kind_of(alloc: Global, kind: &[u8], fields: &mut Fields<'_>) -> Result<Kind, ReadFault>
-    ensures { Gives (λ k. (view_kind k, fields.new)) cause result (read (shape kind.now fields.old.place) fields.old) }
+    ensures { Gives (λ k. (view_kind k, fields.new)) cause result
+        (read (shape kind.now fields.old.place) fields.old) }
 {
     if kind == FILE.as_slice() {
         return Ok(Kind::File(file_of(fields)?));
@@ -167,7 +172,8 @@ fn kind_of(alloc: Global, kind: &[u8], fields: &mut Fields<'_>) -> Result<Kind, 
 /// A body with its length before it, which is taken whole.
 #[tactic(auto, using(crate::proofs::Places::body_is))]
 fn body_of(alloc: Global, kind: &[u8], fields: &mut Fields<'_>) -> Result<Kind, ReadFault>
-    ensures { Gives (λ k. (view_kind k, fields.new)) cause result (read (enclosed four (shape kind.now (fields.old.place + 4))) fields.old) }
+    ensures { Gives (λ k. (view_kind k, fields.new)) cause result
+        (read (enclosed four (shape kind.now (fields.old.place + 4))) fields.old) }
 {
     let length = fields.u32()?;
     let mut body = fields.part(length as usize)?;
@@ -195,7 +201,8 @@ fn heading_of<'a>(fields: &mut Fields<'a>) -> Result<Heading<'a>, Cut>
 
 #[tactic(auto, using(crate::proofs::Places::message_is))]
 fn message_of(alloc: Global, fields: &mut Fields<'_>) -> Result<Indexed, ReadFault>
-    ensures { Gives (λ i. (view_indexed i, fields.new)) cause result (read (message fields.old.place) fields.old) }
+    ensures { Gives (λ i. (view_indexed i, fields.new)) cause result
+        (read (message fields.old.place) fields.old) }
 {
     let heading = heading_of(fields)?;
     let kind = body_of(alloc, heading.kind, fields)?;
@@ -206,7 +213,8 @@ fn message_of(alloc: Global, fields: &mut Fields<'_>) -> Result<Indexed, ReadFau
 /// A message with its size before it, which is taken whole.
 #[tactic(auto, using(crate::proofs::Places::sized_is), unfolding(oc_bytes::specs::Grammar::read))]
 fn sized_message_of(alloc: Global, fields: &mut Fields<'_>) -> Result<Indexed, ReadFault>
-    ensures reads { Gives (λ i. (view_indexed i, fields.new)) cause result (read (enclosed four (message (fields.old.place + 4))) fields.old) }
+    ensures reads { Gives (λ i. (view_indexed i, fields.new)) cause result
+        (read (enclosed four (message (fields.old.place + 4))) fields.old) }
     ensures memory { IsErrOf result ReadFault.NoMemory → IsOk (read cut_off fields.old) }
     ensures framed { IsOk result → IsOk (read cut_off fields.old) }
 {

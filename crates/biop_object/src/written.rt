@@ -135,13 +135,18 @@ pub fn encode_folder(
 ) -> Result<Vec<u8>, ObjectFault>
     requires key { length key.now ≡ 4 }
     requires entries { All IsEntry entries.now }
-    ensures spells { IfOk result (λ bytes. (bytes.items ≡ folder_spelling kind key.now entries.now) × (length bytes.items ≤ MOST_FOLDER_SIZE)) }
+    ensures spells { IfOk result (λ bytes.
+        (bytes.items ≡ folder_spelling kind key.now entries.now)
+        × (length bytes.items ≤ MOST_FOLDER_SIZE)) }
     ensures size { IfOk result (λ bytes. length bytes.items ≡ folder_size entries.now) }
     ensures reads { IfOk result (λ bytes. (at : ℕ) → ReadsObject at bytes.items
         (record { key = key.now; shape = IsFolder (map binding_of entries.now) })) }
-    ensures too_large { IsErrOf result ObjectFault.TooLarge → MOST_FOLDER_SIZE < length (folder_spelling kind key.now entries.now) }
-    ensures large { MOST_FOLDER_SIZE < length (folder_spelling kind key.now entries.now) → IsErrOf result ObjectFault.TooLarge }
-    ensures no_memory { IsErrOf result ObjectFault.NoMemory → length (folder_spelling kind key.now entries.now) ≤ MOST_FOLDER_SIZE }
+    ensures too_large { IsErrOf result ObjectFault.TooLarge
+        → MOST_FOLDER_SIZE < length (folder_spelling kind key.now entries.now) }
+    ensures large { MOST_FOLDER_SIZE < length (folder_spelling kind key.now entries.now)
+        → IsErrOf result ObjectFault.TooLarge }
+    ensures no_memory { IsErrOf result ObjectFault.NoMemory
+        → length (folder_spelling kind key.now entries.now) ≤ MOST_FOLDER_SIZE }
 {
     let Some(size) = size_of(entries) else {
         return Err(ObjectFault::TooLarge);
@@ -175,7 +180,8 @@ fn folder_bytes(
 /// The number of bytes of a folder, if it is at most [`MOST_FOLDER_SIZE`].
 fn size_of(entries: &[Written]) -> Option<u32>
     requires { All IsEntry entries.now }
-    ensures { MatchOption result (MOST_FOLDER_SIZE < folder_size entries.now) (λ size. (size ≡ folder_size entries.now) × (size ≤ MOST_FOLDER_SIZE)) }
+    ensures { MatchOption result (MOST_FOLDER_SIZE < folder_size entries.now) (λ size.
+        (size ≡ folder_size entries.now) × (size ≤ MOST_FOLDER_SIZE)) }
 {
     let mut size = FOLDER_FRONT;
     for entry in entries {
@@ -261,7 +267,8 @@ fn put_binding(out: &mut Writer, entry: &Written) -> Result<(), NoMemory>
 /// A name with a zero byte after it, as the one name component.
 fn put_id(out: &mut Writer, name: &[u8]) -> Result<(), NoMemory>
     requires { length name.now ≤ 254 }
-    ensures { OnOk result (out.new ≡ out.old ++ 1 ∷ (length name.now + 1) ∷ name.now ++ 0 ∷ 4 ∷ []) }
+    ensures { OnOk result
+        (out.new ≡ out.old ++ 1 ∷ (length name.now + 1) ∷ name.now ++ 0 ∷ 4 ∷ []) }
 {
     out.put_u8(1)?;
     out.put_u8(name.len() as u8 + 1)?;
@@ -281,7 +288,8 @@ fn put_target(
     requires kind { length kind.now ≡ 4 }
     requires key { length location.now.key ≡ 4 }
     requires listed { (1 ≤ location.now.module) × (location.now.module ≤ GREATEST_ID) }
-    ensures put { OnOk result (out.new ≡ out.old ++ kind.now ++ binding_type ∷ spelling kind.now location.now) }
+    ensures put { OnOk result
+        (out.new ≡ out.old ++ kind.now ++ binding_type ∷ spelling kind.now location.now) }
     ensures room { OnOk result (IsLocation location.now) }
 {
     out.put_bytes(kind)?;

@@ -76,8 +76,12 @@ impl Assembler {
         ensures made { IfOk result (λ a. a ≡ empty_of size block_size) }
         ensures stands { IfOk result (λ a. StandsFor a size block_size []) }
         ensures fits { IfOk result (λ _. IsAssembled size block_size) }
-        ensures no_block_size { IsErrOf result NewFault.NoBlockSize → (block_size ≡ 0) ⊎ (MOST_BLOCK_SIZE < block_size) }
-        ensures too_large { IsErrOf result NewFault.TooLarge → (0 < block_size) × (block_size ≤ MOST_BLOCK_SIZE) × ((MOST_MODULE_SIZE < size) ⊎ (MOST_BLOCKS < block_count_of size block_size)) }
+        ensures no_block_size { IsErrOf result NewFault.NoBlockSize
+            → (block_size ≡ 0) ⊎ (MOST_BLOCK_SIZE < block_size) }
+        ensures too_large { IsErrOf result NewFault.TooLarge
+            → (0 < block_size)
+            × (block_size ≤ MOST_BLOCK_SIZE)
+            × ((MOST_MODULE_SIZE < size) ⊎ (MOST_BLOCKS < block_count_of size block_size)) }
         ensures no_memory { IsErrOf result NewFault.NoMemory → IsAssembled size block_size }
     {
         if block_size == 0 || block_size > MOST_BLOCK_SIZE {
@@ -103,7 +107,9 @@ impl Assembler {
     pub fn offer(&mut self, block: u16, bytes: &[u8]) -> Offer
         ensures answer { result ≡ offer_of self.old block bytes.now }
         ensures after { self.new ≡ after_offer self.old block bytes.now }
-        ensures stands { (calls : List Call) (size block_size : ℕ) → StandsFor self.old size block_size calls → StandsFor self.new size block_size (calls ++ Offered block bytes.now ∷ []) }
+        ensures stands { (calls : List Call) (size block_size : ℕ)
+            → StandsFor self.old size block_size calls
+            → StandsFor self.new size block_size (calls ++ Offered block bytes.now ∷ []) }
     {
         let place = usize::from(block);
         if place >= self.there.len() {
@@ -125,7 +131,9 @@ impl Assembler {
     pub fn forget(&mut self, block: u16)
         requires { block < block_count_of self.old.size self.old.block_size }
         ensures after { self.new ≡ after_forget self.old block }
-        ensures stands { (calls : List Call) (size block_size : ℕ) → StandsFor self.old size block_size calls → StandsFor self.new size block_size (calls ++ Forgotten block ∷ []) }
+        ensures stands { (calls : List Call) (size block_size : ℕ)
+            → StandsFor self.old size block_size calls
+            → StandsFor self.new size block_size (calls ++ Forgotten block ∷ []) }
     {
         let place = usize::from(block);
         if self.there[place] {
@@ -148,7 +156,8 @@ impl Assembler {
     /// The module's bytes, exactly where no block is missing, and else the assembler as it was. With the bytes comes what is left
     /// of the assembler, from which [`Emptied::refill`] makes it again. The bytes aren't copied, and no memory is taken.
     pub fn finish(self) -> Result<(Vec<u8>, Emptied), Assembler>
-        ensures bytes { MatchResult result (λ r. join_all self.blocks ≡ Some r.0.items) (λ _. join_all self.blocks ≡ None) }
+        ensures bytes { MatchResult result (λ r. join_all self.blocks ≡ Some r.0.items) (λ _.
+            join_all self.blocks ≡ None) }
         ensures emptied { IfOk result (λ r. self ≡ refilled r.1 r.0.items) }
         ensures size { IfOk result (λ r. length r.0.items ≡ r.1.size) }
         ensures same { IfErr result (λ a. a ≡ self) }

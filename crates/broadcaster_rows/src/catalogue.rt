@@ -85,7 +85,8 @@ fn state(row: &Row<'_>, catalogue: &Catalogue) -> Line {
 
 /// Draws at most so many items.
 fn draw(row: &Row<'_>, after: usize, catalogue: &mut Catalogue) -> Result<Batch, RowFault>
-    ensures { IfOk result (λ b. All (λ item. Contains (items_of (arc_value b.generation)) item) b.items.items) }
+    ensures { IfOk result (λ b.
+        All (λ item. Contains (items_of (arc_value b.generation)) item) b.items.items) }
 {
     let asked = row.long(after);
     if asked < 1 || asked > MOST_DRAWN {

@@ -33,7 +33,8 @@ pub(crate) fn play_generated<R: Threads + Wait + Sync, O: Output, G: Gate>(
     requires least { 1 ≤ size }
     requires most { size ≤ 16 }
     requires empty { (O.state out.old).pending ≡ [] }
-    ensures plays { PlaysBig weigh.weights size result (sink_over (O.state out.old) (O.state out.new)) }
+    ensures plays { PlaysBig weigh.weights size result
+        (sink_over (O.state out.old) (O.state out.new)) }
     ensures same { (O.state out.new).name ≡ (O.state out.old).name }
     ensures in_time { IsInTime (O.state out.old) (O.state out.new) }
 {

@@ -23,7 +23,8 @@ pub(crate) fn big_line(
     size: u32,
     told: &[(Event, Reply)],
 ) -> Result<String, NoMemory>
-    ensures { IfOk result (λ line. string_bytes line ≡ specs.big_line size (map known_view told.now)) }
+    ensures { IfOk result (λ line.
+        string_bytes line ≡ specs.big_line size (map known_view told.now)) }
 {
     let commits = accepted(told);
     let lengths = finale_lengths(alloc, told)?;
@@ -66,7 +67,8 @@ fn is_accepted(reply: &Reply) -> bool
 
 /// How many bytes each file has that a finale answered.
 fn finale_lengths(alloc: Global, told: &[(Event, Reply)]) -> Result<Vec<u64>, NoMemory>
-    ensures { IfOk result (λ lengths. lengths.items ≡ specs.finale_lengths (map known_view told.now)) }
+    ensures { IfOk result (λ lengths.
+        lengths.items ≡ specs.finale_lengths (map known_view told.now)) }
 {
     let mut lengths = Vec::new(alloc);
     let mut opens = 0;
@@ -79,7 +81,8 @@ fn finale_lengths(alloc: Global, told: &[(Event, Reply)]) -> Result<Vec<u64>, No
 
 /// Adds the length of a finale's file, where the first reader made so many opens above it.
 fn push_length(lengths: &mut Vec<u64>, opens: u64, one: &(Event, Reply)) -> Result<(), NoMemory>
-    ensures { OnOk result (lengths.new.items ≡ lengths.old.items ++ specs.length_more opens (known_view one.now)) }
+    ensures { OnOk result
+        (lengths.new.items ≡ lengths.old.items ++ specs.length_more opens (known_view one.now)) }
 {
     if opens < FIRST_OPENS || !is_first(&one.0) {
         return Ok(());

@@ -34,7 +34,8 @@ pub(crate) fn play_session<R: Threads + Wait + Sync, S: Source, O: Output, G: Ga
     weigh: Weigh,
 ) -> Status
     requires { (O.state out.old).pending ≡ [] }
-    ensures plays { Plays weigh.weights result (over S.left S.faults source.old source.new) (sink_over (O.state out.old) (O.state out.new)) }
+    ensures plays { Plays weigh.weights result (over S.left S.faults source.old source.new)
+        (sink_over (O.state out.old) (O.state out.new)) }
     ensures same { (O.state out.new).name ≡ (O.state out.old).name }
     ensures in_time { IsInTime (O.state out.old) (O.state out.new) }
 {

@@ -52,10 +52,15 @@ pub fn run<R: Threads + Wait + Sync, S: Source, K: Sink, F: Folders, T: Store, N
     filters: Vec<Filter>,
 ) -> Status
     requires untold { N.told notices.old notices.old [] }
-    ensures keeps { KeepsAll weigh.weights (prefixes_of filters.items) (commands.command_of (map string_bytes words.now)) result (over S.left S.faults source.old source.new)
-        (over K.written K.faults sink.old sink.new) (over F.tree F.faults folders.old folders.new) (over T.tree T.faults store.old store.new) (F.refused folders.new) (N.told notices.old notices.new) }
-    ensures stored { writes_store (commands.command_of (map string_bytes words.now)) ≡ false → store.new ≡ store.old }
-    ensures quiet { gives_notices (commands.command_of (map string_bytes words.now)) ≡ false → notices.new ≡ notices.old }
+    ensures keeps { KeepsAll weigh.weights (prefixes_of filters.items)
+        (commands.command_of (map string_bytes words.now)) result
+        (over S.left S.faults source.old source.new) (over K.written K.faults sink.old sink.new)
+        (over F.tree F.faults folders.old folders.new) (over T.tree T.faults store.old store.new)
+        (F.refused folders.new) (N.told notices.old notices.new) }
+    ensures stored { writes_store (commands.command_of (map string_bytes words.now)) ≡ false
+        → store.new ≡ store.old }
+    ensures quiet { gives_notices (commands.command_of (map string_bytes words.now)) ≡ false
+        → notices.new ≡ notices.old }
     ensures in_time { K.failed sink.old ≡ false → K.late sink.new ≡ K.late sink.old }
     ensures receptions { Receptions }
     ensures playouts { PlayoutsMeet }
@@ -100,8 +105,11 @@ fn run_any<
     requires sized { commands.IsSized command }
     requires pending { (O.state out.old).pending ≡ [] }
     requires untold { N.told notices.old notices.old [] }
-    ensures keeps { KeepsAll weigh.weights (prefixes_of filters.items) (Ok (commands.view command)) result (over S.left S.faults source.old source.new) (sink_over (O.state out.old) (O.state out.new))
-        (over F.tree F.faults folders.old folders.new) (over T.tree T.faults store.old store.new) (F.refused folders.new) (N.told notices.old notices.new) }
+    ensures keeps { KeepsAll weigh.weights (prefixes_of filters.items) (Ok (commands.view command))
+        result (over S.left S.faults source.old source.new)
+        (sink_over (O.state out.old) (O.state out.new))
+        (over F.tree F.faults folders.old folders.new) (over T.tree T.faults store.old store.new)
+        (F.refused folders.new) (N.told notices.old notices.new) }
     ensures same { (O.state out.new).name ≡ (O.state out.old).name }
     ensures stored { writes_store (Ok (commands.view command)) ≡ false → store.new ≡ store.old }
     ensures quiet { gives_notices (Ok (commands.view command)) ≡ false → notices.new ≡ notices.old }
@@ -146,7 +154,8 @@ pub fn run_session<R: Threads + Wait + Sync, S: Source, K: Sink, G: Gate>(
     gate: &G,
     weigh: Weigh,
 ) -> Status
-    ensures keeps { KeepsSession weigh.weights (commands.command_of (map string_bytes words.now)) result (over S.left S.faults source.old source.new)
+    ensures keeps { KeepsSession weigh.weights (commands.command_of (map string_bytes words.now))
+        result (over S.left S.faults source.old source.new)
         (over K.written K.faults sink.old sink.new) }
     ensures in_time { K.failed sink.old ≡ false → K.late sink.new ≡ K.late sink.old }
     ensures receptions { Receptions }
@@ -177,7 +186,9 @@ fn play_command<R: Threads + Wait + Sync, S: Source, O: Output, G: Gate>(
 ) -> Status
     requires sized { commands.IsSized command.now }
     requires pending { (O.state out.old).pending ≡ [] }
-    ensures promises { PromisesSession weigh.weights (commands.view command.now) result (over S.left S.faults source.old source.new) (sink_over (O.state out.old) (O.state out.new)) }
+    ensures promises { PromisesSession weigh.weights (commands.view command.now) result
+        (over S.left S.faults source.old source.new)
+        (sink_over (O.state out.old) (O.state out.new)) }
     ensures same { (O.state out.new).name ≡ (O.state out.old).name }
     ensures in_time { IsInTime (O.state out.old) (O.state out.new) }
 {

@@ -1,6 +1,6 @@
 -- What the code keeps after one event more.
 use Rattle.std.proofs.Common.{◌≡◌, ℕ, zero, suc, ◌-◌, ◌<◌, ◌≤◌, Bool, true, false, cond, nat_le, List, [], ◌∷◌, ◌++◌, length, map, take, drop, get_or, Result, Ok, Err, refl, ap, sym, ◌∙◌, subst, arith}
-use Rattle.std.specs.Prelude.{IfOk}
+use Rattle.std.specs.Prelude.{IfOk, OnErr}
 use Rattle.std.specs.List.{All}
 use Rattle.std.specs.Arc.{arc_value}
 use Rattle.std.proofs.Math.Seq.{take-add}
@@ -27,7 +27,7 @@ use Rattle.carousel_world.specs.Events.{Step, Commit, Draw, Open, view}
 use Rattle.carousel_world.specs.Fates.{received_under}
 use Rattle.carousel_world.specs.Promises.{MeetsHeadline, world_after}
 use Rattle.carousel_world.specs.View.{Kept, StandsFor}
-use Rattle.carousel_world.specs.World.{WorldState, InRange, commit_reply, drawing_of, groups_sent, received_in, reply_to, happens, replies_to, after_all, initial_world}
+use Rattle.carousel_world.specs.World.{WorldState, InRange, AsksForMemory, commit_reply, drawing_of, groups_sent, received_in, reply_to, happens, replies_to, after_all, initial_world}
 use Rattle.carousel_world.specs.declared.event.Event.{Event}
 use Rattle.carousel_world.specs.declared.event.Reply.{Reply}
 use Rattle.carousel_world.specs.declared.event.Reply.TheVariants as replies
@@ -87,6 +87,12 @@ pub opened : {E : Type 0} (r : Result Reply E) (k : Kept) (p q : PathNames) (e :
     → IfOk r (λ x. (w : WorldState) (n : ℕ) → StandsFor k w → x ≡ reply_to w (Open n p)) → IfOk r (λ x. (w : WorldState) → StandsFor k w → x ≡ reply_to w e)
 opened (Ok x) k p q e reader is same h = λ w st. h w reader st ∙ ap (λ (s : PathNames). reply_to w (Open reader s)) same ∙ ap (λ (s : Step). reply_to w s) (sym is)
 opened (Err f) k p q e reader is same h = tt
+
+pub open_asks : {E : Type 0} (r : Result Reply E) (k : Kept) (p q : PathNames) (e : Step) (reader : ℕ) → e ≡ Open reader q → p ≡ q
+    → OnErr r ((w : WorldState) (n : ℕ) → StandsFor k w → AsksForMemory w (Open n p)) → OnErr r ((w : WorldState) → StandsFor k w → AsksForMemory w e)
+open_asks (Ok x) k p q e reader is same h = tt
+open_asks (Err f) k p q e reader is same h =
+    λ w st. subst (λ (s : Step). AsksForMemory w s) (sym is) (subst (λ (s : PathNames). AsksForMemory w (Open reader s)) same (h w reader st))
 
 -- ---- one event after another
 

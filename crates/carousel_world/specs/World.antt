@@ -1,5 +1,5 @@
 -- A world is a list of events: what each replies, and what it leaves, follows from those before it.
-use Rattle.std.specs.Prelude.{◌≡◌, ℕ, ◌+◌, ◌<◌, ◌≤◌, true, List, [], ◌∷◌, ◌++◌, length, map, Result, Ok, Err, nat_le, if◌then◌else◌}
+use Rattle.std.specs.Prelude.{◌≡◌, ℕ, ◌+◌, ◌<◌, ◌≤◌, true, IsTrue, List, [], ◌∷◌, ◌++◌, length, map, Result, Ok, Err, nat_le, if◌then◌else◌}
 use Rattle.std.specs.List.{flat_map}
 use Rattle.path_tree.specs.Paths.{Bytes}
 use Rattle.ts_packet.specs.declared.Fate.{Fate}
@@ -10,6 +10,7 @@ use Rattle.generation_catalogue.specs.declared.entry.Refusal.{Refusal}
 use Rattle.section_stream.specs.Cuts.{candidates}
 use Rattle.section_stream.specs.Packing.{MuxState, idle}
 use Rattle.section_stream.specs.Groups.{packets_of_group, past_group}
+use Rattle.path_resolver.specs.Resolving.{is_shared}
 use Rattle.tuner_core.specs.LookBack.{answer_after}
 use Rattle.carousel_world.specs.Receptions.{label_after}
 use Rattle.carousel_world.specs.Fates.{Arrival, under}
@@ -103,9 +104,10 @@ InRange (Commit editor edits) = (1 ≤ editor) × (editor ≤ 64)
 InRange (Draw asked fates) = (1 ≤ asked) × (asked ≤ MOST_DRAWN)
 InRange (Open reader path) = (1 ≤ reader) × (reader ≤ 64)
 
--- ---- what may ask for memory: a commit that makes an entry, a draw where there is room for one more, and each open
+-- ---- what may ask for memory: a commit that makes an entry, a draw where there is room for one more, and an open that a file or a folder
+-- answers, which shares the module that holds it
 
 abbrev pub AsksForMemory : WorldState → Step → Type 0
 AsksForMemory w (Commit editor edits) = is_entered (outcome_of w.catalogue edits) ≡ true
 AsksForMemory w (Draw asked fates) = draws_of w.catalogue < MOST_DRAWS
-AsksForMemory w (Open reader path) = Unit {0}
+AsksForMemory w (Open reader path) = IsTrue (is_shared (answer_after (candidates_in w) path))

@@ -101,11 +101,19 @@ impl Downlink {
         requires few { length sections.now ≤ MOST_DRAWN }
         requires sections { All (λ s. IsSectionLike s.items) sections.now }
         requires from { from ≤ 2 ^ 40 }
-        ensures number { IfOk result (λ n. n ≡ from + length (packets_given self.old.mux (map view_bytes sections.now) last)) }
-        ensures stands { OnOk result ((pid : ℕ) (groups : List (List Bytes)) (begun packets : List Bytes) → DownlinkStands self.old pid groups begun packets
-            → (let more = begun ++ map view_bytes sections.now in
-            DownlinkStands self.new pid (ended_with groups more last) (begun_with more last) (packets ++ received_under fates.now from (packets_given self.old.mux (map view_bytes sections.now) last)))) }
-        ensures mux { OnOk result (self.new.mux ≡ past_given self.old.mux (map view_bytes sections.now) last) }
+        ensures number { IfOk result (λ n.
+            n ≡ from + length (packets_given self.old.mux (map view_bytes sections.now) last)) }
+        ensures stands { OnOk result ((pid : ℕ) (groups : List (List Bytes))
+            (begun packets : List Bytes)
+            → DownlinkStands self.old pid groups begun packets
+            → (let more = begun
+            ++ map view_bytes sections.now in DownlinkStands self.new pid
+            (ended_with groups more last) (begun_with more last)
+            (packets
+            ++ received_under fates.now from
+            (packets_given self.old.mux (map view_bytes sections.now) last)))) }
+        ensures mux { OnOk result
+            (self.new.mux ≡ past_given self.old.mux (map view_bytes sections.now) last) }
         ensures spent { OnErr result (self.new.spent ≡ true) }
         ensures stays { self.old.spent ≡ true → IsErr result }
     {
@@ -130,9 +138,14 @@ impl Downlink {
         requires few { length sections.now ≤ MOST_DRAWN }
         requires sections { All (λ s. IsSectionLike s.items) sections.now }
         requires from { from ≤ 2 ^ 40 }
-        ensures number { IfOk result (λ n. n ≡ from + length (packets_given self.old.mux (map view_bytes sections.now) last)) }
-        ensures mux { OnOk result (self.new.mux ≡ past_given self.old.mux (map view_bytes sections.now) last) }
-        ensures hears { OnOk result (Hears self.old self.new (received_under fates.now from (packets_given self.old.mux (map view_bytes sections.now) last))) }
+        ensures number { IfOk result (λ n.
+            n ≡ from + length (packets_given self.old.mux (map view_bytes sections.now) last)) }
+        ensures mux { OnOk result
+            (self.new.mux ≡ past_given self.old.mux (map view_bytes sections.now) last) }
+        ensures hears { OnOk result
+            (Hears self.old self.new
+            (received_under fates.now from
+            (packets_given self.old.mux (map view_bytes sections.now) last))) }
     {
         let mut packets = Vec::new(self.alloc);
         let mut number = from;
@@ -157,7 +170,8 @@ impl Downlink {
         requires { from < 2 ^ 63 }
         ensures number { IfOk result (λ n. n ≡ from + length (last_of self.old.mux)) }
         ensures mux { OnOk result (self.new.mux ≡ after_finish self.old.mux) }
-        ensures hears { OnOk result (Hears self.old self.new (received_under fates.now from (last_of self.old.mux))) }
+        ensures hears { OnOk result
+            (Hears self.old self.new (received_under fates.now from (last_of self.old.mux))) }
     {
         packets.clear();
         self.mux.finish(packets)?;
@@ -169,7 +183,8 @@ impl Downlink {
         requires { from + length packets.now < 2 ^ 64 }
         ensures number { IfOk result (λ n. n ≡ from + length packets.now) }
         ensures mux { OnOk result (self.new.mux ≡ self.old.mux) }
-        ensures hears { OnOk result (Hears self.old self.new (received_under fates.now from packets.now)) }
+        ensures hears { OnOk result
+            (Hears self.old self.new (received_under fates.now from packets.now)) }
     {
         let mut number = from;
         for packet in packets {
@@ -193,8 +208,11 @@ impl Downlink {
     /// A shot of what is held, with the caller's own counts `number` and `draws`. The modules are shared and not copied. Out of
     /// memory is the only refusal, and changes nothing.
     pub fn shot(&self, number: u64, draws: u64) -> Result<Arc<Shot>, NoMemory>
-        ensures numbers { IfOk result (λ s. ((arc_value s).number ≡ number) × ((arc_value s).draws ≡ draws)) }
-        ensures held { IfOk result (λ s. (pid : ℕ) (groups : List (List Bytes)) (begun packets : List Bytes) → DownlinkStands self.now pid groups begun packets
+        ensures numbers { IfOk result (λ s.
+            ((arc_value s).number ≡ number) × ((arc_value s).draws ≡ draws)) }
+        ensures held { IfOk result (λ s.
+            (pid : ℕ) (groups : List (List Bytes)) (begun packets : List Bytes)
+            → DownlinkStands self.now pid groups begun packets
             → shots.view (arc_value s) ≡ snapshot_after number draws (candidates pid packets)) }
     {
         self.tuner.shot(number, draws)
@@ -225,7 +243,9 @@ impl Downlink {
 
 /// Feeds candidates to a receiver.
 fn listen(tuner: &mut Tuner, candidates: &[Vec<u8>]) -> Result<(), NoMemory>
-    ensures { OnOk result ((before : List Bytes) → tuning.StandsFor tuner.old before → tuning.StandsFor tuner.new (before ++ map view_bytes candidates.now)) }
+    ensures { OnOk result ((before : List Bytes)
+        → tuning.StandsFor tuner.old before
+        → tuning.StandsFor tuner.new (before ++ map view_bytes candidates.now)) }
 {
     for candidate in candidates {
         tuner.feed(candidate)?;

@@ -61,16 +61,22 @@ impl World {
     /// Makes one event happen, and gives its reply. Editors and readers are numbered 1 to 64, and a draw asks for 1 to [`cycle_planner::MOST_DRAWN`]
     /// items.
     ///
-    /// Out of memory is the only refusal, and a world that works answers it only of an event that asks for memory: an open, a commit where
-    /// neither the season nor the journal is full, and a draw where there is room for its entry. After it in a draw the world is spent:
+    /// Out of memory is the only refusal, and a world that works answers it only of an event that asks for memory: a commit where neither
+    /// the season nor the journal is full, a draw where there is room for its entry, and an open that a file or a folder answers. After it in a draw the world is spent:
     /// each later call answers it. In another event it changes nothing.
     pub fn step(&mut self, event: Event) -> Result<Reply, NoMemory>
         requires { InRange (view event) }
-        ensures reply { IfOk result (λ r. (w : WorldState) → StandsFor (kept_in self.old) w → r ≡ reply_to w (view event)) }
-        ensures stands { OnOk result ((w : WorldState) → StandsFor (kept_in self.old) w → StandsFor (kept_in self.new) (happens w (view event))) }
+        ensures reply { IfOk result (λ r.
+            (w : WorldState) → StandsFor (kept_in self.old) w → r ≡ reply_to w (view event)) }
+        ensures stands { OnOk result ((w : WorldState)
+            → StandsFor (kept_in self.old) w
+            → StandsFor (kept_in self.new) (happens w (view event))) }
         ensures left { OnErr result (IsLeft (view event) (kept_in self.old) (kept_in self.new)) }
-        ensures memory { OnErr result ((w : WorldState) → StandsFor (kept_in self.old) w → AsksForMemory w (view event)) }
-        ensures stays { (kept_in self.old).down.spent ≡ true → IsErr result × ((kept_in self.new).down.spent ≡ true) }
+        ensures memory { OnErr result ((w : WorldState)
+            → StandsFor (kept_in self.old) w
+            → AsksForMemory w (view event)) }
+        ensures stays { (kept_in self.old).down.spent ≡ true
+            → IsErr result × ((kept_in self.new).down.spent ≡ true) }
     {
         if self.downlink.is_spent() {
             return Err(AllocError);
@@ -84,10 +90,17 @@ impl World {
 
     /// A commit.
     fn commit(&mut self, editor: u32, edits: Edits) -> Result<Reply, NoMemory>
-        ensures reply { IfOk result (λ r. (w : WorldState) → StandsFor (kept_in self.old) w → r ≡ reply_to w (Commit editor edits)) }
-        ensures stands { OnOk result ((w : WorldState) → StandsFor (kept_in self.old) w → StandsFor (kept_in self.new) (happens w (Commit editor edits))) }
+        ensures reply { IfOk result (λ r.
+            (w : WorldState)
+            → StandsFor (kept_in self.old) w
+            → r ≡ reply_to w (Commit editor edits)) }
+        ensures stands { OnOk result ((w : WorldState)
+            → StandsFor (kept_in self.old) w
+            → StandsFor (kept_in self.new) (happens w (Commit editor edits))) }
         ensures left { OnErr result (kept_in self.new ≡ kept_in self.old) }
-        ensures memory { OnErr result ((w : WorldState) → StandsFor (kept_in self.old) w → AsksForMemory w (Commit editor edits)) }
+        ensures memory { OnErr result ((w : WorldState)
+            → StandsFor (kept_in self.old) w
+            → AsksForMemory w (Commit editor edits)) }
     {
         match self.journal.commit_edits(editor, edits) {
             Ok(number) => Ok(Reply::Committed(number)),
@@ -99,10 +112,17 @@ impl World {
     /// A draw. Out of memory spends the world.
     fn draw(&mut self, asked: u32, fates: &[Fate]) -> Result<Reply, NoMemory>
         requires { (1 ≤ asked) × (asked ≤ MOST_DRAWN) }
-        ensures reply { IfOk result (λ r. (w : WorldState) → StandsFor (kept_in self.old) w → r ≡ reply_to w (Draw asked fates.now)) }
-        ensures stands { OnOk result ((w : WorldState) → StandsFor (kept_in self.old) w → StandsFor (kept_in self.new) (happens w (Draw asked fates.now))) }
+        ensures reply { IfOk result (λ r.
+            (w : WorldState)
+            → StandsFor (kept_in self.old) w
+            → r ≡ reply_to w (Draw asked fates.now)) }
+        ensures stands { OnOk result ((w : WorldState)
+            → StandsFor (kept_in self.old) w
+            → StandsFor (kept_in self.new) (happens w (Draw asked fates.now))) }
         ensures left { OnErr result ((kept_in self.new).down.spent ≡ true) }
-        ensures memory { OnErr result ((w : WorldState) → StandsFor (kept_in self.old) w → AsksForMemory w (Draw asked fates.now)) }
+        ensures memory { OnErr result ((w : WorldState)
+            → StandsFor (kept_in self.old) w
+            → AsksForMemory w (Draw asked fates.now)) }
     {
         let drawn = self.draw_and_send(asked, fates);
         if drawn.is_err() {
@@ -114,9 +134,16 @@ impl World {
     /// The same of a world that works.
     fn draw_and_send(&mut self, asked: u32, fates: &[Fate]) -> Result<Reply, NoMemory>
         requires { (1 ≤ asked) × (asked ≤ MOST_DRAWN) }
-        ensures reply { IfOk result (λ r. (w : WorldState) → StandsFor (kept_in self.old) w → r ≡ reply_to w (Draw asked fates.now)) }
-        ensures stands { OnOk result ((w : WorldState) → StandsFor (kept_in self.old) w → StandsFor (kept_in self.new) (happens w (Draw asked fates.now))) }
-        ensures memory { OnErr result ((w : WorldState) → StandsFor (kept_in self.old) w → AsksForMemory w (Draw asked fates.now)) }
+        ensures reply { IfOk result (λ r.
+            (w : WorldState)
+            → StandsFor (kept_in self.old) w
+            → r ≡ reply_to w (Draw asked fates.now)) }
+        ensures stands { OnOk result ((w : WorldState)
+            → StandsFor (kept_in self.old) w
+            → StandsFor (kept_in self.new) (happens w (Draw asked fates.now))) }
+        ensures memory { OnErr result ((w : WorldState)
+            → StandsFor (kept_in self.old) w
+            → AsksForMemory w (Draw asked fates.now)) }
     {
         let batch = match self.journal.draw(&self.weigh, asked) {
             Ok(batch) => batch,
@@ -139,7 +166,13 @@ impl World {
 
     /// An open.
     fn open(&self, path: &Path) -> Result<Reply, NoMemory>
-        ensures { IfOk result (λ r. (w : WorldState) (reader : ℕ) → StandsFor (kept_in self.now) w → r ≡ reply_to w (Open reader path.now)) }
+        ensures reply { IfOk result (λ r.
+            (w : WorldState) (reader : ℕ)
+            → StandsFor (kept_in self.now) w
+            → r ≡ reply_to w (Open reader path.now)) }
+        ensures memory { OnErr result ((w : WorldState) (reader : ℕ)
+            → StandsFor (kept_in self.now) w
+            → AsksForMemory w (Open reader path.now)) }
     {
         let (label, answer) = self.downlink.open(path)?;
         Ok(Reply::Opened { label, answer })
@@ -148,8 +181,13 @@ impl World {
     /// Makes events happen in turn, and gives their replies, or out of memory at the first that finds none.
     fn run_all(&mut self, events: Vec<Event>) -> Result<Vec<Reply>, NoMemory>
         requires { All InRange (map view events.items) }
-        ensures replies { IfOk result (λ rs. (w : WorldState) → StandsFor (kept_in self.old) w → rs.items ≡ replies_to w (map view events.items)) }
-        ensures stands { OnOk result ((w : WorldState) → StandsFor (kept_in self.old) w → StandsFor (kept_in self.new) (after_all w (map view events.items))) }
+        ensures replies { IfOk result (λ rs.
+            (w : WorldState)
+            → StandsFor (kept_in self.old) w
+            → rs.items ≡ replies_to w (map view events.items)) }
+        ensures stands { OnOk result ((w : WorldState)
+            → StandsFor (kept_in self.old) w
+            → StandsFor (kept_in self.new) (after_all w (map view events.items))) }
         ensures memory { OnErr result (0 < length events.items) }
     {
         let mut replies = Vec::with_capacity(self.alloc, events.len())?;
@@ -168,12 +206,21 @@ impl World {
     /// it, and each later call answers it.
     pub fn run(&mut self, events: Vec<Event>) -> Result<Vec<Reply>, NoMemory>
         requires { All InRange (map view events.items) }
-        ensures replies { IfOk result (λ rs. (w : WorldState) → StandsFor (kept_in self.old) w → rs.items ≡ replies_to w (map view events.items)) }
-        ensures stands { OnOk result ((w : WorldState) → StandsFor (kept_in self.old) w → StandsFor (kept_in self.new) (after_all w (map view events.items))) }
-        ensures headline { IfOk result (λ _. (carousel : ℕ) (weights : List ℕ) (before : List Step) → StandsFor (kept_in self.old) (world_after carousel weights before)
+        ensures replies { IfOk result (λ rs.
+            (w : WorldState)
+            → StandsFor (kept_in self.old) w
+            → rs.items ≡ replies_to w (map view events.items)) }
+        ensures stands { OnOk result ((w : WorldState)
+            → StandsFor (kept_in self.old) w
+            → StandsFor (kept_in self.new) (after_all w (map view events.items))) }
+        ensures headline { IfOk result (λ _.
+            (carousel : ℕ) (weights : List ℕ) (before : List Step)
+            → StandsFor (kept_in self.old) (world_after carousel weights before)
             → MeetsHeadline carousel weights (before ++ map view events.items)) }
         ensures spent { OnErr result ((kept_in self.new).down.spent ≡ true) }
-        ensures memory { OnErr result ((w : WorldState) → StandsFor (kept_in self.old) w → 0 < length events.items) }
+        ensures memory { OnErr result ((w : WorldState)
+            → StandsFor (kept_in self.old) w
+            → 0 < length events.items) }
         ensures stays { (kept_in self.old).down.spent ≡ true → IsErr result }
     {
         if self.downlink.is_spent() {
@@ -194,7 +241,9 @@ impl World {
     /// What is promised of every list of events holds of all that happened in this world, so of each list of events after which the
     /// world stands as it does. Nothing is done.
     pub fn keeps_the_headline(&self)
-        ensures { (carousel : ℕ) (weights : List ℕ) (events : List Step) → StandsFor (kept_in self.now) (world_after carousel weights events) → MeetsHeadline carousel weights events }
+        ensures { (carousel : ℕ) (weights : List ℕ) (events : List Step)
+            → StandsFor (kept_in self.now) (world_after carousel weights events)
+            → MeetsHeadline carousel weights events }
     {
         every_run_meets_the_headline();
         self.journal.entries();
@@ -204,7 +253,8 @@ impl World {
 /// The sections of some items of a generation.
 fn encode(alloc: Global, generation: &Generation, items: &[Item]) -> Result<Vec<Vec<u8>>, NoMemory>
     requires { All (λ item. Contains (items_of generation.now) item) items.now }
-    ensures sections { IfOk result (λ ss. map view_bytes ss.items ≡ map (section_of generation.now) items.now) }
+    ensures sections { IfOk result (λ ss.
+        map view_bytes ss.items ≡ map (section_of generation.now) items.now) }
     ensures like { IfOk result (λ ss. All (λ s. IsSectionLike s.items) ss.items) }
 {
     let mut sections = Vec::with_capacity(alloc, items.len())?;
@@ -224,9 +274,12 @@ fn send(
 ) -> Result<(), NoMemory>
     requires items { All (λ item. Contains (items_of generation.now) item) items.now }
     requires few { length items.now ≤ MOST_DRAWN }
-    ensures { OnOk result ((pid : ℕ) (groups : List (List Bytes)) (packets : List Bytes) → DownlinkStands downlink.old pid groups [] packets
-        → (let sections = map (section_of generation.now) items.now in
-        DownlinkStands downlink.new pid (groups ++ sections ∷ []) [] (packets ++ received_under fates.now 0 (packets_of_group downlink.old.mux sections)))) }
+    ensures { OnOk result ((pid : ℕ) (groups : List (List Bytes)) (packets : List Bytes)
+        → DownlinkStands downlink.old pid groups [] packets
+        → (let sections = map (section_of generation.now) items.now in DownlinkStands downlink.new
+        pid (groups ++ sections ∷ []) []
+        (packets
+        ++ received_under fates.now 0 (packets_of_group downlink.old.mux sections)))) }
 {
     let mut number = 0;
     let mut sent = 0;

@@ -27,7 +27,10 @@ pub fn step(lines: &[(u16, u32)], weigh: &Weigh, rounds: u8, place: Place) -> Op
     requires lines { AreLines lines.now }
     requires rounds { rounds ≡ greatest_weight weigh.now.weights lines.now }
     requires place { IsPlace weigh.now.weights lines.now place }
-    ensures { MatchOption result (items_from weigh.now.weights lines.now place ≡ []) (λ p. (items_from weigh.now.weights lines.now place ≡ p.0 ∷ items_from weigh.now.weights lines.now p.1) × IsPlace weigh.now.weights lines.now p.1) }
+    ensures { MatchOption result (items_from weigh.now.weights lines.now place ≡ []) (λ p.
+        (items_from weigh.now.weights lines.now place
+        ≡ p.0 ∷ items_from weigh.now.weights lines.now p.1)
+        × IsPlace weigh.now.weights lines.now p.1) }
 {
     match place {
         Place::Start => Some((Item::Dsi, Place::Dii { round: 0, group: 1 })),
@@ -59,7 +62,8 @@ fn after_dii(lines: &[(u16, u32)], weigh: &Weigh, rounds: u8, round: u8, group: 
     requires round { round < rounds }
     requires group { group ≤ MOST_GROUPS }
     ensures place { IsPlace weigh.now.weights lines.now result }
-    ensures items { items_from weigh.now.weights lines.now result ≡ diis_from lines.now (group + 1) ++ lines_from weigh.now.weights lines.now round 0 }
+    ensures items { items_from weigh.now.weights lines.now result
+        ≡ diis_from lines.now (group + 1) ++ lines_from weigh.now.weights lines.now round 0 }
 {
     match group_after(lines, group) {
         Some(group) => Place::Dii { round, group },
@@ -75,7 +79,8 @@ fn place_from(lines: &[(u16, u32)], weigh: &Weigh, rounds: u8, round: u8, from: 
     requires round { round < rounds }
     requires from { from ≤ length lines.now }
     ensures place { IsPlace weigh.now.weights lines.now result }
-    ensures items { items_from weigh.now.weights lines.now result ≡ lines_from weigh.now.weights lines.now round from }
+    ensures items { items_from weigh.now.weights lines.now result
+        ≡ lines_from weigh.now.weights lines.now round from }
 {
     for line in from..lines.len() {
         if blocks_in(&lines[line], weigh, round) > 0 {
@@ -101,7 +106,8 @@ pub fn place_at(lines: &[(u16, u32)], weigh: &Weigh, rounds: u8, at: u64) -> Pla
     requires lines { AreLines lines.now }
     requires rounds { rounds ≡ greatest_weight weigh.now.weights lines.now }
     ensures place { IsPlace weigh.now.weights lines.now result }
-    ensures items { items_from weigh.now.weights lines.now result ≡ drop at (cycle_of weigh.now.weights lines.now) }
+    ensures items { items_from weigh.now.weights lines.now result
+        ≡ drop at (cycle_of weigh.now.weights lines.now) }
 {
     if at == 0 {
         return Place::Start;
@@ -123,7 +129,8 @@ fn place_in_round(lines: &[(u16, u32)], weigh: &Weigh, round: u8, at: u64) -> Pl
     requires round { round < greatest_weight weigh.now.weights lines.now }
     requires below { at < length (round_of weigh.now.weights lines.now round) }
     ensures place { IsPlace weigh.now.weights lines.now result }
-    ensures items { items_from weigh.now.weights lines.now result ≡ drop at (rounds_from weigh.now.weights lines.now round) }
+    ensures items { items_from weigh.now.weights lines.now result
+        ≡ drop at (rounds_from weigh.now.weights lines.now round) }
 {
     let diis = dii_count(lines);
     if at < diis {
@@ -142,7 +149,8 @@ fn place_in_lines(lines: &[(u16, u32)], weigh: &Weigh, round: u8, at: u64) -> Pl
     requires round { round < greatest_weight weigh.now.weights lines.now }
     requires below { at < length (flat_map (blocks_in_round weigh.now.weights round) lines.now) }
     ensures place { IsPlace weigh.now.weights lines.now result }
-    ensures items { items_from weigh.now.weights lines.now result ≡ drop at (lines_from weigh.now.weights lines.now round 0) }
+    ensures items { items_from weigh.now.weights lines.now result
+        ≡ drop at (lines_from weigh.now.weights lines.now round 0) }
 {
     let mut left = at;
     for line in 0..lines.len() {

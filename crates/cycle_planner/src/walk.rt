@@ -20,7 +20,8 @@ impl Walk {
     pub fn new(lines: &[(u16, u32)], weigh: &Weigh) -> Walk
         requires { AreLines lines.now }
         ensures walk { IsWalk weigh.now.weights lines.now result }
-        ensures items { left_of weigh.now.weights lines.now result ≡ cycle_of weigh.now.weights lines.now }
+        ensures items { left_of weigh.now.weights lines.now result
+            ≡ cycle_of weigh.now.weights lines.now }
     {
         Walk {
             rounds: rounds_of(lines, weigh),
@@ -33,7 +34,8 @@ impl Walk {
     pub fn at(lines: &[(u16, u32)], weigh: &Weigh, at: u64) -> Walk
         requires { AreLines lines.now }
         ensures walk { IsWalk weigh.now.weights lines.now result }
-        ensures items { left_of weigh.now.weights lines.now result ≡ drop at (cycle_of weigh.now.weights lines.now) }
+        ensures items { left_of weigh.now.weights lines.now result
+            ≡ drop at (cycle_of weigh.now.weights lines.now) }
     {
         let rounds = rounds_of(lines, weigh);
         Walk {
@@ -46,7 +48,12 @@ impl Walk {
     pub fn next(&mut self, lines: &[(u16, u32)], weigh: &Weigh) -> Option<Item>
         requires { IsWalk weigh.now.weights lines.now self.old }
         ensures walk { IsWalk weigh.now.weights lines.now self.new }
-        ensures items { MatchOption result ((left_of weigh.now.weights lines.now self.old ≡ []) × (left_of weigh.now.weights lines.now self.new ≡ [])) (λ item. left_of weigh.now.weights lines.now self.old ≡ item ∷ left_of weigh.now.weights lines.now self.new) }
+        ensures items { MatchOption result
+            ((left_of weigh.now.weights lines.now self.old ≡ [])
+            × (left_of weigh.now.weights lines.now self.new ≡ []))
+            (λ item.
+            left_of weigh.now.weights lines.now self.old
+            ≡ item ∷ left_of weigh.now.weights lines.now self.new) }
     {
         let (item, place) = step(lines, weigh, self.rounds, self.place)?;
         self.place = place;

@@ -18,7 +18,11 @@ pub struct Weigh {
     call: Call,
     pub ghost range: { AreWeights weights },
     pub ghost callable: { (m : ℕ) → 1 ≤ m → m ≤ GREATEST_ID → Call.pre call m },
-    pub ghost answers: { (m r : ℕ) → 1 ≤ m → m ≤ GREATEST_ID → Call.post call m r → r ≡ weight weights m },
+    pub ghost answers: { (m r : ℕ)
+        → 1 ≤ m
+        → m ≤ GREATEST_ID
+        → Call.post call m r
+        → r ≡ weight weights m },
 }
 
 impl Weigh {
@@ -27,7 +31,11 @@ impl Weigh {
     pub fn new(weights: [u8; GREATEST_ID], call: Call) -> Weigh
         requires weights { AreWeights weights }
         requires callable { (m : ℕ) → 1 ≤ m → m ≤ GREATEST_ID → Call.pre call m }
-        requires answers { (m r : ℕ) → 1 ≤ m → m ≤ GREATEST_ID → Call.post call m r → r ≡ weight weights m }
+        requires answers { (m r : ℕ)
+            → 1 ≤ m
+            → m ≤ GREATEST_ID
+            → Call.post call m r
+            → r ≡ weight weights m }
         ensures { result.weights ≡ weights }
     {
         Weigh { weights, call }

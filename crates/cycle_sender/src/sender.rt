@@ -40,9 +40,19 @@ impl Sender {
         out: &mut O,
     ) -> Result<(), OutputFault>
         requires between { IsBetween self.old.mux }
-        requires like { All IsSectionLike (map (section_of generation.now) (cycle_of weigh.now.weights (lines_of generation.now))) }
-        ensures puts { Puts result (O.state out.old) (O.state out.new) (concat (packets_of_group self.old.mux (map (section_of generation.now) (cycle_of weigh.now.weights (lines_of generation.now))))) }
-        ensures mux { OnOk result (self.new.mux ≡ past_group self.old.mux (map (section_of generation.now) (cycle_of weigh.now.weights (lines_of generation.now)))) }
+        requires like { All IsSectionLike
+            (map (section_of generation.now)
+            (cycle_of weigh.now.weights (lines_of generation.now))) }
+        ensures puts { Puts result (O.state out.old) (O.state out.new)
+            (concat
+            (packets_of_group self.old.mux
+            (map (section_of generation.now)
+            (cycle_of weigh.now.weights (lines_of generation.now))))) }
+        ensures mux { OnOk result
+            (self.new.mux
+            ≡ past_group self.old.mux
+            (map (section_of generation.now)
+            (cycle_of weigh.now.weights (lines_of generation.now)))) }
     {
         self.send_cycle(generation, weigh, out)?;
         self.finish(out)
@@ -55,8 +65,16 @@ impl Sender {
         weigh: &Weigh,
         out: &mut O,
     ) -> Result<(), OutputFault>
-        ensures puts { Puts result (O.state out.old) (O.state out.new) (concat (packets_of_all self.old.mux (map (section_of generation.now) (cycle_of weigh.now.weights (lines_of generation.now))))) }
-        ensures mux { OnOk result (self.new.mux ≡ fold past self.old.mux (map (section_of generation.now) (cycle_of weigh.now.weights (lines_of generation.now)))) }
+        ensures puts { Puts result (O.state out.old) (O.state out.new)
+            (concat
+            (packets_of_all self.old.mux
+            (map (section_of generation.now)
+            (cycle_of weigh.now.weights (lines_of generation.now))))) }
+        ensures mux { OnOk result
+            (self.new.mux
+            ≡ fold past self.old.mux
+            (map (section_of generation.now)
+            (cycle_of weigh.now.weights (lines_of generation.now)))) }
     {
         let lines = generation.lines();
         let mut walk = Walk::new(lines, weigh);
@@ -74,8 +92,10 @@ impl Sender {
         out: &mut O,
     ) -> Result<(), OutputFault>
         requires { Contains (items_of generation.now) item }
-        ensures puts { Puts result (O.state out.old) (O.state out.new) (concat (packets_of self.old.mux (section_of generation.now item))) }
-        ensures mux { OnOk result (self.new.mux ≡ past self.old.mux (section_of generation.now item)) }
+        ensures puts { Puts result (O.state out.old) (O.state out.new)
+            (concat (packets_of self.old.mux (section_of generation.now item))) }
+        ensures mux { OnOk result
+            (self.new.mux ≡ past self.old.mux (section_of generation.now item)) }
     {
         let section = generation.section(item)?;
         self.packets.clear();
@@ -85,7 +105,8 @@ impl Sender {
 
     /// Ends the group: sends what is held back of it.
     pub fn finish<O: Output>(&mut self, out: &mut O) -> Result<(), OutputFault>
-        ensures puts { Puts result (O.state out.old) (O.state out.new) (concat (last_of self.old.mux)) }
+        ensures puts { Puts result (O.state out.old) (O.state out.new)
+            (concat (last_of self.old.mux)) }
         ensures mux { OnOk result (self.new.mux ≡ after_finish self.old.mux) }
     {
         self.packets.clear();

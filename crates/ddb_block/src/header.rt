@@ -25,7 +25,8 @@ pub fn header_bytes(id: u16, transaction: u32, size: u16) -> [u8; 12]
 /// Reads the fields before messageLength: the transaction, the reserved byte and adaptationLength.
 #[tactic(auto, unfolding(oc_bytes::specs::Grammar::read))]
 fn opening_of(fields: &mut Fields<'_>, id: u16) -> Result<(u32, u8, u8), Cut>
-    ensures { Gives (λ x. (opening_with x.0 x.1 x.2, fields.new)) place_of result (read (opening id) fields.old) }
+    ensures { Gives (λ x. (opening_with x.0 x.1 x.2, fields.new)) place_of result
+        (read (opening id) fields.old) }
 {
     fields.this_u8(0x11)?;
     fields.this_u8(0x03)?;
@@ -74,7 +75,18 @@ pub fn message(payload: &[u8], id: u16) -> Result<(u32, Fields<'_>), Cut>
 /// What holds of each message, whoever wrote it: what the relation says is read, what is read the relation says, and each
 /// spelling is a message.
 pub fn messages_read()
-    ensures relation { (bytes : List ℕ) (id transaction : ℕ) (body : List ℕ) → (m : IsMessage bytes id transaction body) → message_at id (from_start bytes) ≡ Ok (transaction, record { place = 12 + length m.adaptation; rest = body }) }
-    ensures reading { (bytes : List ℕ) (id : ℕ) (x : ℕ × Cursor) → ((i : ℕ) → slice_index bytes i < 256) → id < 65536 → message_at id (from_start bytes) ≡ Ok x → IsMessage bytes id x.0 x.1.rest × ((i : ℕ) → slice_index x.1.rest i < 256) }
-    ensures spells { (id transaction : ℕ) (body : List ℕ) → id < 65536 → transaction < 4294967296 → length body < 65536 → IsMessage (spellings.message id transaction body) id transaction body }
+    ensures relation { (bytes : List ℕ) (id transaction : ℕ) (body : List ℕ)
+        → (m : IsMessage bytes id transaction body)
+        → message_at id (from_start bytes)
+        ≡ Ok (transaction, record { place = 12 + length m.adaptation; rest = body }) }
+    ensures reading { (bytes : List ℕ) (id : ℕ) (x : ℕ × Cursor)
+        → ((i : ℕ) → slice_index bytes i < 256)
+        → id < 65536
+        → message_at id (from_start bytes) ≡ Ok x
+        → IsMessage bytes id x.0 x.1.rest × ((i : ℕ) → slice_index x.1.rest i < 256) }
+    ensures spells { (id transaction : ℕ) (body : List ℕ)
+        → id < 65536
+        → transaction < 4294967296
+        → length body < 65536
+        → IsMessage (spellings.message id transaction body) id transaction body }
 {}

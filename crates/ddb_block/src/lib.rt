@@ -97,7 +97,10 @@ pub struct Parts<'a> {
 
 /// The fields between the header and the block's bytes: 6 bytes.
 fn block_fields(parts: &Parts<'_>) -> [u8; 6]
-    ensures fields { two_bytes parts.now.module ++ (parts.now.version ∷ 0xFF ∷ []) ++ two_bytes parts.now.block ≡ result }
+    ensures fields { two_bytes parts.now.module
+        ++ (parts.now.version ∷ 0xFF ∷ [])
+        ++ two_bytes parts.now.block
+        ≡ result }
     ensures fits { Fits (parts_view parts.now) }
 {
     let Parts {
@@ -174,7 +177,10 @@ pub fn encode(alloc: Global, ddb: &Ddb) -> Result<Vec<u8>, NoMemory>
 /// 18 bytes longer.
 pub fn spellings_read()
     ensures reads { (b : Block) → Fits b → length b.bytes ≤ MOST_BLOCK_SIZE → Reads (spelling b) b }
-    ensures is_read { (b : Block) → Fits b → length b.bytes ≤ MOST_BLOCK_SIZE → read (spelling b) ≡ Ok b }
+    ensures is_read { (b : Block)
+        → Fits b
+        → length b.bytes ≤ MOST_BLOCK_SIZE
+        → read (spelling b) ≡ Ok b }
     ensures length { (b : Block) → length (spelling b) ≡ length b.bytes + 18 }
 {}
 
@@ -224,7 +230,8 @@ pub fn decode(alloc: Global, payload: &[u8]) -> Result<Ddb, DdbFault>
     ensures found { IfOk result (λ d. Reads payload.now (view d)) }
     ensures only { (b : Block) → Reads payload.now b → Gives view cause result (Ok b) }
     ensures exact { Gives view cause result (read payload.now) }
-    ensures memory { IsErrOf result DdbFault.NoMemory → IsOkAnd (read payload.now) (λ b. 0 < length b.bytes) }
+    ensures memory { IsErrOf result DdbFault.NoMemory
+        → IsOkAnd (read payload.now) (λ b. 0 < length b.bytes) }
 {
     let parts = parts_of(payload)?;
     Ok(owned(alloc, &parts)?)

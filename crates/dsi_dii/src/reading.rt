@@ -26,7 +26,8 @@ pub struct Head {
 
 #[tactic(auto, unfolding(oc_bytes::specs::Grammar::read))]
 fn head_fields(fields: &mut Fields) -> Result<Head, Cut>
-    ensures { Gives {Y = Head × Cursor} (λ h. (h, fields.new)) place_of result (head_at fields.old) }
+    ensures { Gives {Y = Head × Cursor} (λ h. (h, fields.new)) place_of result
+        (head_at fields.old) }
 {
     let download = fields.u32()?;
     let block_size = fields.u16()?;
@@ -56,7 +57,8 @@ fn pass_tap(fields: &mut Fields) -> Result<(), Cut>
 }
 
 fn pass_taps(fields: &mut Fields, count: u8) -> Result<(), Cut>
-    ensures { Gives (λ _. (tt, fields.new)) place_of result (skip_reading (each_at tap_at count fields.old)) }
+    ensures { Gives (λ _. (tt, fields.new)) place_of result
+        (skip_reading (each_at tap_at count fields.old)) }
 {
     for _ in 0..count {
         pass_tap(fields)?;
@@ -67,7 +69,8 @@ fn pass_taps(fields: &mut Fields, count: u8) -> Result<(), Cut>
 /// The user info of a moduleInfo.
 #[tactic(auto, unfolding(oc_bytes::specs::Grammar::read))]
 fn user_info(info: &[u8]) -> Result<&[u8], Cut>
-    ensures { MatchResult result (λ u. value_read (info_at (from_start info.now)) ≡ Some u.now) (λ _. value_read (info_at (from_start info.now)) ≡ None) }
+    ensures { MatchResult result (λ u. value_read (info_at (from_start info.now)) ≡ Some u.now)
+        (λ _. value_read (info_at (from_start info.now)) ≡ None) }
 {
     let mut fields = Fields::new(info);
     fields.take(12)?;
@@ -106,7 +109,8 @@ fn has_compression(user_info: &[u8]) -> bool
 /// A module as a DII lists it.
 #[tactic(auto, unfolding(oc_bytes::specs::Grammar::read))]
 fn line(fields: &mut Fields) -> Result<ModuleLine, Cut>
-    ensures { Gives {Y = ModuleLine × Cursor} (λ l. (l, fields.new)) place_of result (line_at fields.old) }
+    ensures { Gives {Y = ModuleLine × Cursor} (λ l. (l, fields.new)) place_of result
+        (line_at fields.old) }
 {
     let id = fields.u16()?;
     let size = fields.u32()?;
@@ -130,7 +134,8 @@ fn is_compressed(info: &[u8]) -> bool
 }
 
 fn lines(alloc: Global, fields: &mut Fields, count: u16) -> Result<Vec<ModuleLine>, ControlFault>
-    ensures exact { Gives {Y = List ModuleLine × Cursor} (λ ls. (ls.items, fields.new)) cause result (each_at line_at count fields.old) }
+    ensures exact { Gives {Y = List ModuleLine × Cursor} (λ ls. (ls.items, fields.new)) cause result
+        (each_at line_at count fields.old) }
     ensures memory { IsErrOf result ControlFault.NoMemory → 0 < count }
 {
     let mut modules = Vec::new(alloc);
@@ -144,7 +149,8 @@ fn lines(alloc: Global, fields: &mut Fields, count: u16) -> Result<Vec<ModuleLin
 #[tactic(auto, unfolding(oc_bytes::specs::Grammar::read, crate::specs::ControlReading::dii_at, crate::specs::ControlReading::opening_at))]
 fn dii_of(alloc: Global, payload: &[u8]) -> Result<Control, ControlFault>
     ensures exact { Gives view cause result (value_only (dii_at (from_start payload.now))) }
-    ensures memory { IsErrOf result ControlFault.NoMemory → IsOkAnd (opening_at (from_start payload.now)) (λ h. 0 < h.0.modules) }
+    ensures memory { IsErrOf result ControlFault.NoMemory
+        → IsOkAnd (opening_at (from_start payload.now)) (λ h. 0 < h.0.modules) }
 {
     let (transaction, mut fields) = message(payload, 0x1002)?;
     let head = head_fields(&mut fields)?;
@@ -161,7 +167,8 @@ fn dii_of(alloc: Global, payload: &[u8]) -> Result<Control, ControlFault>
 /// The private data of a DSI and its place.
 #[tactic(auto, unfolding(oc_bytes::specs::Grammar::read, oc_bytes::specs::Cursor::sized_at, crate::specs::ControlReading::private_at))]
 fn private_data<'a>(fields: &mut Fields<'a>) -> Result<(usize, &'a [u8]), Cut>
-    ensures exact { Gives {Y = (ℕ × List ℕ) × Cursor} (λ x. ((x.0, x.1.now), fields.new)) place_of result (private_at fields.old) }
+    ensures exact { Gives {Y = (ℕ × List ℕ) × Cursor} (λ x. ((x.0, x.1.now), fields.new)) place_of
+        result (private_at fields.old) }
     ensures inside { IfOk result (λ x. x.0 + length x.1.now ≤ usize.MAX) }
 {
     fields.take(20)?;
@@ -174,8 +181,11 @@ fn private_data<'a>(fields: &mut Fields<'a>) -> Result<(usize, &'a [u8]), Cut>
 /// The gateway's IOR inside the private data, which stand at this place of the message.
 fn gateway(alloc: Global, private: &[u8], place: usize) -> Result<Ior, ControlFault>
     requires { place + length private.now ≤ usize.MAX }
-    ensures exact { (after : Cursor) → Gives {Y = iors.Fields × Cursor} (λ ior. (iors.view ior, after)) cause result (gateway_at place private.now after) }
-    ensures memory { IsErrOf result ControlFault.NoMemory → IsOkAnd (profile_count_at (from_start private.now)) (λ n. 0 < n.0) }
+    ensures exact { (after : Cursor)
+        → Gives {Y = iors.Fields × Cursor} (λ ior. (iors.view ior, after)) cause result
+        (gateway_at place private.now after) }
+    ensures memory { IsErrOf result ControlFault.NoMemory
+        → IsOkAnd (profile_count_at (from_start private.now)) (λ n. 0 < n.0) }
 {
     match ior_tap::decode(alloc, private) {
         Ok((ior, _)) => Ok(ior),
@@ -187,7 +197,9 @@ fn gateway(alloc: Global, private: &[u8], place: usize) -> Result<Ior, ControlFa
 #[tactic(auto, unfolding(crate::specs::ControlReading::dsi_at, crate::specs::ControlReading::frame_at))]
 fn dsi_of(alloc: Global, payload: &[u8]) -> Result<Control, ControlFault>
     ensures exact { Gives view cause result (value_only (dsi_at (from_start payload.now))) }
-    ensures memory { IsErrOf result ControlFault.NoMemory → IsOkAnd (value_only (frame_at (from_start payload.now))) (λ f. IsOkAnd (profile_count_at (from_start f.1.1)) (λ n. 0 < n.0)) }
+    ensures memory { IsErrOf result ControlFault.NoMemory
+        → IsOkAnd (value_only (frame_at (from_start payload.now))) (λ f.
+        IsOkAnd (profile_count_at (from_start f.1.1)) (λ n. 0 < n.0)) }
 {
     let (transaction, mut fields) = message(payload, 0x1006)?;
     let (place, private) = private_data(&mut fields)?;
@@ -212,9 +224,12 @@ fn is_dsi(payload: &[u8]) -> bool
 /// A control message as its grammar reads it: the messageId decides.
 fn control(alloc: Global, payload: &[u8]) -> Result<Control, ControlFault>
     ensures exact { Gives view cause result (read payload.now) }
-    ensures memory_dsi { IsErrOf result ControlFault.NoMemory → message_id_of payload.now ≡ 0x1006
-        → IsOkAnd (value_only (frame_at (from_start payload.now))) (λ f. IsOkAnd (profile_count_at (from_start f.1.1)) (λ n. 0 < n.0)) }
-    ensures memory_dii { IsErrOf result ControlFault.NoMemory → (message_id_of payload.now ≡ 0x1006 → ⊥)
+    ensures memory_dsi { IsErrOf result ControlFault.NoMemory
+        → message_id_of payload.now ≡ 0x1006
+        → IsOkAnd (value_only (frame_at (from_start payload.now))) (λ f.
+        IsOkAnd (profile_count_at (from_start f.1.1)) (λ n. 0 < n.0)) }
+    ensures memory_dii { IsErrOf result ControlFault.NoMemory
+        → (message_id_of payload.now ≡ 0x1006 → ⊥)
         → IsOkAnd (opening_at (from_start payload.now)) (λ h. 0 < h.0.modules) }
 {
     if is_dsi(payload) {
@@ -241,9 +256,12 @@ pub fn decode(alloc: Global, payload: &[u8]) -> Result<Control, ControlFault>
     ensures found { IfOk result (λ m. Reads payload.now (view m)) }
     ensures only { (m : Message) → Reads payload.now m → Gives view cause result (Ok m) }
     ensures exact { Gives view cause result (read payload.now) }
-    ensures memory_dsi { IsErrOf result ControlFault.NoMemory → message_id_of payload.now ≡ 0x1006
-        → IsOkAnd (value_only (frame_at (from_start payload.now))) (λ f. IsOkAnd (profile_count_at (from_start f.1.1)) (λ n. 0 < n.0)) }
-    ensures memory_dii { IsErrOf result ControlFault.NoMemory → (message_id_of payload.now ≡ 0x1006 → ⊥)
+    ensures memory_dsi { IsErrOf result ControlFault.NoMemory
+        → message_id_of payload.now ≡ 0x1006
+        → IsOkAnd (value_only (frame_at (from_start payload.now))) (λ f.
+        IsOkAnd (profile_count_at (from_start f.1.1)) (λ n. 0 < n.0)) }
+    ensures memory_dii { IsErrOf result ControlFault.NoMemory
+        → (message_id_of payload.now ≡ 0x1006 → ⊥)
         → IsOkAnd (opening_at (from_start payload.now)) (λ h. 0 < h.0.modules) }
 {
     control(alloc, payload)

@@ -67,7 +67,8 @@ pub fn encode_dii(alloc: Global, dii: &Dii) -> Result<Vec<u8>, DiiFault>
     requires { IsWrittenDii (view_dii dii.now) }
     ensures spells { IfOk result (λ bytes. bytes.items ≡ dii_spelling (view_dii dii.now)) }
     ensures reads { IfOk result (λ bytes. Reads bytes.items (IsDii (view_dii dii.now))) }
-    ensures too_many { IsErrOf result DiiFault.TooMany ↔ (MOST_MODULES < length dii.now.modules.items) }
+    ensures too_many { IsErrOf result DiiFault.TooMany
+        ↔ (MOST_MODULES < length dii.now.modules.items) }
 {
     let count = dii.modules.len();
     if count > MOST_MODULES {
@@ -91,7 +92,9 @@ pub fn encode_dii(alloc: Global, dii: &Dii) -> Result<Vec<u8>, DiiFault>
 /// The serverId is 20 bytes 0xFF; there are no compatibility descriptor, no taps, no contexts and no user info.
 pub fn encode_dsi(alloc: Global, dsi: &Dsi) -> Result<Vec<u8>, NoMemory>
     requires { (l : Location) × iors.IsWritten (view_dsi dsi.now).gateway l }
-    ensures spells { IfOk result (λ bytes. (l : Location) → iors.IsWritten (view_dsi dsi.now).gateway l
+    ensures spells { IfOk result (λ bytes.
+        (l : Location)
+        → iors.IsWritten (view_dsi dsi.now).gateway l
         → bytes.items ≡ dsi_spelling dsi.now.transaction.0 (view_dsi dsi.now).gateway.kind l) }
     ensures reads { IfOk result (λ bytes. Reads bytes.items (IsDsi (view_dsi dsi.now))) }
 {

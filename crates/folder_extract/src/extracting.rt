@@ -56,8 +56,12 @@ pub fn extract<T: Store, O: Output>(
     store: &mut T,
     out: &mut O,
 ) -> Result<Extracted, OutputFault>
-    ensures part { WrotePart (T.tree store.old) (T.tree store.new) (entries_for folder.now (answer_of (held_of shot.now)) (listed (answer_of (held_of shot.now)))) }
-    ensures ends { Ends folder.now (answer_of (held_of shot.now)) result (T.tree store.old) (T.tree store.new) (Rose (T.faults store.old) (T.faults store.new)) (O.state out.old) (O.state out.new) }
+    ensures part { WrotePart (T.tree store.old) (T.tree store.new)
+        (entries_for folder.now (answer_of (held_of shot.now))
+        (listed (answer_of (held_of shot.now)))) }
+    ensures ends { Ends folder.now (answer_of (held_of shot.now)) result (T.tree store.old)
+        (T.tree store.new) (Rose (T.faults store.old) (T.faults store.new)) (O.state out.old)
+        (O.state out.new) }
     ensures later { T.faults store.old ≤ T.faults store.new }
     ensures empty { OnOk result ((O.state out.new).pending ≡ []) }
 {
@@ -97,9 +101,15 @@ fn extract_path<T: Store, O: Output>(
     store: &mut T,
     out: &mut O,
 ) -> Result<Extracted, OutputFault>
-    ensures takes { Takes (text_below folder.now path.now) (entries_at folder.now (answer_of (held_of shot.now)) path.now) (line_for (answer_of (held_of shot.now)) path.now)
-        (is_whole (answer_of (held_of shot.now)) path.now) result (T.tree store.old) (T.tree store.new) (Rose (T.faults store.old) (T.faults store.new)) (O.state out.old) (O.state out.new) }
-    ensures fails { IfOk result (λ end. end ≡ Extracted.Failed → (can_stand path.now ≡ true) × (is_found (answer_of (held_of shot.now) path.now) ≡ true)) }
+    ensures takes { Takes (text_below folder.now path.now)
+        (entries_at folder.now (answer_of (held_of shot.now)) path.now)
+        (line_for (answer_of (held_of shot.now)) path.now)
+        (is_whole (answer_of (held_of shot.now)) path.now) result (T.tree store.old)
+        (T.tree store.new) (Rose (T.faults store.old) (T.faults store.new)) (O.state out.old)
+        (O.state out.new) }
+    ensures fails { IfOk result (λ end.
+        end ≡ Extracted.Failed
+        → (can_stand path.now ≡ true) × (is_found (answer_of (held_of shot.now) path.now) ≡ true)) }
     ensures later { T.faults store.old ≤ T.faults store.new }
 {
     let Some(text) = place_text(alloc, folder, path)? else {
@@ -127,8 +137,9 @@ fn extract_answer<T: Store, O: Output>(
     store: &mut T,
     out: &mut O,
 ) -> Result<Extracted, OutputFault>
-    ensures takes { Takes text.now (entries_of text.now answer.now) (told_of path.now answer.now) (is_whole_answer answer.now) result
-        (T.tree store.old) (T.tree store.new) (Rose (T.faults store.old) (T.faults store.new)) (O.state out.old) (O.state out.new) }
+    ensures takes { Takes text.now (entries_of text.now answer.now) (told_of path.now answer.now)
+        (is_whole_answer answer.now) result (T.tree store.old) (T.tree store.new)
+        (Rose (T.faults store.old) (T.faults store.new)) (O.state out.old) (O.state out.new) }
     ensures fails { IfOk result (λ end. end ≡ Extracted.Failed → is_found answer.now ≡ true) }
     ensures later { T.faults store.old ≤ T.faults store.new }
 {
@@ -146,7 +157,8 @@ fn tell_answer<O: Output>(
     answer: &Answer,
     out: &mut O,
 ) -> Result<Extracted, OutputFault>
-    ensures puts { Puts result (O.state out.old) (O.state out.new) (answered_line path.now answer.now) }
+    ensures puts { Puts result (O.state out.old) (O.state out.new)
+        (answered_line path.now answer.now) }
     ensures end { IfOk result (λ end. end ≡ Extracted.NotAll) }
 {
     put_answer(alloc, path, answer, out)?;
@@ -162,8 +174,10 @@ fn write_file<T: Store, O: Output>(
     store: &mut T,
     out: &mut O,
 ) -> Result<Extracted, OutputFault>
-    ensures takes { Takes text.now ((text.now, AFile file.now) ∷ []) (entry_line (codes "file") path.now (length file.now)) true result
-        (T.tree store.old) (T.tree store.new) (Rose (T.faults store.old) (T.faults store.new)) (O.state out.old) (O.state out.new) }
+    ensures takes { Takes text.now ((text.now, AFile file.now) ∷ [])
+        (entry_line (codes "file") path.now (length file.now)) true result (T.tree store.old)
+        (T.tree store.new) (Rose (T.faults store.old) (T.faults store.new)) (O.state out.old)
+        (O.state out.new) }
     ensures later { T.faults store.old ≤ T.faults store.new }
 {
     match store.write_new(alloc, text, file.bytes()) {
@@ -184,8 +198,11 @@ fn write_folder<T: Store, O: Output>(
     store: &mut T,
     out: &mut O,
 ) -> Result<Extracted, OutputFault>
-    ensures takes { Takes text.now ((text.now, AFolder) ∷ []) (entry_line (codes "folder") path.now (length names.now) ++ unnamed_lines path.now names.now) (list_all is_name names.now) result
-        (T.tree store.old) (T.tree store.new) (Rose (T.faults store.old) (T.faults store.new)) (O.state out.old) (O.state out.new) }
+    ensures takes { Takes text.now ((text.now, AFolder) ∷ [])
+        (entry_line (codes "folder") path.now (length names.now)
+        ++ unnamed_lines path.now names.now) (list_all is_name names.now) result
+        (T.tree store.old) (T.tree store.new) (Rose (T.faults store.old) (T.faults store.new))
+        (O.state out.old) (O.state out.new) }
     ensures later { T.faults store.old ≤ T.faults store.new }
 {
     match store.make_folder(alloc, text) {

@@ -20,7 +20,8 @@ pub(crate) fn place_text(
     folder: &str,
     path: &Path,
 ) -> Result<Option<String>, NoMemory>
-    ensures { IfOk result (λ text. option_map string_bytes text ≡ text_of_place folder.now path.now) }
+    ensures { IfOk result (λ text.
+        option_map string_bytes text ≡ text_of_place folder.now path.now) }
 {
     let mut text = String::from_str(alloc, folder)?;
     for i in 0..path.len() {

@@ -24,7 +24,8 @@ pub(crate) fn put_entry<O: Output>(
     number: usize,
     out: &mut O,
 ) -> Result<(), OutputFault>
-    ensures { Puts result (O.state out.old) (O.state out.new) (entry_line kind.now path.now number) }
+    ensures { Puts result (O.state out.old) (O.state out.new)
+        (entry_line kind.now path.now number) }
 {
     let line = entry_text(alloc, kind, path, number)?;
     out.put(line.as_bytes())
@@ -74,7 +75,8 @@ pub(crate) fn put_unnamed<O: Output>(
     out: &mut O,
 ) -> Result<bool, OutputFault>
     ensures all { IfOk result (λ all. all ≡ list_all is_name names.now) }
-    ensures puts { Puts result (O.state out.old) (O.state out.new) (unnamed_lines path.now names.now) }
+    ensures puts { Puts result (O.state out.old) (O.state out.new)
+        (unnamed_lines path.now names.now) }
 {
     let mut all = true;
     for i in 0..names.count() {
@@ -105,7 +107,8 @@ fn text_below(alloc: Global, path: &Path, name: &[u8]) -> Result<String, NoMemor
 
 /// Puts the line of a path text that was passed over.
 fn put_passed<O: Output>(alloc: Global, text: &str, out: &mut O) -> Result<(), OutputFault>
-    ensures { Puts result (O.state out.old) (O.state out.new) (line_of (codes "passed " ++ text.now)) }
+    ensures { Puts result (O.state out.old) (O.state out.new)
+        (line_of (codes "passed " ++ text.now)) }
 {
     let line = passed_text(alloc, text)?;
     out.put(line.as_bytes())

@@ -44,8 +44,11 @@ impl<'a, F: Folders> FolderTrees<'a, F> {
 impl<F: Folders> Trees for FolderTrees<'_, F> {
     ghost use Rattle.folder_playout.specs.Readings.{AreRead};
 
-    ghost answered = { λ a b readings. (b.folders.ghost_name ≡ a.folders.ghost_name) × (b.folder ≡ a.folder)
-        × AreRead a.folder.now (F.tree a.folders.now) (F.tree b.folders.now) (F.faults a.folders.now) (F.faults b.folders.now) readings };
+    ghost answered = { λ a b readings.
+        (b.folders.ghost_name ≡ a.folders.ghost_name)
+        × (b.folder ≡ a.folder)
+        × AreRead a.folder.now (F.tree a.folders.now) (F.tree b.folders.now)
+        (F.faults a.folders.now) (F.faults b.folders.now) readings };
 
     /// The tree of the folder, as `publish` makes it: what it refuses is refused in the same order.
     fn read(&mut self) -> Result<Publishable, Unread> {
@@ -58,7 +61,9 @@ impl<F: Folders> Trees for FolderTrees<'_, F> {
 
 /// Why a survey gave no tree, with the path that it names.
 fn walk_fault(alloc: Global, fault: &SurveyFault) -> Result<Unread, NoMemory>
-    ensures { IfOk result (λ unread. reading_in (Err unread) ≡ of_walk fault.now.cause (text_of (names_at (at_in fault.now.at)))) }
+    ensures { IfOk result (λ unread.
+        reading_in (Err unread)
+        ≡ of_walk fault.now.cause (text_of (names_at (at_in fault.now.at)))) }
 {
     let path = place_text(alloc, &fault.at)?;
     match fault.cause {

@@ -27,14 +27,16 @@ pub fn began_text(
     cycle: u32,
     difference: Difference,
 ) -> Result<String, NoMemory>
-    ensures { IfOk result (λ text. string_bytes text ≡ notice_line (Began number cycle difference)) }
+    ensures { IfOk result (λ text.
+        string_bytes text ≡ notice_line (Began number cycle difference)) }
 {
     let words = difference_words(alloc, difference)?;
     began_line(alloc, number, cycle, &words)
 }
 
 fn began_line(alloc: Global, number: u64, cycle: u32, words: &str) -> Result<String, NoMemory>
-    ensures { IfOk result (λ text. string_bytes text ≡ cycle_line (codes "generation") number cycle words.now) }
+    ensures { IfOk result (λ text.
+        string_bytes text ≡ cycle_line (codes "generation") number cycle words.now) }
 {
     format!(in alloc; "generation {number} cycle {cycle} {words}\n")
 }
@@ -60,7 +62,9 @@ pub fn kept_text(
     cycle: u32,
     cause: &Unread,
 ) -> Result<Option<String>, NoMemory>
-    ensures text { IfOk result (λ text. unwrap_or (option_map string_bytes text) [] ≡ flat_map notice_line (kept_notices number cycle cause.now)) }
+    ensures text { IfOk result (λ text.
+        unwrap_or (option_map string_bytes text) []
+        ≡ flat_map notice_line (kept_notices number cycle cause.now)) }
     ensures none { IfOk result (λ text. is_none text ≡ is_no_memory cause.now) }
 {
     let words = match cause {
@@ -72,7 +76,8 @@ pub fn kept_text(
 }
 
 fn kept_line(alloc: Global, number: u64, cycle: u32, words: &str) -> Result<String, NoMemory>
-    ensures { IfOk result (λ text. string_bytes text ≡ cycle_line (codes "kept") number cycle words.now) }
+    ensures { IfOk result (λ text.
+        string_bytes text ≡ cycle_line (codes "kept") number cycle words.now) }
 {
     format!(in alloc; "kept {number} cycle {cycle} {words}\n")
 }
@@ -83,7 +88,8 @@ fn refused_words(
     fault: &TreeFault,
     path: &Option<String>,
 ) -> Result<String, NoMemory>
-    ensures { IfOk result (λ text. string_bytes text ≡ refused_words fault.now (option_map string_bytes path.now)) }
+    ensures { IfOk result (λ text.
+        string_bytes text ≡ refused_words fault.now (option_map string_bytes path.now)) }
 {
     match fault {
         TreeFault::TooDeep => with_path(alloc, "too-deep", path),
@@ -94,7 +100,8 @@ fn refused_words(
 
 /// A word, and the path where there is one.
 fn with_path(alloc: Global, word: &str, path: &Option<String>) -> Result<String, NoMemory>
-    ensures { IfOk result (λ text. string_bytes text ≡ with_path word.now (option_map string_bytes path.now)) }
+    ensures { IfOk result (λ text.
+        string_bytes text ≡ with_path word.now (option_map string_bytes path.now)) }
 {
     match path {
         Some(path) => format!(in alloc; "{word} {path}"),
@@ -104,7 +111,8 @@ fn with_path(alloc: Global, word: &str, path: &Option<String>) -> Result<String,
 
 /// The text of a commit's refusal. A file that is too large is named by its path, where that is known.
 fn commit_words(alloc: Global, refusal: &Refusal, path: &Option<String>) -> Result<String, NoMemory>
-    ensures { IfOk result (λ text. string_bytes text ≡ commit_words refusal.now (option_map string_bytes path.now)) }
+    ensures { IfOk result (λ text.
+        string_bytes text ≡ commit_words refusal.now (option_map string_bytes path.now)) }
 {
     match (refusal, path) {
         (Refusal::Edit(_, EditFault::FileTooLarge), Some(path)) => {

@@ -19,11 +19,15 @@ pub trait Notices {
 
     /// A generation of this number goes on the air with this cycle, counted from 1. In so much it differs from the one before.
     fn began(&mut self, number: u64, cycle: u32, difference: Difference)
-        ensures { (start : Self) (before : List Notice) → told start self.old before → told start self.new (before ++ Began number cycle difference ∷ []) };
+        ensures { (start : Self) (before : List Notice)
+            → told start self.old before
+            → told start self.new (before ++ Began number cycle difference ∷ []) };
 
     /// The generation of this number stays on the air at this cycle, counted from 1, since no tree was read, for this cause.
     fn kept(&mut self, number: u64, cycle: u32, cause: &Unread)
-        ensures { (start : Self) (before : List Notice) → told start self.old before → told start self.new (before ++ kept_notices number cycle cause.now) };
+        ensures { (start : Self) (before : List Notice)
+            → told start self.old before
+            → told start self.new (before ++ kept_notices number cycle cause.now) };
 }
 
 /// What a receiver that has one generation fetches again for the next: how many files are new, gone or have other bytes, how many modules are new

@@ -85,7 +85,9 @@ pub fn keep_on_air<T: Trees, N: Notices, O: Output>(
     requires pending { (O.state out.old).pending ≡ [] }
     requires unread { T.answered trees.old trees.old [] }
     requires untold { N.told notices.old notices.old [] }
-    ensures { Airs (record { pid = pid; carousel = carousel; weights = weigh.now.weights }) cycles (T.answered trees.old trees.new) (N.told notices.old notices.new) result (O.state out.old) (O.state out.new) }
+    ensures { Airs (record { pid = pid; carousel = carousel; weights = weigh.now.weights }) cycles
+        (T.answered trees.old trees.new) (N.told notices.old notices.new) result (O.state out.old)
+        (O.state out.new) }
 {
     playouts_are_broadcasts();
     playouts_can_be_packed();
@@ -111,8 +113,11 @@ fn begin<T: Trees, N: Notices, O: Output>(
     requires pending { (O.state out.old).pending ≡ [] }
     requires unread { T.answered trees.old trees.old [] }
     requires untold { N.told notices.old notices.old [] }
-    ensures { (cycles : ℕ) → 1 ≤ cycles
-        → Begins (record { pid = pid; carousel = carousel; weights = weigh.now.weights }) cycles (T.answered trees.old trees.new) (N.told notices.old notices.new) result (O.state out.old) (O.state out.new) }
+    ensures { (cycles : ℕ)
+        → 1 ≤ cycles
+        → Begins (record { pid = pid; carousel = carousel; weights = weigh.now.weights }) cycles
+        (T.answered trees.old trees.new) (N.told notices.old notices.new) result
+        (O.state out.old) (O.state out.new) }
 {
     playouts_are_broadcasts();
     playouts_can_be_packed();
@@ -133,9 +138,14 @@ fn turn<T: Trees, N: Notices, O: Output>(
     out: &mut O,
 ) -> Result<(), AirFault>
     requires { sent + 1 < 2 ^ 32 }
-    ensures { (s : Sent) (cycles : ℕ) (first : T) (told : N) (start : OutputState) → s.weights ≡ weigh.now.weights → s.carousel < 4294967296 → sent < cycles
-        → IsPlaying s (T.answered first trees.old) (N.told told notices.old) sent start (O.state out.old) playout.old
-        → Turns s sent cycles (T.answered first trees.new) (N.told told notices.new) result start (O.state out.new) playout.new }
+    ensures { (s : Sent) (cycles : ℕ) (first : T) (told : N) (start : OutputState)
+        → s.weights ≡ weigh.now.weights
+        → s.carousel < 4294967296
+        → sent < cycles
+        → IsPlaying s (T.answered first trees.old) (N.told told notices.old) sent start
+        (O.state out.old) playout.old
+        → Turns s sent cycles (T.answered first trees.new) (N.told told notices.new) result start
+        (O.state out.new) playout.new }
 {
     playouts_are_broadcasts();
     playouts_can_be_packed();
@@ -153,9 +163,13 @@ fn take_next<T: Trees, N: Notices, O: Output>(
     out: &mut O,
 ) -> Result<(), AirFault>
     requires { sent + 1 < 2 ^ 32 }
-    ensures { (s : Sent) (cycles : ℕ) (first : T) (told : N) (start : OutputState) → s.carousel < 4294967296 → sent < cycles
-        → IsPlaying s (T.answered first trees.old) (N.told told notices.old) sent start (O.state out.old) playout.old
-        → Takes s sent cycles (T.answered first trees.new) (N.told told notices.new) result start (O.state out.new) playout.new }
+    ensures { (s : Sent) (cycles : ℕ) (first : T) (told : N) (start : OutputState)
+        → s.carousel < 4294967296
+        → sent < cycles
+        → IsPlaying s (T.answered first trees.old) (N.told told notices.old) sent start
+        (O.state out.old) playout.old
+        → Takes s sent cycles (T.answered first trees.new) (N.told told notices.new) result start
+        (O.state out.new) playout.new }
 {
     playouts_are_broadcasts();
     playouts_can_be_packed();
@@ -180,7 +194,10 @@ fn next_tree<N: Notices>(
 ) -> Result<Option<Publishable>, OutputFault>
     requires { sent + 1 < 2 ^ 32 }
     ensures next { IsNext playout.now.generation (sent + 1) read result }
-    ensures told { (start : N) (before : List Notice) → N.told start notices.old before → N.told start notices.new (before ++ told_next playout.now.generation.number (sent + 1) read) }
+    ensures told { (start : N) (before : List Notice)
+        → N.told start notices.old before
+        → N.told start notices.new
+        (before ++ told_next playout.now.generation.number (sent + 1) read) }
 {
     match read {
         Ok(tree) if playout.is_new(&tree) => Ok(Some(tree)),

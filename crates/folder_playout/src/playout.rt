@@ -35,7 +35,8 @@ impl Playout {
     ) -> Result<(Playout, Difference), NoMemory>
         requires in_range { pid < 8192 }
         ensures stands { IfOk result (λ p. StandsFor p.0 pid (begun carousel tree)) }
-        ensures differs { IfOk result (λ p. p.1 ≡ difference_of (first_of carousel) (next_of (first_of carousel) tree)) }
+        ensures differs { IfOk result (λ p.
+            p.1 ≡ difference_of (first_of carousel) (next_of (first_of carousel) tree)) }
     {
         let sender = Sender::new(alloc, pid);
         let none = Generation::first(alloc, carousel)?;
@@ -75,10 +76,17 @@ impl Playout {
         out: &mut O,
     ) -> Result<Difference, OutputFault>
         requires number { self.old.generation.number < LAST_GENERATION }
-        ensures puts { (start : OutputState) (pid : ℕ) (s : OnAir) → StandsFor self.old pid s → All (All IsSectionLike) (groups_of s)
-            → HasPut start (O.state out.old) (given_bytes pid s) → Puts result start (O.state out.new) (given_bytes pid (with_tree tree s)) }
-        ensures stands { OnOk result ((pid : ℕ) (s : OnAir) → StandsFor self.old pid s → All (All IsSectionLike) (groups_of s) → StandsFor self.new pid (with_tree tree s)) }
-        ensures differs { IfOk result (λ d. d ≡ difference_of self.old.generation (next_of self.old.generation tree)) }
+        ensures puts { (start : OutputState) (pid : ℕ) (s : OnAir)
+            → StandsFor self.old pid s
+            → All (All IsSectionLike) (groups_of s)
+            → HasPut start (O.state out.old) (given_bytes pid s)
+            → Puts result start (O.state out.new) (given_bytes pid (with_tree tree s)) }
+        ensures stands { OnOk result ((pid : ℕ) (s : OnAir)
+            → StandsFor self.old pid s
+            → All (All IsSectionLike) (groups_of s)
+            → StandsFor self.new pid (with_tree tree s)) }
+        ensures differs { IfOk result (λ d.
+            d ≡ difference_of self.old.generation (next_of self.old.generation tree)) }
     {
         self.sender.finish(out)?;
         let next = self.generation.next_checked(tree)?;
@@ -93,9 +101,14 @@ impl Playout {
         weigh: &Weigh,
         out: &mut O,
     ) -> Result<(), OutputFault>
-        ensures puts { (start : OutputState) (pid : ℕ) (s : OnAir) → StandsFor self.old pid s
-            → HasPut start (O.state out.old) (given_bytes pid s) → Puts result start (O.state out.new) (given_bytes pid (with_cycle weigh.now.weights s)) }
-        ensures stands { OnOk result ((pid : ℕ) (s : OnAir) → StandsFor self.old pid s → StandsFor self.new pid (with_cycle weigh.now.weights s)) }
+        ensures puts { (start : OutputState) (pid : ℕ) (s : OnAir)
+            → StandsFor self.old pid s
+            → HasPut start (O.state out.old) (given_bytes pid s)
+            → Puts result start (O.state out.new)
+            (given_bytes pid (with_cycle weigh.now.weights s)) }
+        ensures stands { OnOk result ((pid : ℕ) (s : OnAir)
+            → StandsFor self.old pid s
+            → StandsFor self.new pid (with_cycle weigh.now.weights s)) }
         ensures empty { OnOk result ((O.state out.new).pending ≡ []) }
     {
         self.sender.send_cycle(&self.generation, weigh, out)?;
@@ -104,8 +117,11 @@ impl Playout {
 
     /// Ends the last group.
     pub(crate) fn end<O: Output>(&mut self, out: &mut O) -> Result<(), OutputFault>
-        ensures puts { (start : OutputState) (pid : ℕ) (s : OnAir) → StandsFor self.old pid s → All (All IsSectionLike) (groups_of s)
-            → HasPut start (O.state out.old) (given_bytes pid s) → Puts result start (O.state out.new) (air_bytes pid s) }
+        ensures puts { (start : OutputState) (pid : ℕ) (s : OnAir)
+            → StandsFor self.old pid s
+            → All (All IsSectionLike) (groups_of s)
+            → HasPut start (O.state out.old) (given_bytes pid s)
+            → Puts result start (O.state out.new) (air_bytes pid s) }
         ensures empty { OnOk result ((O.state out.new).pending ≡ []) }
     {
         self.sender.finish(out)?;

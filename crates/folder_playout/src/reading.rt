@@ -55,5 +55,7 @@ pub trait Trees {
     /// The tree that stands there now, which can be sent, with its objects and their sizes. What was read before is no part of the answer.
     fn read(&mut self) -> Result<Publishable, Unread>
         ensures publishable { IfOk result IsPublishable }
-        ensures answered { (start : Self) (before : List Reading) → answered start self.old before → answered start self.new (before ++ reading_in result) };
+        ensures answered { (start : Self) (before : List Reading)
+            → answered start self.old before
+            → answered start self.new (before ++ reading_in result) };
 }

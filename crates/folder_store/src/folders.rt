@@ -75,24 +75,46 @@ pub trait Folders {
     /// The entries right below the folder `path`, each once, in no stated order.
     fn list(&mut self, alloc: Global, path: &str) -> Result<Vec<FolderEntry>, FolderFault>
         ensures same { tree self.new ≡ tree self.old }
-        ensures entries { IfOk result (λ es. (t : FolderTree) → tree self.old ≡ Some t → IsListed t path.now (map view_entry es.items)) }
+        ensures entries { IfOk result (λ es.
+            (t : FolderTree)
+            → tree self.old ≡ Some t
+            → IsListed t path.now (map view_entry es.items)) }
         ensures later { faults self.old ≤ faults self.new }
-        ensures cause { IsErrOf result FolderFault.Failed → MayFail (Rose (faults self.old) (faults self.new)) (tree self.old) (λ t. is_folder_at t path.now ≡ false) }
-        ensures owed { (t : FolderTree) → tree self.old ≡ Some t → is_folder_at t path.now ≡ true → strayed self.new ≡ strayed self.old }
-        ensures strays { (t : FolderTree) → tree self.old ≡ Some t → is_folder_at t path.now ≡ false → strayed self.new ≡ true }
+        ensures cause { IsErrOf result FolderFault.Failed
+            → MayFail (Rose (faults self.old) (faults self.new)) (tree self.old) (λ t.
+            is_folder_at t path.now ≡ false) }
+        ensures owed { (t : FolderTree)
+            → tree self.old ≡ Some t
+            → is_folder_at t path.now ≡ true
+            → strayed self.new ≡ strayed self.old }
+        ensures strays { (t : FolderTree)
+            → tree self.old ≡ Some t
+            → is_folder_at t path.now ≡ false
+            → strayed self.new ≡ true }
         ensures failed { IsErrOf result FolderFault.Failed → IsRefused (refused self.new) path.now }
-        ensures kept { (IsErrOf result FolderFault.Failed → ⊥) → refused self.new ≡ refused self.old };
+        ensures kept { (IsErrOf result FolderFault.Failed → ⊥)
+            → refused self.new ≡ refused self.old };
 
     /// The first `most` bytes of the file `path`, or all of them where it has fewer.
     fn read(&mut self, alloc: Global, path: &str, most: usize) -> Result<Vec<u8>, FolderFault>
         ensures same { tree self.new ≡ tree self.old }
-        ensures bytes { IfOk result (λ bs. (t : FolderTree) → tree self.old ≡ Some t → IsRead t path.now most bs.items) }
+        ensures bytes { IfOk result (λ bs.
+            (t : FolderTree) → tree self.old ≡ Some t → IsRead t path.now most bs.items) }
         ensures later { faults self.old ≤ faults self.new }
-        ensures cause { IsErrOf result FolderFault.Failed → MayFail (Rose (faults self.old) (faults self.new)) (tree self.old) (λ t. content_of (entry_at t path.now) ≡ None) }
-        ensures owed { (t : FolderTree) → tree self.old ≡ Some t → is_some (content_of (entry_at t path.now)) ≡ true → strayed self.new ≡ strayed self.old }
-        ensures strays { (t : FolderTree) → tree self.old ≡ Some t → content_of (entry_at t path.now) ≡ None → strayed self.new ≡ true }
+        ensures cause { IsErrOf result FolderFault.Failed
+            → MayFail (Rose (faults self.old) (faults self.new)) (tree self.old) (λ t.
+            content_of (entry_at t path.now) ≡ None) }
+        ensures owed { (t : FolderTree)
+            → tree self.old ≡ Some t
+            → is_some (content_of (entry_at t path.now)) ≡ true
+            → strayed self.new ≡ strayed self.old }
+        ensures strays { (t : FolderTree)
+            → tree self.old ≡ Some t
+            → content_of (entry_at t path.now) ≡ None
+            → strayed self.new ≡ true }
         ensures failed { IsErrOf result FolderFault.Failed → IsRefused (refused self.new) path.now }
-        ensures kept { (IsErrOf result FolderFault.Failed → ⊥) → refused self.new ≡ refused self.old };
+        ensures kept { (IsErrOf result FolderFault.Failed → ⊥)
+            → refused self.new ≡ refused self.old };
 
     /// The count of faults, which stays at the greatest `u64`.
     fn faults(&self) -> u64

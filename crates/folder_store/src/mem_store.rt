@@ -43,8 +43,12 @@ impl Calls {
         ensures plan { self.new.fail_at ≡ self.old.fail_at }
         ensures made { self.new.made ≡ cap_at_u64 (self.old.made + 1) }
         ensures later { self.old.failed ≤ self.new.failed }
-        ensures err { IfErr result (λ e. (e ≡ StoreFault.Failed) × Contains self.old.fail_at.items self.old.made × (self.new.failed ≡ cap_at_u64 (self.old.failed + 1))) }
-        ensures ok { OnOk result ((Contains self.old.fail_at.items self.old.made → ⊥) × (self.new.failed ≡ self.old.failed)) }
+        ensures err { IfErr result (λ e.
+            (e ≡ StoreFault.Failed)
+            × Contains self.old.fail_at.items self.old.made
+            × (self.new.failed ≡ cap_at_u64 (self.old.failed + 1))) }
+        ensures ok { OnOk result ((Contains self.old.fail_at.items self.old.made → ⊥)
+            × (self.new.failed ≡ self.old.failed)) }
     {
         let call = self.made;
         self.made = self.made.saturating_add(1);
@@ -113,15 +117,24 @@ impl Store for MemStore {
     ghost faults = { λ s. store_faults s };
 
     fn make_folder(&mut self, alloc: Global, path: &str) -> Result<(), StoreFault>
-        ensures made { OnOk result (Some (stored_in self.new) ≡ with_entries (Some (stored_in self.old)) ((path.now, AFolder) ∷ [])) }
-        ensures free { OnOk result (IfSome (Some (stored_in self.old)) (λ t. can_add t path.now ≡ true)) }
+        ensures made { OnOk result
+            (Some (stored_in self.new)
+            ≡ with_entries (Some (stored_in self.old)) ((path.now, AFolder) ∷ [])) }
+        ensures free { OnOk result
+            (IfSome (Some (stored_in self.old)) (λ t. can_add t path.now ≡ true)) }
         ensures err { OnErr result (Some (stored_in self.new) ≡ Some (stored_in self.old)) }
         ensures later { store_faults self.old ≤ store_faults self.new }
-        ensures cause { IsErrOf result StoreFault.Failed → MayFail (Rose (store_faults self.old) (store_faults self.new)) (Some (stored_in self.old)) (λ t. can_add t path.now ≡ false) }
+        ensures cause { IsErrOf result StoreFault.Failed
+            → MayFail (Rose (store_faults self.old) (store_faults self.new))
+            (Some (stored_in self.old)) (λ t. can_add t path.now ≡ false) }
         // The plan of failures.
-        ensures planned { IsErrOf result StoreFault.Failed ↔ (Contains (store_plan self.old) (store_calls self.old) ⊎ (can_add (stored_in self.old) path.now ≡ false)) }
-        ensures counted { Contains (store_plan self.old) (store_calls self.old) → store_faults self.new ≡ cap_at_u64 (store_faults self.old + 1) }
-        ensures alone { (Contains (store_plan self.old) (store_calls self.old) → ⊥) → store_faults self.new ≡ store_faults self.old }
+        ensures planned { IsErrOf result StoreFault.Failed
+            ↔ (Contains (store_plan self.old) (store_calls self.old)
+            ⊎ (can_add (stored_in self.old) path.now ≡ false)) }
+        ensures counted { Contains (store_plan self.old) (store_calls self.old)
+            → store_faults self.new ≡ cap_at_u64 (store_faults self.old + 1) }
+        ensures alone { (Contains (store_plan self.old) (store_calls self.old) → ⊥)
+            → store_faults self.new ≡ store_faults self.old }
         ensures numbered { store_calls self.new ≡ cap_at_u64 (store_calls self.old + 1) }
         ensures plan { store_plan self.new ≡ store_plan self.old }
     {
@@ -133,15 +146,24 @@ impl Store for MemStore {
     }
 
     fn write_new(&mut self, alloc: Global, path: &str, bytes: &[u8]) -> Result<(), StoreFault>
-        ensures written { OnOk result (Some (stored_in self.new) ≡ with_entries (Some (stored_in self.old)) ((path.now, AFile bytes.now) ∷ [])) }
-        ensures free { OnOk result (IfSome (Some (stored_in self.old)) (λ t. can_add t path.now ≡ true)) }
+        ensures written { OnOk result
+            (Some (stored_in self.new)
+            ≡ with_entries (Some (stored_in self.old)) ((path.now, AFile bytes.now) ∷ [])) }
+        ensures free { OnOk result
+            (IfSome (Some (stored_in self.old)) (λ t. can_add t path.now ≡ true)) }
         ensures err { OnErr result (Some (stored_in self.new) ≡ Some (stored_in self.old)) }
         ensures later { store_faults self.old ≤ store_faults self.new }
-        ensures cause { IsErrOf result StoreFault.Failed → MayFail (Rose (store_faults self.old) (store_faults self.new)) (Some (stored_in self.old)) (λ t. can_add t path.now ≡ false) }
+        ensures cause { IsErrOf result StoreFault.Failed
+            → MayFail (Rose (store_faults self.old) (store_faults self.new))
+            (Some (stored_in self.old)) (λ t. can_add t path.now ≡ false) }
         // The plan of failures.
-        ensures planned { IsErrOf result StoreFault.Failed ↔ (Contains (store_plan self.old) (store_calls self.old) ⊎ (can_add (stored_in self.old) path.now ≡ false)) }
-        ensures counted { Contains (store_plan self.old) (store_calls self.old) → store_faults self.new ≡ cap_at_u64 (store_faults self.old + 1) }
-        ensures alone { (Contains (store_plan self.old) (store_calls self.old) → ⊥) → store_faults self.new ≡ store_faults self.old }
+        ensures planned { IsErrOf result StoreFault.Failed
+            ↔ (Contains (store_plan self.old) (store_calls self.old)
+            ⊎ (can_add (stored_in self.old) path.now ≡ false)) }
+        ensures counted { Contains (store_plan self.old) (store_calls self.old)
+            → store_faults self.new ≡ cap_at_u64 (store_faults self.old + 1) }
+        ensures alone { (Contains (store_plan self.old) (store_calls self.old) → ⊥)
+            → store_faults self.new ≡ store_faults self.old }
         ensures numbered { store_calls self.new ≡ cap_at_u64 (store_calls self.old + 1) }
         ensures plan { store_plan self.new ≡ store_plan self.old }
     {
@@ -165,7 +187,9 @@ fn push(
     path: &str,
     stood: Stood,
 ) -> Result<(), NoMemory>
-    ensures ok { OnOk result (tree_stored entries.new.items ≡ tree_stored entries.old.items ++ (path.now, view_stood stood) ∷ []) }
+    ensures ok { OnOk result
+        (tree_stored entries.new.items
+        ≡ tree_stored entries.old.items ++ (path.now, view_stood stood) ∷ []) }
     ensures err { OnErr result (tree_stored entries.new.items ≡ tree_stored entries.old.items) }
 {
     let text = String::from_str(alloc, path)?;
@@ -175,7 +199,8 @@ fn push(
 
 /// What stands under a path.
 fn stood_at<'a>(entries: &'a [(String, Stood)], path: &str) -> Option<&'a Stood>
-    ensures { option_map (λ s. view_stood s.now) result ≡ entry_at (tree_stored entries.now) path.now }
+    ensures { option_map (λ s. view_stood s.now) result
+        ≡ entry_at (tree_stored entries.now) path.now }
 {
     for (text, stood) in entries {
         if text.as_str() == path {

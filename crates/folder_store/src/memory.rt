@@ -56,12 +56,17 @@ impl MemFolders {
         ensures entries { self.new.entries ≡ self.old.entries }
         ensures plan { self.new.fail_at ≡ self.old.fail_at }
         ensures strayed { self.new.strayed ≡ self.old.strayed }
-        ensures failed { OnErr result (IsRefused (option_map string_bytes self.new.refused) path.now) }
+        ensures failed { OnErr result
+            (IsRefused (option_map string_bytes self.new.refused) path.now) }
         ensures kept { OnOk result (self.new.refused ≡ self.old.refused) }
         ensures made { self.new.calls ≡ cap_at_u64 (self.old.calls + 1) }
         ensures later { self.old.failures ≤ self.new.failures }
-        ensures err { IfErr result (λ e. (e ≡ FolderFault.Failed) × Contains self.old.fail_at.items self.old.calls × (self.new.failures ≡ cap_at_u64 (self.old.failures + 1))) }
-        ensures ok { OnOk result ((Contains self.old.fail_at.items self.old.calls → ⊥) × (self.new.failures ≡ self.old.failures)) }
+        ensures err { IfErr result (λ e.
+            (e ≡ FolderFault.Failed)
+            × Contains self.old.fail_at.items self.old.calls
+            × (self.new.failures ≡ cap_at_u64 (self.old.failures + 1))) }
+        ensures ok { OnOk result ((Contains self.old.fail_at.items self.old.calls → ⊥)
+            × (self.new.failures ≡ self.old.failures)) }
     {
         let call = self.calls;
         self.calls = self.calls.saturating_add(1);
@@ -87,17 +92,34 @@ impl Folders for MemFolders {
 
     fn list(&mut self, alloc: Global, path: &str) -> Result<Vec<FolderEntry>, FolderFault>
         ensures same { Some (tree_in self.new) ≡ Some (tree_in self.old) }
-        ensures entries { IfOk result (λ es. (t : FolderTree) → Some (tree_in self.old) ≡ Some t → IsListed t path.now (map view_entry es.items)) }
+        ensures entries { IfOk result (λ es.
+            (t : FolderTree)
+            → Some (tree_in self.old) ≡ Some t
+            → IsListed t path.now (map view_entry es.items)) }
         ensures later { calls_failed self.old ≤ calls_failed self.new }
-        ensures cause { IsErrOf result FolderFault.Failed → MayFail (Rose (calls_failed self.old) (calls_failed self.new)) (Some (tree_in self.old)) (λ t. is_folder_at t path.now ≡ false) }
-        ensures owed { (t : FolderTree) → Some (tree_in self.old) ≡ Some t → is_folder_at t path.now ≡ true → self.new.strayed ≡ self.old.strayed }
-        ensures strays { (t : FolderTree) → Some (tree_in self.old) ≡ Some t → is_folder_at t path.now ≡ false → self.new.strayed ≡ true }
-        ensures failed { IsErrOf result FolderFault.Failed → IsRefused (last_refused self.new) path.now }
-        ensures kept { (IsErrOf result FolderFault.Failed → ⊥) → last_refused self.new ≡ last_refused self.old }
+        ensures cause { IsErrOf result FolderFault.Failed
+            → MayFail (Rose (calls_failed self.old) (calls_failed self.new))
+            (Some (tree_in self.old)) (λ t. is_folder_at t path.now ≡ false) }
+        ensures owed { (t : FolderTree)
+            → Some (tree_in self.old) ≡ Some t
+            → is_folder_at t path.now ≡ true
+            → self.new.strayed ≡ self.old.strayed }
+        ensures strays { (t : FolderTree)
+            → Some (tree_in self.old) ≡ Some t
+            → is_folder_at t path.now ≡ false
+            → self.new.strayed ≡ true }
+        ensures failed { IsErrOf result FolderFault.Failed
+            → IsRefused (last_refused self.new) path.now }
+        ensures kept { (IsErrOf result FolderFault.Failed → ⊥)
+            → last_refused self.new ≡ last_refused self.old }
         // The plan of failures.
-        ensures planned { IsErrOf result FolderFault.Failed ↔ (Contains (failing_calls self.old) (calls_made self.old) ⊎ (is_folder_at (tree_in self.old) path.now ≡ false)) }
-        ensures counted { Contains (failing_calls self.old) (calls_made self.old) → calls_failed self.new ≡ cap_at_u64 (calls_failed self.old + 1) }
-        ensures alone { (Contains (failing_calls self.old) (calls_made self.old) → ⊥) → calls_failed self.new ≡ calls_failed self.old }
+        ensures planned { IsErrOf result FolderFault.Failed
+            ↔ (Contains (failing_calls self.old) (calls_made self.old)
+            ⊎ (is_folder_at (tree_in self.old) path.now ≡ false)) }
+        ensures counted { Contains (failing_calls self.old) (calls_made self.old)
+            → calls_failed self.new ≡ cap_at_u64 (calls_failed self.old + 1) }
+        ensures alone { (Contains (failing_calls self.old) (calls_made self.old) → ⊥)
+            → calls_failed self.new ≡ calls_failed self.old }
         ensures made { calls_made self.new ≡ cap_at_u64 (calls_made self.old + 1) }
         ensures plan { failing_calls self.new ≡ failing_calls self.old }
     {
@@ -113,17 +135,32 @@ impl Folders for MemFolders {
 
     fn read(&mut self, alloc: Global, path: &str, most: usize) -> Result<Vec<u8>, FolderFault>
         ensures same { Some (tree_in self.new) ≡ Some (tree_in self.old) }
-        ensures bytes { IfOk result (λ bs. (t : FolderTree) → Some (tree_in self.old) ≡ Some t → IsRead t path.now most bs.items) }
+        ensures bytes { IfOk result (λ bs.
+            (t : FolderTree) → Some (tree_in self.old) ≡ Some t → IsRead t path.now most bs.items) }
         ensures later { calls_failed self.old ≤ calls_failed self.new }
-        ensures cause { IsErrOf result FolderFault.Failed → MayFail (Rose (calls_failed self.old) (calls_failed self.new)) (Some (tree_in self.old)) (λ t. content_of (entry_at t path.now) ≡ None) }
-        ensures owed { (t : FolderTree) → Some (tree_in self.old) ≡ Some t → is_some (content_of (entry_at t path.now)) ≡ true → self.new.strayed ≡ self.old.strayed }
-        ensures strays { (t : FolderTree) → Some (tree_in self.old) ≡ Some t → content_of (entry_at t path.now) ≡ None → self.new.strayed ≡ true }
-        ensures failed { IsErrOf result FolderFault.Failed → IsRefused (last_refused self.new) path.now }
-        ensures kept { (IsErrOf result FolderFault.Failed → ⊥) → last_refused self.new ≡ last_refused self.old }
+        ensures cause { IsErrOf result FolderFault.Failed
+            → MayFail (Rose (calls_failed self.old) (calls_failed self.new))
+            (Some (tree_in self.old)) (λ t. content_of (entry_at t path.now) ≡ None) }
+        ensures owed { (t : FolderTree)
+            → Some (tree_in self.old) ≡ Some t
+            → is_some (content_of (entry_at t path.now)) ≡ true
+            → self.new.strayed ≡ self.old.strayed }
+        ensures strays { (t : FolderTree)
+            → Some (tree_in self.old) ≡ Some t
+            → content_of (entry_at t path.now) ≡ None
+            → self.new.strayed ≡ true }
+        ensures failed { IsErrOf result FolderFault.Failed
+            → IsRefused (last_refused self.new) path.now }
+        ensures kept { (IsErrOf result FolderFault.Failed → ⊥)
+            → last_refused self.new ≡ last_refused self.old }
         // The plan of failures.
-        ensures planned { IsErrOf result FolderFault.Failed ↔ (Contains (failing_calls self.old) (calls_made self.old) ⊎ (content_of (entry_at (tree_in self.old) path.now) ≡ None)) }
-        ensures counted { Contains (failing_calls self.old) (calls_made self.old) → calls_failed self.new ≡ cap_at_u64 (calls_failed self.old + 1) }
-        ensures alone { (Contains (failing_calls self.old) (calls_made self.old) → ⊥) → calls_failed self.new ≡ calls_failed self.old }
+        ensures planned { IsErrOf result FolderFault.Failed
+            ↔ (Contains (failing_calls self.old) (calls_made self.old)
+            ⊎ (content_of (entry_at (tree_in self.old) path.now) ≡ None)) }
+        ensures counted { Contains (failing_calls self.old) (calls_made self.old)
+            → calls_failed self.new ≡ cap_at_u64 (calls_failed self.old + 1) }
+        ensures alone { (Contains (failing_calls self.old) (calls_made self.old) → ⊥)
+            → calls_failed self.new ≡ calls_failed self.old }
         ensures made { calls_made self.new ≡ cap_at_u64 (calls_made self.old + 1) }
         ensures plan { failing_calls self.new ≡ failing_calls self.old }
     {
@@ -151,7 +188,9 @@ pub(crate) fn below<'a>(path: &str, text: &'a str) -> Option<&'a str>
 
 /// The name of the entry `text`, where it is a file right below the folder.
 fn file_below<'a>(path: &str, text: &'a str) -> Option<&'a str>
-    ensures { option_copied result ≡ (if ends_in_slash text.now then None else file_name (after_prefix (path.now ++ 47 ∷ []) text.now)) }
+    ensures { option_copied result
+        ≡ (if ends_in_slash text.now then None else file_name
+        (after_prefix (path.now ++ 47 ∷ []) text.now)) }
 {
     if text.ends_with('/') {
         return None;
@@ -189,7 +228,8 @@ fn listing(
 ) -> Result<Vec<FolderEntry>, NoMemory>
     requires form { AreEntries (entries_in entries.now) }
     requires folder { is_folder_at (tree_of (entries_in entries.now)) path.now ≡ true }
-    ensures { IfOk result (λ es. IsListed (tree_of (entries_in entries.now)) path.now (map view_entry es.items)) }
+    ensures { IfOk result (λ es.
+        IsListed (tree_of (entries_in entries.now)) path.now (map view_entry es.items)) }
 {
     let mut found = list_files(alloc, entries, path)?;
     let mut folders = list_folders(alloc, entries, path)?;
@@ -203,7 +243,8 @@ fn list_files(
     entries: &[(String, Blob)],
     path: &str,
 ) -> Result<Vec<FolderEntry>, NoMemory>
-    ensures { IfOk result (λ found. map view_entry found.items ≡ files_below path.now (entries_in entries.now)) }
+    ensures { IfOk result (λ found.
+        map view_entry found.items ≡ files_below path.now (entries_in entries.now)) }
 {
     let mut found = Vec::new(alloc);
     for (text, _) in entries {
@@ -223,7 +264,8 @@ fn list_folders(
     entries: &[(String, Blob)],
     path: &str,
 ) -> Result<Vec<FolderEntry>, NoMemory>
-    ensures { IfOk result (λ found. map view_entry found.items ≡ folders_below path.now (entries_in entries.now)) }
+    ensures { IfOk result (λ found.
+        map view_entry found.items ≡ folders_below path.now (entries_in entries.now)) }
 {
     let mut found = Vec::new(alloc);
     for (text, _) in entries {
@@ -236,7 +278,8 @@ fn list_folders(
 
 /// Puts a folder after those that were found, unless it is among them.
 fn add_folder(alloc: Global, found: &mut Vec<FolderEntry>, name: &str) -> Result<(), NoMemory>
-    ensures { OnOk result (map view_entry found.new.items ≡ with_folder (map view_entry found.old.items) name.now) }
+    ensures { OnOk result
+        (map view_entry found.new.items ≡ with_folder (map view_entry found.old.items) name.now) }
 {
     if !found.iter().any(|entry| entry.name.as_str() == name) {
         found.push(FolderEntry {
@@ -249,7 +292,8 @@ fn add_folder(alloc: Global, found: &mut Vec<FolderEntry>, name: &str) -> Result
 
 /// The bytes of a file.
 fn content_at<'a>(entries: &'a [(String, Blob)], path: &str) -> Option<&'a [u8]>
-    ensures { option_copied result ≡ content_of (entry_at (tree_of (entries_in entries.now)) path.now) }
+    ensures { option_copied result
+        ≡ content_of (entry_at (tree_of (entries_in entries.now)) path.now) }
 {
     if path.ends_with('/') {
         return None;

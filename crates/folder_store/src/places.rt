@@ -26,7 +26,8 @@ pub fn place_text(alloc: Global, at: &Option<Standing>) -> Result<String, NoMemo
 ///
 /// Out of memory is the only refusal.
 pub fn standing_text(alloc: Global, standing: &Standing) -> Result<String, NoMemory>
-    ensures { IfOk result (λ text. string_bytes text ≡ text_of (names_at (view_standing standing.now))) }
+    ensures { IfOk result (λ text.
+        string_bytes text ≡ text_of (names_at (view_standing standing.now))) }
 {
     let name = print_name(alloc, standing.name.as_bytes())?;
     let name = name.as_str();

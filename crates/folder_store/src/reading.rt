@@ -102,9 +102,11 @@ impl Place {
         ensures room { OnOk result (length self.now.path < MOST_NAMES) }
         ensures name { OnOk result (is_name name.now ≡ true) }
         ensures path { IfOk result (λ p. p.path ≡ self.now.path ++ name.now ∷ []) }
-        ensures text { IfOk result (λ p. string_bytes p.text ≡ string_bytes self.now.text ++ 47 ∷ name.now) }
+        ensures text { IfOk result (λ p.
+            string_bytes p.text ≡ string_bytes self.now.text ++ 47 ∷ name.now) }
         ensures too_deep { IsErrOf result ReadTree.TooDeep → length self.now.path ≡ MOST_NAMES }
-        ensures bad_name { IsErrOf result ReadTree.BadName → (length self.now.path < MOST_NAMES) × (is_name name.now ≡ false) }
+        ensures bad_name { IsErrOf result ReadTree.BadName
+            → (length self.now.path < MOST_NAMES) × (is_name name.now ≡ false) }
         ensures no_fault { IsErrOf result ReadTree.FolderFault → ⊥ }
     {
         if self.path.len() == MOST_NAMES {
@@ -137,8 +139,10 @@ impl Gathered {
 
     /// Adds the edit that puts a file.
     fn add(&mut self, alloc: Global, path: Path, content: Vec<u8>) -> Result<(), NoMemory>
-        ensures edits { OnOk result (self.new.edits.items ≡ self.old.edits.items ++ Edit.Put path content.items ∷ []) }
-        ensures read { OnOk result (self.old.read + length content.items < 2 ^ 64 → self.new.read ≡ self.old.read + length content.items) }
+        ensures edits { OnOk result
+            (self.new.edits.items ≡ self.old.edits.items ++ Edit.Put path content.items ∷ []) }
+        ensures read { OnOk result (self.old.read + length content.items < 2 ^ 64
+            → self.new.read ≡ self.old.read + length content.items) }
     {
         let size = content.len() as u64;
         let content = Blob::new(alloc, content)?;
@@ -149,7 +153,8 @@ impl Gathered {
 
     /// Adds the edit that makes a folder.
     fn make(&mut self, folder: Path) -> Result<(), NoMemory>
-        ensures edits { OnOk result (self.new.edits.items ≡ self.old.edits.items ++ Edit.MakeFolder folder ∷ []) }
+        ensures edits { OnOk result
+            (self.new.edits.items ≡ self.old.edits.items ++ Edit.MakeFolder folder ∷ []) }
         ensures read { OnOk result (self.new.read ≡ self.old.read) }
     {
         self.edits.push(Edit::MakeFolder(folder))?;
@@ -163,10 +168,19 @@ fn sorted_entries<F: Folders>(
     folders: &mut F,
     path: &str,
 ) -> Result<Vec<FolderEntry>, ReadTree>
-    ensures entries { IfOk result (λ es. (t : FolderTree) → F.tree folders.old ≡ Some t → IsSortedListing t path.now (map view_entry es.items)) }
-    ensures fault { IsErrOf result ReadTree.FolderFault → MayFail (Rose (F.faults folders.old) (F.faults folders.new)) (F.tree folders.old) (λ t. is_folder_at t path.now ≡ false) }
-    ensures owed { (t : FolderTree) → F.tree folders.old ≡ Some t → is_folder_at t path.now ≡ true → F.strayed folders.new ≡ F.strayed folders.old }
-    ensures failed { IsErrOf result ReadTree.FolderFault → IsRefused (F.refused folders.new) path.now }
+    ensures entries { IfOk result (λ es.
+        (t : FolderTree)
+        → F.tree folders.old ≡ Some t
+        → IsSortedListing t path.now (map view_entry es.items)) }
+    ensures fault { IsErrOf result ReadTree.FolderFault
+        → MayFail (Rose (F.faults folders.old) (F.faults folders.new)) (F.tree folders.old) (λ t.
+        is_folder_at t path.now ≡ false) }
+    ensures owed { (t : FolderTree)
+        → F.tree folders.old ≡ Some t
+        → is_folder_at t path.now ≡ true
+        → F.strayed folders.new ≡ F.strayed folders.old }
+    ensures failed { IsErrOf result ReadTree.FolderFault
+        → IsRefused (F.refused folders.new) path.now }
     ensures not_deep { IsErrOf result ReadTree.TooDeep → ⊥ }
     ensures not_bad { IsErrOf result ReadTree.BadName → ⊥ }
     ensures same { F.tree folders.new ≡ F.tree folders.old }
@@ -186,18 +200,34 @@ fn read_file<F: Folders>(
     sights: &mut Sights,
 ) -> Result<(), ReadTree>
     requires { gathered.old.read ≤ MOST_PUT_BYTES }
-    ensures walk { (t : FolderTree) (content : Bytes) → F.tree folders.old ≡ Some t → entry_at t (string_bytes place.text) ≡ Some (AFile content)
-        → Walks (Ok (Edit.Put place.path (take MOST_READ content)) ∷ []) gathered.old.edits.items gathered.old.read result gathered.new.edits.items gathered.new.read }
-    ensures look { (t : FolderTree) (content : Bytes) → F.tree folders.old ≡ Some t → entry_at t (string_bytes place.text) ≡ Some (AFile content)
-        → OnOk result (look_in sights.new ≡ with_file (look_in sights.old) (string_bytes place.text) (length (take MOST_READ content))) }
-    ensures large { (root : Bytes) → string_bytes place.text ≡ text_below root place.path → (look_in sights.old).large ≡ first_large root gathered.old.edits.items
+    ensures walk { (t : FolderTree) (content : Bytes)
+        → F.tree folders.old ≡ Some t
+        → entry_at t (string_bytes place.text) ≡ Some (AFile content)
+        → Walks (Ok (Edit.Put place.path (take MOST_READ content)) ∷ []) gathered.old.edits.items
+        gathered.old.read result gathered.new.edits.items gathered.new.read }
+    ensures look { (t : FolderTree) (content : Bytes)
+        → F.tree folders.old ≡ Some t
+        → entry_at t (string_bytes place.text) ≡ Some (AFile content)
+        → OnOk result
+        (look_in sights.new
+        ≡ with_file (look_in sights.old) (string_bytes place.text)
+        (length (take MOST_READ content))) }
+    ensures large { (root : Bytes)
+        → string_bytes place.text ≡ text_below root place.path
+        → (look_in sights.old).large ≡ first_large root gathered.old.edits.items
         → OnOk result ((look_in sights.new).large ≡ first_large root gathered.new.edits.items) }
     ensures at { sights.new.at ≡ sights.old.at }
-    ensures failed { IsErrOf result ReadTree.FolderFault → IsRefused (F.refused folders.new) (string_bytes place.text) }
+    ensures failed { IsErrOf result ReadTree.FolderFault
+        → IsRefused (F.refused folders.new) (string_bytes place.text) }
     ensures not_deep { IsErrOf result ReadTree.TooDeep → ⊥ }
     ensures not_bad { IsErrOf result ReadTree.BadName → ⊥ }
-    ensures fault { IsErrOf result ReadTree.FolderFault → MayFail (Rose (F.faults folders.old) (F.faults folders.new)) (F.tree folders.old) (λ t. content_of (entry_at t (string_bytes place.text)) ≡ None) }
-    ensures owed { (t : FolderTree) (content : Bytes) → F.tree folders.old ≡ Some t → entry_at t (string_bytes place.text) ≡ Some (AFile content) → F.strayed folders.new ≡ F.strayed folders.old }
+    ensures fault { IsErrOf result ReadTree.FolderFault
+        → MayFail (Rose (F.faults folders.old) (F.faults folders.new)) (F.tree folders.old) (λ t.
+        content_of (entry_at t (string_bytes place.text)) ≡ None) }
+    ensures owed { (t : FolderTree) (content : Bytes)
+        → F.tree folders.old ≡ Some t
+        → entry_at t (string_bytes place.text) ≡ Some (AFile content)
+        → F.strayed folders.new ≡ F.strayed folders.old }
     ensures same { F.tree folders.new ≡ F.tree folders.old }
     ensures later { F.faults folders.old ≤ F.faults folders.new }
 {
@@ -216,18 +246,38 @@ pub(crate) fn walk_folder<F: Folders>(
     gathered: &mut Gathered,
     sights: &mut Sights,
 ) -> Result<(), ReadTree>
-    ensures walk { (t : FolderTree) → F.tree folders.old ≡ Some t
-        → Walks (met_below t (MOST_NAMES - length place.now.path) place.now.path (string_bytes place.now.text)) gathered.old.edits.items gathered.old.read result gathered.new.edits.items gathered.new.read }
-    ensures tells { (t : FolderTree) → F.tree folders.old ≡ Some t
-        → Tells (marks_below t (MOST_NAMES - length place.now.path) place.now.path (string_bytes place.now.text)) (look_in sights.old) gathered.old.read result (look_in sights.new) gathered.new.read (at_in sights.new.at) }
-    ensures large { (root : Bytes) → string_bytes place.now.text ≡ text_below root place.now.path → (look_in sights.old).large ≡ first_large root gathered.old.edits.items
+    ensures walk { (t : FolderTree)
+        → F.tree folders.old ≡ Some t
+        → Walks
+        (met_below t (MOST_NAMES - length place.now.path) place.now.path
+        (string_bytes place.now.text)) gathered.old.edits.items gathered.old.read result
+        gathered.new.edits.items gathered.new.read }
+    ensures tells { (t : FolderTree)
+        → F.tree folders.old ≡ Some t
+        → Tells
+        (marks_below t (MOST_NAMES - length place.now.path) place.now.path
+        (string_bytes place.now.text)) (look_in sights.old) gathered.old.read result
+        (look_in sights.new) gathered.new.read (at_in sights.new.at) }
+    ensures large { (root : Bytes)
+        → string_bytes place.now.text ≡ text_below root place.now.path
+        → (look_in sights.old).large ≡ first_large root gathered.old.edits.items
         → OnOk result ((look_in sights.new).large ≡ first_large root gathered.new.edits.items) }
-    ensures named { (root : Bytes) → string_bytes place.now.text ≡ text_below root place.now.path → text_at root sights.old.at ≡ string_bytes place.now.text
-        → IsErrOf result ReadTree.FolderFault → IsRefused (F.refused folders.new) (text_at root sights.new.at) }
-    ensures fault { IsErrOf result ReadTree.FolderFault → MayFail (Rose (F.faults folders.old) (F.faults folders.new)) (F.tree folders.old) (λ t. is_folder_at t (string_bytes place.now.text) ≡ false) }
-    ensures no_folder { (t : FolderTree) → F.tree folders.old ≡ Some t → is_folder_at t (string_bytes place.now.text) ≡ false
+    ensures named { (root : Bytes)
+        → string_bytes place.now.text ≡ text_below root place.now.path
+        → text_at root sights.old.at ≡ string_bytes place.now.text
+        → IsErrOf result ReadTree.FolderFault
+        → IsRefused (F.refused folders.new) (text_at root sights.new.at) }
+    ensures fault { IsErrOf result ReadTree.FolderFault
+        → MayFail (Rose (F.faults folders.old) (F.faults folders.new)) (F.tree folders.old) (λ t.
+        is_folder_at t (string_bytes place.now.text) ≡ false) }
+    ensures no_folder { (t : FolderTree)
+        → F.tree folders.old ≡ Some t
+        → is_folder_at t (string_bytes place.now.text) ≡ false
         → (result ≡ Err ReadTree.FolderFault) ⊎ (result ≡ Err ReadTree.NoMemory) }
-    ensures owed { (t : FolderTree) → F.tree folders.old ≡ Some t → is_folder_at t (string_bytes place.now.text) ≡ true → F.strayed folders.new ≡ F.strayed folders.old }
+    ensures owed { (t : FolderTree)
+        → F.tree folders.old ≡ Some t
+        → is_folder_at t (string_bytes place.now.text) ≡ true
+        → F.strayed folders.new ≡ F.strayed folders.old }
     ensures same { F.tree folders.new ≡ F.tree folders.old }
     ensures later { F.faults folders.old ≤ F.faults folders.new }
 {
@@ -249,16 +299,35 @@ fn walk_below<F: Folders>(
     sights: &mut Sights,
 ) -> Result<(), ReadTree>
     requires { gathered.old.read ≤ MOST_PUT_BYTES }
-    ensures walk { (t : FolderTree) → F.tree folders.old ≡ Some t
-        → Walks (met_or_made place.path (met_below t (MOST_NAMES - length place.path) place.path (string_bytes place.text))) gathered.old.edits.items gathered.old.read result gathered.new.edits.items gathered.new.read }
-    ensures tells { (t : FolderTree) → F.tree folders.old ≡ Some t
-        → Tells (marks_below t (MOST_NAMES - length place.path) place.path (string_bytes place.text)) (look_in sights.old) gathered.old.read result (look_in sights.new) gathered.new.read (at_in sights.new.at) }
-    ensures large { (root : Bytes) → string_bytes place.text ≡ text_below root place.path → (look_in sights.old).large ≡ first_large root gathered.old.edits.items
+    ensures walk { (t : FolderTree)
+        → F.tree folders.old ≡ Some t
+        → Walks
+        (met_or_made place.path
+        (met_below t (MOST_NAMES - length place.path) place.path (string_bytes place.text)))
+        gathered.old.edits.items gathered.old.read result gathered.new.edits.items
+        gathered.new.read }
+    ensures tells { (t : FolderTree)
+        → F.tree folders.old ≡ Some t
+        → Tells
+        (marks_below t (MOST_NAMES - length place.path) place.path (string_bytes place.text))
+        (look_in sights.old) gathered.old.read result (look_in sights.new) gathered.new.read
+        (at_in sights.new.at) }
+    ensures large { (root : Bytes)
+        → string_bytes place.text ≡ text_below root place.path
+        → (look_in sights.old).large ≡ first_large root gathered.old.edits.items
         → OnOk result ((look_in sights.new).large ≡ first_large root gathered.new.edits.items) }
-    ensures named { (root : Bytes) → string_bytes place.text ≡ text_below root place.path → text_at root sights.old.at ≡ string_bytes place.text
-        → IsErrOf result ReadTree.FolderFault → IsRefused (F.refused folders.new) (text_at root sights.new.at) }
-    ensures fault { IsErrOf result ReadTree.FolderFault → MayFail (Rose (F.faults folders.old) (F.faults folders.new)) (F.tree folders.old) (λ t. is_folder_at t (string_bytes place.text) ≡ false) }
-    ensures owed { (t : FolderTree) → F.tree folders.old ≡ Some t → is_folder_at t (string_bytes place.text) ≡ true → F.strayed folders.new ≡ F.strayed folders.old }
+    ensures named { (root : Bytes)
+        → string_bytes place.text ≡ text_below root place.path
+        → text_at root sights.old.at ≡ string_bytes place.text
+        → IsErrOf result ReadTree.FolderFault
+        → IsRefused (F.refused folders.new) (text_at root sights.new.at) }
+    ensures fault { IsErrOf result ReadTree.FolderFault
+        → MayFail (Rose (F.faults folders.old) (F.faults folders.new)) (F.tree folders.old) (λ t.
+        is_folder_at t (string_bytes place.text) ≡ false) }
+    ensures owed { (t : FolderTree)
+        → F.tree folders.old ≡ Some t
+        → is_folder_at t (string_bytes place.text) ≡ true
+        → F.strayed folders.new ≡ F.strayed folders.old }
     ensures same { F.tree folders.new ≡ F.tree folders.old }
     ensures later { F.faults folders.old ≤ F.faults folders.new }
 {
@@ -280,17 +349,40 @@ fn walk_entry<F: Folders>(
     gathered: &mut Gathered,
     sights: &mut Sights,
 ) -> Result<(), ReadTree>
-    ensures walk { (t : FolderTree) (e : Entry) → F.tree folders.old ≡ Some t → entry_at t (string_bytes place.now.text ++ 47 ∷ string_bytes entry.now.name) ≡ Some e → kind_of e ≡ entry.now.kind
-        → Walks (met_one t (MOST_NAMES - length place.now.path) place.now.path (string_bytes place.now.text) (string_bytes entry.now.name, e)) gathered.old.edits.items gathered.old.read result gathered.new.edits.items gathered.new.read }
-    ensures tells { (t : FolderTree) (e : Entry) → F.tree folders.old ≡ Some t → entry_at t (string_bytes place.now.text ++ 47 ∷ string_bytes entry.now.name) ≡ Some e → kind_of e ≡ entry.now.kind
-        → Tells (marks_one t (MOST_NAMES - length place.now.path) place.now.path (string_bytes place.now.text) (string_bytes entry.now.name, e)) (look_in sights.old) gathered.old.read result (look_in sights.new) gathered.new.read (at_in sights.new.at) }
-    ensures large { (root : Bytes) → string_bytes place.now.text ≡ text_below root place.now.path → (look_in sights.old).large ≡ first_large root gathered.old.edits.items
+    ensures walk { (t : FolderTree) (e : Entry)
+        → F.tree folders.old ≡ Some t
+        → entry_at t (string_bytes place.now.text ++ 47 ∷ string_bytes entry.now.name) ≡ Some e
+        → kind_of e ≡ entry.now.kind
+        → Walks
+        (met_one t (MOST_NAMES - length place.now.path) place.now.path
+        (string_bytes place.now.text) (string_bytes entry.now.name, e))
+        gathered.old.edits.items gathered.old.read result gathered.new.edits.items
+        gathered.new.read }
+    ensures tells { (t : FolderTree) (e : Entry)
+        → F.tree folders.old ≡ Some t
+        → entry_at t (string_bytes place.now.text ++ 47 ∷ string_bytes entry.now.name) ≡ Some e
+        → kind_of e ≡ entry.now.kind
+        → Tells
+        (marks_one t (MOST_NAMES - length place.now.path) place.now.path
+        (string_bytes place.now.text) (string_bytes entry.now.name, e)) (look_in sights.old)
+        gathered.old.read result (look_in sights.new) gathered.new.read (at_in sights.new.at) }
+    ensures large { (root : Bytes)
+        → string_bytes place.now.text ≡ text_below root place.now.path
+        → (look_in sights.old).large ≡ first_large root gathered.old.edits.items
         → OnOk result ((look_in sights.new).large ≡ first_large root gathered.new.edits.items) }
-    ensures named { (root : Bytes) → string_bytes place.now.text ≡ text_below root place.now.path → IsErrOf result ReadTree.FolderFault
+    ensures named { (root : Bytes)
+        → string_bytes place.now.text ≡ text_below root place.now.path
+        → IsErrOf result ReadTree.FolderFault
         → IsRefused (F.refused folders.new) (text_at root sights.new.at) }
-    ensures fault { IsErrOf result ReadTree.FolderFault → MayFail (Rose (F.faults folders.old) (F.faults folders.new)) (F.tree folders.old)
-        (λ t. kind_at t (string_bytes place.now.text ++ 47 ∷ string_bytes entry.now.name) ≡ Some entry.now.kind → ⊥) }
-    ensures owed { (t : FolderTree) → F.tree folders.old ≡ Some t → kind_at t (string_bytes place.now.text ++ 47 ∷ string_bytes entry.now.name) ≡ Some entry.now.kind
+    ensures fault { IsErrOf result ReadTree.FolderFault
+        → MayFail (Rose (F.faults folders.old) (F.faults folders.new)) (F.tree folders.old) (λ t.
+        kind_at t (string_bytes place.now.text ++ 47 ∷ string_bytes entry.now.name)
+        ≡ Some entry.now.kind
+        → ⊥) }
+    ensures owed { (t : FolderTree)
+        → F.tree folders.old ≡ Some t
+        → kind_at t (string_bytes place.now.text ++ 47 ∷ string_bytes entry.now.name)
+        ≡ Some entry.now.kind
         → F.strayed folders.new ≡ F.strayed folders.old }
     ensures same { F.tree folders.new ≡ F.tree folders.old }
     ensures later { F.faults folders.old ≤ F.faults folders.new }
@@ -333,14 +425,32 @@ pub fn read_tree<F: Folders>(
     folders: &mut F,
     root: &str,
 ) -> Result<Vec<Edit>, ReadTree>
-    ensures edits { IfOk result (λ es. (t : FolderTree) → F.tree folders.old ≡ Some t → edits_of t root.now ≡ Ok es.items) }
-    ensures files { IfOk result (λ es. (t : FolderTree) → F.tree folders.old ≡ Some t → IsFolderTree t → PutsFiles t root.now es.items) }
-    ensures too_deep { IsErrOf result ReadTree.TooDeep → (t : FolderTree) → F.tree folders.old ≡ Some t → edits_of t root.now ≡ Err IsTooDeep }
-    ensures bad_name { IsErrOf result ReadTree.BadName → (t : FolderTree) → F.tree folders.old ≡ Some t → edits_of t root.now ≡ Err IsBadName }
-    ensures fault { IsErrOf result ReadTree.FolderFault → MayFail (Rose (F.faults folders.old) (F.faults folders.new)) (F.tree folders.old) (λ t. is_folder_at t root.now ≡ false) }
-    ensures no_folder { (t : FolderTree) → F.tree folders.old ≡ Some t → is_folder_at t root.now ≡ false
+    ensures edits { IfOk result (λ es.
+        (t : FolderTree) → F.tree folders.old ≡ Some t → edits_of t root.now ≡ Ok es.items) }
+    ensures files { IfOk result (λ es.
+        (t : FolderTree)
+        → F.tree folders.old ≡ Some t
+        → IsFolderTree t
+        → PutsFiles t root.now es.items) }
+    ensures too_deep { IsErrOf result ReadTree.TooDeep
+        → (t : FolderTree)
+        → F.tree folders.old ≡ Some t
+        → edits_of t root.now ≡ Err IsTooDeep }
+    ensures bad_name { IsErrOf result ReadTree.BadName
+        → (t : FolderTree)
+        → F.tree folders.old ≡ Some t
+        → edits_of t root.now ≡ Err IsBadName }
+    ensures fault { IsErrOf result ReadTree.FolderFault
+        → MayFail (Rose (F.faults folders.old) (F.faults folders.new)) (F.tree folders.old) (λ t.
+        is_folder_at t root.now ≡ false) }
+    ensures no_folder { (t : FolderTree)
+        → F.tree folders.old ≡ Some t
+        → is_folder_at t root.now ≡ false
         → (result ≡ Err ReadTree.FolderFault) ⊎ (result ≡ Err ReadTree.NoMemory) }
-    ensures owed { (t : FolderTree) → F.tree folders.old ≡ Some t → is_folder_at t root.now ≡ true → F.strayed folders.new ≡ F.strayed folders.old }
+    ensures owed { (t : FolderTree)
+        → F.tree folders.old ≡ Some t
+        → is_folder_at t root.now ≡ true
+        → F.strayed folders.new ≡ F.strayed folders.old }
     ensures same { F.tree folders.new ≡ F.tree folders.old }
     ensures later { F.faults folders.old ≤ F.faults folders.new }
 {

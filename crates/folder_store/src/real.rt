@@ -50,8 +50,10 @@ impl<R: Files + Drop> OsFolders<R> {
         ensures later { self.old.faults ≤ self.new.faults }
         ensures again { OnOk result (min (self.old.faults + 1) (2 ^ 64 - 1) ≤ self.new.faults) }
         ensures cause { IsErrOf result FolderFault.Failed → Rose self.old.faults self.new.faults }
-        ensures failed { IsErrOf result FolderFault.Failed → IsRefused (option_map string_bytes self.new.refused) path.now }
-        ensures kept { (IsErrOf result FolderFault.Failed → ⊥) → self.new.refused ≡ self.old.refused }
+        ensures failed { IsErrOf result FolderFault.Failed
+            → IsRefused (option_map string_bytes self.new.refused) path.now }
+        ensures kept { (IsErrOf result FolderFault.Failed → ⊥)
+            → self.new.refused ≡ self.old.refused }
     {
         if is_want_of_memory(error) {
             return Err(FolderFault::NoMemory);
@@ -70,8 +72,10 @@ impl<R: Files + Drop> OsFolders<R> {
     fn open(&mut self, alloc: Global, path: &str) -> Result<(R::File, u64), FolderFault>
         ensures later { self.old.faults ≤ self.new.faults }
         ensures cause { IsErrOf result FolderFault.Failed → Rose self.old.faults self.new.faults }
-        ensures failed { IsErrOf result FolderFault.Failed → IsRefused (option_map string_bytes self.new.refused) path.now }
-        ensures kept { (IsErrOf result FolderFault.Failed → ⊥) → self.new.refused ≡ self.old.refused }
+        ensures failed { IsErrOf result FolderFault.Failed
+            → IsRefused (option_map string_bytes self.new.refused) path.now }
+        ensures kept { (IsErrOf result FolderFault.Failed → ⊥)
+            → self.new.refused ≡ self.old.refused }
     {
         for _ in 0..TRIES {
             match open_once(&self.rt, path) {
@@ -180,9 +184,12 @@ fn read_front<S: Source>(
     most: usize,
     len: u64,
 ) -> Result<Vec<u8>, FolderFault>
-    ensures front { IfOk result (λ bytes. Known (S.left source.old) (S.left source.new) (λ before _. bytes.items ≡ take most before)) }
+    ensures front { IfOk result (λ bytes.
+        Known (S.left source.old) (S.left source.new) (λ before _.
+        bytes.items ≡ take most before)) }
     ensures later { S.faults source.old ≤ S.faults source.new }
-    ensures cause { IsErrOf result FolderFault.Failed → Rose (S.faults source.old) (S.faults source.new) }
+    ensures cause { IsErrOf result FolderFault.Failed
+        → Rose (S.faults source.old) (S.faults source.new) }
 {
     let seems = usize::try_from(len).unwrap_or(most).min(most);
     let bytes = Vec::with_capacity(alloc, seems)?;
@@ -199,9 +206,12 @@ fn read_pieces<S: Source>(
 ) -> Result<Vec<u8>, FolderFault>
     requires room { 0 < length piece.old }
     requires empty { bytes.items ≡ [] }
-    ensures front { IfOk result (λ bytes. Known (S.left source.old) (S.left source.new) (λ before _. bytes.items ≡ take most before)) }
+    ensures front { IfOk result (λ bytes.
+        Known (S.left source.old) (S.left source.new) (λ before _.
+        bytes.items ≡ take most before)) }
     ensures later { S.faults source.old ≤ S.faults source.new }
-    ensures cause { IsErrOf result FolderFault.Failed → Rose (S.faults source.old) (S.faults source.new) }
+    ensures cause { IsErrOf result FolderFault.Failed
+        → Rose (S.faults source.old) (S.faults source.new) }
 {
     while bytes.len() < most {
         let n = read_piece(source, piece, most - bytes.len())?;
@@ -222,9 +232,12 @@ fn read_piece<S: Source>(
     requires room { 0 < length piece.old }
     requires most { 0 < most }
     ensures within { IfOk result (λ n. (n ≤ most) × (n ≤ length piece.old)) }
-    ensures read { IfOk result (λ n. Known (S.left source.old) (S.left source.new) (λ before after. Takes before after piece.new n)) }
+    ensures read { IfOk result (λ n.
+        Known (S.left source.old) (S.left source.new) (λ before after.
+        Takes before after piece.new n)) }
     ensures later { S.faults source.old ≤ S.faults source.new }
-    ensures cause { IsErrOf result FolderFault.Failed → Rose (S.faults source.old) (S.faults source.new) }
+    ensures cause { IsErrOf result FolderFault.Failed
+        → Rose (S.faults source.old) (S.faults source.new) }
 {
     let n = piece.len().min(most);
     match source.read(&mut piece[..n]) {

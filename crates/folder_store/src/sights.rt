@@ -53,7 +53,9 @@ impl Sights {
 
     /// Passes an entry over.
     pub(crate) fn pass(&mut self, alloc: Global, folder: &Path, name: &str) -> Result<(), NoMemory>
-        ensures left { OnOk result (map view_standing self.new.left.items ≡ map view_standing self.old.left.items ++ (folder.now, name.now) ∷ []) }
+        ensures left { OnOk result
+            (map view_standing self.new.left.items
+            ≡ map view_standing self.old.left.items ++ (folder.now, name.now) ∷ []) }
         ensures large { OnOk result (self.new.large ≡ self.old.large) }
     {
         self.left.push(Standing::new(alloc, folder, name)?)?;

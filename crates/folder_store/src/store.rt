@@ -56,19 +56,25 @@ pub trait Store {
 
     /// Makes the folder `path` in a folder that is there.
     fn make_folder(&mut self, alloc: Global, path: &str) -> Result<(), StoreFault>
-        ensures made { OnOk result (tree self.new ≡ with_entries (tree self.old) ((path.now, AFolder) ∷ [])) }
+        ensures made { OnOk result
+            (tree self.new ≡ with_entries (tree self.old) ((path.now, AFolder) ∷ [])) }
         ensures free { OnOk result (IfSome (tree self.old) (λ t. can_add t path.now ≡ true)) }
         ensures err { OnErr result (tree self.new ≡ tree self.old) }
         ensures later { faults self.old ≤ faults self.new }
-        ensures cause { IsErrOf result StoreFault.Failed → MayFail (Rose (faults self.old) (faults self.new)) (tree self.old) (λ t. can_add t path.now ≡ false) };
+        ensures cause { IsErrOf result StoreFault.Failed
+            → MayFail (Rose (faults self.old) (faults self.new)) (tree self.old) (λ t.
+            can_add t path.now ≡ false) };
 
     /// Writes the file `path` of these bytes in a folder that is there.
     fn write_new(&mut self, alloc: Global, path: &str, bytes: &[u8]) -> Result<(), StoreFault>
-        ensures written { OnOk result (tree self.new ≡ with_entries (tree self.old) ((path.now, AFile bytes.now) ∷ [])) }
+        ensures written { OnOk result
+            (tree self.new ≡ with_entries (tree self.old) ((path.now, AFile bytes.now) ∷ [])) }
         ensures free { OnOk result (IfSome (tree self.old) (λ t. can_add t path.now ≡ true)) }
         ensures err { OnErr result (tree self.new ≡ tree self.old) }
         ensures later { faults self.old ≤ faults self.new }
-        ensures cause { IsErrOf result StoreFault.Failed → MayFail (Rose (faults self.old) (faults self.new)) (tree self.old) (λ t. can_add t path.now ≡ false) };
+        ensures cause { IsErrOf result StoreFault.Failed
+            → MayFail (Rose (faults self.old) (faults self.new)) (tree self.old) (λ t.
+            can_add t path.now ≡ false) };
 
     /// The count of faults, which stays at the greatest `u64`.
     fn faults(&self) -> u64

@@ -58,16 +58,39 @@ pub fn survey<F: Folders>(
     folders: &mut F,
     root: &str,
 ) -> Result<Surveyed, SurveyFault>
-    ensures edits { IfOk result (λ s. (t : FolderTree) → F.tree folders.old ≡ Some t → edits_of t root.now ≡ Ok s.edits.items) }
-    ensures look { IfOk result (λ s. (t : FolderTree) → F.tree folders.old ≡ Some t → nat_lt MOST_PUT_BYTES (put_bytes s.edits.items) ≡ false → survey_of t root.now ≡ Ok (view_survey s)) }
+    ensures edits { IfOk result (λ s.
+        (t : FolderTree) → F.tree folders.old ≡ Some t → edits_of t root.now ≡ Ok s.edits.items) }
+    ensures look { IfOk result (λ s.
+        (t : FolderTree)
+        → F.tree folders.old ≡ Some t
+        → nat_lt MOST_PUT_BYTES (put_bytes s.edits.items) ≡ false
+        → survey_of t root.now ≡ Ok (view_survey s)) }
     ensures large { IfOk result (λ s. (view_survey s).large ≡ first_large root.now s.edits.items) }
-    ensures too_deep { IfErr result (λ f. f.cause ≡ ReadTree.TooDeep → (t : FolderTree) → F.tree folders.old ≡ Some t → (edits_of t root.now ≡ Err IsTooDeep) × (survey_of t root.now ≡ Err (at_in f.at))) }
-    ensures bad_name { IfErr result (λ f. f.cause ≡ ReadTree.BadName → (t : FolderTree) → F.tree folders.old ≡ Some t → (edits_of t root.now ≡ Err IsBadName) × (survey_of t root.now ≡ Err (at_in f.at))) }
-    ensures fault { IfErr result (λ f. f.cause ≡ ReadTree.FolderFault → MayFail (Rose (F.faults folders.old) (F.faults folders.new)) (F.tree folders.old) (λ t. is_folder_at t root.now ≡ false)) }
-    ensures named { IfErr result (λ f. f.cause ≡ ReadTree.FolderFault → IsRefused (F.refused folders.new) (text_at root.now f.at)) }
-    ensures no_folder { (t : FolderTree) → F.tree folders.old ≡ Some t → is_folder_at t root.now ≡ false
+    ensures too_deep { IfErr result (λ f.
+        f.cause ≡ ReadTree.TooDeep
+        → (t : FolderTree)
+        → F.tree folders.old ≡ Some t
+        → (edits_of t root.now ≡ Err IsTooDeep) × (survey_of t root.now ≡ Err (at_in f.at))) }
+    ensures bad_name { IfErr result (λ f.
+        f.cause ≡ ReadTree.BadName
+        → (t : FolderTree)
+        → F.tree folders.old ≡ Some t
+        → (edits_of t root.now ≡ Err IsBadName) × (survey_of t root.now ≡ Err (at_in f.at))) }
+    ensures fault { IfErr result (λ f.
+        f.cause ≡ ReadTree.FolderFault
+        → MayFail (Rose (F.faults folders.old) (F.faults folders.new)) (F.tree folders.old) (λ t.
+        is_folder_at t root.now ≡ false)) }
+    ensures named { IfErr result (λ f.
+        f.cause ≡ ReadTree.FolderFault
+        → IsRefused (F.refused folders.new) (text_at root.now f.at)) }
+    ensures no_folder { (t : FolderTree)
+        → F.tree folders.old ≡ Some t
+        → is_folder_at t root.now ≡ false
         → IsErrAnd result (λ f. (f.cause ≡ ReadTree.FolderFault) ⊎ (f.cause ≡ ReadTree.NoMemory)) }
-    ensures owed { (t : FolderTree) → F.tree folders.old ≡ Some t → is_folder_at t root.now ≡ true → F.strayed folders.new ≡ F.strayed folders.old }
+    ensures owed { (t : FolderTree)
+        → F.tree folders.old ≡ Some t
+        → is_folder_at t root.now ≡ true
+        → F.strayed folders.new ≡ F.strayed folders.old }
     ensures same { F.tree folders.new ≡ F.tree folders.old }
     ensures later { F.faults folders.old ≤ F.faults folders.new }
 {

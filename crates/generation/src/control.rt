@@ -30,7 +30,11 @@ const BLOCK_BYTES: usize = BLOCK_SIZE as usize;
 
 /// The section of the DSI: it names the gateway, which is the object of key 1 in module 1.
 pub(crate) fn dsi_section(alloc: Global, carousel: u32) -> Result<Vec<u8>, NoMemory>
-    ensures spells { IfOk result (λ v. v.items ≡ spelling (control_section 0 (dsi_spelling 0x80000000 gateway_kind (gateway_location carousel)))) }
+    ensures spells { IfOk result (λ v.
+        v.items
+        ≡ spelling
+        (control_section 0
+        (dsi_spelling 0x80000000 gateway_kind (gateway_location carousel)))) }
     ensures framed { IfOk result (λ v. IsFramed v.items) }
 {
     let dsi = Dsi {
@@ -43,7 +47,8 @@ pub(crate) fn dsi_section(alloc: Global, carousel: u32) -> Result<Vec<u8>, NoMem
 
 /// The reference to the gateway.
 fn gateway(alloc: Global, carousel: u32) -> Result<Ior, NoMemory>
-    ensures { IfOk result (λ ior. view ior ≡ written_form gateway_kind (gateway_location carousel)) }
+    ensures { IfOk result (λ ior.
+        view ior ≡ written_form gateway_kind (gateway_location carousel)) }
 {
     let key = Key::new(vec![in alloc; 0, 0, 0, 1]?);
     let selector = vec![in alloc; 0, 1, 0x80, 0, 0, 2, 0xFF, 0xFF, 0xFF, 0xFF]?;
@@ -126,7 +131,8 @@ fn module_lines(
 /// A section of a control message.
 fn control(alloc: Global, extension: u16, payload: Vec<u8>) -> Result<Vec<u8>, NoMemory>
     requires { length payload.items ≤ MOST_PAYLOAD }
-    ensures spells { IfOk result (λ v. v.items ≡ spelling (control_section extension payload.items)) }
+    ensures spells { IfOk result (λ v.
+        v.items ≡ spelling (control_section extension payload.items)) }
     ensures framed { IfOk result (λ v. IsFramed v.items) }
 {
     let header = Header {
@@ -143,7 +149,8 @@ fn control(alloc: Global, extension: u16, payload: Vec<u8>) -> Result<Vec<u8>, N
 fn section(alloc: Global, header: &Header, front: &[u8], rest: &[u8]) -> Result<Vec<u8>, NoMemory>
     requires version { header.now.version < 32 }
     requires room { length front.now + length rest.now ≤ MOST_PAYLOAD }
-    ensures spells { IfOk result (λ v. v.items ≡ spelling (fields_with header.now (front.now ++ rest.now))) }
+    ensures spells { IfOk result (λ v.
+        v.items ≡ spelling (fields_with header.now (front.now ++ rest.now))) }
     ensures framed { IfOk result (λ v. IsFramed v.items) }
 {
     match encode_parts(alloc, header, front, rest) {
@@ -164,7 +171,11 @@ pub(crate) fn block_of_module(
 ) -> Result<Vec<u8>, NoMemory>
     requires rising { IsRising (map view_listed modules.now) }
     requires sizes { All (λ m. length m.1 ≤ MOST_TOTAL_SIZE) (map view_listed modules.now) }
-    ensures spells { IfOk result (λ v. v.items ≡ spelling (section_of_block carousel id (count_in counts.now id % 256) block (unwrap_or (module_in (map view_listed modules.now) id) []))) }
+    ensures spells { IfOk result (λ v.
+        v.items
+        ≡ spelling
+        (section_of_block carousel id (count_in counts.now id % 256) block
+        (unwrap_or (module_in (map view_listed modules.now) id) []))) }
     ensures framed { IfOk result (λ v. IsFramed v.items) }
 {
     let version = (count_of(counts, usize::from(id)) % 256) as u8;
@@ -192,7 +203,8 @@ fn block_section(
     bytes: &[u8],
 ) -> Result<Vec<u8>, NoMemory>
     requires { length bytes.now ≤ MOST_TOTAL_SIZE }
-    ensures spells { IfOk result (λ v. v.items ≡ spelling (section_of_block carousel id version block bytes.now)) }
+    ensures spells { IfOk result (λ v.
+        v.items ≡ spelling (section_of_block carousel id version block bytes.now)) }
     ensures framed { IfOk result (λ v. IsFramed v.items) }
 {
     let parts = Parts {

@@ -39,8 +39,13 @@ pub(crate) fn former_of(
     requires old_rising { AreRising (map (λ o. o.spot) (map (view_placed old_tree.now) old.now)) }
     requires spots { All (IsSpotIn tree.now) spots.now }
     requires rising { AreRising (map (view_spot tree.now) spots.now) }
-    ensures keys { IfOk result (λ f. f.keys.items ≡ old_keys (map (view_placed old_tree.now) old.now) (map (view_spot tree.now) spots.now)) }
-    ensures modules { IfOk result (λ f. f.modules.items ≡ old_modules (map (view_placed old_tree.now) old.now) (map (view_spot tree.now) spots.now)) }
+    ensures keys { IfOk result (λ f.
+        f.keys.items
+        ≡ old_keys (map (view_placed old_tree.now) old.now) (map (view_spot tree.now) spots.now)) }
+    ensures modules { IfOk result (λ f.
+        f.modules.items
+        ≡ old_modules (map (view_placed old_tree.now) old.now)
+        (map (view_spot tree.now) spots.now)) }
 {
     let mut keys = Vec::new(alloc);
     let mut modules = Vec::new(alloc);
@@ -64,8 +69,12 @@ fn seek<'a>(
 ) -> (Option<Placed>, &'a [Placed])
     requires old { All (λ o. IsSpotIn old_tree.now o.spot) old.now }
     requires spot { IsSpotIn tree.now spot }
-    ensures object { option_map (view_placed old_tree.now) result.0 ≡ first_same (from_path (view_spot tree.now spot).path (map (view_placed old_tree.now) old.now)) (view_spot tree.now spot) }
-    ensures left { map (view_placed old_tree.now) result.1.now ≡ from_path (view_spot tree.now spot).path (map (view_placed old_tree.now) old.now) }
+    ensures object { option_map (view_placed old_tree.now) result.0
+        ≡ first_same
+        (from_path (view_spot tree.now spot).path (map (view_placed old_tree.now) old.now))
+        (view_spot tree.now spot) }
+    ensures left { map (view_placed old_tree.now) result.1.now
+        ≡ from_path (view_spot tree.now spot).path (map (view_placed old_tree.now) old.now) }
     ensures valid { All (λ o. IsSpotIn old_tree.now o.spot) result.1.now }
 {
     for (passed, object) in old.iter().enumerate() {
@@ -111,8 +120,10 @@ pub(crate) fn modules(
     former: &[Option<u16>],
 ) -> Result<Vec<u16>, NoMemory>
     requires { AreObjects GREATEST_ID (zip sizes.now former.now) }
-    ensures kept { IfOk result (λ ms. ms.items ≡ kept_modules GREATEST_ID (zip sizes.now former.now)) }
-    ensures fits { IfOk result (λ ms. IsPlacement GREATEST_ID (sizes_in (zip sizes.now former.now)) ms.items) }
+    ensures kept { IfOk result (λ ms.
+        ms.items ≡ kept_modules GREATEST_ID (zip sizes.now former.now)) }
+    ensures fits { IfOk result (λ ms.
+        IsPlacement GREATEST_ID (sizes_in (zip sizes.now former.now)) ms.items) }
 {
     let objects = with_former(alloc, sizes, former)?;
     place(alloc, &objects)

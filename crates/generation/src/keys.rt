@@ -11,7 +11,8 @@ use std::alloc::Global;
 /// The key of each object: its own where it had one, and else the least that is free.
 pub(crate) fn keys(alloc: Global, former: &[Option<u32>]) -> Result<Vec<u32>, NoMemory>
     requires { length former.now ≤ MOST_OBJECTS }
-    ensures { IfOk result (λ v. v.items ≡ fill_keys former.now (free_keys (taken_in former.now) (length former.now))) }
+    ensures { IfOk result (λ v.
+        v.items ≡ fill_keys former.now (free_keys (taken_in former.now) (length former.now))) }
 {
     let taken = taken(alloc, former)?;
     let free = free(alloc, &taken, former.len() as u32)?;
@@ -43,7 +44,8 @@ fn free(alloc: Global, taken: &[u32], count: u32) -> Result<Vec<u32>, NoMemory>
 /// Of each number below an end, whether it is among these.
 fn marks(alloc: Global, numbers: &[u32], end: u32) -> Result<Vec<bool>, NoMemory>
     ensures end { IfOk result (λ v. length v.items ≡ end) }
-    ensures marks { IfOk result (λ v. (k : ℕ) → k < end → get_or v.items k false ≡ list_any (λ j. j == k) numbers.now) }
+    ensures marks { IfOk result (λ v.
+        (k : ℕ) → k < end → get_or v.items k false ≡ list_any (λ j. j == k) numbers.now) }
 {
     let mut marks = vec![in alloc; false; end as usize]?;
     for number in numbers {

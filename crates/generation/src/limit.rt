@@ -156,8 +156,10 @@ pub fn large_folder_size(alloc: Global, tree: &Tree) -> Result<Option<u32>, NoMe
 /// The size of the first folder that is too large, where these are the sizes of a tree's objects.
 fn first_large(spots: &[Spot], sizes: &[u32]) -> Option<u32>
     requires { length sizes.now ≤ length spots.now }
-    ensures { (t : Tree) → sizes.now ≡ map (size_in (map (view_spot t) spots.now)) (map (view_spot t) spots.now)
-        → result ≡ option_map (size_in (map (view_spot t) spots.now)) (find (is_large_folder (map (view_spot t) spots.now)) (map (view_spot t) spots.now)) }
+    ensures { (t : Tree)
+        → sizes.now ≡ map (size_in (map (view_spot t) spots.now)) (map (view_spot t) spots.now)
+        → result ≡ option_map (size_in (map (view_spot t) spots.now))
+        (find (is_large_folder (map (view_spot t) spots.now)) (map (view_spot t) spots.now)) }
 {
     for (index, size) in sizes.iter().enumerate() {
         if is_large(spots[index], *size) {
@@ -170,8 +172,13 @@ fn first_large(spots: &[Spot], sizes: &[u32]) -> Option<u32>
 /// Refuses the first folder that is too large.
 fn check_folders(tree: &Tree, spots: &[Spot], sizes: &[u32]) -> Result<(), Limit>
     requires spots { AreSpotsOf tree.now spots.now }
-    requires sizes { sizes.now ≡ map (size_in (map (view_spot tree.now) spots.now)) (map (view_spot tree.now) spots.now) }
-    ensures { Gives (λ _. 0) limit_cause result (unless_passed (large_folder (find (is_large_folder (map (view_spot tree.now) spots.now)) (map (view_spot tree.now) spots.now)))) }
+    requires sizes { sizes.now
+        ≡ map (size_in (map (view_spot tree.now) spots.now)) (map (view_spot tree.now) spots.now) }
+    ensures { Gives (λ _. 0) limit_cause result
+        (unless_passed
+        (large_folder
+        (find (is_large_folder (map (view_spot tree.now) spots.now))
+        (map (view_spot tree.now) spots.now)))) }
 {
     for (index, size) in sizes.iter().enumerate() {
         let spot = spots[index];
@@ -185,7 +192,9 @@ fn check_folders(tree: &Tree, spots: &[Spot], sizes: &[u32]) -> Result<(), Limit
 
 /// Whether an object of a size is a folder that is too large.
 fn is_large(spot: Spot, size: u32) -> bool
-    ensures { (t : Tree) (spots : List SpotFields) → size ≡ size_in spots (view_spot t spot) → result ≡ is_large_folder spots (view_spot t spot) }
+    ensures { (t : Tree) (spots : List SpotFields)
+        → size ≡ size_in spots (view_spot t spot)
+        → result ≡ is_large_folder spots (view_spot t spot) }
 {
     !spot.whole && size > MOST_FOLDER_SIZE
 }
@@ -204,7 +213,9 @@ fn front_of(tree: &Tree, spot: Spot) -> Result<Path, NoMemory>
 fn sizes(alloc: Global, tree: &Tree, spots: &[Spot]) -> Result<Vec<u32>, NoMemory>
     requires spots { AreSpotsOf tree.now spots.now }
     requires few { length spots.now ≤ MOST_OBJECTS }
-    ensures { IfOk result (λ v. v.items ≡ map (size_in (map (view_spot tree.now) spots.now)) (map (view_spot tree.now) spots.now)) }
+    ensures { IfOk result (λ v.
+        v.items
+        ≡ map (size_in (map (view_spot tree.now) spots.now)) (map (view_spot tree.now) spots.now)) }
 {
     let mut sizes = own_sizes(alloc, tree, spots)?;
     for spot in spots {
@@ -244,7 +255,8 @@ fn binding_size(tree: &Tree, spot: Spot) -> u32
     requires tree { IsTree tree.now }
     requires spot { IsSpotIn tree.now spot }
     requires named { 1 ≤ spot.names }
-    ensures size { result ≡ length (view_spot tree.now spot).name + rest_of (view_spot tree.now spot).content }
+    ensures size { result ≡ length (view_spot tree.now spot).name
+        + rest_of (view_spot tree.now spot).content }
     ensures small { result ≤ 336 }
 {
     let rest = if spot.whole {

@@ -32,7 +32,9 @@ impl Model for Members {
 
     ghost view = { λ m. m.groups.items };
 
-    ghost invariant = { λ m. AreLinks m.groups.items (length m.links.first.items) m.links.first.items m.links.next.items };
+    ghost invariant = { λ m.
+        AreLinks m.groups.items (length m.links.first.items) m.links.first.items
+        m.links.next.items };
 }
 
 impl Members {

@@ -110,7 +110,8 @@ impl Generation {
     pub fn next(&self, tree: Tree) -> Result<Generation, NoMemory>
         requires tree { limit_of tree ≡ None }
         requires number { self.now.number < LAST_GENERATION }
-        ensures stands { IfOk result (λ g. (trees : List Tree) → StandsFor self.now trees → StandsFor g (trees ++ tree ∷ [])) }
+        ensures stands { IfOk result (λ g.
+            (trees : List Tree) → StandsFor self.now trees → StandsFor g (trees ++ tree ∷ [])) }
         ensures exact { IfOk result (λ g. g ≡ next_of self.now tree) }
     {
         let weighed = measure(self.alloc, &tree)?;
@@ -121,7 +122,8 @@ impl Generation {
     /// This generation's number has to be below [`dsi_dii::LAST_GENERATION`]. The only refusal is out of memory.
     pub fn next_checked(&self, tree: Publishable) -> Result<Generation, NoMemory>
         requires number { self.now.number < LAST_GENERATION }
-        ensures stands { IfOk result (λ g. (trees : List Tree) → StandsFor self.now trees → StandsFor g (trees ++ tree ∷ [])) }
+        ensures stands { IfOk result (λ g.
+            (trees : List Tree) → StandsFor self.now trees → StandsFor g (trees ++ tree ∷ [])) }
         ensures exact { IfOk result (λ g. g ≡ next_of self.now tree) }
     {
         let Publishable { tree, weighed } = tree;
@@ -137,7 +139,8 @@ impl Generation {
     pub fn next_after(&self, tree: Publishable, edits: &[Edit]) -> Result<Generation, NoMemory>
         requires number { self.now.number < LAST_GENERATION }
         requires edits { apply_all self.now.tree edits.now ≡ Ok tree }
-        ensures stands { IfOk result (λ g. (trees : List Tree) → StandsFor self.now trees → StandsFor g (trees ++ tree ∷ [])) }
+        ensures stands { IfOk result (λ g.
+            (trees : List Tree) → StandsFor self.now trees → StandsFor g (trees ++ tree ∷ [])) }
         ensures exact { IfOk result (λ g. g ≡ next_of self.now tree) }
     {
         let Publishable { tree, weighed } = tree;
@@ -151,7 +154,8 @@ impl Generation {
         requires weighed { IsWeighed tree weighed.now }
         requires number { self.now.number < LAST_GENERATION }
         requires flags { AreAsBefore self.now.tree tree flags.now }
-        ensures stands { IfOk result (λ g. (trees : List Tree) → StandsFor self.now trees → StandsFor g (trees ++ tree ∷ [])) }
+        ensures stands { IfOk result (λ g.
+            (trees : List Tree) → StandsFor self.now trees → StandsFor g (trees ++ tree ∷ [])) }
         ensures exact { IfOk result (λ g. g ≡ next_of self.now tree) }
     {
         let objects = objects_after(self.alloc, &self.objects, &self.tree, &tree, weighed)?;
@@ -289,11 +293,16 @@ fn objects_after(
     requires weighed { IsWeighed tree.now weighed.now }
     requires spots { All (λ o. IsSpotIn old_tree.now o.spot) old.now }
     requires old { AreOld (map (view_placed old_tree.now) old.now) }
-    ensures objects { IfOk result (λ v. map (view_placed tree.now) v.items
-        ≡ placed_all (spots_of tree.now) (keys_of (map (view_placed old_tree.now) old.now) (spots_of tree.now)) (modules_for (map (view_placed old_tree.now) old.now) tree.now)) }
+    ensures objects { IfOk result (λ v.
+        map (view_placed tree.now) v.items
+        ≡ placed_all (spots_of tree.now)
+        (keys_of (map (view_placed old_tree.now) old.now) (spots_of tree.now))
+        (modules_for (map (view_placed old_tree.now) old.now) tree.now)) }
     ensures ready { IfOk result (λ v. (carousel : ℕ) → AreReady carousel tree.now v.items) }
     ensures old { IfOk result (λ v. AreOld (map (view_placed tree.now) v.items)) }
-    ensures lines { IfOk result (λ v. (carousel : ℕ) → AreLines (lines_in (layout_of carousel (map (view_placed tree.now) v.items)))) }
+    ensures lines { IfOk result (λ v.
+        (carousel : ℕ)
+        → AreLines (lines_in (layout_of carousel (map (view_placed tree.now) v.items)))) }
 {
     let former = former_of(alloc, old, old_tree, &weighed.spots, tree)?;
     let modules = modules(alloc, &weighed.sizes, &former.modules)?;
@@ -313,8 +322,10 @@ fn modules_of(
 ) -> Result<Vec<Listed>, NoMemory>
     requires ready { AreReady carousel tree.now objects.now }
     requires before { IsRising (map view_listed before.now) }
-    requires staying { AreTheirs carousel (map (view_placed tree.now) objects.now) (map view_listed before.now) staying.now }
-    ensures layout { IfOk result (λ v. map view_listed v.items ≡ layout_of carousel (map (view_placed tree.now) objects.now)) }
+    requires staying { AreTheirs carousel (map (view_placed tree.now) objects.now)
+        (map view_listed before.now) staying.now }
+    ensures layout { IfOk result (λ v.
+        map view_listed v.items ≡ layout_of carousel (map (view_placed tree.now) objects.now)) }
     ensures stays { IfOk result (λ v. AreMarked (map view_listed before.now) v.items) }
 {
     let grouped = group_all(alloc, objects)?;
@@ -354,8 +365,11 @@ fn listed_at(
     requires ready { AreReady carousel tree.now objects.now }
     requires grouped { AreGrouped objects.now grouped.now }
     requires before { IsRising (map view_listed before.now) }
-    requires staying { AreTheirs carousel (map (view_placed tree.now) objects.now) (map view_listed before.now) staying.now }
-    ensures listed { IfOk result (λ l. option_map view_listed l ≡ module_if_used carousel (map (view_placed tree.now) objects.now) id) }
+    requires staying { AreTheirs carousel (map (view_placed tree.now) objects.now)
+        (map view_listed before.now) staying.now }
+    ensures listed { IfOk result (λ l.
+        option_map view_listed l
+        ≡ module_if_used carousel (map (view_placed tree.now) objects.now) id) }
     ensures stays { IfOk result (λ l. IfSome l (IsMarked (map view_listed before.now))) }
 {
     if !grouped.modules.has_any(usize::from(id)) {
@@ -375,7 +389,9 @@ fn listed_at(
 /// The module of an id before, if it is known to stay.
 fn staying_module<'a>(before: &'a [Listed], staying: &[bool], id: u16) -> Option<&'a Blob>
     requires { IsRising (map view_listed before.now) }
-    ensures { IfSome result (λ b. (get_or staying.now id false ≡ true) × (module_in (map view_listed before.now) id ≡ Some b.now)) }
+    ensures { IfSome result (λ b.
+        (get_or staying.now id false ≡ true)
+        × (module_in (map view_listed before.now) id ≡ Some b.now)) }
 {
     if is_on(staying, usize::from(id)) {
         find_module(before, id)
@@ -440,7 +456,8 @@ pub(crate) fn find_module(modules: &[Listed], id: u16) -> Option<&Blob>
 fn counts_next(alloc: Global, modules: &[Listed], counts: &[u64]) -> Result<Vec<u64>, NoMemory>
     requires counts { All (λ n. n < LAST_GENERATION) counts.now }
     requires few { length modules.now ≤ GREATEST_ID }
-    ensures many { IfOk result (λ v. length v.items ≡ ids (map view_listed modules.now) counts.now) }
+    ensures many { IfOk result (λ v.
+        length v.items ≡ ids (map view_listed modules.now) counts.now) }
     ensures each { IfOk result (λ v. (m : ℕ)
         → count_at v.items m ≡ count_at counts.now m + count_by (is_raised m) modules.now) }
 {

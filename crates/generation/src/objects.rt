@@ -91,7 +91,8 @@ pub(crate) fn members_of(
     id: u16,
 ) -> Result<Vec<Placed>, NoMemory>
     requires { modules.now ≡ map (λ o. Some o.module) objects.now }
-    ensures { IfOk result (λ v. v.items ≡ members_in id (map (λ o. Some o.module) objects.now) objects.now) }
+    ensures { IfOk result (λ v.
+        v.items ≡ members_in id (map (λ o. Some o.module) objects.now) objects.now) }
 {
     modules.of(alloc, objects, usize::from(id))
 }
@@ -130,7 +131,8 @@ fn entries(
     requires children { children.now ≡ map (λ o. o.spot.parent) objects.now }
     requires listed { All (λ o. IsId o.«module») objects.now }
     ensures valid { IfOk result (λ v. All IsEntry v.items) }
-    ensures entries { IfOk result (λ v. v.items ≡ entries_of carousel (map (view_placed tree.now) objects.now) folder) }
+    ensures entries { IfOk result (λ v.
+        v.items ≡ entries_of carousel (map (view_placed tree.now) objects.now) folder) }
 {
     let members = children.of(alloc, objects, folder)?;
     let mut entries = Vec::new(alloc);
@@ -147,7 +149,14 @@ fn written(alloc: Global, carousel: u32, tree: &Tree, object: Placed) -> Result<
     requires named { 1 ≤ object.spot.names }
     requires listed { IsId object.«module» }
     ensures valid { IfOk result IsEntry }
-    ensures written { IfOk result (λ w. w ≡ record { name = (view_spot tree.now object.spot).name; bound = bound_of (view_spot tree.now object.spot).content; location = location_of carousel (view_placed tree.now object) }) }
+    ensures written { IfOk result (λ w.
+        w ≡ record {
+          name = (view_spot tree.now object.spot).name;
+          bound = bound_of
+              (view_spot tree.now object.spot).content;
+          location = location_of carousel
+              (view_placed tree.now object);
+        }) }
 {
     let bound = if object.spot.whole {
         Bound::File(content_of(tree, object.spot.entry).len() as u64)
@@ -182,8 +191,15 @@ fn object_bytes(
     requires children { children.now ≡ map (λ o. o.spot.parent) objects.now }
     requires object { IsSpotIn tree.now object.spot }
     requires listed { All (λ o. IsId o.«module») objects.now }
-    requires small { object.spot.whole ≡ false → length (bytes_of carousel (map (view_placed tree.now) objects.now) (view_placed tree.now object)) ≤ MOST_FOLDER_SIZE }
-    ensures { IfOk result (λ v. v.items ≡ bytes_of carousel (map (view_placed tree.now) objects.now) (view_placed tree.now object)) }
+    requires small { object.spot.whole ≡ false
+        → length
+        (bytes_of carousel (map (view_placed tree.now) objects.now)
+        (view_placed tree.now object))
+        ≤ MOST_FOLDER_SIZE }
+    ensures { IfOk result (λ v.
+        v.items
+        ≡ bytes_of carousel (map (view_placed tree.now) objects.now)
+        (view_placed tree.now object)) }
 {
     let key = key_of(alloc, object.key)?;
     if object.spot.whole {
@@ -202,7 +218,8 @@ fn folder_bytes(
 ) -> Result<Vec<u8>, NoMemory>
     requires key { length key.now ≡ 4 }
     requires entries { All IsEntry entries.now }
-    requires small { length (folder_spelling (kind_in names) key.now entries.now) ≤ MOST_FOLDER_SIZE }
+    requires small { length (folder_spelling (kind_in names) key.now entries.now)
+        ≤ MOST_FOLDER_SIZE }
     ensures { IfOk result (λ v. v.items ≡ folder_spelling (kind_in names) key.now entries.now) }
 {
     let kind = if names == 0 {
@@ -228,7 +245,8 @@ pub(crate) fn module_bytes(
 ) -> Result<Vec<u8>, NoMemory>
     requires ready { AreReady carousel tree.now objects.now }
     requires grouped { AreGrouped objects.now grouped.now }
-    ensures { IfOk result (λ v. v.items ≡ bytes_in carousel (map (view_placed tree.now) objects.now) id) }
+    ensures { IfOk result (λ v.
+        v.items ≡ bytes_in carousel (map (view_placed tree.now) objects.now) id) }
 {
     let members = members_of(alloc, objects, &grouped.modules, id)?;
     let mut bytes = Vec::new(alloc);

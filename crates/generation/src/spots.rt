@@ -65,8 +65,12 @@ fn push_folder(
     requires tree { IsTree entries.now }
     requires folder { IsFolderAt entries.now from to depth }
     requires valid { All (IsSpotIn entries.now) spots.old.items }
-    ensures spots { OnOk result (map (view_spot entries.now) spots.new.items ≡ map (view_spot entries.now) spots.old.items
-        ++ map (within (take depth (path_at entries.now from))) (spots_in parent (length spots.old.items) (nested (stripped depth (segment entries.now from to))))) }
+    ensures spots { OnOk result
+        (map (view_spot entries.now) spots.new.items
+        ≡ map (view_spot entries.now) spots.old.items
+        ++ map (within (take depth (path_at entries.now from)))
+        (spots_in parent (length spots.old.items)
+        (nested (stripped depth (segment entries.now from to))))) }
     ensures valid { OnOk result (All (IsSpotIn entries.now) spots.new.items) }
 {
     let mut at = from;
@@ -129,7 +133,8 @@ fn end_of(entries: &[(Path, Entry)], at: usize, to: usize, depth: usize) -> usiz
     ensures after { at < result }
     ensures within { result ≤ to }
     ensures same { HaveName entries.now at result depth (name_at entries.now at depth) }
-    ensures other { result < to → same_name (name_at entries.now at depth) (name_at entries.now result depth) ≡ false }
+    ensures other { result < to
+        → same_name (name_at entries.now at depth) (name_at entries.now result depth) ≡ false }
 {
     for end in at + 1..to {
         if !has_same_name(entries, at, end, depth) {

@@ -22,7 +22,10 @@ pub(crate) fn named_entries(
     tree: &Tree,
     edits: &[Edit],
 ) -> Result<Vec<bool>, NoMemory>
-    ensures { IfOk result (λ v. (old : TreeFiles) → apply_all old edits.now ≡ Ok tree.now → AreAsBefore old tree.now v.items) }
+    ensures { IfOk result (λ v.
+        (old : TreeFiles)
+        → apply_all old edits.now ≡ Ok tree.now
+        → AreAsBefore old tree.now v.items) }
 {
     others_stay();
     let mut named = vec![in alloc; false; tree.entries().len()]?;
@@ -49,7 +52,9 @@ pub(crate) fn modules_that_stay(
     requires objects { All (λ o. IsSpotIn tree.now o.spot) objects.now }
     requires numbers { greatest (map (λ o. o.«module») objects.now) ≤ GREATEST_ID }
     requires named { AreAsBefore old_tree.now tree.now named.now }
-    ensures { IfOk result (λ v. SameModules (map (view_placed old_tree.now) old.now) (map (view_placed tree.now) objects.now) v.items) }
+    ensures { IfOk result (λ v.
+        SameModules (map (view_placed old_tree.now) old.now)
+        (map (view_placed tree.now) objects.now) v.items) }
 {
     let old_members = by_module(alloc, old)?;
     let members = by_module(alloc, objects)?;
@@ -74,7 +79,9 @@ fn are_same_files(
     requires before { All (λ o. IsSpotIn old_tree.now o.spot) before.now }
     requires after { All (λ o. IsSpotIn tree.now o.spot) after.now }
     requires named { AreAsBefore old_tree.now tree.now named.now }
-    ensures { result ≡ true → (c : ℕ) (olds objects : List PlacedState) → bytes_of_all c olds old_tree.now before.now ≡ bytes_of_all c objects tree.now after.now }
+    ensures { result ≡ true
+        → (c : ℕ) (olds objects : List PlacedState)
+        → bytes_of_all c olds old_tree.now before.now ≡ bytes_of_all c objects tree.now after.now }
 {
     if before.len() != after.len() {
         return false;
@@ -99,7 +106,10 @@ fn is_same_file(
     requires before { IsSpotIn old_tree.now before.spot }
     requires object { IsSpotIn tree.now object.spot }
     requires named { AreAsBefore old_tree.now tree.now named.now }
-    ensures { result ≡ true → (c : ℕ) (olds objects : List PlacedState) → object_bytes c olds (view_placed old_tree.now before) ≡ object_bytes c objects (view_placed tree.now object) }
+    ensures { result ≡ true
+        → (c : ℕ) (olds objects : List PlacedState)
+        → object_bytes c olds (view_placed old_tree.now before)
+        ≡ object_bytes c objects (view_placed tree.now object) }
 {
     if !before.spot.whole || !object.spot.whole || before.key != object.key {
         return false;

@@ -31,7 +31,8 @@ impl Catalogue {
     /// The catalogue of a carousel, any 32-bit id, whose modules are sent as often as they weigh: without an entry, at generation 0,
     /// whose tree is empty. Out of memory is the only refusal.
     pub fn new(alloc: Global, carousel: u32, weigh: Weigh) -> Result<Catalogue, NoMemory>
-        ensures { IfOk result (λ c. state c ≡ record { carousel = carousel; weights = weigh.weights; entries = [] }) }
+        ensures { IfOk result (λ c.
+            state c ≡ record { carousel = carousel; weights = weigh.weights; entries = [] }) }
     {
         let journal = Journal::new(alloc, carousel, weigh.kept())?;
         Ok(Catalogue { journal, weigh })
@@ -84,7 +85,8 @@ impl Catalogue {
         requires { (1 ≤ n) × (n ≤ MOST_DRAWN) }
         ensures drawn { IsDrawn (state self.old) n result (state self.new) }
         ensures some { IfOk result (λ b. (1 ≤ length b.items.items) × (length b.items.items ≤ n)) }
-        ensures items { IfOk result (λ b. All (λ item. Contains (items_of (arc_value b.generation)) item) b.items.items) }
+        ensures items { IfOk result (λ b.
+            All (λ item. Contains (items_of (arc_value b.generation)) item) b.items.items) }
     {
         self.journal.draw(&self.weigh, n)
     }
@@ -94,7 +96,9 @@ impl Catalogue {
     pub fn entries(&self) -> &[Entry]
         ensures entries { result.now ≡ (state self.now).entries }
         ensures history { IsHistory (state self.now) }
-        ensures lawful { Lawful (state self.now).carousel (layouts_of (state self.now).carousel (trees_of (state self.now))) ([] ∷ trees_of (state self.now)) }
+        ensures lawful { Lawful (state self.now).carousel
+            (layouts_of (state self.now).carousel (trees_of (state self.now)))
+            ([] ∷ trees_of (state self.now)) }
     {
         layouts_are_lawful();
         self.journal.entries()

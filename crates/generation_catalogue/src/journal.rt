@@ -61,7 +61,8 @@ impl Journal {
         weights: [u8; GREATEST_ID],
     ) -> Result<Journal, NoMemory>
         requires { AreWeights weights }
-        ensures { IfOk result (λ j. j ≡ record { carousel = carousel; weights = weights; entries = [] }) }
+        ensures { IfOk result (λ j.
+            j ≡ record { carousel = carousel; weights = weights; entries = [] }) }
     {
         let first = Generation::first(alloc, carousel)?;
         let current = Arc::new(alloc, first)?;
@@ -108,7 +109,8 @@ impl Journal {
         ensures answer { Gives (λ g. g.number) commit_cause result (outcome_of self.now edits.now) }
         ensures next { IfOk result (λ g. g ≡ generation_after self.now edits.now) }
         ensures tree { IfOk result (λ g. IsPublishable g.tree) }
-        ensures memory { IsErrOf result CommitFault.NoMemory → is_entered (outcome_of self.now edits.now) ≡ true }
+        ensures memory { IsErrOf result CommitFault.NoMemory
+            → is_entered (outcome_of self.now edits.now) ≡ true }
     {
         if self.current.number() == LAST_GENERATION {
             return Err(CommitFault::Refused(Refusal::SeasonFull(LAST_GENERATION)));
@@ -160,7 +162,9 @@ impl Journal {
     fn refused(&mut self, editor: u32, edits: Edits, refusal: Refusal) -> CommitFault
         requires { outcome_of self.old edits ≡ Err refusal }
         ensures answer { (result ≡ CommitFault.Refused refusal) ⊎ (result ≡ CommitFault.NoMemory) }
-        ensures entry { self.new ≡ (if is_some (commit_cause result) then with_commit self.old editor edits else self.old) }
+        ensures entry { self.new
+            ≡ (if is_some (commit_cause result) then with_commit self.old editor edits else
+            self.old) }
         ensures memory { result ≡ CommitFault.NoMemory → is_entered (Err refusal) ≡ true }
     {
         if refusal.is_entered() {
@@ -198,8 +202,10 @@ impl Journal {
         requires asked { (1 ≤ asked) × (asked ≤ MOST_DRAWN) }
         requires weights { weigh.now.weights ≡ self.old.weights }
         ensures drawn { IsDrawn self.old asked result self.new }
-        ensures some { IfOk result (λ b. (1 ≤ length b.items.items) × (length b.items.items ≤ asked)) }
-        ensures items { IfOk result (λ b. All (λ item. Contains (items_of (arc_value b.generation)) item) b.items.items) }
+        ensures some { IfOk result (λ b.
+            (1 ≤ length b.items.items) × (length b.items.items ≤ asked)) }
+        ensures items { IfOk result (λ b.
+            All (λ item. Contains (items_of (arc_value b.generation)) item) b.items.items) }
     {
         self.draw_next(weigh, asked)
     }

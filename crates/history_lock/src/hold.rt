@@ -36,7 +36,9 @@ impl<'a, V: Chronicled> Hold<'a, V> {
         ensures pass { IsPassOf (lock_of self.entry) self.exit.0.now }
         ensures number { number_of self.exit.0.now ≡ number_of (holder_of self.entry) }
         ensures seen { seen_of self.exit.0.now ≡ V.list (value_of self.entry) }
-        ensures places { own_of self.exit.0.now ≡ own_of (holder_of self.entry) ++ new_places (taken_of self.entry) (V.list (value_of self.entry)) }
+        ensures places { own_of self.exit.0.now
+            ≡ own_of (holder_of self.entry)
+            ++ new_places (taken_of self.entry) (V.list (value_of self.entry)) }
     {
         let Hold { pass, lock, value } = self;
         let shared = &lock.table.shared;

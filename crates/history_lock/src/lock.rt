@@ -15,7 +15,9 @@ use std::thread;
 #[derive(Drop)]
 pub struct HistoryLock<V: Chronicled> {
     pub(crate) table: Table<Option<V>, View<V::Entry>, Opened<V>, OneHistory<V>, Global>,
-    ghost sized: { (table.shared.table_id.words ≡ 1) × (table.shared.table_id.slots ≡ 1) × (0 < table.shared.key.seats) },
+    ghost sized: { (table.shared.table_id.words ≡ 1)
+        × (table.shared.table_id.slots ≡ 1)
+        × (0 < table.shared.key.seats) },
 }
 
 impl<V: Chronicled> HistoryLock<V> {
@@ -86,7 +88,9 @@ impl<V: Chronicled> HistoryLock<V> {
         requires { AreAllPassesOf self passes.items }
         ensures opening { Begins (opening_of V.list self) (V.list result) }
         ensures seen { Each (λ pass. Begins (seen_of pass) (V.list result)) passes.items }
-        ensures owned { (place : ℕ) → owners place passes.items ≡ once_within (length (opening_of V.list self)) (length (V.list result)) place }
+        ensures owned { (place : ℕ)
+            → owners place passes.items
+            ≡ once_within (length (opening_of V.list self)) (length (V.list result)) place }
     {
         let seat = self.gather(passes);
         let HistoryLock { table } = self;
@@ -99,9 +103,15 @@ impl<V: Chronicled> HistoryLock<V> {
 
     /// Waits for the word, and takes it and the value's slot.
     fn take<R: Wait>(&self, rt: &R, seat: &mut Seat<Option<V>, View<V::Entry>>)
-        requires { (seat.old.table_id ≡ self.now.table.shared.table_id) × (seat.old.me.1 ≡ []) × (seat.old.me.0.parts ≡ 1) × (seat.old.me.0.holds ≡ false) }
+        requires { (seat.old.table_id ≡ self.now.table.shared.table_id)
+            × (seat.old.me.1 ≡ [])
+            × (seat.old.me.0.parts ≡ 1)
+            × (seat.old.me.0.holds ≡ false) }
         ensures same { (seat.new.table_id ≡ seat.old.table_id) × (seat.new.id ≡ seat.old.id) }
-        ensures taken { (v : V) × (seat.new.me.1 ≡ (0, Some v) ∷ []) × (seat.new.me.0 ≡ while_held seat.old.me.0 (V.list v)) × Begins seat.old.me.0.seen (V.list v) }
+        ensures taken { (v : V)
+            × (seat.new.me.1 ≡ (0, Some v) ∷ [])
+            × (seat.new.me.0 ≡ while_held seat.old.me.0 (V.list v))
+            × Begins seat.old.me.0.seen (V.list v) }
     {
         for _ in rt.forever() {
             if self.table.shared.compare_exchange::<Take<V>>(seat, 0, 0, 1) == 0 {
@@ -119,7 +129,8 @@ impl<V: Chronicled> HistoryLock<V> {
         seats: u32,
         mut passes: Vec<Pass<V>>,
     ) -> Vec<Pass<V>>
-        requires seat { (seat.table_id ≡ self.now.table.shared.table_id) × (seat.me ≡ (newcomer seats (opening_of V.list self.now), [])) }
+        requires seat { (seat.table_id ≡ self.now.table.shared.table_id)
+            × (seat.me ≡ (newcomer seats (opening_of V.list self.now), [])) }
         requires some { 0 < seats }
         requires room { (length passes.items ≡ 0) × (seats ≤ vec_capacity passes) }
         ensures count { length result.items ≡ seats }

@@ -21,7 +21,10 @@ fn told_commit(
     edits: &Edits,
     outcome: &Result<u64, Refusal>,
 ) -> Result<(Event, Reply), NoMemory>
-    ensures { IfOk result (λ x. (editors : List ℕ) (place : ℕ) → editor ≡ get_or editors place 0 → known_view x ≡ event_of editors (entry.Commit place edits.now outcome.now) []) }
+    ensures { IfOk result (λ x.
+        (editors : List ℕ) (place : ℕ)
+        → editor ≡ get_or editors place 0
+        → known_view x ≡ event_of editors (entry.Commit place edits.now outcome.now) []) }
 {
     let event = Event::Commit {
         editor,
@@ -61,7 +64,9 @@ pub fn merge(
     passes: &[ReaderPass],
 ) -> Result<Vec<(Event, Reply)>, NoMemory>
     requires { AreParts entries.now (map fates_view fates.now) editors.now passes.now }
-    ensures { IfOk result (λ told. map known_view told.items ≡ merge_of editors.now passes.now (map fates_view fates.now) entries.now) }
+    ensures { IfOk result (λ told.
+        map known_view told.items
+        ≡ merge_of editors.now passes.now (map fates_view fates.now) entries.now) }
 {
     let mut waiting = by_number(alloc, passes)?;
     let mut told = tell_all(Vec::new(alloc), &mut waiting, 0)?;

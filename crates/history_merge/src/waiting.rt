@@ -28,7 +28,9 @@ impl<'a> Waiting<'a> {
         draws: u64,
     ) -> Result<Vec<(Event, Reply)>, NoMemory>
         requires { Climb draws self.old.opens.now }
-        ensures told { IfOk result (λ new. map known_view new.items ≡ map known_view told.items ++ opened_at draws (view_waiting self.old)) }
+        ensures told { IfOk result (λ new.
+            map known_view new.items
+            ≡ map known_view told.items ++ opened_at draws (view_waiting self.old)) }
         ensures left { IsLeft draws (view_waiting self.old) (view_waiting self.new) }
     {
         let opens = self.opens;
@@ -72,7 +74,8 @@ fn tell_opens(
     reader: u32,
     opens: &[OpenEntry],
 ) -> Result<Vec<(Event, Reply)>, NoMemory>
-    ensures { IfOk result (λ new. map known_view new.items ≡ map known_view told.items ++ map (opened_of reader) opens.now) }
+    ensures { IfOk result (λ new.
+        map known_view new.items ≡ map known_view told.items ++ map (opened_of reader) opens.now) }
 {
     for opened in opens {
         told.push(told_open(reader, opened)?)?;
@@ -87,8 +90,11 @@ pub(crate) fn tell_all(
     draws: u64,
 ) -> Result<Vec<(Event, Reply)>, NoMemory>
     requires { AllClimb draws (map view_waiting waiting.old) }
-    ensures told { IfOk result (λ new. map known_view new.items ≡ map known_view told.items ++ flat_map (opened_at draws) (map view_waiting waiting.old)) }
-    ensures left { OnOk result (AreLeft draws (map view_waiting waiting.old) (map view_waiting waiting.new)) }
+    ensures told { IfOk result (λ new.
+        map known_view new.items
+        ≡ map known_view told.items ++ flat_map (opened_at draws) (map view_waiting waiting.old)) }
+    ensures left { OnOk result
+        (AreLeft draws (map view_waiting waiting.old) (map view_waiting waiting.new)) }
 {
     for reader in waiting.iter_mut() {
         told = reader.tell(told, draws)?;
@@ -102,7 +108,9 @@ fn push_reader<'a>(
     passes: &'a [ReaderPass],
     number: u32,
 ) -> Result<Vec<Waiting<'a>>, NoMemory>
-    ensures { IfOk result (λ new. map view_waiting new.items ≡ map view_waiting waiting.entry.items ++ waited_by passes.now number) }
+    ensures { IfOk result (λ new.
+        map view_waiting new.items
+        ≡ map view_waiting waiting.entry.items ++ waited_by passes.now number) }
 {
     for pass in passes {
         if pass.reader() == number {
@@ -120,7 +128,8 @@ pub(crate) fn by_number<'a>(
     alloc: Global,
     passes: &'a [ReaderPass],
 ) -> Result<Vec<Waiting<'a>>, NoMemory>
-    ensures { IfOk result (λ new. map view_waiting new.items ≡ flat_map (waited_by passes.now) (range_with_len 1 64)) }
+    ensures { IfOk result (λ new.
+        map view_waiting new.items ≡ flat_map (waited_by passes.now) (range_with_len 1 64)) }
 {
     let mut waiting = Vec::with_capacity(alloc, passes.len())?;
     for number in 1..LAST_READER + 1 {

@@ -6,7 +6,8 @@ use crate::{Binder, Ior, Location, Profile, Tap};
 
 /// The location and the taps of the first BIOP profile, if there is one. It takes no memory.
 pub fn biop_of(ior: &Ior) -> Option<(&Location, &Binder)>
-    ensures { option_map (λ x. (x.0.now, map view_tap x.1.now.taps.items)) result ≡ biop_of_profiles (view ior.now).profiles }
+    ensures { option_map (λ x. (x.0.now, map view_tap x.1.now.taps.items)) result
+        ≡ biop_of_profiles (view ior.now).profiles }
 {
     for profile in &ior.profiles {
         if let Profile::Biop(location, binder) = profile {

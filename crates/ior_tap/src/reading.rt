@@ -31,7 +31,8 @@ fn tap_of(alloc: Global, fields: &mut Fields<'_>) -> Result<Tap, IorFault>
 }
 
 fn taps_of(alloc: Global, fields: &mut Fields<'_>, count: u8) -> Result<Vec<Tap>, IorFault>
-    ensures { Gives (λ v. (map view_tap v.items, fields.new)) cause result (each_at tap_at count fields.old) }
+    ensures { Gives (λ v. (map view_tap v.items, fields.new)) cause result
+        (each_at tap_at count fields.old) }
 {
     let mut taps = Vec::new(alloc);
     for _ in 0..count {
@@ -43,7 +44,8 @@ fn taps_of(alloc: Global, fields: &mut Fields<'_>, count: u8) -> Result<Vec<Tap>
 
 #[tactic(auto, unfolding(oc_bytes::specs::Grammar::read))]
 fn binder_of(alloc: Global, fields: &mut Fields<'_>) -> Result<Binder, IorFault>
-    ensures { Gives (λ b. (map view_tap b.taps.items, fields.new)) cause result (taps_at fields.old) }
+    ensures { Gives (λ b. (map view_tap b.taps.items, fields.new)) cause result
+        (taps_at fields.old) }
 {
     let count = fields.u8()?;
     let taps = taps_of(alloc, fields, count)?;
@@ -79,7 +81,9 @@ fn location_in(alloc: Global, content: &[u8]) -> Result<Option<Location>, NoMemo
 
 /// The taps that a component's bytes hold, if they are read as a ConnBinder.
 fn binder_in(alloc: Global, content: &[u8]) -> Result<Option<Binder>, NoMemory>
-    ensures { IfOk result (λ b. option_map (λ x. map view_tap x.taps.items) b ≡ value_read (taps_at (from_start content.now))) }
+    ensures { IfOk result (λ b.
+        option_map (λ x. map view_tap x.taps.items) b
+        ≡ value_read (taps_at (from_start content.now))) }
 {
     let mut fields = Fields::new(content);
     match binder_of(alloc, &mut fields) {
@@ -98,7 +102,8 @@ struct Component<'a> {
 
 #[tactic(auto, unfolding(oc_bytes::specs::Grammar::read))]
 fn component_of<'a>(fields: &mut Fields<'a>) -> Result<Component<'a>, Cut>
-    ensures { Gives (λ c. ((c.tag, c.content.now), fields.new)) place_of result (component_at fields.old) }
+    ensures { Gives (λ c. ((c.tag, c.content.now), fields.new)) place_of result
+        (component_at fields.old) }
 {
     let tag = fields.u32()?;
     let content = fields.sized8()?;
@@ -115,8 +120,14 @@ struct Parts<'a> {
 impl<'a> Parts<'a> {
     /// With one more component after those seen so far.
     fn with(self, component: Component<'a>) -> Parts<'a>
-        ensures location { option_copied result.location ≡ option_or (option_copied self.entry.location) (if component.entry.tag == 0x49534F50 then Some component.entry.content.now else None) }
-        ensures binder { option_copied result.binder ≡ option_or (option_copied self.entry.binder) (if component.entry.tag == 0x49534F40 then Some component.entry.content.now else None) }
+        ensures location { option_copied result.location
+            ≡ option_or (option_copied self.entry.location)
+            (if component.entry.tag == 0x49534F50 then Some component.entry.content.now else
+            None) }
+        ensures binder { option_copied result.binder
+            ≡ option_or (option_copied self.entry.binder)
+            (if component.entry.tag == 0x49534F40 then Some component.entry.content.now else
+            None) }
     {
         let content = Some(component.content);
         if component.tag == LOCATION_TAG && self.location.is_none() {
@@ -136,7 +147,8 @@ impl<'a> Parts<'a> {
 }
 
 fn parts_of<'a>(fields: &mut Fields<'a>, count: u8) -> Result<Parts<'a>, Cut>
-    ensures { Gives (λ p. ((option_copied p.location, option_copied p.binder), fields.new)) place_of result (parts_at count fields.old) }
+    ensures { Gives (λ p. ((option_copied p.location, option_copied p.binder), fields.new)) place_of
+        result (parts_at count fields.old) }
 {
     let mut parts = Parts {
         location: None,
@@ -151,7 +163,8 @@ fn parts_of<'a>(fields: &mut Fields<'a>, count: u8) -> Result<Parts<'a>, Cut>
 
 #[tactic(auto, unfolding(oc_bytes::specs::Grammar::read))]
 fn parts_in<'a>(fields: &mut Fields<'a>) -> Result<Parts<'a>, Cut>
-    ensures { Gives (λ p. ((option_copied p.location, option_copied p.binder), fields.new)) place_of result (chosen_at fields.old) }
+    ensures { Gives (λ p. ((option_copied p.location, option_copied p.binder), fields.new)) place_of
+        result (chosen_at fields.old) }
 {
     fields.this_u8(0)?;
     let count = fields.u8()?;
@@ -160,7 +173,8 @@ fn parts_in<'a>(fields: &mut Fields<'a>) -> Result<Parts<'a>, Cut>
 
 /// The profile that the bytes of a BIOP profile hold, if both components are there in the right form.
 fn biop_in(alloc: Global, content: &[u8]) -> Result<Option<Profile>, NoMemory>
-    ensures { IfOk result (λ p. option_map view_profile p ≡ biop_in (value_read (components_at (from_start content.now)))) }
+    ensures { IfOk result (λ p.
+        option_map view_profile p ≡ biop_in (value_read (components_at (from_start content.now)))) }
 {
     let mut fields = Fields::new(content);
     let Ok(parts) = parts_in(&mut fields) else {
@@ -203,7 +217,8 @@ fn profile_of(alloc: Global, fields: &mut Fields<'_>) -> Result<Profile, IorFaul
 }
 
 fn profiles_of(alloc: Global, fields: &mut Fields<'_>, count: u32) -> Result<Vec<Profile>, IorFault>
-    ensures exact { Gives (λ v. (map view_profile v.items, fields.new)) cause result (each_at profile_at count fields.old) }
+    ensures exact { Gives (λ v. (map view_profile v.items, fields.new)) cause result
+        (each_at profile_at count fields.old) }
     ensures memory { IsErrOf result IorFault.NoMemory → 0 < count }
 {
     let mut profiles = Vec::new(alloc);
@@ -224,7 +239,8 @@ fn kind_of(fields: &mut Fields<'_>) -> Result<[u8; 4], Cut>
 #[tactic(auto, unfolding(oc_bytes::specs::Grammar::read, crate::specs::IorReading::profile_count_at))]
 fn ior_of(alloc: Global, fields: &mut Fields<'_>) -> Result<Ior, IorFault>
     ensures exact { Gives (λ i. (view i, fields.new)) cause result (ior_at fields.old) }
-    ensures memory { IsErrOf result IorFault.NoMemory → IsOkAnd (profile_count_at fields.old) (λ x. 0 < x.0) }
+    ensures memory { IsErrOf result IorFault.NoMemory
+        → IsOkAnd (profile_count_at fields.old) (λ x. 0 < x.0) }
 {
     fields.this_u32(4)?;
     let kind = kind_of(fields)?;
@@ -234,8 +250,10 @@ fn ior_of(alloc: Global, fields: &mut Fields<'_>) -> Result<Ior, IorFault>
 }
 
 fn read(alloc: Global, bytes: &[u8]) -> Result<(Ior, usize), IorFault>
-    ensures exact { Gives (λ x. (view x.0, x.1)) cause result (read_from_start (ior_at (from_start bytes.now))) }
-    ensures memory { IsErrOf result IorFault.NoMemory → IsOkAnd (profile_count_at (from_start bytes.now)) (λ x. 0 < x.0) }
+    ensures exact { Gives (λ x. (view x.0, x.1)) cause result
+        (read_from_start (ior_at (from_start bytes.now))) }
+    ensures memory { IsErrOf result IorFault.NoMemory
+        → IsOkAnd (profile_count_at (from_start bytes.now)) (λ x. 0 < x.0) }
 {
     let mut fields = Fields::new(bytes);
     let ior = ior_of(alloc, &mut fields)?;
@@ -254,14 +272,24 @@ fn read(alloc: Global, bytes: &[u8]) -> Result<(Ior, usize), IorFault>
 /// read and there is to be a profile.
 /// (ISO/IEC 13818-6, clause 11.3; ETSI TR 101 202, clause 4.7.3.)
 pub fn decode(alloc: Global, bytes: &[u8]) -> Result<(Ior, usize), IorFault>
-    ensures found { IfOk result (λ x. (x.1 ≤ length bytes.now) × Reads (take x.1 bytes.now) (view x.0)) }
-    ensures only { (ior : IorFields) (n : ℕ) → n ≤ length bytes.now → Reads (take n bytes.now) ior → Gives {Y = IorFields × ℕ} (λ x. (view x.0, x.1)) cause result (Ok (ior, n)) }
+    ensures found { IfOk result (λ x.
+        (x.1 ≤ length bytes.now) × Reads (take x.1 bytes.now) (view x.0)) }
+    ensures only { (ior : IorFields) (n : ℕ)
+        → n ≤ length bytes.now
+        → Reads (take n bytes.now) ior
+        → Gives {Y = IorFields × ℕ} (λ x. (view x.0, x.1)) cause result (Ok (ior, n)) }
     // A spelling with any bytes after it is read as its value.
-    ensures again { (kind rest : List ℕ) (l : Location) → IsWritten (written_form kind l) l → IsLocation l → bytes.now ≡ spelling kind l ++ rest
-        → Gives {Y = IorFields × ℕ} (λ x. (view x.0, x.1)) cause result (Ok (written_form kind l, length (spelling kind l))) }
-    ensures exact { Gives (λ x. (view x.0, x.1)) cause result (read_from_start (ior_at (from_start bytes.now))) }
+    ensures again { (kind rest : List ℕ) (l : Location)
+        → IsWritten (written_form kind l) l
+        → IsLocation l
+        → bytes.now ≡ spelling kind l ++ rest
+        → Gives {Y = IorFields × ℕ} (λ x. (view x.0, x.1)) cause result
+        (Ok (written_form kind l, length (spelling kind l))) }
+    ensures exact { Gives (λ x. (view x.0, x.1)) cause result
+        (read_from_start (ior_at (from_start bytes.now))) }
     ensures inside { IfErr result (λ e. IfSome (cause e) (λ place. place ≤ length bytes.now)) }
-    ensures memory { IsErrOf result IorFault.NoMemory → IsOkAnd (profile_count_at (from_start bytes.now)) (λ x. 0 < x.0) }
+    ensures memory { IsErrOf result IorFault.NoMemory
+        → IsOkAnd (profile_count_at (from_start bytes.now)) (λ x. 0 < x.0) }
 {
     read(alloc, bytes)
 }
@@ -271,6 +299,14 @@ pub fn decode(alloc: Global, bytes: &[u8]) -> Result<(Ior, usize), IorFault>
 /// which the crates above call where an IOR stands inside a message of theirs.
 pub fn one_reading()
     ensures agree { Agrees ior_at (InBytes Reads) }
-    ensures written { (kind : List ℕ) (l : Location) → IsWritten (written_form kind l) l → IsLocation l → Reads (spelling kind l) (written_form kind l) }
-    ensures again { (kind : List ℕ) (l : Location) → IsWritten (written_form kind l) l → IsLocation l → (place : ℕ) (rest : List ℕ) → ior_at (at place (spelling kind l ++ rest)) ≡ Ok (written_form kind l, at (place + 63) rest) }
+    ensures written { (kind : List ℕ) (l : Location)
+        → IsWritten (written_form kind l) l
+        → IsLocation l
+        → Reads (spelling kind l) (written_form kind l) }
+    ensures again { (kind : List ℕ) (l : Location)
+        → IsWritten (written_form kind l) l
+        → IsLocation l
+        → (place : ℕ) (rest : List ℕ)
+        → ior_at (at place (spelling kind l ++ rest))
+        ≡ Ok (written_form kind l, at (place + 63) rest) }
 {}

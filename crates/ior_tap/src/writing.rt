@@ -17,7 +17,10 @@ use std::alloc::Global;
 /// (ISO/IEC 13818-6, clause 11.3; ETSI TR 101 202, clauses 4.7.3 and 4.7.5.)
 pub fn encode(alloc: Global, ior: &Ior) -> Result<Vec<u8>, NoMemory>
     requires { (l : Location) × IsWritten (view ior.now) l }
-    ensures spells { IfOk result (λ bytes. (l : Location) → IsWritten (view ior.now) l → bytes.items ≡ spelling (view ior.now).kind l) }
+    ensures spells { IfOk result (λ bytes.
+        (l : Location)
+        → IsWritten (view ior.now) l
+        → bytes.items ≡ spelling (view ior.now).kind l) }
     ensures reads { IfOk result (λ bytes. Reads bytes.items (view ior.now)) }
     ensures size { IfOk result (λ bytes. length bytes.items ≡ 63) }
 {

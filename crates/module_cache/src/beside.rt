@@ -35,7 +35,8 @@ fn is_listed(held: &[Tuned], id: u16) -> bool
 
 /// A held DII lists one of these modules.
 fn is_any_listed(held: &[Tuned], modules: &[ModuleLine]) -> bool
-    ensures { result ≡ list_any (λ l. list_any (λ t. list_any (λ x. x.line.id == l.id) t.lines) held.now) modules.now }
+    ensures { result ≡ list_any
+        (λ l. list_any (λ t. list_any (λ x. x.line.id == l.id) t.lines) held.now) modules.now }
 {
     modules.iter().any(|l| is_listed(held, l.id))
 }
@@ -63,7 +64,8 @@ fn left_by(most: u32, lines: &[Line]) -> Option<u32>
 
 /// What the modules of the held DIIs leave of [`MOST_TOTAL_SIZE`], where they fit.
 fn left_by_held(held: &[Tuned]) -> Option<u32>
-    ensures { result ≡ left_of MOST_TOTAL_SIZE (sum_by (λ t. sum_by (λ x. x.line.size) t.lines) held.now) }
+    ensures { result ≡ left_of MOST_TOTAL_SIZE
+        (sum_by (λ t. sum_by (λ x. x.line.size) t.lines) held.now) }
 {
     let mut left = MOST_TOTAL_SIZE;
     for tuned in held {

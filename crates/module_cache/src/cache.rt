@@ -55,7 +55,10 @@ fn place_of(tuned: &[Tuned], identification: u16) -> Option<usize>
 
 /// Moves what waits of the DII's identification into it.
 fn take_over(tuned: &mut Tuned, waiting: &mut Vec<Tuned>)
-    ensures tuned { (d : DiiFields) → tuned.old ≡ fresh_tuned d → no_id_twice d.modules ≡ true → tuned.new ≡ joining waiting.old.items d }
+    ensures tuned { (d : DiiFields)
+        → tuned.old ≡ fresh_tuned d
+        → no_id_twice d.modules ≡ true
+        → tuned.new ≡ joining waiting.old.items d }
     ensures waiting { waiting.new.items ≡ without tuned.old.identification waiting.old.items }
 {
     match place_of(waiting, tuned.identification()) {
@@ -143,7 +146,9 @@ impl Cache {
     pub fn turn(&mut self, dii: &Dii, keep: bool) -> Result<(), NoMemory>
         requires { IsTrue (limits.is_within (view_dii dii.now)) }
         ensures ok { OnOk result (self.new ≡ turned self.old (view_dii dii.now) keep) }
-        ensures stands { OnOk result ((calls : List Call) → StandsFor self.old calls → StandsFor self.new (calls ++ Turned (view_dii dii.now) keep ∷ [])) }
+        ensures stands { OnOk result ((calls : List Call)
+            → StandsFor self.old calls
+            → StandsFor self.new (calls ++ Turned (view_dii dii.now) keep ∷ [])) }
         ensures err { OnErr result (self.new ≡ self.old) }
     {
         let tuned = Tuned::new(self.alloc, dii)?;
@@ -169,7 +174,9 @@ impl Cache {
         requires within { IsTrue (limits.is_within (view_dii dii.now)) }
         requires may_join { IsTrue (may_join (map outline_held self.now.held) (view_dii dii.now)) }
         ensures ok { OnOk result (self.new ≡ joined self.old (view_dii dii.now)) }
-        ensures stands { OnOk result ((calls : List Call) → StandsFor self.old calls → StandsFor self.new (calls ++ Joined (view_dii dii.now) ∷ [])) }
+        ensures stands { OnOk result ((calls : List Call)
+            → StandsFor self.old calls
+            → StandsFor self.new (calls ++ Joined (view_dii dii.now) ∷ [])) }
         ensures err { OnErr result (self.new ≡ self.old) }
     {
         let tuned = Tuned::new(self.alloc, dii)?;
@@ -185,8 +192,13 @@ impl Cache {
         ensures ok { OnOk result (self.new ≡ offered self.old (view ddb.now)) }
         ensures kept { IfOk result (λ t. t ≢ Taken.New → self.new ≡ self.old) }
         ensures changed { IfOk result (λ t. t ≡ Taken.New → self.new ≢ self.old) }
-        ensures looks_back { IfOk result (λ t. (calls : List Call) → StandsFor self.old calls → t ≡ taken_among itself (turns_of calls) (view ddb.now)) }
-        ensures stands { OnOk result ((calls : List Call) → StandsFor self.old calls → StandsFor self.new (calls ++ Offered (view ddb.now) ∷ [])) }
+        ensures looks_back { IfOk result (λ t.
+            (calls : List Call)
+            → StandsFor self.old calls
+            → t ≡ taken_among itself (turns_of calls) (view ddb.now)) }
+        ensures stands { OnOk result ((calls : List Call)
+            → StandsFor self.old calls
+            → StandsFor self.new (calls ++ Offered (view ddb.now) ∷ [])) }
         ensures err { OnErr result (self.new ≡ self.old) }
         ensures memory { OnErr result (taken_of self.old (view ddb.now) ≡ Taken.New) }
     {
@@ -210,8 +222,13 @@ impl Cache {
         ensures ok { OnOk result (self.new ≡ offered self.old (parts_view parts.now)) }
         ensures kept { IfOk result (λ t. t ≢ Taken.New → self.new ≡ self.old) }
         ensures changed { IfOk result (λ t. t ≡ Taken.New → self.new ≢ self.old) }
-        ensures looks_back { IfOk result (λ t. (calls : List Call) → StandsFor self.old calls → t ≡ taken_among itself (turns_of calls) (parts_view parts.now)) }
-        ensures stands { OnOk result ((calls : List Call) → StandsFor self.old calls → StandsFor self.new (calls ++ Offered (parts_view parts.now) ∷ [])) }
+        ensures looks_back { IfOk result (λ t.
+            (calls : List Call)
+            → StandsFor self.old calls
+            → t ≡ taken_among itself (turns_of calls) (parts_view parts.now)) }
+        ensures stands { OnOk result ((calls : List Call)
+            → StandsFor self.old calls
+            → StandsFor self.new (calls ++ Offered (parts_view parts.now) ∷ [])) }
         ensures err { OnErr result (self.new ≡ self.old) }
         ensures memory { OnErr result (taken_of self.old (parts_view parts.now) ≡ Taken.New) }
     {
@@ -221,7 +238,9 @@ impl Cache {
     /// What is there of the module with this id, 0 to 65,535, by the held DII that lists it. Takes no memory.
     pub fn module(&self, id: u16) -> Slot<'_>
         ensures slot { view_slot result ≡ slot_at self.now id }
-        ensures looks_back { (calls : List Call) → StandsFor self.now calls → view_slot result ≡ slot_among itself (turns_of calls) id }
+        ensures looks_back { (calls : List Call)
+            → StandsFor self.now calls
+            → view_slot result ≡ slot_among itself (turns_of calls) id }
     {
         slot_in(&self.held, id)
     }

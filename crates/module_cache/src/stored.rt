@@ -74,8 +74,10 @@ fn module_of(alloc: Global, bytes: Vec<u8>) -> Result<Arc<Module>, (NoMemory, Ve
 /// The state that an assembler makes: the whole module where no block is missing. The assembler is handed back where there is no
 /// memory for that.
 fn settled(alloc: Global, assembler: Assembler) -> Result<State, (NoMemory, Assembler)>
-    ensures view { IfOk result (λ s. view_state assembler.size assembler.block_size s ≡ contents.content_of assembler.blocks) }
-    ensures shape { IfOk result (λ s. (size block_size : ℕ) → IsShaped size block_size assembler → IsState size block_size s) }
+    ensures view { IfOk result (λ s.
+        view_state assembler.size assembler.block_size s ≡ contents.content_of assembler.blocks) }
+    ensures shape { IfOk result (λ s.
+        (size block_size : ℕ) → IsShaped size block_size assembler → IsState size block_size s) }
     ensures err { IfErr result (λ e. e.1 ≡ assembler) }
 {
     match assembler.finish() {
@@ -108,12 +110,25 @@ fn offer_to(
     block: u16,
     bytes: &[u8],
 ) -> (Result<Taken, NoMemory>, State)
-    ensures answer { IfOk result.0 (λ t. t ≡ taken_at assembler.size assembler.block_size (Blocks assembler.blocks) block bytes.now) }
-    ensures after { OnOk result.0 (view_state assembler.size assembler.block_size result.1 ≡ content_after assembler.size assembler.block_size (Blocks assembler.blocks) block bytes.now) }
-    ensures shape { (size block_size : ℕ) → IsShaped size block_size assembler → IsState size block_size result.1 }
-    ensures changed { IfOk result.0 (λ t. t ≡ Taken.New → (size block_size : ℕ) → IsShaped size block_size assembler → view_state size block_size result.1 ≢ Blocks assembler.blocks) }
+    ensures answer { IfOk result.0 (λ t.
+        t ≡ taken_at assembler.size assembler.block_size (Blocks assembler.blocks) block
+        bytes.now) }
+    ensures after { OnOk result.0
+        (view_state assembler.size assembler.block_size result.1
+        ≡ content_after assembler.size assembler.block_size (Blocks assembler.blocks) block
+        bytes.now) }
+    ensures shape { (size block_size : ℕ)
+        → IsShaped size block_size assembler
+        → IsState size block_size result.1 }
+    ensures changed { IfOk result.0 (λ t.
+        t ≡ Taken.New
+        → (size block_size : ℕ)
+        → IsShaped size block_size assembler
+        → view_state size block_size result.1 ≢ Blocks assembler.blocks) }
     ensures err { OnErr result.0 (result.1 ≡ State.Part assembler) }
-    ensures memory { OnErr result.0 (taken_at assembler.size assembler.block_size (Blocks assembler.blocks) block bytes.now ≡ Taken.New) }
+    ensures memory { OnErr result.0
+        (taken_at assembler.size assembler.block_size (Blocks assembler.blocks) block bytes.now
+        ≡ Taken.New) }
 {
     match assembler.offer(block, bytes) {
         Offer::WrongPlace => return (Ok(Taken::WrongPlace), State::Part(assembler)),
@@ -139,11 +154,17 @@ fn begun(
     bytes: &[u8],
 ) -> Result<(Taken, State), NoMemory>
     requires { IsAssembled size block_size }
-    ensures answer { IfOk result (λ r. r.0 ≡ taken_at size block_size (view_state size block_size State.Empty) block bytes.now) }
-    ensures after { IfOk result (λ r. view_state size block_size r.1 ≡ content_after size block_size (view_state size block_size State.Empty) block bytes.now) }
+    ensures answer { IfOk result (λ r.
+        r.0 ≡ taken_at size block_size (view_state size block_size State.Empty) block bytes.now) }
+    ensures after { IfOk result (λ r.
+        view_state size block_size r.1
+        ≡ content_after size block_size (view_state size block_size State.Empty) block bytes.now) }
     ensures shape { IfOk result (λ r. IsState size block_size r.1) }
-    ensures changed { IfOk result (λ r. r.0 ≡ Taken.New → view_state size block_size r.1 ≢ view_state size block_size State.Empty) }
-    ensures memory { OnErr result (taken_at size block_size (view_state size block_size State.Empty) block bytes.now ≡ Taken.New) }
+    ensures changed { IfOk result (λ r.
+        r.0 ≡ Taken.New → view_state size block_size r.1 ≢ view_state size block_size State.Empty) }
+    ensures memory { OnErr result
+        (taken_at size block_size (view_state size block_size State.Empty) block bytes.now
+        ≡ Taken.New) }
 {
     let taken = again(size, block_size, block, bytes);
     if taken != Taken::Again {
@@ -168,7 +189,8 @@ fn fresh_state(
     compressed: bool,
 ) -> Result<State, NoMemory>
     requires { 1 ≤ block_size }
-    ensures view { IfOk result (λ s. view_state size block_size s ≡ fresh_content size block_size compressed) }
+    ensures view { IfOk result (λ s.
+        view_state size block_size s ≡ fresh_content size block_size compressed) }
     ensures shape { IfOk result (λ s. IsState size block_size s) }
 {
     if compressed {
@@ -193,7 +215,13 @@ impl Stored {
         compressed: bool,
     ) -> Result<Stored, NoMemory>
         requires { IsAssembled size block_size }
-        ensures { IfOk result (λ s. s ≡ record { size = size; block_size = block_size; content = fresh_content size block_size compressed }) }
+        ensures { IfOk result (λ s.
+            s ≡ record {
+              size = size;
+              block_size = block_size;
+              content = fresh_content size block_size
+                  compressed;
+            }) }
     {
         let state = fresh_state(alloc, size, block_size, compressed)?;
         Ok(Stored {

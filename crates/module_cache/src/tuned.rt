@@ -77,11 +77,15 @@ fn offer_line(line: &mut Line, alloc: Global, parts: &Parts<'_>) -> Result<Taken
 
 /// Offers a block to the first line of its module.
 fn offer_lines(lines: &mut [Line], alloc: Global, parts: &Parts<'_>) -> Result<Taken, NoMemory>
-    ensures answer { IfOk result (λ t. t ≡ taken_line (parts_view parts.now) (find (λ x. x.line.id == parts.now.module) lines.old)) }
+    ensures answer { IfOk result (λ t.
+        t ≡ taken_line (parts_view parts.now)
+        (find (λ x. x.line.id == parts.now.module) lines.old)) }
     ensures ok { OnOk result (lines.new ≡ lines_after (parts_view parts.now) lines.old) }
     ensures changed { IfOk result (λ t. t ≡ Taken.New → lines.new ≢ lines.old) }
     ensures err { OnErr result (lines.new ≡ lines.old) }
-    ensures memory { OnErr result (taken_line (parts_view parts.now) (find (λ x. x.line.id == parts.now.module) lines.old) ≡ Taken.New) }
+    ensures memory { OnErr result
+        (taken_line (parts_view parts.now) (find (λ x. x.line.id == parts.now.module) lines.old)
+        ≡ Taken.New) }
 {
     match place_of(lines, parts.module) {
         Some(place) => offer_line(&mut lines[place], alloc, parts),

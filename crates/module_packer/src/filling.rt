@@ -29,8 +29,12 @@ impl Filling {
     /// Places an object in its old module, if it stays there, and answers that module.
     pub fn keep(&mut self, size: u32, old: Option<u16>) -> Option<u16>
         requires { (m : ℕ) → old ≡ Some m → (1 ≤ m) × (m ≤ GREATEST_ID) }
-        ensures answer { (f : Filled) → Tells GREATEST_ID self.old.sums f → result ≡ if_stays f size old }
-        ensures after { (f : Filled) → Tells GREATEST_ID self.old.sums f → Tells GREATEST_ID self.new.sums (filled_with f (if_stays f size old) size) }
+        ensures answer { (f : Filled)
+            → Tells GREATEST_ID self.old.sums f
+            → result ≡ if_stays f size old }
+        ensures after { (f : Filled)
+            → Tells GREATEST_ID self.old.sums f
+            → Tells GREATEST_ID self.new.sums (filled_with f (if_stays f size old) size) }
     {
         match old {
             Some(number) if self.stays(size, number) => {
@@ -45,9 +49,14 @@ impl Filling {
     /// a module above the limit.
     pub fn settle(&mut self, size: u32, stays: Option<u16>) -> Option<u16>
         requires { (m : ℕ) → stays ≡ Some m → (1 ≤ m) × (m ≤ GREATEST_ID) }
-        ensures number { (f : Filled) → Tells GREATEST_ID self.old.sums f → MatchOption result (GREATEST_ID < settled_in GREATEST_ID f size stays)
-            (λ m. (m ≡ settled_in GREATEST_ID f size stays) × (m ≤ GREATEST_ID)) }
-        ensures after { (f : Filled) → Tells GREATEST_ID self.old.sums f → OnSome result (Tells GREATEST_ID self.new.sums (filled_after GREATEST_ID f size stays)) }
+        ensures number { (f : Filled)
+            → Tells GREATEST_ID self.old.sums f
+            → MatchOption result (GREATEST_ID < settled_in GREATEST_ID f size stays) (λ m.
+            (m ≡ settled_in GREATEST_ID f size stays) × (m ≤ GREATEST_ID)) }
+        ensures after { (f : Filled)
+            → Tells GREATEST_ID self.old.sums f
+            → OnSome result
+            (Tells GREATEST_ID self.new.sums (filled_after GREATEST_ID f size stays)) }
     {
         match stays {
             Some(number) => Some(number),
@@ -58,7 +67,10 @@ impl Filling {
     /// Places an object that doesn't stay, and answers its module, if there is one for it.
     fn move_in(&mut self, size: u32) -> Option<u16>
         ensures answer { result ≡ moved_by size self.old.sums }
-        ensures after { (f : Filled) → Tells GREATEST_ID self.old.sums f → OnSome result (Tells GREATEST_ID self.new.sums (filled_after GREATEST_ID f size None)) }
+        ensures after { (f : Filled)
+            → Tells GREATEST_ID self.old.sums f
+            → OnSome result
+            (Tells GREATEST_ID self.new.sums (filled_after GREATEST_ID f size None)) }
     {
         match self.room_for(size) {
             Some(number) => {
@@ -73,7 +85,9 @@ impl Filling {
     pub fn put(&mut self, size: u32, number: u16)
         requires number { (1 ≤ number) × (number ≤ GREATEST_ID) }
         requires fits { sum_at self.old.sums (number - 1) + size < 2 ^ 32 }
-        ensures { self.new.sums ≡ slice_set self.old.sums (number - 1) (Some (sum_at self.old.sums (number - 1) + size)) }
+        ensures { self.new.sums
+            ≡ slice_set self.old.sums (number - 1)
+            (Some (sum_at self.old.sums (number - 1) + size)) }
     {
         let sum = self.sum(number);
         self.sums[usize::from(number - 1)] = Some(sum + size);

@@ -45,8 +45,12 @@ fn stay(
     objects: &[(u32, Option<u16>)],
 ) -> Result<Vec<(u32, Option<u16>)>, NoMemory>
     requires { WereWithin GREATEST_ID objects.now }
-    ensures passed { (f : Filled) → Tells GREATEST_ID filling.old.sums f → IfOk result (λ v. v.items ≡ first_pass f objects.now) }
-    ensures filled { (f : Filled) → Tells GREATEST_ID filling.old.sums f → OnOk result (Tells GREATEST_ID filling.new.sums (first_filled f objects.now)) }
+    ensures passed { (f : Filled)
+        → Tells GREATEST_ID filling.old.sums f
+        → IfOk result (λ v. v.items ≡ first_pass f objects.now) }
+    ensures filled { (f : Filled)
+        → Tells GREATEST_ID filling.old.sums f
+        → OnOk result (Tells GREATEST_ID filling.new.sums (first_filled f objects.now)) }
 {
     let mut stayed = Vec::with_capacity(alloc, objects.len())?;
     for (size, old) in objects {
@@ -64,8 +68,13 @@ fn numbers(
     others: &[(u32, Option<u16>)],
 ) -> Result<Option<Vec<u16>>, NoMemory>
     requires { WereWithin GREATEST_ID others.now }
-    ensures { (f : Filled) → Tells GREATEST_ID filling.old.sums f → IfOk result (λ r. MatchOption r (within GREATEST_ID (1 ∷ second_pass GREATEST_ID f others.now) ≡ false)
-        (λ ms. (ms.items ≡ 1 ∷ second_pass GREATEST_ID f others.now) × (within GREATEST_ID ms.items ≡ true))) }
+    ensures { (f : Filled)
+        → Tells GREATEST_ID filling.old.sums f
+        → IfOk result (λ r.
+        MatchOption r (within GREATEST_ID (1 ∷ second_pass GREATEST_ID f others.now) ≡ false)
+        (λ ms.
+        (ms.items ≡ 1 ∷ second_pass GREATEST_ID f others.now)
+        × (within GREATEST_ID ms.items ≡ true))) }
 {
     let mut modules = vec![in alloc; 1]?;
     for (size, stays) in others {

@@ -70,8 +70,11 @@ fn hear_at(
     place: Option<u8>,
     packet: &[u8; 188],
 ) -> Result<(), NoMemory>
-    requires { IsPlaceOf (receiving.header_pid packet.now) (pids_of (map (λ r. r.mount) receivers.old)) place }
-    ensures receives { OnOk result ((packets : List Bytes) → All (Receives packets) receivers.old → All (Receives (packets ++ packet.now ∷ [])) receivers.new) }
+    requires { IsPlaceOf (receiving.header_pid packet.now)
+        (pids_of (map (λ r. r.mount) receivers.old)) place }
+    ensures receives { OnOk result ((packets : List Bytes)
+        → All (Receives packets) receivers.old
+        → All (Receives (packets ++ packet.now ∷ [])) receivers.new) }
     ensures mounts { map (λ r. r.mount) receivers.new ≡ map (λ r. r.mount) receivers.old }
     ensures memory { IsErr result → (packets : List Bytes) → All (Receives packets) receivers.old
         → CompletesOne (map (λ r. r.mount) receivers.old) packets packet.now }
@@ -84,7 +87,8 @@ fn hear_at(
 
 /// The mount of a name, with its receiver.
 fn receiver_named<'a>(receivers: &'a [Receiver], name: &[u8]) -> Option<&'a Receiver>
-    ensures { option_map (λ r. r.now) result ≡ find (λ r. same_name r.mount.name name.now) receivers.now }
+    ensures { option_map (λ r. r.now) result
+        ≡ find (λ r. same_name r.mount.name name.now) receivers.now }
 {
     receivers
         .iter()
@@ -125,11 +129,16 @@ impl Mounts {
     /// `NoMemory` comes only of a packet that completes a section on a mount's PID. After it the table is spent: each later call of this and
     /// of [`open_path`](Mounts::open_path) answers `NoMemory`.
     pub fn feed(&mut self, packet: &[u8; 188]) -> Result<(), NoMemory>
-        ensures stands { OnOk result ((packets : List Bytes) → StandsFor self.old packets → StandsFor self.new (packets ++ packet.now ∷ [])) }
+        ensures stands { OnOk result ((packets : List Bytes)
+            → StandsFor self.old packets
+            → StandsFor self.new (packets ++ packet.now ∷ [])) }
         ensures mounts { mounts_of self.new ≡ mounts_of self.old }
         ensures spent { OnErr result (self.new.spent ≡ true) }
         ensures stays { self.old.spent ≡ true → IsErr result }
-        ensures memory { IsErr result → (packets : List Bytes) → StandsFor self.old packets → CompletesOne (mounts_of self.old) packets packet.now }
+        ensures memory { IsErr result
+            → (packets : List Bytes)
+            → StandsFor self.old packets
+            → CompletesOne (mounts_of self.old) packets packet.now }
     {
         if self.spent {
             return Err(AllocError);
@@ -143,10 +152,15 @@ impl Mounts {
     /// The mount on a packet's PID takes it, if there is one.
     #[inline]
     fn hear(&mut self, packet: &[u8; 188]) -> Result<(), NoMemory>
-        ensures receives { OnOk result ((packets : List Bytes) → All (Receives packets) self.old.receivers → All (Receives (packets ++ packet.now ∷ [])) self.new.receivers) }
+        ensures receives { OnOk result ((packets : List Bytes)
+            → All (Receives packets) self.old.receivers
+            → All (Receives (packets ++ packet.now ∷ [])) self.new.receivers) }
         ensures mounts { mounts_of self.new ≡ mounts_of self.old }
         ensures spent { self.new.spent ≡ self.old.spent }
-        ensures memory { IsErr result → (packets : List Bytes) → All (Receives packets) self.old.receivers → CompletesOne (mounts_of self.old) packets packet.now }
+        ensures memory { IsErr result
+            → (packets : List Bytes)
+            → All (Receives packets) self.old.receivers
+            → CompletesOne (mounts_of self.old) packets packet.now }
     {
         let place = self.places[usize::from(header_pid(packet))];
         hear_at(&mut self.receivers, place, packet)
@@ -157,9 +171,14 @@ impl Mounts {
     ///
     /// `NoMemory` comes where the table is spent, and else only below a mount: a shot of what its receiver holds is made for each such call.
     pub fn open_path(&self, path: &Path) -> Result<Mounted, NoMemory>
-        ensures answer { IfOk result (λ m. (packets : List Bytes) → StandsFor self.now packets → m ≡ mounted_after (mounts_of self.now) packets path.now) }
+        ensures answer { IfOk result (λ m.
+            (packets : List Bytes)
+            → StandsFor self.now packets
+            → m ≡ mounted_after (mounts_of self.now) packets path.now) }
         ensures spent { self.now.spent ≡ true → IsErr result }
-        ensures memory { IsErr result → self.now.spent ≡ false → is_under_mount (mounts_of self.now) path.now ≡ true }
+        ensures memory { IsErr result
+            → self.now.spent ≡ false
+            → is_under_mount (mounts_of self.now) path.now ≡ true }
     {
         if self.spent {
             return Err(AllocError);

@@ -25,7 +25,9 @@ pub struct Receiver {
 /// A receiver hears the sections that a packet completed, in order.
 #[inline(never)]
 fn hear_all(tuner: &mut Tuner, sections: Vec<Vec<u8>>) -> Result<(), NoMemory>
-    ensures stands { OnOk result ((heard : List Bytes) → tuners.StandsFor tuner.old heard → tuners.StandsFor tuner.new (heard ++ map view_bytes sections.items)) }
+    ensures stands { OnOk result ((heard : List Bytes)
+        → tuners.StandsFor tuner.old heard
+        → tuners.StandsFor tuner.new (heard ++ map view_bytes sections.items)) }
     ensures some { IsErr result → 0 < length sections.items }
 {
     for section in &sections {
@@ -63,10 +65,15 @@ impl Receiver {
     #[inline]
     pub fn hear(&mut self, packet: &[u8; 188]) -> Result<(), NoMemory>
         requires { header_pid packet.now ≡ self.old.mount.pid }
-        ensures receives { OnOk result ((packets : List Bytes) → Receives packets self.old → Receives (packets ++ packet.now ∷ []) self.new) }
+        ensures receives { OnOk result ((packets : List Bytes)
+            → Receives packets self.old
+            → Receives (packets ++ packet.now ∷ []) self.new) }
         ensures mount { self.new.mount ≡ self.old.mount }
-        ensures memory { IsErr result → (packets : List Bytes) → Receives packets self.old
-            → length (candidates self.old.mount.pid packets) < length (candidates self.old.mount.pid (packets ++ packet.now ∷ [])) }
+        ensures memory { IsErr result
+            → (packets : List Bytes)
+            → Receives packets self.old
+            → length (candidates self.old.mount.pid packets)
+            < length (candidates self.old.mount.pid (packets ++ packet.now ∷ [])) }
     {
         let sections = self.demux.feed(packet)?;
         if sections.is_empty() {
@@ -77,7 +84,10 @@ impl Receiver {
 
     /// The answer to what follows the first name of a path.
     pub fn answer(&self, path: &Path) -> Result<Answer, NoMemory>
-        ensures { IfOk result (λ a. (heard : List Bytes) → tuners.StandsFor self.now.tuner heard → a ≡ answer_after heard (drop 1 path.now)) }
+        ensures { IfOk result (λ a.
+            (heard : List Bytes)
+            → tuners.StandsFor self.now.tuner heard
+            → a ≡ answer_after heard (drop 1 path.now)) }
     {
         let rest = rest_of(path)?;
         let shot = self.tuner.shot(0, 0)?;

@@ -53,17 +53,22 @@ impl Source for MemSource {
     fn read(&mut self, into: &mut [u8]) -> Result<usize, Failed>
         requires { 0 < length into.old }
         ensures within { IfOk result (λ n. n ≤ length into.old) }
-        ensures read { IfOk result (λ n. Known (Some (left_of self.old)) (Some (left_of self.new)) (λ before after. Takes before after into.new n)) }
+        ensures read { IfOk result (λ n.
+            Known (Some (left_of self.old)) (Some (left_of self.new)) (λ before after.
+            Takes before after into.new n)) }
         ensures nothing { OnErr result (Some (left_of self.new) ≡ Some (left_of self.old)) }
         ensures later { reads_failed self.old ≤ reads_failed self.new }
         ensures cause { OnErr result (Rose (reads_failed self.old) (reads_failed self.new)) }
         // The plan of failures and pieces.
         ensures planned { IsErr result ↔ Contains (failing_reads self.old) (reads_made self.old) }
-        ensures piece { IfOk result (λ n. n ≡ min (min (read_piece self.old) (length into.old)) (length (left_of self.old))) }
+        ensures piece { IfOk result (λ n.
+            n ≡ min (min (read_piece self.old) (length into.old)) (length (left_of self.old))) }
         ensures alone { IfOk result (λ _. reads_failed self.new ≡ reads_failed self.old) }
-        ensures once { OnErr result (reads_failed self.new ≡ cap_at_u64 (reads_failed self.old + 1)) }
+        ensures once { OnErr result
+            (reads_failed self.new ≡ cap_at_u64 (reads_failed self.old + 1)) }
         ensures made { reads_made self.new ≡ cap_at_u64 (reads_made self.old + 1) }
-        ensures same { (failing_reads self.new ≡ failing_reads self.old) × (read_piece self.new ≡ read_piece self.old) }
+        ensures same { (failing_reads self.new ≡ failing_reads self.old)
+            × (read_piece self.new ≡ read_piece self.old) }
     {
         let call = self.calls;
         self.calls = self.calls.saturating_add(1);
@@ -142,20 +147,28 @@ impl Sink for MemSink {
     fn write(&mut self, from: &[u8]) -> Result<usize, WriteFault>
         requires { 0 < length from.now }
         ensures within { IfOk result (λ n. (0 < n) × (n ≤ length from.now)) }
-        ensures appends { IfOk result (λ n. Known (Some (written_to self.old)) (Some (written_to self.new)) (λ before after. after ≡ before ++ take n from.now)) }
+        ensures appends { IfOk result (λ n.
+            Known (Some (written_to self.old)) (Some (written_to self.new)) (λ before after.
+            after ≡ before ++ take n from.now)) }
         ensures nothing { OnErr result (Some (written_to self.new) ≡ Some (written_to self.old)) }
         ensures later { writes_failed self.old ≤ writes_failed self.new }
-        ensures cause { IsErrOf result WriteFault.Failed → Rose (writes_failed self.old) (writes_failed self.new) }
+        ensures cause { IsErrOf result WriteFault.Failed
+            → Rose (writes_failed self.old) (writes_failed self.new) }
         ensures tried { self.new.is_late ≡ (self.old.has_failed || self.old.is_late) }
         ensures fails { IsErrOf result WriteFault.Failed → self.new.has_failed ≡ true }
-        ensures goes_on { (IsErrOf result WriteFault.Failed → ⊥) → self.new.has_failed ≡ self.old.has_failed }
+        ensures goes_on { (IsErrOf result WriteFault.Failed → ⊥)
+            → self.new.has_failed ≡ self.old.has_failed }
         // The plan of failures and pieces.
-        ensures planned { IsErrOf result WriteFault.Failed ↔ Contains (failing_writes self.old) (writes_made self.old) }
+        ensures planned { IsErrOf result WriteFault.Failed
+            ↔ Contains (failing_writes self.old) (writes_made self.old) }
         ensures piece { IfOk result (λ n. n ≡ min (write_piece self.old) (length from.now)) }
-        ensures alone { (IsErrOf result WriteFault.Failed → ⊥) → writes_failed self.new ≡ writes_failed self.old }
-        ensures once { IsErrOf result WriteFault.Failed → writes_failed self.new ≡ cap_at_u64 (writes_failed self.old + 1) }
+        ensures alone { (IsErrOf result WriteFault.Failed → ⊥)
+            → writes_failed self.new ≡ writes_failed self.old }
+        ensures once { IsErrOf result WriteFault.Failed
+            → writes_failed self.new ≡ cap_at_u64 (writes_failed self.old + 1) }
         ensures made { writes_made self.new ≡ cap_at_u64 (writes_made self.old + 1) }
-        ensures same { (failing_writes self.new ≡ failing_writes self.old) × (write_piece self.new ≡ write_piece self.old) }
+        ensures same { (failing_writes self.new ≡ failing_writes self.old)
+            × (write_piece self.new ≡ write_piece self.old) }
     {
         self.is_late = self.has_failed || self.is_late;
         let call = self.calls;

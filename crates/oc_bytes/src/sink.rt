@@ -37,13 +37,17 @@ pub trait Sink {
     fn write(&mut self, from: &[u8]) -> Result<usize, WriteFault>
         requires { 0 < length from.now }
         ensures within { IfOk result (λ n. (0 < n) × (n ≤ length from.now)) }
-        ensures appends { IfOk result (λ n. Known (written self.old) (written self.new) (λ before after. after ≡ before ++ take n from.now)) }
+        ensures appends { IfOk result (λ n.
+            Known (written self.old) (written self.new) (λ before after.
+            after ≡ before ++ take n from.now)) }
         ensures nothing { OnErr result (written self.new ≡ written self.old) }
         ensures later { faults self.old ≤ faults self.new }
-        ensures cause { IsErrOf result WriteFault.Failed → Rose (faults self.old) (faults self.new) }
+        ensures cause { IsErrOf result WriteFault.Failed
+            → Rose (faults self.old) (faults self.new) }
         ensures tried { late self.new ≡ (failed self.old || late self.old) }
         ensures fails { IsErrOf result WriteFault.Failed → failed self.new ≡ true }
-        ensures goes_on { (IsErrOf result WriteFault.Failed → ⊥) → failed self.new ≡ failed self.old };
+        ensures goes_on { (IsErrOf result WriteFault.Failed → ⊥)
+            → failed self.new ≡ failed self.old };
 
     /// The count of faults, which stays at the greatest `u64`.
     fn faults(&self) -> u64
@@ -53,13 +57,19 @@ pub trait Sink {
 /// Writes all of the bytes, in as many calls as the sink needs. After a fault a prefix of them was
 /// written.
 pub fn write_all<K: Sink>(sink: &mut K, from: &[u8]) -> Result<(), WriteFault>
-    ensures ok { OnOk result (Known (K.written sink.old) (K.written sink.new) (λ before after. after ≡ before ++ from.now)) }
-    ensures err { OnErr result (Known (K.written sink.old) (K.written sink.new) (λ before after. AppendsPrefix before after from.now)) }
+    ensures ok { OnOk result
+        (Known (K.written sink.old) (K.written sink.new) (λ before after.
+        after ≡ before ++ from.now)) }
+    ensures err { OnErr result
+        (Known (K.written sink.old) (K.written sink.new) (λ before after.
+        AppendsPrefix before after from.now)) }
     ensures later { K.faults sink.old ≤ K.faults sink.new }
-    ensures cause { IsErrOf result WriteFault.Failed → Rose (K.faults sink.old) (K.faults sink.new) }
+    ensures cause { IsErrOf result WriteFault.Failed
+        → Rose (K.faults sink.old) (K.faults sink.new) }
     ensures in_time { K.failed sink.old ≡ false → K.late sink.new ≡ K.late sink.old }
     ensures fails { IsErrOf result WriteFault.Failed → K.failed sink.new ≡ true }
-    ensures goes_on { (IsErrOf result WriteFault.Failed → ⊥) → K.failed sink.new ≡ K.failed sink.old }
+    ensures goes_on { (IsErrOf result WriteFault.Failed → ⊥)
+        → K.failed sink.new ≡ K.failed sink.old }
 {
     let mut done = 0;
     while done < from.len() {

@@ -26,7 +26,8 @@ pub trait Source {
     fn read(&mut self, into: &mut [u8]) -> Result<usize, Failed>
         requires { 0 < length into.old }
         ensures within { IfOk result (λ n. n ≤ length into.old) }
-        ensures read { IfOk result (λ n. Known (left self.old) (left self.new) (λ before after. Takes before after into.new n)) }
+        ensures read { IfOk result (λ n.
+            Known (left self.old) (left self.new) (λ before after. Takes before after into.new n)) }
         ensures nothing { OnErr result (left self.new ≡ left self.old) }
         ensures later { faults self.old ≤ faults self.new }
         ensures cause { OnErr result (Rose (faults self.old) (faults self.new)) };

@@ -77,8 +77,13 @@ impl Answers {
 
     /// The answer that is kept of the path of this text, if there is one and it can be shared.
     fn find(&mut self, text: &str) -> Option<Answer>
-        ensures found { (held : Held) (path : PathNames) → AreAnswersOn held self.old.kept.entries → path_of text.now ≡ Ok path → IfSome result (λ answer. answer ≡ answer_of held path) }
-        ensures kept { (held : Held) → AreAnswersOn held self.old.kept.entries → AreAnswersOn held self.new.kept.entries }
+        ensures found { (held : Held) (path : PathNames)
+            → AreAnswersOn held self.old.kept.entries
+            → path_of text.now ≡ Ok path
+            → IfSome result (λ answer. answer ≡ answer_of held path) }
+        ensures kept { (held : Held)
+            → AreAnswersOn held self.old.kept.entries
+            → AreAnswersOn held self.new.kept.entries }
         ensures on { self.new.on ≡ self.old.on }
     {
         let answer = self.kept.get(text)?;
@@ -87,7 +92,11 @@ impl Answers {
 
     /// Keeps the answer to the path of this text, if it can be shared and there is memory.
     fn keep(&mut self, text: String, answer: &Answer)
-        ensures kept { (held : Held) (path : PathNames) → AreAnswersOn held self.old.kept.entries → path_of (string_bytes text) ≡ Ok path → answer.now ≡ answer_of held path → AreAnswersOn held self.new.kept.entries }
+        ensures kept { (held : Held) (path : PathNames)
+            → AreAnswersOn held self.old.kept.entries
+            → path_of (string_bytes text) ≡ Ok path
+            → answer.now ≡ answer_of held path
+            → AreAnswersOn held self.new.kept.entries }
         ensures on { self.new.on ≡ self.old.on }
     {
         let Ok(answer) = answer.share() else { return };

@@ -21,7 +21,9 @@ pub struct OpenEntry {
 impl OpenEntry {
     /// The open of a path that has this answer on this shot.
     pub(crate) fn on(shot: &Shot, path: Path, answer: Answer) -> OpenEntry
-        ensures shot { (result.shot ≡ shot.now.number) × (result.draws ≡ shot.now.draws) × (result.label ≡ shot.now.label) }
+        ensures shot { (result.shot ≡ shot.now.number)
+            × (result.draws ≡ shot.now.draws)
+            × (result.label ≡ shot.now.label) }
         ensures answer { (result.path ≡ path) × (result.answer ≡ answer) }
     {
         OpenEntry {

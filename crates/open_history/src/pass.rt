@@ -30,9 +30,13 @@ impl Model for ReaderPass {
 
     ghost Value = { ReaderView };
 
-    ghost view = { λ r. reader_view r.reader r.room r.viewer r.opens.items (length r.answers.kept.entries) };
+    ghost view = { λ r.
+        reader_view r.reader r.room r.viewer r.opens.items (length r.answers.kept.entries) };
 
-    ghost invariant = { λ r. AllAnswered (known_of r.viewer) r.opens.items × (r.room ≤ vec_capacity r.opens) × AreAnswersIn (known_of r.viewer) r.answers.on r.answers.kept.entries };
+    ghost invariant = { λ r.
+        AllAnswered (known_of r.viewer) r.opens.items
+        × (r.room ≤ vec_capacity r.opens)
+        × AreAnswersIn (known_of r.viewer) r.answers.on r.answers.kept.entries };
 }
 
 impl ReaderPass {
@@ -90,8 +94,11 @@ impl ReaderPass {
     /// Tells the pass of the list of a prefix of its own board. What it knows stays. It takes no memory.
     pub fn learn(&mut self, front: Front<Shot>)
         requires { front_board front ≡ self.old.board }
-        ensures same { IsSameReader self.old self.new × (self.new.known ≡ self.old.known) × (self.new.opens ≡ self.old.opens) }
-        ensures told { IsPrefix self.old.told self.new.told × IsPrefix (shots_in front) self.new.told }
+        ensures same { IsSameReader self.old self.new
+            × (self.new.known ≡ self.old.known)
+            × (self.new.opens ≡ self.old.opens) }
+        ensures told { IsPrefix self.old.told self.new.told
+            × IsPrefix (shots_in front) self.new.told }
     {
         self.viewer.learn(front);
     }
@@ -99,8 +106,11 @@ impl ReaderPass {
     /// Takes a shot, and opens nothing. Out of memory is the only refusal, and leaves what the pass knows. It comes only where the
     /// pass stays behind a list that it was told of, as after the shower was closed.
     pub fn look(&mut self) -> Result<(), NoMemory>
-        ensures same { IsSameReader self.old self.new × (self.new.told ≡ self.old.told) × (self.new.opens ≡ self.old.opens) }
-        ensures known { IsPrefix self.old.known self.new.known × (length self.new.known ≤ self.new.most + 1) }
+        ensures same { IsSameReader self.old self.new
+            × (self.new.told ≡ self.old.told)
+            × (self.new.opens ≡ self.old.opens) }
+        ensures known { IsPrefix self.old.known self.new.known
+            × (length self.new.known ≤ self.new.most + 1) }
         ensures told { OnOk result (IsPrefix self.old.told self.new.known) }
         ensures refused { OnErr result (self.new.known ≡ self.old.known) }
         ensures memory { OnErr result (IsBehind self.new) }
@@ -118,10 +128,15 @@ impl ReaderPass {
     pub fn open_path(&mut self, path: Path) -> Result<usize, (NoMemory, Path)>
         requires { length self.old.opens < self.old.room }
         ensures same { IsSameReader self.old self.new × (self.new.told ≡ self.old.told) }
-        ensures known { IsPrefix self.old.known self.new.known × (length self.new.known ≤ self.new.most + 1) }
+        ensures known { IsPrefix self.old.known self.new.known
+            × (length self.new.known ≤ self.new.most + 1) }
         ensures told { OnOk result (IsPrefix self.old.told self.new.known) }
         ensures place { IfOk result (λ place. place ≡ length self.old.opens) }
-        ensures open { OnOk result ((made : OpenEntry) × (self.new.opens ≡ self.old.opens ++ made ∷ []) × (made.path ≡ path) × (made.shot + 1 ≡ length self.new.known) × Answered self.new.known made) }
+        ensures open { OnOk result ((made : OpenEntry)
+            × (self.new.opens ≡ self.old.opens ++ made ∷ [])
+            × (made.path ≡ path)
+            × (made.shot + 1 ≡ length self.new.known)
+            × Answered self.new.known made) }
         ensures refused { OnErr result (self.new.opens ≡ self.old.opens) }
         ensures back { IfErr result (λ refused. refused.1 ≡ path) }
         ensures memory { OnErr result (IsBehind self.new ⊎ SharesOnLast self.new.known path) }

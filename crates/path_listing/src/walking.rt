@@ -26,8 +26,10 @@ pub struct Listing {
 ///
 /// Out of memory is the only refusal. These rules are this project's own.
 pub fn listed_paths(alloc: Global, shot: &Shot) -> Result<Listing, NoMemory>
-    ensures paths { IfOk result (λ l. l.paths.items ≡ take MOST_LISTED (all_paths (answer_of (held_of shot.now)))) }
-    ensures whole { IfOk result (λ l. l.whole ≡ nat_le (length (all_paths (answer_of (held_of shot.now)))) MOST_LISTED) }
+    ensures paths { IfOk result (λ l.
+        l.paths.items ≡ take MOST_LISTED (all_paths (answer_of (held_of shot.now)))) }
+    ensures whole { IfOk result (λ l.
+        l.whole ≡ nat_le (length (all_paths (answer_of (held_of shot.now)))) MOST_LISTED) }
 {
     let Ok(root) = Path::parse(alloc, b"/") else {
         return Err(AllocError);
@@ -41,7 +43,9 @@ pub fn listed_paths(alloc: Global, shot: &Shot) -> Result<Listing, NoMemory>
 #[cycle(list)]
 fn list_from(shot: &Shot, path: Path, paths: &mut Vec<Path>) -> Result<bool, NoMemory>
     requires { length paths.old.items ≤ MOST_LISTED }
-    ensures { IfOk result (λ whole. Lists (walk (answer_of (held_of shot.now)) (MOST_NAMES - length path) path) paths.old.items paths.new.items whole) }
+    ensures { IfOk result (λ whole.
+        Lists (walk (answer_of (held_of shot.now)) (MOST_NAMES - length path) path) paths.old.items
+        paths.new.items whole) }
 {
     if paths.len() == MOST_LISTED {
         return Ok(false);
@@ -68,7 +72,10 @@ fn list_names(
 ) -> Result<bool, NoMemory>
     requires room { length path.now < MOST_NAMES }
     requires few { length paths.old.items ≤ MOST_LISTED }
-    ensures { IfOk result (λ whole. Lists (paths_below (answer_of (held_of shot.now)) (15 - length path.now) path.now folder.now) paths.old.items paths.new.items whole) }
+    ensures { IfOk result (λ whole.
+        Lists
+        (paths_below (answer_of (held_of shot.now)) (15 - length path.now) path.now folder.now)
+        paths.old.items paths.new.items whole) }
 {
     for i in 0..folder.count() {
         let name = folder.name(i);
@@ -92,7 +99,9 @@ fn list_below(
 ) -> Result<bool, NoMemory>
     requires room { length path.now < MOST_NAMES }
     requires few { length paths.old.items ≤ MOST_LISTED }
-    ensures { IfOk result (λ whole. Lists (paths_by (answer_of (held_of shot.now)) (15 - length path.now) path.now name.now) paths.old.items paths.new.items whole) }
+    ensures { IfOk result (λ whole.
+        Lists (paths_by (answer_of (held_of shot.now)) (15 - length path.now) path.now name.now)
+        paths.old.items paths.new.items whole) }
 {
     match path.below(name)? {
         Some(below) => list_from(shot, below, paths),

@@ -80,7 +80,8 @@ fn module_at<'a, H: Holding>(
     carousel: u32,
     target: &Target,
 ) -> Result<&'a Arc<Module>, Answer>
-    ensures { MatchResult result (λ m. IsModuleAt carousel (H.state held.now) (view_target target.now) (arc_value m.now))
+    ensures { MatchResult result
+        (λ m. IsModuleAt carousel (H.state held.now) (view_target target.now) (arc_value m.now))
         (λ a. IsNoModule carousel (H.state held.now) (view_target target.now) a) }
 {
     let id = target.location.module;
@@ -103,8 +104,14 @@ fn module_at<'a, H: Holding>(
 
 /// The answer at a location's object, where no name is left.
 fn object_answer(module: &Arc<Module>, location: &Location) -> Result<Answer, NoMemory>
-    ensures answer { IfOk result (λ a. a ≡ resolving.answer_at_end location.now.module (arc_value module.now) (found_of (arc_value module.now) location.now.key)) }
-    ensures memory { OnErr result (IsTrue (is_shared (resolving.answer_at_end location.now.module (arc_value module.now) (found_of (arc_value module.now) location.now.key)))) }
+    ensures answer { IfOk result (λ a.
+        a ≡ resolving.answer_at_end location.now.module (arc_value module.now)
+        (found_of (arc_value module.now) location.now.key)) }
+    ensures memory { OnErr result
+        (IsTrue
+        (is_shared
+        (resolving.answer_at_end location.now.module (arc_value module.now)
+        (found_of (arc_value module.now) location.now.key)))) }
 {
     let id = location.module;
     match module.find(location.key.bytes()) {
@@ -118,8 +125,10 @@ fn object_answer(module: &Arc<Module>, location: &Location) -> Result<Answer, No
 
 /// The answer at a location, where no name is left.
 fn end_of<H: Holding>(held: &H, carousel: u32, target: &Target) -> Result<Answer, NoMemory>
-    ensures answer { IfOk result (λ a. a ≡ last carousel (H.state held.now) (view_target target.now)) }
-    ensures memory { OnErr result (IsTrue (is_shared (last carousel (H.state held.now) (view_target target.now)))) }
+    ensures answer { IfOk result (λ a.
+        a ≡ last carousel (H.state held.now) (view_target target.now)) }
+    ensures memory { OnErr result
+        (IsTrue (is_shared (last carousel (H.state held.now) (view_target target.now)))) }
 {
     match module_at(held, carousel, target) {
         Ok(module) => object_answer(module, target.location),
@@ -146,7 +155,8 @@ fn along(binding: Option<&Binding>) -> Step<'_>
 /// Where a name leads from a location's object.
 #[tactic(auto, using(crate::proofs::Finding::folder_goes))]
 fn next_in<'a>(module: &'a Arc<Module>, location: &Location, name: &[u8]) -> Step<'a>
-    ensures { ObjectGoes name.now location.now.module (arc_value module.now) (found_of (arc_value module.now) location.now.key) result }
+    ensures { ObjectGoes name.now location.now.module (arc_value module.now)
+        (found_of (arc_value module.now) location.now.key) result }
 {
     let id = location.module;
     match module.find(location.key.bytes()) {
@@ -170,8 +180,14 @@ fn leads<'a, H: Holding>(held: &'a H, carousel: u32, target: &Target, name: &[u8
 
 /// The walk from the gateway along all names.
 fn walk_from<H: Holding>(held: &H, gateway: &Gateway, path: &Path) -> Result<Answer, NoMemory>
-    ensures answer { IfOk result (λ a. a ≡ walk gateway.now.location.carousel (H.state held.now) path.now (gateway.now.location, gateway.now.delivery)) }
-    ensures memory { OnErr result (IsTrue (is_shared (walk gateway.now.location.carousel (H.state held.now) path.now (gateway.now.location, gateway.now.delivery)))) }
+    ensures answer { IfOk result (λ a.
+        a ≡ walk gateway.now.location.carousel (H.state held.now) path.now
+        (gateway.now.location, gateway.now.delivery)) }
+    ensures memory { OnErr result
+        (IsTrue
+        (is_shared
+        (walk gateway.now.location.carousel (H.state held.now) path.now
+        (gateway.now.location, gateway.now.delivery)))) }
 {
     let carousel = gateway.location.carousel;
     let mut target = Target {
@@ -189,7 +205,9 @@ fn walk_from<H: Holding>(held: &H, gateway: &Gateway, path: &Path) -> Result<Ans
 
 /// The module of the last location on the walk along all names, where the walk comes so far.
 fn home_from<H: Holding>(held: &H, gateway: &Gateway, path: &Path) -> Option<u16>
-    ensures { result ≡ module_at_end (last_target gateway.now.location.carousel (H.state held.now) path.now (Some (gateway.now.location, gateway.now.delivery))) }
+    ensures { result ≡ module_at_end
+        (last_target gateway.now.location.carousel (H.state held.now) path.now
+        (Some (gateway.now.location, gateway.now.delivery))) }
 {
     let carousel = gateway.location.carousel;
     let mut target = Target {

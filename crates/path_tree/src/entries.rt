@@ -142,7 +142,8 @@ fn list_name(names: &mut Vec<Name>, name: &Name) -> Result<(), NoMemory>
 
 /// The next names below the path of entries that all lie below it, each once.
 fn next_names(alloc: Global, entries: &[(Path, Entry)], path: &Path) -> Result<Vec<Name>, NoMemory>
-    ensures names { IfOk result (λ names. names.items ≡ dedup same_name (next_names entries.now path.now)) }
+    ensures names { IfOk result (λ names.
+        names.items ≡ dedup same_name (next_names entries.now path.now)) }
     ensures no_memory { OnErr result (next_names entries.now path.now ≢ []) }
 {
     let mut names = Vec::new(alloc);

@@ -163,7 +163,8 @@ pub(crate) fn read_names(alloc: Global, text: &[u8]) -> Result<Vec<Name>, PathFa
     requires { 0 < length text.now }
     ensures read { Gives (λ names. names.items) text_cause result (names_after (drop 1 text.now)) }
     ensures path { IfOk result (λ names. IsPath names.items) }
-    ensures no_memory { IsErrOf result PathFault.NoMemory → verdict_of (names_after (drop 1 text.now)) ≡ Ok tt }
+    ensures no_memory { IsErrOf result PathFault.NoMemory
+        → verdict_of (names_after (drop 1 text.now)) ≡ Ok tt }
 {
     check_names(text)?;
     let mut names = Vec::new(alloc);

@@ -227,7 +227,8 @@ impl Tree {
 
     /// The number of the entry at a path, as `entries` counts them from 0, or none where the path maps to nothing.
     pub fn find(&self, path: &Path) -> Option<usize>
-        ensures found { IfSome result (λ i. option_map (λ e. e.0) (slice_get self.now i) ≡ Some path.now) }
+        ensures found { IfSome result (λ i.
+            option_map (λ e. e.0) (slice_get self.now i) ≡ Some path.now) }
         ensures none { IfNone result (entry_at self.now path.now ≡ None) }
     {
         let entries = self.entries.as_slice();
@@ -249,8 +250,10 @@ impl Tree {
     /// comes only where a file or a folder that isn't empty stands there.
     pub fn lookup(&self, path: &Path) -> Result<Lookup, NoMemory>
         ensures node { IfOk result (λ found. view_lookup found ≡ node_at self.now path.now) }
-        ensures listing { IfOk result (λ found. IfFolder (view_lookup found) (IsListing self.now path.now)) }
-        ensures no_memory { OnErr result ((node_at self.now path.now ≢ NoSuch) × (node_at self.now path.now ≢ Folder [])) }
+        ensures listing { IfOk result (λ found.
+            IfFolder (view_lookup found) (IsListing self.now path.now)) }
+        ensures no_memory { OnErr result ((node_at self.now path.now ≢ NoSuch)
+            × (node_at self.now path.now ≢ Folder [])) }
     {
         let entries = self.entries.as_slice();
         let place = place_of(entries, path);
@@ -291,7 +294,8 @@ fn count_made(entries: &[(Path, Entry)]) -> usize
 
 /// File number `i` among these entries, where there are so many.
 fn file_at(entries: &[(Path, Entry)], i: usize) -> Option<(&Path, &Blob)>
-    ensures { option_map (λ file. (file.0.now, file.1.now)) result ≡ slice_get (files_in entries.now) i }
+    ensures { option_map (λ file. (file.0.now, file.1.now)) result
+        ≡ slice_get (files_in entries.now) i }
 {
     let mut left = i;
     for (path, entry) in entries {
@@ -476,7 +480,8 @@ fn make(entries: &mut Vec<(Path, Entry)>, place: usize, edit: &Edit) -> Result<(
 fn apply_one(entries: &mut Vec<(Path, Entry)>, edit: &Edit) -> Result<Option<EditFault>, NoMemory>
     requires { IsTree entries.old.items }
     ensures fault { IfOk result (λ fault. fault ≡ fault_of entries.old.items edit.now) }
-    ensures done { IfOk result (λ fault. IfNone fault (entries.new.items ≡ after_edit entries.old.items edit.now)) }
+    ensures done { IfOk result (λ fault.
+        IfNone fault (entries.new.items ≡ after_edit entries.old.items edit.now)) }
     ensures tree { IfOk result (λ fault. IfNone fault (IsTree entries.new.items)) }
     ensures same { IfOk result (λ fault. OnSome fault (entries.new.items ≡ entries.old.items)) }
 {

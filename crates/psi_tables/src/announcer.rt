@@ -30,7 +30,10 @@ impl Model for Announcer {
 
     ghost view = { λ a. record { carousel = a.carousel; tables = a.tables; maps = a.maps } };
 
-    ghost invariant = { λ a. (a.carousel < 4294967296) × (a.pat.items ≡ pat_spelling) × (a.pmt.items ≡ pmt_spelling a.carousel) };
+    ghost invariant = { λ a.
+        (a.carousel < 4294967296)
+        × (a.pat.items ≡ pat_spelling)
+        × (a.pmt.items ≡ pmt_spelling a.carousel) };
 }
 
 impl Announcer {
@@ -54,7 +57,8 @@ impl Announcer {
     ///
     /// After `NoMemory` `out` may have the packets of the PAT, and nothing more is said of the counters.
     pub fn packets(&mut self, out: &mut Vec<[u8; 188]>) -> Result<(), NoMemory>
-        ensures packets { OnOk result (out.new.items ≡ out.old.items ++ announcer_packets self.old) }
+        ensures packets { OnOk result
+            (out.new.items ≡ out.old.items ++ announcer_packets self.old) }
         ensures counters { OnOk result (self.new ≡ after_announcing self.old) }
     {
         send(&mut self.tables, &self.pat, out)?;
@@ -65,7 +69,8 @@ impl Announcer {
 /// Sends a table as a group of its own.
 fn send(mux: &mut Mux, table: &[u8], out: &mut Vec<[u8; 188]>) -> Result<(), NoMemory>
     requires { IsSectionLike table.now }
-    ensures packets { OnOk result (out.new.items ≡ out.old.items ++ packets_of_table mux.old table.now) }
+    ensures packets { OnOk result
+        (out.new.items ≡ out.old.items ++ packets_of_table mux.old table.now) }
     ensures counters { OnOk result (mux.new ≡ past_table mux.old table.now) }
 {
     mux.packets(table, out)?;

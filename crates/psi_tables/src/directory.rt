@@ -42,7 +42,8 @@ fn is_program(line: PatLine) -> bool
 
 /// The place of the section of this version and number.
 fn place_of(sections: &[Pat], version: u8, number: u8) -> Option<usize>
-    ensures { result ≡ position_from (λ p. (p.version == version) && (p.number == number)) 0 sections.now }
+    ensures { result ≡ position_from (λ p. (p.version == version) && (p.number == number)) 0
+        sections.now }
 {
     sections
         .iter()
@@ -51,7 +52,10 @@ fn place_of(sections: &[Pat], version: u8, number: u8) -> Option<usize>
 
 /// Puts a section in the place of the one before of its version and number, or after all.
 fn note(sections: &mut Vec<Pat>, pat: Pat) -> Result<(), AllocError>
-    ensures { OnOk result (map view_pat sections.new.items ≡ put (is_section pat.version pat.number) (view_pat pat) (map view_pat sections.old.items)) }
+    ensures { OnOk result
+        (map view_pat sections.new.items
+        ≡ put (is_section pat.version pat.number) (view_pat pat)
+        (map view_pat sections.old.items)) }
 {
     match place_of(sections, pat.version, pat.number) {
         Some(place) => sections[place] = pat,
@@ -76,8 +80,10 @@ fn is_wanted(followed: &[Followed], line: PatLine) -> bool
 
 /// Follows the PID of a line from the next packet on, where it is wanted.
 fn follow(alloc: Global, followed: &mut Vec<Followed>, line: PatLine) -> Result<(), NoMemory>
-    ensures { OnOk result ((carousel : ℕ) (packets : List Bytes) (before : List (ℕ × ℕ)) → FollowsEach carousel packets (map view_followed followed.old.items) (choose before)
-        → FollowsEach carousel packets (map view_followed followed.new.items) (choose (before ++ listed_pids (length packets) (line ∷ [])))) }
+    ensures { OnOk result ((carousel : ℕ) (packets : List Bytes) (before : List (ℕ × ℕ))
+        → FollowsEach carousel packets (map view_followed followed.old.items) (choose before)
+        → FollowsEach carousel packets (map view_followed followed.new.items)
+        (choose (before ++ listed_pids (length packets) (line ∷ [])))) }
 {
     if !is_wanted(followed, line) {
         return Ok(());
@@ -97,8 +103,10 @@ fn follow_all(
     followed: &mut Vec<Followed>,
     lines: &[PatLine],
 ) -> Result<(), NoMemory>
-    ensures { OnOk result ((carousel : ℕ) (packets : List Bytes) (before : List (ℕ × ℕ)) → FollowsEach carousel packets (map view_followed followed.old.items) (choose before)
-        → FollowsEach carousel packets (map view_followed followed.new.items) (choose (before ++ listed_pids (length packets) lines.now))) }
+    ensures { OnOk result ((carousel : ℕ) (packets : List Bytes) (before : List (ℕ × ℕ))
+        → FollowsEach carousel packets (map view_followed followed.old.items) (choose before)
+        → FollowsEach carousel packets (map view_followed followed.new.items)
+        (choose (before ++ listed_pids (length packets) lines.now))) }
 {
     for line in lines {
         follow(alloc, followed, *line)?;
@@ -115,7 +123,9 @@ fn feed_all(
     packet: &[u8; 188],
 ) -> Result<bool, NoMemory>
     requires { pid_of packet.now ≡ Some pid }
-    ensures { IfOk result (λ completed. Each (Heard carousel packet.now completed) (map view_followed followed.old) (map view_followed followed.new)) }
+    ensures { IfOk result (λ completed.
+        Each (Heard carousel packet.now completed) (map view_followed followed.old)
+        (map view_followed followed.new)) }
 {
     let mut completed = false;
     for one in followed.iter_mut() {
@@ -128,7 +138,8 @@ fn feed_all(
 
 /// The section of this version and number.
 fn section_of(sections: &[Pat], version: u8, number: u8) -> Option<&Pat>
-    ensures { option_map (λ p. p.now) result ≡ find (λ p. (p.version == version) && (p.number == number)) sections.now }
+    ensures { option_map (λ p. p.now) result
+        ≡ find (λ p. (p.version == version) && (p.number == number)) sections.now }
 {
     sections
         .iter()
@@ -170,8 +181,11 @@ fn named_by_lines(followed: &[Followed], lines: &[PatLine]) -> Option<u16>
 impl Directory {
     /// Takes a section that came on PID 0. One that is no PAT section changes nothing.
     pub fn take(&mut self, section: &[u8]) -> Result<(), NoMemory>
-        ensures keeps { OnOk result ((packets : List Bytes) (pats : List PatFields) (before : List (ℕ × ℕ)) → Keeps packets (view_directory self.old) pats before
-            → Keeps packets (view_directory self.new) (pats ++ finding.list_of (pat_in section.now)) (before ++ listed_pids (length packets) (lines_in_section (pat_in section.now)))) }
+        ensures keeps { OnOk result ((packets : List Bytes) (pats : List PatFields)
+            (before : List (ℕ × ℕ))
+            → Keeps packets (view_directory self.old) pats before
+            → Keeps packets (view_directory self.new) (pats ++ finding.list_of (pat_in section.now))
+            (before ++ listed_pids (length packets) (lines_in_section (pat_in section.now)))) }
         ensures carousel { self.new.carousel ≡ self.old.carousel }
     {
         let pat = match decode_pat(self.alloc, section) {
@@ -186,8 +200,12 @@ impl Directory {
 
     /// Takes the sections that came on PID 0, in order.
     pub fn take_all(&mut self, sections: &[Vec<u8>]) -> Result<(), NoMemory>
-        ensures keeps { OnOk result ((packets : List Bytes) (pats : List PatFields) (before : List (ℕ × ℕ)) → Keeps packets (view_directory self.old) pats before
-            → Keeps packets (view_directory self.new) (pats ++ finding.pats_among (map view_bytes sections.now)) (before ++ finding.listed_by (length packets) (map view_bytes sections.now))) }
+        ensures keeps { OnOk result ((packets : List Bytes) (pats : List PatFields)
+            (before : List (ℕ × ℕ))
+            → Keeps packets (view_directory self.old) pats before
+            → Keeps packets (view_directory self.new)
+            (pats ++ finding.pats_among (map view_bytes sections.now))
+            (before ++ finding.listed_by (length packets) (map view_bytes sections.now))) }
         ensures carousel { self.new.carousel ≡ self.old.carousel }
     {
         for section in sections {
@@ -199,9 +217,14 @@ impl Directory {
     /// Takes a packet of the PID `pid` where it is followed. Answers whether it completed a section there.
     pub fn feed(&mut self, pid: u16, packet: &[u8; 188]) -> Result<bool, NoMemory>
         requires { pid_of packet.now ≡ Some pid }
-        ensures followed { IfOk result (λ completed. Each (Heard self.old.carousel packet.now completed) (view_directory self.old).followed (view_directory self.new).followed) }
-        ensures rest { (self.new.carousel ≡ self.old.carousel) × (self.new.newest ≡ self.old.newest) × (map view_pat self.new.sections.items ≡ map view_pat self.old.sections.items) }
-        ensures memory { IsErr result → list_any (λ f. f.pid == pid) self.old.followed.items ≡ true }
+        ensures followed { IfOk result (λ completed.
+            Each (Heard self.old.carousel packet.now completed) (view_directory self.old).followed
+            (view_directory self.new).followed) }
+        ensures rest { (self.new.carousel ≡ self.old.carousel)
+            × (self.new.newest ≡ self.old.newest)
+            × (map view_pat self.new.sections.items ≡ map view_pat self.old.sections.items) }
+        ensures memory { IsErr result
+            → list_any (λ f. f.pid == pid) self.old.followed.items ≡ true }
     {
         if !is_followed(&self.followed, pid) {
             return Ok(false);
@@ -224,7 +247,8 @@ impl Directory {
 
     /// The first stream that the lines of one section name.
     fn named_in_section(&self, version: u8, number: u8) -> Option<u16>
-        ensures { result ≡ finding.first_named (named_by (view_directory self.now).followed) (lines_in_section (section_kept (view_directory self.now).sections version number)) }
+        ensures { result ≡ finding.first_named (named_by (view_directory self.now).followed)
+            (lines_in_section (section_kept (view_directory self.now).sections version number)) }
     {
         match section_of(&self.sections, version, number) {
             Some(pat) => named_by_lines(&self.followed, &pat.lines),
@@ -234,7 +258,9 @@ impl Directory {
 
     /// The first stream that the lines of the table of this version name.
     fn first_named(&self, version: u8) -> Option<u16>
-        ensures { result ≡ finding.first_named (named_by (view_directory self.now).followed) (finding.lines_of_sections (section_kept (view_directory self.now).sections version) 256) }
+        ensures { result ≡ finding.first_named (named_by (view_directory self.now).followed)
+            (finding.lines_of_sections (section_kept (view_directory self.now).sections version)
+            256) }
     {
         for number in 0..256u16 {
             if let Some(pid) = self.named_in_section(version, number as u8) {

@@ -69,11 +69,16 @@ impl Finder {
     /// `NoMemory` comes only of a packet with a payload on PID 0 or on a followed PID. After it the finder is spent: each later call answers
     /// `NoMemory`, and nothing more is said of what it finds.
     pub fn feed(&mut self, packet: &[u8; 188]) -> Result<(), NoMemory>
-        ensures stands { OnOk result ((packets : List Bytes) → StandsFor self.old packets → StandsFor self.new (packets ++ packet.now ∷ [])) }
+        ensures stands { OnOk result ((packets : List Bytes)
+            → StandsFor self.old packets
+            → StandsFor self.new (packets ++ packet.now ∷ [])) }
         ensures carousel { OnOk result (self.new.directory.carousel ≡ self.old.directory.carousel) }
         ensures spent { OnErr result (self.new.spent ≡ true) }
         ensures stays { self.old.spent ≡ true → IsErr result }
-        ensures memory { IsErr result → (packets : List Bytes) → StandsFor self.old packets → is_heard packets packet.now ≡ true }
+        ensures memory { IsErr result
+            → (packets : List Bytes)
+            → StandsFor self.old packets
+            → is_heard packets packet.now ≡ true }
     {
         if self.spent {
             return Err(AllocError);
@@ -86,10 +91,15 @@ impl Finder {
 
     /// Takes one packet on each PID.
     fn hear(&mut self, packet: &[u8; 188]) -> Result<(), NoMemory>
-        ensures holds { OnOk result ((packets : List Bytes) → Holds self.old packets → Holds self.new (packets ++ packet.now ∷ [])) }
+        ensures holds { OnOk result ((packets : List Bytes)
+            → Holds self.old packets
+            → Holds self.new (packets ++ packet.now ∷ [])) }
         ensures carousel { OnOk result (self.new.directory.carousel ≡ self.old.directory.carousel) }
         ensures spent { self.new.spent ≡ self.old.spent }
-        ensures memory { IsErr result → (packets : List Bytes) → Holds self.old packets → is_heard packets packet.now ≡ true }
+        ensures memory { IsErr result
+            → (packets : List Bytes)
+            → Holds self.old packets
+            → is_heard packets packet.now ≡ true }
     {
         let Some(pid) = pid_of(packet) else {
             return Ok(());
@@ -117,7 +127,8 @@ impl Finder {
 
     /// Where the carousel is: what is kept may have changed since it was found last where a section was completed.
     fn answer(&self, completed: bool, listed: bool) -> Find
-        ensures { result ≡ (if completed || listed then found_by self.now.directory else self.now.found) }
+        ensures { result ≡ (if completed
+            || listed then found_by self.now.directory else self.now.found) }
     {
         if completed || listed {
             self.directory.search()
@@ -128,7 +139,9 @@ impl Finder {
 
     /// Where the carousel is, by all packets so far. It takes no memory.
     pub fn find(&self) -> Find
-        ensures { (packets : List Bytes) → StandsFor self.now packets → result ≡ found_in self.now.directory.carousel packets }
+        ensures { (packets : List Bytes)
+            → StandsFor self.now packets
+            → result ≡ found_in self.now.directory.carousel packets }
     {
         self.found
     }

@@ -41,7 +41,8 @@ fn is_named(carousels: &[u32], carousel: u32) -> bool
 
 /// The first stream that names the carousel.
 fn line_naming(lines: &[PmtLine], carousel: u32) -> Option<&PmtLine>
-    ensures { option_map (λ l. l.now) result ≡ find (λ l. finding.is_in carousel l.carousels.items) lines.now }
+    ensures { option_map (λ l. l.now) result
+        ≡ find (λ l. finding.is_in carousel l.carousels.items) lines.now }
 {
     lines
         .iter()
@@ -67,7 +68,8 @@ fn place_of(programs: &[Program], program: u16) -> Option<usize>
 
 /// Puts a program's entry in the place of the one before, or after all.
 fn note(programs: &mut Vec<Program>, entry: Program) -> Result<(), AllocError>
-    ensures { OnOk result (programs.new.items ≡ put (λ e. e.program == entry.program) entry programs.old.items) }
+    ensures { OnOk result
+        (programs.new.items ≡ put (λ e. e.program == entry.program) entry programs.old.items) }
 {
     match place_of(programs, entry.program) {
         Some(place) => programs[place] = entry,
@@ -96,7 +98,9 @@ pub fn named_for_program(programs: &[Program], program: u16) -> Option<u16>
 impl Followed {
     /// Takes a section that came on the PID. One that is no map table changes nothing.
     fn take(&mut self, alloc: Global, carousel: u32, section: &[u8]) -> Result<(), NoMemory>
-        ensures programs { OnOk result (self.new.programs.items ≡ after_pmt carousel self.old.programs.items (finding.pmt_in section.now)) }
+        ensures programs { OnOk result
+            (self.new.programs.items
+            ≡ after_pmt carousel self.old.programs.items (finding.pmt_in section.now)) }
         ensures pid { self.new.pid ≡ self.old.pid }
         ensures demux { self.new.demux ≡ self.old.demux }
     {
@@ -119,7 +123,9 @@ impl Followed {
         carousel: u32,
         sections: &[Vec<u8>],
     ) -> Result<(), NoMemory>
-        ensures programs { OnOk result (self.new.programs.items ≡ after_pmts carousel self.old.programs.items (map view_bytes sections.now)) }
+        ensures programs { OnOk result
+            (self.new.programs.items
+            ≡ after_pmts carousel self.old.programs.items (map view_bytes sections.now)) }
         ensures pid { self.new.pid ≡ self.old.pid }
         ensures demux { self.new.demux ≡ self.old.demux }
     {
@@ -138,9 +144,12 @@ impl Followed {
         packet: &[u8; 188],
     ) -> Result<bool, NoMemory>
         requires { pid_of packet.now ≡ Some pid }
-        ensures hears { OnOk result ((packets : List Bytes) → Hears carousel (view_followed self.old) packets → Hears carousel (view_followed self.new) (packets ++ packet.now ∷ [])) }
+        ensures hears { OnOk result ((packets : List Bytes)
+            → Hears carousel (view_followed self.old) packets
+            → Hears carousel (view_followed self.new) (packets ++ packet.now ∷ [])) }
         ensures pid { OnOk result (self.new.pid ≡ self.old.pid) }
-        ensures quiet { IfOk result (λ completed. completed ≡ false → self.new.programs.items ≡ self.old.programs.items) }
+        ensures quiet { IfOk result (λ completed.
+            completed ≡ false → self.new.programs.items ≡ self.old.programs.items) }
     {
         if pid != self.pid {
             return Ok(false);

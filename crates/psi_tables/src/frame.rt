@@ -24,7 +24,11 @@ pub struct Frame<'a> {
 /// The section of table `id` that takes all of the bytes, or the first field before its body that breaks its rule or is cut.
 /// The CRC isn't looked at.
 pub fn frame_of(id: u8, bytes: &[u8]) -> Result<Frame<'_>, Cut>
-    ensures { MatchResult result (λ f. (header_fault id bytes.now ≡ None) × (frames.view f ≡ fields_of bytes.now) × (12 ≤ length bytes.now)) (λ cut. header_fault id bytes.now ≡ Some cut.0) }
+    ensures { MatchResult result
+        (λ f.
+        (header_fault id bytes.now ≡ None)
+        × (frames.view f ≡ fields_of bytes.now)
+        × (12 ≤ length bytes.now)) (λ cut. header_fault id bytes.now ≡ Some cut.0) }
 {
     check_header(id, bytes)?;
     Ok(Frame {
@@ -38,7 +42,8 @@ pub fn frame_of(id: u8, bytes: &[u8]) -> Result<Frame<'_>, Cut>
 
 /// The first field before the body that breaks its rule or is cut.
 fn check_header(id: u8, bytes: &[u8]) -> Result<(), Cut>
-    ensures { MatchResult result (λ _. (header_fault id bytes.now ≡ None) × (12 ≤ length bytes.now)) (λ cut. header_fault id bytes.now ≡ Some cut.0) }
+    ensures { MatchResult result (λ _. (header_fault id bytes.now ≡ None) × (12 ≤ length bytes.now))
+        (λ cut. header_fault id bytes.now ≡ Some cut.0) }
 {
     if bytes.is_empty() || bytes[0] != id {
         return Err(Cut(0));
@@ -70,7 +75,8 @@ fn is_counted(bytes: &[u8]) -> bool
 /// The CRC over all of the bytes is that of a section that wasn't damaged; else its place.
 pub fn check_crc(bytes: &[u8]) -> Result<(), Cut>
     requires { 12 ≤ length bytes.now }
-    ensures { MatchResult result (λ _. frames.crc_fault bytes.now ≡ None) (λ cut. frames.crc_fault bytes.now ≡ Some cut.0) }
+    ensures { MatchResult result (λ _. frames.crc_fault bytes.now ≡ None) (λ cut.
+        frames.crc_fault bytes.now ≡ Some cut.0) }
 {
     if crc(bytes) == 0 {
         Ok(())

@@ -33,7 +33,9 @@ fn lines_from(alloc: Global, body: &[u8]) -> Result<Vec<PatLine>, AllocError>
 
 /// The frame of a section of the PAT whose bytes read, or the place of the first fault.
 fn checked(bytes: &[u8]) -> Result<Frame<'_>, Cut>
-    ensures { MatchResult result (λ f. (pat_fault bytes.now ≡ None) × (view f ≡ fields_of bytes.now)) (λ cut. pat_fault bytes.now ≡ Some cut.0) }
+    ensures { MatchResult result
+        (λ f. (pat_fault bytes.now ≡ None) × (view f ≡ fields_of bytes.now))
+        (λ cut. pat_fault bytes.now ≡ Some cut.0) }
 {
     let frame = frame_of(0x00, bytes)?;
     let size = frame.body.len();

@@ -33,7 +33,8 @@ struct Stream<'a> {
 
 /// The descriptor that stands whole at the front, and what follows it.
 fn next_descriptor(bytes: &[u8]) -> Option<(Descriptor<'_>, &[u8])>
-    ensures { option_map (λ x. ((x.0.tag, x.0.bytes.now), x.1.now)) result ≡ pmts.next_descriptor bytes.now }
+    ensures { option_map (λ x. ((x.0.tag, x.0.bytes.now), x.1.now)) result
+        ≡ pmts.next_descriptor bytes.now }
 {
     match bytes {
         [tag, size, following @ ..] if usize::from(*size) <= following.len() => {
@@ -52,7 +53,8 @@ fn next_descriptor(bytes: &[u8]) -> Option<(Descriptor<'_>, &[u8])>
 
 /// The stream that stands whole at the front, and what follows it.
 fn next_stream(bytes: &[u8]) -> Option<(Stream<'_>, &[u8])>
-    ensures { option_map (λ x. (pmts.view_stream x.0, x.1.now)) result ≡ pmts.next_stream bytes.now }
+    ensures { option_map (λ x. (pmts.view_stream x.0, x.1.now)) result
+        ≡ pmts.next_stream bytes.now }
 {
     let [kind, a, b, c, d, following @ ..] = bytes else {
         return None;
@@ -129,7 +131,9 @@ fn lines_from(alloc: Global, bytes: &[u8]) -> Result<Vec<PmtLine>, AllocError>
 
 /// The bytes of the streams, or the place of the first field of the body that doesn't fit.
 fn streams_of(body: &[u8]) -> Result<&[u8], Cut>
-    ensures { MatchResult result (λ x. (body_fault body.now ≡ None) × (x.now ≡ stream_bytes body.now)) (λ cut. body_fault body.now ≡ Some cut.0) }
+    ensures { MatchResult result
+        (λ x. (body_fault body.now ≡ None) × (x.now ≡ stream_bytes body.now))
+        (λ cut. body_fault body.now ≡ Some cut.0) }
 {
     if body.len() < 2 {
         return Err(Cut(8));
@@ -152,7 +156,12 @@ fn streams_of(body: &[u8]) -> Result<&[u8], Cut>
 
 /// The frame of a section of a PMT whose bytes read with the bytes of its streams, or the place of the first fault.
 fn checked(bytes: &[u8]) -> Result<(Frame<'_>, &[u8]), Cut>
-    ensures { MatchResult result (λ x. (pmt_fault bytes.now ≡ None) × (view x.0 ≡ fields_of bytes.now) × (x.1.now ≡ stream_bytes (fields_of bytes.now).body)) (λ cut. pmt_fault bytes.now ≡ Some cut.0) }
+    ensures { MatchResult result
+        (λ x.
+        (pmt_fault bytes.now ≡ None)
+        × (view x.0 ≡ fields_of bytes.now)
+        × (x.1.now ≡ stream_bytes (fields_of bytes.now).body))
+        (λ cut. pmt_fault bytes.now ≡ Some cut.0) }
 {
     let frame = frame_of(0x02, bytes)?;
     let streams = streams_of(frame.body)?;

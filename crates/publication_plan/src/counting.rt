@@ -33,8 +33,10 @@ pub(crate) fn count_cycle(
     weigh: &Weigh,
 ) -> Result<Cycle, NoMemory>
     requires { All IsSectionLike (cycle_sections weigh.now.weights generation.now) }
-    ensures sections { IfOk result (λ c. c.sections ≡ length (cycle_of weigh.now.weights (lines_of generation.now))) }
-    ensures packets { IfOk result (λ c. c.packets ≡ length (cycle_packets weigh.now.weights generation.now)) }
+    ensures sections { IfOk result (λ c.
+        c.sections ≡ length (cycle_of weigh.now.weights (lines_of generation.now))) }
+    ensures packets { IfOk result (λ c.
+        c.packets ≡ length (cycle_packets weigh.now.weights generation.now)) }
     ensures few { IfOk result (λ c. c.packets ≤ MOST_PACKETS) }
 {
     let lines = generation.lines();
@@ -71,8 +73,10 @@ impl Counter {
     fn count(&mut self, generation: &Generation, item: Item) -> Result<u64, NoMemory>
         requires item { Contains (items_of generation.now) item }
         requires like { IsSectionLike (section_of generation.now item) }
-        ensures count { IfOk result (λ n. n ≡ length (packets_of self.old.mux (section_of generation.now item))) }
-        ensures mux { OnOk result (self.new.mux ≡ past self.old.mux (section_of generation.now item)) }
+        ensures count { IfOk result (λ n.
+            n ≡ length (packets_of self.old.mux (section_of generation.now item))) }
+        ensures mux { OnOk result
+            (self.new.mux ≡ past self.old.mux (section_of generation.now item)) }
     {
         let section = generation.section(item)?;
         self.packets.clear();

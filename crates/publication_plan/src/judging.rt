@@ -16,7 +16,9 @@ use std::alloc::Global;
 /// refusal.
 pub(crate) fn judge(alloc: Global, edits: &[Edit]) -> Result<Publishable, CommitFault>
     ensures accepted { IfOk result (IsAccepted edits.now) }
-    ensures refused { IfErr result (λ f. MatchOption (commit_cause f) ⊤ (λ r. (carousel : ℕ) → first_outcome carousel edits.now ≡ Err r)) }
+    ensures refused { IfErr result (λ f.
+        MatchOption (commit_cause f) ⊤ (λ r.
+        (carousel : ℕ) → first_outcome carousel edits.now ≡ Err r)) }
 {
     let total = put_total(edits);
     if total > MOST_PUT_BYTES {

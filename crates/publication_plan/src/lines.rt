@@ -34,7 +34,9 @@ pub(crate) fn plan_lines(
 ) -> Result<String, NoMemory>
     requires like { All IsSectionLike (cycle_sections weigh.now.weights generation.now) }
     requires rate { 1 ≤ bitrate }
-    ensures { IfOk result (λ text. string_bytes text ≡ plan_text weigh.now.weights bitrate generation.now (map view_standing left.now)) }
+    ensures { IfOk result (λ text.
+        string_bytes text
+        ≡ plan_text weigh.now.weights bitrate generation.now (map view_standing left.now)) }
 {
     let mut text = String::new(alloc);
     put_objects(alloc, generation, left, &mut text)?;
@@ -52,7 +54,11 @@ fn put_objects(
     left: &[Standing],
     text: &mut String,
 ) -> Result<(), NoMemory>
-    ensures { OnOk result (string_bytes text.new ≡ string_bytes text.old ++ entry_lines generation.now.tree (map object_of generation.now.objects) (map view_standing left.now)) }
+    ensures { OnOk result
+        (string_bytes text.new
+        ≡ string_bytes text.old
+        ++ entry_lines generation.now.tree (map object_of generation.now.objects)
+        (map view_standing left.now)) }
 {
     let objects = generation.objects()?;
     put_entries(alloc, generation.tree(), &objects, left, text)
@@ -66,7 +72,10 @@ fn put_entries(
     left: &[Standing],
     text: &mut String,
 ) -> Result<(), NoMemory>
-    ensures { OnOk result (string_bytes text.new ≡ string_bytes text.old ++ entry_lines tree.now objects.now (map view_standing left.now)) }
+    ensures { OnOk result
+        (string_bytes text.new
+        ≡ string_bytes text.old
+        ++ entry_lines tree.now objects.now (map view_standing left.now)) }
 {
     let mut next = 0;
     for object in objects {
@@ -83,8 +92,12 @@ fn put_first(
     path: &Path,
     text: &mut String,
 ) -> Result<usize, NoMemory>
-    ensures text { OnOk result (string_bytes text.new ≡ string_bytes text.old ++ flat_map left_line (left_first path.now (map view_standing left.now))) }
-    ensures count { IfOk result (λ n. n ≡ length (left_first path.now (map view_standing left.now))) }
+    ensures text { OnOk result
+        (string_bytes text.new
+        ≡ string_bytes text.old
+        ++ flat_map left_line (left_first path.now (map view_standing left.now))) }
+    ensures count { IfOk result (λ n.
+        n ≡ length (left_first path.now (map view_standing left.now))) }
     ensures within { IfOk result (λ n. n ≤ length left.now) }
 {
     let count = count_first(left, path);
@@ -116,7 +129,9 @@ fn stands_before(standing: &Standing, path: &Path) -> bool
 
 /// The lines of what was passed over.
 fn put_left(alloc: Global, left: &[Standing], text: &mut String) -> Result<(), NoMemory>
-    ensures { OnOk result (string_bytes text.new ≡ string_bytes text.old ++ flat_map left_line (map view_standing left.now)) }
+    ensures { OnOk result
+        (string_bytes text.new
+        ≡ string_bytes text.old ++ flat_map left_line (map view_standing left.now)) }
 {
     for standing in left {
         let line = left_text(alloc, standing)?;
@@ -133,7 +148,8 @@ fn left_text(alloc: Global, standing: &Standing) -> Result<String, NoMemory>
 }
 
 fn left_joined(alloc: Global, path: &str, hidden: &str) -> Result<String, NoMemory>
-    ensures { IfOk result (λ text. string_bytes text ≡ line (codes "left " ++ path.now ++ hidden.now)) }
+    ensures { IfOk result (λ text.
+        string_bytes text ≡ line (codes "left " ++ path.now ++ hidden.now)) }
 {
     format!(in alloc; "left {path}{hidden}\n")
 }
@@ -150,7 +166,8 @@ fn put_object(
     object: &Object,
     text: &mut String,
 ) -> Result<(), NoMemory>
-    ensures { OnOk result (string_bytes text.new ≡ string_bytes text.old ++ object_line tree.now object.now) }
+    ensures { OnOk result
+        (string_bytes text.new ≡ string_bytes text.old ++ object_line tree.now object.now) }
 {
     let kind = kind_text(alloc, tree, object)?;
     let kind = kind.as_str();
@@ -162,7 +179,8 @@ fn put_object(
 
 /// What an object is, its path, and a file's length or the number of a folder's names.
 fn kind_text(alloc: Global, tree: &Tree, object: &Object) -> Result<String, NoMemory>
-    ensures { IfOk result (λ text. string_bytes text ≡ kind_text tree.now object.now.path object.now.kind) }
+    ensures { IfOk result (λ text.
+        string_bytes text ≡ kind_text tree.now object.now.path object.now.kind) }
 {
     match object.kind {
         ObjectKind::File(length) => kind_line(alloc, "file", &object.path, length),
@@ -218,7 +236,11 @@ fn put_modules(
     weigh: &Weigh,
     text: &mut String,
 ) -> Result<(), NoMemory>
-    ensures { OnOk result (string_bytes text.new ≡ string_bytes text.old ++ flat_map (module_line weigh.now.weights generation.now) (lines_of generation.now)) }
+    ensures { OnOk result
+        (string_bytes text.new
+        ≡ string_bytes text.old
+        ++ flat_map (module_line weigh.now.weights generation.now)
+        (lines_of generation.now)) }
 {
     for (id, blocks) in generation.lines() {
         let line = module_text(alloc, generation, weigh, *id, *blocks)?;
@@ -235,7 +257,8 @@ fn module_text(
     blocks: u32,
 ) -> Result<String, NoMemory>
     requires { (1 ≤ id) × (id ≤ GREATEST_ID) }
-    ensures { IfOk result (λ text. string_bytes text ≡ module_line weigh.now.weights generation.now (id, blocks)) }
+    ensures { IfOk result (λ text.
+        string_bytes text ≡ module_line weigh.now.weights generation.now (id, blocks)) }
 {
     let size = module_size(generation, id) as u64;
     let front = two_fields(alloc, "module", u64::from(id), "size", size)?;
@@ -268,7 +291,11 @@ fn put_cycle(
 ) -> Result<(), NoMemory>
     requires like { All IsSectionLike (cycle_sections weigh.now.weights generation.now) }
     requires rate { 1 ≤ bitrate }
-    ensures { OnOk result (string_bytes text.new ≡ string_bytes text.old ++ cycle_line (length (cycle_of weigh.now.weights (lines_of generation.now))) (length (cycle_packets weigh.now.weights generation.now)) bitrate) }
+    ensures { OnOk result
+        (string_bytes text.new
+        ≡ string_bytes text.old
+        ++ cycle_line (length (cycle_of weigh.now.weights (lines_of generation.now)))
+        (length (cycle_packets weigh.now.weights generation.now)) bitrate) }
 {
     let cycle = count_cycle(alloc, generation, weigh)?;
     let line = cycle_text(alloc, cycle, bitrate)?;
@@ -278,7 +305,8 @@ fn put_cycle(
 fn cycle_text(alloc: Global, cycle: Cycle, bitrate: u32) -> Result<String, NoMemory>
     requires rate { 1 ≤ bitrate }
     requires few { cycle.packets ≤ MOST_PACKETS }
-    ensures { IfOk result (λ text. string_bytes text ≡ cycle_line cycle.sections cycle.packets bitrate) }
+    ensures { IfOk result (λ text.
+        string_bytes text ≡ cycle_line cycle.sections cycle.packets bitrate) }
 {
     let bytes = 188 * cycle.packets;
     let time = time_of(bytes, bitrate);
@@ -301,7 +329,8 @@ fn two_fields(
     second: &str,
     other: u64,
 ) -> Result<String, NoMemory>
-    ensures { IfOk result (λ text. string_bytes text ≡ with_number first.now number ++ 32 ∷ with_number second.now other) }
+    ensures { IfOk result (λ text.
+        string_bytes text ≡ with_number first.now number ++ 32 ∷ with_number second.now other) }
 {
     format!(in alloc; "{first} {number} {second} {other}")
 }

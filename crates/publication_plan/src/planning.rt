@@ -68,7 +68,9 @@ pub fn plan<O: Output, F: Folders>(
     folders: &mut F,
 ) -> Result<PlanEnd, OutputFault>
     requires rate { 1 ≤ bitrate }
-    ensures plans { Plans folder.now weigh.now.weights carousel bitrate result (O.state out.old) (O.state out.new) (F.tree folders.old) (Rose (F.faults folders.old) (F.faults folders.new)) (F.refused folders.new) }
+    ensures plans { Plans folder.now weigh.now.weights carousel bitrate result (O.state out.old)
+        (O.state out.new) (F.tree folders.old) (Rose (F.faults folders.old) (F.faults folders.new))
+        (F.refused folders.new) }
     ensures name { (O.state out.new).name ≡ (O.state out.old).name }
     ensures in_time { IsInTime (O.state out.old) (O.state out.new) }
     ensures same { F.tree folders.new ≡ F.tree folders.old }
@@ -98,7 +100,10 @@ fn tell<F: Folders>(
     folders: &mut F,
 ) -> Result<Told, NoMemory>
     requires rate { 1 ≤ bitrate }
-    ensures text { IfOk result (λ r. IsTextOf folder.now weigh.now.weights carousel bitrate (F.tree folders.old) (Rose (F.faults folders.old) (F.faults folders.new)) (F.refused folders.new) r.end (string_bytes r.text)) }
+    ensures text { IfOk result (λ r.
+        IsTextOf folder.now weigh.now.weights carousel bitrate (F.tree folders.old)
+        (Rose (F.faults folders.old) (F.faults folders.new)) (F.refused folders.new) r.end
+        (string_bytes r.text)) }
     ensures needs { IfOk result (λ r. NeedsFolder folder.now (F.tree folders.old) (Ok r.end)) }
     ensures same { F.tree folders.new ≡ F.tree folders.old }
     ensures later { F.faults folders.old ≤ F.faults folders.new }
@@ -128,7 +133,10 @@ fn tell_tree(
 ) -> Result<String, NoMemory>
     requires rate { 1 ≤ bitrate }
     requires accepted { IsAccepted survey.now.edits.items tree }
-    ensures { IfOk result (λ text. string_bytes text ≡ plan_text weigh.now.weights bitrate (generation_of carousel (tree ∷ [])) (map view_standing survey.now.left.items)) }
+    ensures { IfOk result (λ text.
+        string_bytes text
+        ≡ plan_text weigh.now.weights bitrate (generation_of carousel (tree ∷ []))
+        (map view_standing survey.now.left.items)) }
 {
     generations_are_of_the_lists();
     publications_can_be_packed();
@@ -167,7 +175,9 @@ fn tell_refusal<F: Folders>(
     survey: &Surveyed,
     refusal: &Refusal,
 ) -> Result<Told, NoMemory>
-    ensures text { IfOk result (λ r. RefusalTells (F.tree folders.old) (Rose (F.faults folders.old) (F.faults folders.new)) (F.refused folders.new) survey.now refusal.now r.end (string_bytes r.text)) }
+    ensures text { IfOk result (λ r.
+        RefusalTells (F.tree folders.old) (Rose (F.faults folders.old) (F.faults folders.new))
+        (F.refused folders.new) survey.now refusal.now r.end (string_bytes r.text)) }
     ensures same { F.tree folders.new ≡ F.tree folders.old }
     ensures later { F.faults folders.old ≤ F.faults folders.new }
 {

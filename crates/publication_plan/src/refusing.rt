@@ -44,7 +44,8 @@ pub(crate) fn refused_text(
 }
 
 fn joined(alloc: Global, cause: &str, size: &str, limit: &str) -> Result<String, NoMemory>
-    ensures { IfOk result (λ text. string_bytes text ≡ line (codes "refused " ++ cause.now ++ size.now ++ limit.now)) }
+    ensures { IfOk result (λ text.
+        string_bytes text ≡ line (codes "refused " ++ cause.now ++ size.now ++ limit.now)) }
 {
     format!(in alloc; "refused {cause}{size}{limit}\n")
 }
@@ -56,7 +57,8 @@ pub(crate) fn rule_text(
     path: &str,
     limit: u64,
 ) -> Result<String, NoMemory>
-    ensures { IfOk result (λ text. string_bytes text ≡ refused_line (rule.now ++ 32 ∷ path.now) None (Some limit)) }
+    ensures { IfOk result (λ text.
+        string_bytes text ≡ refused_line (rule.now ++ 32 ∷ path.now) None (Some limit)) }
 {
     let cause = format!(in alloc; "{rule} {path}")?;
     refused_text(alloc, &cause, None, Some(limit))
@@ -68,7 +70,8 @@ pub(crate) fn unread_text(
     edits: &[Edit],
     refusal: &Refusal,
 ) -> Result<String, NoMemory>
-    ensures { IfOk result (λ text. string_bytes text ≡ unreadable_line (refused_path edits.now refusal.now)) }
+    ensures { IfOk result (λ text.
+        string_bytes text ≡ unreadable_line (refused_path edits.now refusal.now)) }
 {
     if let Refusal::Edit(place, _) = refusal {
         if let Some(edit) = edits.get(*place) {
@@ -126,8 +129,14 @@ pub(crate) fn size_of<F: Folders>(
     survey: &Surveyed,
     refusal: &Refusal,
 ) -> Result<Option<u64>, FolderFault>
-    ensures size { IfOk result (λ n. (t : FolderTree) → F.tree folders.old ≡ Some t → n ≡ size_told t (view_survey survey.now) (apply_all [] survey.now.edits.items) refusal.now) }
-    ensures fault { IsErrOf result FolderFault.Failed → SizeFails (F.tree folders.old) (Rose (F.faults folders.old) (F.faults folders.new)) (F.refused folders.new) survey.now refusal.now }
+    ensures size { IfOk result (λ n.
+        (t : FolderTree)
+        → F.tree folders.old ≡ Some t
+        → n ≡ size_told t (view_survey survey.now) (apply_all [] survey.now.edits.items)
+        refusal.now) }
+    ensures fault { IsErrOf result FolderFault.Failed
+        → SizeFails (F.tree folders.old) (Rose (F.faults folders.old) (F.faults folders.new))
+        (F.refused folders.new) survey.now refusal.now }
     ensures same { F.tree folders.new ≡ F.tree folders.old }
     ensures later { F.faults folders.old ≤ F.faults folders.new }
 {
@@ -143,9 +152,15 @@ fn file_size<F: Folders>(
     folders: &mut F,
     large: &Option<String>,
 ) -> Result<Option<u64>, FolderFault>
-    ensures size { IfOk result (λ n. (t : FolderTree) → F.tree folders.old ≡ Some t → n ≡ size_at t (option_map string_bytes large.now)) }
-    ensures fault { IsErrOf result FolderFault.Failed → MayFail (Rose (F.faults folders.old) (F.faults folders.new)) (F.tree folders.old) (IsNoFile (option_map string_bytes large.now)) }
-    ensures failed { IsErrOf result FolderFault.Failed → IsSomeAnd (option_map string_bytes large.now) (IsRefused (F.refused folders.new)) }
+    ensures size { IfOk result (λ n.
+        (t : FolderTree)
+        → F.tree folders.old ≡ Some t
+        → n ≡ size_at t (option_map string_bytes large.now)) }
+    ensures fault { IsErrOf result FolderFault.Failed
+        → MayFail (Rose (F.faults folders.old) (F.faults folders.new)) (F.tree folders.old)
+        (IsNoFile (option_map string_bytes large.now)) }
+    ensures failed { IsErrOf result FolderFault.Failed
+        → IsSomeAnd (option_map string_bytes large.now) (IsRefused (F.refused folders.new)) }
     ensures same { F.tree folders.new ≡ F.tree folders.old }
     ensures later { F.faults folders.old ≤ F.faults folders.new }
 {

@@ -85,7 +85,8 @@ fn shot_of(alloc: Global, number: u64, content: &[u8]) -> Result<Arc<Shot>, Allo
 /// Opens the path of one name, which is this byte.
 fn open_one(pass: &mut ReaderPass, alloc: Global, name: u8) -> Result<(), Fail>
     requires { length pass.old.opens < pass.old.room }
-    ensures { IfOk result (λ _. (length pass.new.opens ≡ length pass.old.opens + 1) × (pass.new.room ≡ pass.old.room)) }
+    ensures { IfOk result (λ _.
+        (length pass.new.opens ≡ length pass.old.opens + 1) × (pass.new.room ≡ pass.old.room)) }
 {
     let path = Path::parse(alloc, &[b'/', name])?;
     match pass.open_path(path) {
@@ -97,7 +98,9 @@ fn open_one(pass: &mut ReaderPass, alloc: Global, name: u8) -> Result<(), Fail>
 /// Opens the paths of one name from `first` on and before `end`.
 fn open_each(pass: &mut ReaderPass, alloc: Global, first: u8, end: u8) -> Result<(), Fail>
     requires { (first ≤ end) × (length pass.old.opens + (end - first) ≤ pass.old.room) }
-    ensures { IfOk result (λ _. (length pass.new.opens ≡ length pass.old.opens + (end - first)) × (pass.new.room ≡ pass.old.room)) }
+    ensures { IfOk result (λ _.
+        (length pass.new.opens ≡ length pass.old.opens + (end - first))
+        × (pass.new.room ≡ pass.old.room)) }
 {
     for name in first..end {
         open_one(pass, alloc, name)?;
@@ -114,7 +117,8 @@ fn opened<R: Wait>(
     pass: &mut ReaderPass,
     second: Arc<Shot>,
 ) -> Result<(usize, usize, usize), Fail>
-    requires shot { ((arc_value second).number ≡ length (shown_by shower.old)) × ((arc_value second).number ≤ most_by shower.old) }
+    requires shot { ((arc_value second).number ≡ length (shown_by shower.old))
+        × ((arc_value second).number ≤ most_by shower.old) }
     requires room { length pass.old.opens + 195 ≤ pass.old.room }
 {
     open_each(pass, alloc, 48, 113)?;

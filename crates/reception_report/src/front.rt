@@ -31,7 +31,9 @@ impl Front {
 
     /// Takes the next packet.
     pub(crate) fn take(&mut self, packet: &[u8; 188]) -> Result<(), NoMemory>
-        ensures { OnOk result ((packets : List Bytes) → IsFront self.old packets → IsFront self.new (packets ++ packet.now ∷ [])) }
+        ensures { OnOk result ((packets : List Bytes)
+            → IsFront self.old packets
+            → IsFront self.new (packets ++ packet.now ∷ [])) }
     {
         if self.packets < MOST_PACKETS {
             self.bytes.extend_from_slice(packet)?;

@@ -56,7 +56,9 @@ pub(crate) fn numbers_line(
     numbers: &[(&str, u64)],
     rest: &str,
 ) -> Result<String, NoMemory>
-    ensures { IfOk result (λ text. string_bytes text ≡ line (fold (λ text n. telling.with_field text n.0.now n.1) [] numbers.now ++ rest.now)) }
+    ensures { IfOk result (λ text.
+        string_bytes text
+        ≡ line (fold (λ text n. telling.with_field text n.0.now n.1) [] numbers.now ++ rest.now)) }
 {
     let mut text = String::new(alloc);
     push_numbers(alloc, &mut text, numbers)?;
@@ -67,7 +69,10 @@ pub(crate) fn numbers_line(
 
 /// Adds names with their numbers, one after another.
 fn push_numbers(alloc: Global, text: &mut String, numbers: &[(&str, u64)]) -> Result<(), NoMemory>
-    ensures { OnOk result (string_bytes text.new ≡ fold (λ text n. telling.with_field text n.0.now n.1) (string_bytes text.old) numbers.now) }
+    ensures { OnOk result
+        (string_bytes text.new
+        ≡ fold (λ text n. telling.with_field text n.0.now n.1) (string_bytes text.old)
+        numbers.now) }
 {
     for row in numbers {
         push_number(alloc, text, row.0, row.1)?;
@@ -82,7 +87,8 @@ pub(crate) fn push_number(
     name: &str,
     number: u64,
 ) -> Result<(), NoMemory>
-    ensures { OnOk result (string_bytes text.new ≡ string_bytes text.old ++ name.now ++ 32 ∷ decimal number) }
+    ensures { OnOk result
+        (string_bytes text.new ≡ string_bytes text.old ++ name.now ++ 32 ∷ decimal number) }
 {
     let field = format!(in alloc; "{name} {number}")?;
     text.push_str(field.as_str())
@@ -94,7 +100,11 @@ pub(crate) fn candidates_line(
     candidates: u64,
     tally: &Tally,
 ) -> Result<String, NoMemory>
-    ensures { IfOk result (λ text. (cs : List Bytes) → candidates ≡ cap_at_u64 (length cs) → CountsAre tally.now cs → string_bytes text ≡ telling.candidates_line cs) }
+    ensures { IfOk result (λ text.
+        (cs : List Bytes)
+        → candidates ≡ cap_at_u64 (length cs)
+        → CountsAre tally.now cs
+        → string_bytes text ≡ telling.candidates_line cs) }
 {
     let mut text = format!(in alloc; "candidates {candidates}")?;
     push_counts(alloc, &mut text, tally, &ALL_OUTCOMES)?;
@@ -109,7 +119,10 @@ fn push_counts(
     tally: &Tally,
     outcomes: &[Outcome],
 ) -> Result<(), NoMemory>
-    ensures { OnOk result ((cs : List Bytes) → CountsAre tally.now cs → string_bytes text.new ≡ string_bytes text.old ++ flat_map (telling.count_text cs) outcomes.now) }
+    ensures { OnOk result ((cs : List Bytes)
+        → CountsAre tally.now cs
+        → string_bytes text.new
+        ≡ string_bytes text.old ++ flat_map (telling.count_text cs) outcomes.now) }
 {
     for outcome in outcomes {
         push_count(alloc, text, tally, *outcome)?;
@@ -123,7 +136,9 @@ fn push_count(
     tally: &Tally,
     outcome: Outcome,
 ) -> Result<(), NoMemory>
-    ensures { OnOk result ((cs : List Bytes) → CountsAre tally.now cs → string_bytes text.new ≡ string_bytes text.old ++ telling.count_text cs outcome) }
+    ensures { OnOk result ((cs : List Bytes)
+        → CountsAre tally.now cs
+        → string_bytes text.new ≡ string_bytes text.old ++ telling.count_text cs outcome) }
 {
     text.push_str(" ")?;
     push_number(alloc, text, outcome.name(), tally.number(outcome))?;
@@ -132,7 +147,8 @@ fn push_count(
 
 /// The line of the gateway.
 pub(crate) fn gateway_line(alloc: Global, gateway: &Option<Gateway>) -> Result<String, NoMemory>
-    ensures { IfOk result (λ text. string_bytes text ≡ telling.gateway_line (option_map view_gateway gateway.now)) }
+    ensures { IfOk result (λ text.
+        string_bytes text ≡ telling.gateway_line (option_map view_gateway gateway.now)) }
 {
     match gateway {
         None => String::from_str(alloc, "gateway none\n"),
@@ -192,7 +208,8 @@ pub(crate) fn dii_line(alloc: Global, tuned: &Tuned) -> Result<String, NoMemory>
 
 /// The line of a path, with its answer and its module.
 pub(crate) fn path_line(alloc: Global, shot: &Shot, path: &Path) -> Result<String, NoMemory>
-    ensures { IfOk result (λ text. string_bytes text ≡ telling.path_line (held_of shot.now) path.now) }
+    ensures { IfOk result (λ text.
+        string_bytes text ≡ telling.path_line (held_of shot.now) path.now) }
 {
     let answer = resolve(shot, path)?;
     let answer = answer_text(alloc, &answer)?;
@@ -206,7 +223,8 @@ fn path_text(
     answer: &str,
     home: Option<u16>,
 ) -> Result<String, NoMemory>
-    ensures { IfOk result (λ text. string_bytes text ≡ telling.path_text place.now answer.now home) }
+    ensures { IfOk result (λ text.
+        string_bytes text ≡ telling.path_text place.now answer.now home) }
 {
     let mut text = String::from_str(alloc, "path ")?;
     text.push_str(place)?;

@@ -86,7 +86,8 @@ fn step(
     there: bool,
 ) -> Result<Option<u32>, NoMemory>
     requires { missing.IsBegun begun block }
-    ensures text { IfOk result (λ next. string_bytes text.new ≡ string_bytes text.old ++ missing.ended_text begun block there) }
+    ensures text { IfOk result (λ next.
+        string_bytes text.new ≡ string_bytes text.old ++ missing.ended_text begun block there) }
     ensures begun { IfOk result (λ next. next ≡ missing.begun_after begun block there) }
 {
     match (begun, there) {
@@ -101,7 +102,8 @@ fn step(
 
 /// Adds a run of numbers after a space.
 fn push_run(alloc: Global, text: &mut String, first: u32, last: u32) -> Result<(), NoMemory>
-    ensures { OnOk result (string_bytes text.new ≡ string_bytes text.old ++ 32 ∷ missing.run_text (first, last)) }
+    ensures { OnOk result
+        (string_bytes text.new ≡ string_bytes text.old ++ 32 ∷ missing.run_text (first, last)) }
 {
     let run = if first == last {
         format!(in alloc; " {first}")?

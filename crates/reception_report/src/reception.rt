@@ -34,8 +34,11 @@ pub fn receive_packets<S: Source>(
     pid: u16,
     source: &mut S,
 ) -> Result<Reception, InputFault>
-    ensures hears { Hears all_packets (λ r packets. IsReception pid r packets) result (S.left source.old) (S.left source.new) (S.faults source.old) (S.faults source.new) }
-    ensures tail { IfOk result (λ r. Known (S.left source.old) (S.left source.new) (λ input _. r.counts.short_tail ≡ tail_count input)) }
+    ensures hears { Hears all_packets (λ r packets. IsReception pid r packets) result
+        (S.left source.old) (S.left source.new) (S.faults source.old) (S.faults source.new) }
+    ensures tail { IfOk result (λ r.
+        Known (S.left source.old) (S.left source.new) (λ input _.
+        r.counts.short_tail ≡ tail_count input)) }
 {
     counts_are_numbers();
     let mut ear = Ear::new(alloc, pid)?;

@@ -34,8 +34,10 @@ pub fn write_report<O: Output>(
     reception: &Reception,
     out: &mut O,
 ) -> Result<(), OutputFault>
-    ensures puts { (pid : ℕ) (packets : List Bytes) → IsReception pid reception.now packets
-        → Puts result (O.state out.old) (O.state out.new) (report_text pid packets reception.now.counts.short_tail) }
+    ensures puts { (pid : ℕ) (packets : List Bytes)
+        → IsReception pid reception.now packets
+        → Puts result (O.state out.old) (O.state out.new)
+        (report_text pid packets reception.now.counts.short_tail) }
     ensures empty { OnOk result ((O.state out.new).pending ≡ []) }
 {
     let line = counts_line(alloc, &reception.counts)?;
@@ -57,7 +59,9 @@ fn put_sections<O: Output>(
     follower: &Follower,
     out: &mut O,
 ) -> Result<(), OutputFault>
-    ensures { (sections : List Bytes) → Follows follower.now sections → Puts result (O.state out.old) (O.state out.new) (sections_text sections) }
+    ensures { (sections : List Bytes)
+        → Follows follower.now sections
+        → Puts result (O.state out.old) (O.state out.new) (sections_text sections) }
 {
     let shot = follower.tuner.shot(0, 0)?;
     put_shot(alloc, &shot, follower, out)
@@ -70,7 +74,9 @@ fn put_shot<O: Output>(
     follower: &Follower,
     out: &mut O,
 ) -> Result<(), OutputFault>
-    ensures { (sections : List Bytes) → Follows follower.now sections → shots.view shot.now ≡ snapshot_after 0 0 sections
+    ensures { (sections : List Bytes)
+        → Follows follower.now sections
+        → shots.view shot.now ≡ snapshot_after 0 0 sections
         → Puts result (O.state out.old) (O.state out.new) (sections_text sections) }
 {
     let line = candidates_line(alloc, shot.mark, &follower.tally)?;
@@ -85,7 +91,8 @@ fn put_held<O: Output>(
     held: &[Tuned],
     out: &mut O,
 ) -> Result<(), OutputFault>
-    ensures { Puts result (O.state out.old) (O.state out.new) (held_text held.now (shots.view shot.now)) }
+    ensures { Puts result (O.state out.old) (O.state out.new)
+        (held_text held.now (shots.view shot.now)) }
 {
     put_gateway(alloc, &shot.gateway, out)?;
     put_diis(alloc, held, out)?;
@@ -99,7 +106,8 @@ fn put_gateway<O: Output>(
     gateway: &Option<Gateway>,
     out: &mut O,
 ) -> Result<(), OutputFault>
-    ensures { Puts result (O.state out.old) (O.state out.new) (telling.gateway_line (option_map view_gateway gateway.now)) }
+    ensures { Puts result (O.state out.old) (O.state out.new)
+        (telling.gateway_line (option_map view_gateway gateway.now)) }
 {
     let line = gateway_line(alloc, gateway)?;
     put(line, out)
@@ -160,7 +168,8 @@ fn put_modules_of<O: Output>(
     held: &[Tuned],
     out: &mut O,
 ) -> Result<(), OutputFault>
-    ensures { Puts result (O.state out.old) (O.state out.new) (flat_map telling.module_line (filter (λ x. x.line.id == id) (lines_of held.now))) }
+    ensures { Puts result (O.state out.old) (O.state out.new)
+        (flat_map telling.module_line (filter (λ x. x.line.id == id) (lines_of held.now))) }
 {
     for tuned in held {
         put_lines(alloc, id, tuned.lines(), out)?;
@@ -175,7 +184,8 @@ fn put_lines<O: Output>(
     lines: &[Line],
     out: &mut O,
 ) -> Result<(), OutputFault>
-    ensures { Puts result (O.state out.old) (O.state out.new) (flat_map telling.module_line (filter (λ x. x.line.id == id) lines.now)) }
+    ensures { Puts result (O.state out.old) (O.state out.new)
+        (flat_map telling.module_line (filter (λ x. x.line.id == id) lines.now)) }
 {
     for line in lines {
         put_module(alloc, id, line, out)?;
@@ -214,7 +224,8 @@ fn put_each<O: Output>(
     paths: &[Path],
     out: &mut O,
 ) -> Result<(), OutputFault>
-    ensures { Puts result (O.state out.old) (O.state out.new) (flat_map (telling.path_line (held_of shot.now)) paths.now) }
+    ensures { Puts result (O.state out.old) (O.state out.new)
+        (flat_map (telling.path_line (held_of shot.now)) paths.now) }
 {
     for path in paths {
         put_path(alloc, shot, path, out)?;
@@ -228,7 +239,8 @@ fn put_path<O: Output>(
     path: &Path,
     out: &mut O,
 ) -> Result<(), OutputFault>
-    ensures { Puts result (O.state out.old) (O.state out.new) (telling.path_line (held_of shot.now) path.now) }
+    ensures { Puts result (O.state out.old) (O.state out.new)
+        (telling.path_line (held_of shot.now) path.now) }
 {
     let line = path_line(alloc, shot, path)?;
     put(line, out)

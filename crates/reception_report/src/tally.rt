@@ -40,7 +40,10 @@ impl Tally {
 
     /// Counts a candidate that did this.
     pub(crate) fn count(&mut self, fed: Fed)
-        ensures { (before : List Bytes) (candidate : Bytes) → CountsAre self.old before → fed ≡ fed_after before candidate → CountsAre self.new (before ++ candidate ∷ []) }
+        ensures { (before : List Bytes) (candidate : Bytes)
+            → CountsAre self.old before
+            → fed ≡ fed_after before candidate
+            → CountsAre self.new (before ++ candidate ∷ []) }
     {
         let place = Outcome::of(fed).place();
         self.numbers[place] = raised(self.numbers[place]);

@@ -68,8 +68,11 @@ impl Interpreter {
     /// Out of memory is the only refusal; the interpreter is of no use then.
     pub fn read(&mut self, task: Task) -> Result<Option<Happening>, NoMemory>
         requires { IsInRange (act_of task) }
-        ensures happens { IfOk result (λ what. (p : Pending) → Holds self.old p → happened what ≡ events_of_line p (act_of task)) }
-        ensures waits { OnOk result ((p : Pending) → Holds self.old p → Holds self.new (pending_after p (act_of task))) }
+        ensures happens { IfOk result (λ what.
+            (p : Pending) → Holds self.old p → happened what ≡ events_of_line p (act_of task)) }
+        ensures waits { OnOk result ((p : Pending)
+            → Holds self.old p
+            → Holds self.new (pending_after p (act_of task))) }
         ensures range { IfOk result (λ what. IfSome what (λ h. InRange (view_happening h))) }
     {
         match task {
@@ -102,7 +105,9 @@ impl Interpreter {
 
     /// An edit of the editor waits after its others. After out of memory, which is the only refusal, they are given up.
     fn add(&mut self, editor: u32, edit: Edit) -> Result<(), NoMemory>
-        ensures { OnOk result ((p : Pending) → Holds self.old p → Holds self.new (with_edit p editor edit)) }
+        ensures { OnOk result ((p : Pending)
+            → Holds self.old p
+            → Holds self.new (with_edit p editor edit)) }
     {
         let mut edits = self.take(editor);
         edits.push(edit)?;

@@ -42,7 +42,8 @@ pub fn rehearse<O: Output>(
     out: &mut O,
 ) -> Result<(), OutputFault>
     requires { IsInRanges (script_of_parts parts) }
-    ensures { Rehearses result (O.state out.old) (O.state out.new) weigh.weights (script_of_parts parts) }
+    ensures { Rehearses result (O.state out.old) (O.state out.new) weigh.weights
+        (script_of_parts parts) }
 {
     every_run_meets_the_headline();
     let mut rehearsal = Rehearsal::new(alloc, weigh)?;
@@ -78,7 +79,8 @@ impl Rehearsal {
     fn run_parts<O: Output>(&mut self, parts: Parts, out: &mut O) -> Result<(), OutputFault>
         requires { IsInRanges (script_of_parts parts) }
         ensures { (weights : List ℕ) (first : OutputState)
-            → HasRun self.old weights (script_of_parts parts).lines (script_of_parts parts).lines first (O.state out.old)
+            → HasRun self.old weights (script_of_parts parts).lines (script_of_parts parts).lines
+            first (O.state out.old)
             → GoesOn result self.new weights (script_of_parts parts) [] first (O.state out.new) }
     {
         let Parts {
@@ -101,8 +103,11 @@ impl Rehearsal {
     ) -> Result<(), OutputFault>
         requires before { All (λ (line : TaskLines). IsInRange (act_of line.task)) before.items }
         requires during { All (λ (line : TaskLines). IsInRange (act_of line.task)) during.items }
-        ensures { (weights : List ℕ) (script : Fields) (left : List LineFields) (first : OutputState)
-            → HasRun self.old weights script.lines (map (task_line Before) before.items ++ (map (task_line During) during.items ++ left)) first (O.state out.old)
+        ensures { (weights : List ℕ) (script : Fields) (left : List LineFields)
+            (first : OutputState)
+            → HasRun self.old weights script.lines
+            (map (task_line Before) before.items
+            ++ (map (task_line During) during.items ++ left)) first (O.state out.old)
             → GoesOn result self.new weights script left first (O.state out.new) }
     {
         self.run_all(before, out)?;
@@ -119,7 +124,8 @@ impl Rehearsal {
     ) -> Result<(), OutputFault>
         requires { All (λ last. IsActor last.reader) finales.items }
         ensures { (weights : List ℕ) (script : Fields) (first : OutputState)
-            → HasRun self.old weights script.lines (settle_lines settle ++ map finale_line finales.items) first (O.state out.old)
+            → HasRun self.old weights script.lines
+            (settle_lines settle ++ map finale_line finales.items) first (O.state out.old)
             → GoesOn result self.new weights script [] first (O.state out.new) }
     {
         self.settle_so(settle, out)?;
@@ -129,8 +135,10 @@ impl Rehearsal {
     /// Runs these tasks, which come next. After a fault the rehearsal is of no use any more.
     fn run_all<O: Output>(&mut self, tasks: Vec<TaskLine>, out: &mut O) -> Result<(), OutputFault>
         requires { All (λ (line : TaskLines). IsInRange (act_of line.task)) tasks.items }
-        ensures { (weights : List ℕ) (script : Fields) (stage : Stage) (left : List LineFields) (first : OutputState)
-            → HasRun self.old weights script.lines (map (task_line stage) tasks.items ++ left) first (O.state out.old)
+        ensures { (weights : List ℕ) (script : Fields) (stage : Stage) (left : List LineFields)
+            (first : OutputState)
+            → HasRun self.old weights script.lines (map (task_line stage) tasks.items ++ left) first
+            (O.state out.old)
             → GoesOn result self.new weights script left first (O.state out.new) }
     {
         for line in tasks {
@@ -142,8 +150,10 @@ impl Rehearsal {
     /// Opens these paths, which come next, and last. After a fault the rehearsal is of no use any more.
     fn open_all<O: Output>(&mut self, finales: Vec<Finale>, out: &mut O) -> Result<(), OutputFault>
         requires { All (λ last. IsActor last.reader) finales.items }
-        ensures { (weights : List ℕ) (script : Fields) (left : List LineFields) (first : OutputState)
-            → HasRun self.old weights script.lines (map finale_line finales.items ++ left) first (O.state out.old)
+        ensures { (weights : List ℕ) (script : Fields) (left : List LineFields)
+            (first : OutputState)
+            → HasRun self.old weights script.lines (map finale_line finales.items ++ left) first
+            (O.state out.old)
             → GoesOn result self.new weights script left first (O.state out.new) }
     {
         for last in finales {
@@ -155,10 +165,14 @@ impl Rehearsal {
     /// Runs one task more. After a fault the rehearsal is of no use any more.
     fn run<O: Output>(&mut self, task: Task, out: &mut O) -> Result<(), OutputFault>
         requires { IsInRange (act_of task) }
-        ensures runs { (weights : List ℕ) (before : List Step) (p : Pending) → Stands self.old weights before p
-            → Runs result (O.state out.old) (O.state out.new) weights before (events_of_line p (act_of task)) }
-        ensures stands { OnOk result ((weights : List ℕ) (before : List Step) (p : Pending) → Stands self.old weights before p
-            → Stands self.new weights (before ++ events_of_line p (act_of task)) (pending_after p (act_of task))) }
+        ensures runs { (weights : List ℕ) (before : List Step) (p : Pending)
+            → Stands self.old weights before p
+            → Runs result (O.state out.old) (O.state out.new) weights before
+            (events_of_line p (act_of task)) }
+        ensures stands { OnOk result ((weights : List ℕ) (before : List Step) (p : Pending)
+            → Stands self.old weights before p
+            → Stands self.new weights (before ++ events_of_line p (act_of task))
+            (pending_after p (act_of task))) }
     {
         match self.interpreter.read(task)? {
             Some(what) => self.happen(what.into_event(), out),
@@ -168,8 +182,10 @@ impl Rehearsal {
 
     /// Settles, where there is a line that says so, which comes next. After a fault the rehearsal is of no use any more.
     fn settle_so<O: Output>(&mut self, line: Option<u32>, out: &mut O) -> Result<(), OutputFault>
-        ensures { (weights : List ℕ) (script : Fields) (left : List LineFields) (first : OutputState)
-            → HasRun self.old weights script.lines (settle_lines line ++ left) first (O.state out.old)
+        ensures { (weights : List ℕ) (script : Fields) (left : List LineFields)
+            (first : OutputState)
+            → HasRun self.old weights script.lines (settle_lines line ++ left) first
+            (O.state out.old)
             → GoesOn result self.new weights script left first (O.state out.new) }
     {
         match line {
@@ -183,9 +199,12 @@ impl Rehearsal {
 
     /// Two settling draws.
     fn settle<O: Output>(&mut self, out: &mut O) -> Result<(), OutputFault>
-        ensures runs { (weights : List ℕ) (before : List Step) (p : Pending) → Stands self.old weights before p
-            → Runs result (O.state out.old) (O.state out.new) weights before (settling_step ∷ settling_step ∷ []) }
-        ensures stands { OnOk result ((weights : List ℕ) (before : List Step) (p : Pending) → Stands self.old weights before p
+        ensures runs { (weights : List ℕ) (before : List Step) (p : Pending)
+            → Stands self.old weights before p
+            → Runs result (O.state out.old) (O.state out.new) weights before
+            (settling_step ∷ settling_step ∷ []) }
+        ensures stands { OnOk result ((weights : List ℕ) (before : List Step) (p : Pending)
+            → Stands self.old weights before p
             → Stands self.new weights (before ++ settling_step ∷ settling_step ∷ []) p) }
     {
         self.draw_to_settle(out)?;
@@ -193,9 +212,11 @@ impl Rehearsal {
     }
 
     fn draw_to_settle<O: Output>(&mut self, out: &mut O) -> Result<(), OutputFault>
-        ensures runs { (weights : List ℕ) (before : List Step) (p : Pending) → Stands self.old weights before p
+        ensures runs { (weights : List ℕ) (before : List Step) (p : Pending)
+            → Stands self.old weights before p
             → Runs result (O.state out.old) (O.state out.new) weights before (settling_step ∷ []) }
-        ensures stands { OnOk result ((weights : List ℕ) (before : List Step) (p : Pending) → Stands self.old weights before p
+        ensures stands { OnOk result ((weights : List ℕ) (before : List Step) (p : Pending)
+            → Stands self.old weights before p
             → Stands self.new weights (before ++ settling_step ∷ []) p) }
     {
         let fates = Vec::new(self.alloc);
@@ -211,9 +232,12 @@ impl Rehearsal {
     /// Makes an event happen, and puts its line of the report.
     fn happen<O: Output>(&mut self, event: Event, out: &mut O) -> Result<(), OutputFault>
         requires { InRange (events.view event) }
-        ensures runs { (weights : List ℕ) (before : List Step) (p : Pending) → Stands self.old weights before p
-            → Runs result (O.state out.old) (O.state out.new) weights before (events.view event ∷ []) }
-        ensures stands { OnOk result ((weights : List ℕ) (before : List Step) (p : Pending) → Stands self.old weights before p
+        ensures runs { (weights : List ℕ) (before : List Step) (p : Pending)
+            → Stands self.old weights before p
+            → Runs result (O.state out.old) (O.state out.new) weights before
+            (events.view event ∷ []) }
+        ensures stands { OnOk result ((weights : List ℕ) (before : List Step) (p : Pending)
+            → Stands self.old weights before p
             → Stands self.new weights (before ++ events.view event ∷ []) p) }
     {
         let subject = Subject::of(self.alloc, &event)?;
@@ -229,9 +253,12 @@ impl Rehearsal {
     ) -> Result<(), OutputFault>
         requires range { InRange (events.view event) }
         requires tells { Tells subject.now (events.view event) }
-        ensures runs { (weights : List ℕ) (before : List Step) (p : Pending) → Stands self.old weights before p
-            → Runs result (O.state out.old) (O.state out.new) weights before (events.view event ∷ []) }
-        ensures stands { OnOk result ((weights : List ℕ) (before : List Step) (p : Pending) → Stands self.old weights before p
+        ensures runs { (weights : List ℕ) (before : List Step) (p : Pending)
+            → Stands self.old weights before p
+            → Runs result (O.state out.old) (O.state out.new) weights before
+            (events.view event ∷ []) }
+        ensures stands { OnOk result ((weights : List ℕ) (before : List Step) (p : Pending)
+            → Stands self.old weights before p
             → Stands self.new weights (before ++ events.view event ∷ []) p) }
     {
         let reply = self.world.step(event)?;

@@ -26,7 +26,8 @@ pub(crate) fn put_line<O: Output>(
     reply: &Reply,
     out: &mut O,
 ) -> Result<(), OutputFault>
-    ensures { Puts result (O.state out.old) (O.state out.new) (texts.line_of (string_bytes subject.now.words) (string_bytes subject.now.path) reply.now) }
+    ensures { Puts result (O.state out.old) (O.state out.new)
+        (texts.line_of (string_bytes subject.now.words) (string_bytes subject.now.path) reply.now) }
 {
     let words = front_words(alloc, subject, reply)?;
     out.put(words.as_bytes())?;
@@ -36,7 +37,10 @@ pub(crate) fn put_line<O: Output>(
 
 /// The words of a line up to a file's digits or a folder's names.
 fn front_words(alloc: Global, subject: &Subject, reply: &Reply) -> Result<String, NoMemory>
-    ensures { IfOk result (λ text. string_bytes text ≡ string_bytes subject.now.words ++ 32 ∷ texts.reply_words (string_bytes subject.now.path) reply.now) }
+    ensures { IfOk result (λ text.
+        string_bytes text
+        ≡ string_bytes subject.now.words
+        ++ 32 ∷ texts.reply_words (string_bytes subject.now.path) reply.now) }
 {
     let reply = reply_words(alloc, subject.path.as_str(), reply)?;
     let words = subject.words.as_str();
@@ -68,7 +72,9 @@ fn opened_words(
     label: Option<u64>,
     answer: &Answer,
 ) -> Result<String, NoMemory>
-    ensures { IfOk result (λ text. string_bytes text ≡ texts.label_word label ++ (32 ∷ path.now ++ 32 ∷ answer_line answer.now)) }
+    ensures { IfOk result (λ text.
+        string_bytes text
+        ≡ texts.label_word label ++ (32 ∷ path.now ++ 32 ∷ answer_line answer.now)) }
 {
     let answer = answer_text(alloc, answer)?;
     match label {
@@ -103,7 +109,8 @@ fn put_answer_tail<O: Output>(
 
 /// Puts a space and a file's bytes.
 fn put_content<O: Output>(alloc: Global, content: &[u8], out: &mut O) -> Result<(), OutputFault>
-    ensures { Puts result (O.state out.old) (O.state out.new) (32 ∷ texts.content_word content.now) }
+    ensures { Puts result (O.state out.old) (O.state out.new)
+        (32 ∷ texts.content_word content.now) }
 {
     if content.is_empty() {
         return out.put(b" -");
@@ -125,7 +132,8 @@ fn put_digits<O: Output>(alloc: Global, content: &[u8], out: &mut O) -> Result<(
 
 /// Puts a folder's names, each after a space.
 fn put_names<O: Output>(alloc: Global, folder: &FolderRef, out: &mut O) -> Result<(), OutputFault>
-    ensures { Puts result (O.state out.old) (O.state out.new) (flat_map texts.spaced_name folder.now) }
+    ensures { Puts result (O.state out.old) (O.state out.new)
+        (flat_map texts.spaced_name folder.now) }
 {
     for i in 0..folder.count() {
         put_name(alloc, folder.name(i), out)?;

@@ -17,7 +17,8 @@ pub fn put_report<O: Output>(
     told: &[(Event, Reply)],
     out: &mut O,
 ) -> Result<(), OutputFault>
-    ensures puts { Puts result (O.state out.old) (O.state out.new) (texts.report (map (λ x. events.view x.0) told.now) (map (λ x. x.1) told.now)) }
+    ensures puts { Puts result (O.state out.old) (O.state out.new)
+        (texts.report (map (λ x. events.view x.0) told.now) (map (λ x. x.1) told.now)) }
     ensures empty { OnOk result ((O.state out.new).pending ≡ []) }
 {
     for one in told {
@@ -28,7 +29,8 @@ pub fn put_report<O: Output>(
 
 /// Puts the line of one event.
 fn put_told<O: Output>(alloc: Global, told: &(Event, Reply), out: &mut O) -> Result<(), OutputFault>
-    ensures { Puts result (O.state out.old) (O.state out.new) (texts.report_line (events.view told.now.0) told.now.1) }
+    ensures { Puts result (O.state out.old) (O.state out.new)
+        (texts.report_line (events.view told.now.0) told.now.1) }
 {
     let subject = Subject::of(alloc, &told.0)?;
     put_line(alloc, &subject, &told.1, out)

@@ -35,7 +35,15 @@ impl Model for Demux {
 
     ghost Value = { DemuxState };
 
-    ghost view = { λ d. record { pid = d.receiver.pid; last = d.receiver.last; opened = d.receiver.opened; counts = d.receiver.counts; unfinished = d.unfinished } };
+    ghost view = { λ d.
+        record {
+          pid = d.receiver.pid;
+          last = d.receiver.last;
+          opened = d.receiver.opened;
+          counts =
+              d.receiver.counts;
+          unfinished = d.unfinished;
+        } };
 
     ghost invariant = { λ d. length d.unfinished < 188 };
 }
@@ -67,14 +75,21 @@ impl Demux {
     #[inline]
     pub fn feed(&mut self, packet: &[u8; 188]) -> Result<Vec<Vec<u8>>, NoMemory>
         requires { self.old.unfinished ≡ [] }
-        ensures stands { OnOk result ((packets : List Bytes) → StandsFor self.old packets → StandsFor self.new (packets ++ packet.now ∷ [])) }
+        ensures stands { OnOk result ((packets : List Bytes)
+            → StandsFor self.old packets
+            → StandsFor self.new (packets ++ packet.now ∷ [])) }
         ensures pid { OnOk result (self.new.pid ≡ self.old.pid) }
         ensures short { OnOk result (self.new.counts.short_tail ≡ self.old.counts.short_tail) }
         ensures whole { self.new.unfinished ≡ [] }
-        ensures cuts { IfOk result (λ out. (packets : List Bytes) → StandsFor self.old packets
-            → candidates self.old.pid (packets ++ packet.now ∷ []) ≡ candidates self.old.pid packets ++ map view_bytes out.items) }
-        ensures completes { OnErr result ((packets : List Bytes) → StandsFor self.old packets
-            → length (candidates self.old.pid packets) < length (candidates self.old.pid (packets ++ packet.now ∷ []))) }
+        ensures cuts { IfOk result (λ out.
+            (packets : List Bytes)
+            → StandsFor self.old packets
+            → candidates self.old.pid (packets ++ packet.now ∷ [])
+            ≡ candidates self.old.pid packets ++ map view_bytes out.items) }
+        ensures completes { OnErr result ((packets : List Bytes)
+            → StandsFor self.old packets
+            → length (candidates self.old.pid packets)
+            < length (candidates self.old.pid (packets ++ packet.now ∷ []))) }
         ensures err { OnErr result (self.new ≡ self.old) }
     {
         let mut out = Vec::new(self.alloc);
@@ -90,14 +105,21 @@ impl Demux {
     /// counted too.
     pub fn feed_bytes(&mut self, piece: &[u8]) -> Result<Vec<Vec<u8>>, NoMemory>
         requires { length piece.now ≤ MOST_PIECE }
-        ensures stands { OnOk result ((bytes : Bytes) → StandsForBytes self.old bytes → StandsForBytes self.new (bytes ++ piece.now)) }
+        ensures stands { OnOk result ((bytes : Bytes)
+            → StandsForBytes self.old bytes
+            → StandsForBytes self.new (bytes ++ piece.now)) }
         ensures pid { OnOk result (self.new.pid ≡ self.old.pid) }
         ensures short { OnOk result (self.new.counts.short_tail ≡ self.old.counts.short_tail) }
-        ensures cuts { IfOk result (λ out. (bytes : Bytes) → StandsForBytes self.old bytes
-            → candidates self.old.pid (packets_of (bytes ++ piece.now)) ≡ candidates self.old.pid (packets_of bytes) ++ map view_bytes out.items) }
+        ensures cuts { IfOk result (λ out.
+            (bytes : Bytes)
+            → StandsForBytes self.old bytes
+            → candidates self.old.pid (packets_of (bytes ++ piece.now))
+            ≡ candidates self.old.pid (packets_of bytes) ++ map view_bytes out.items) }
         ensures memory { IsErr result → 188 ≤ length self.old.unfinished + length piece.now }
-        ensures completes { OnErr result ((bytes : Bytes) → StandsForBytes self.old bytes
-            → length (candidates self.old.pid (packets_of bytes)) < length (candidates self.old.pid (packets_of (bytes ++ piece.now)))) }
+        ensures completes { OnErr result ((bytes : Bytes)
+            → StandsForBytes self.old bytes
+            → length (candidates self.old.pid (packets_of bytes))
+            < length (candidates self.old.pid (packets_of (bytes ++ piece.now)))) }
         ensures err { OnErr result (self.new ≡ self.old) }
     {
         let mut out = Vec::new(self.alloc);
@@ -133,9 +155,15 @@ impl Demux {
 
     /// Counts a last piece of fewer than 188 bytes. It takes no memory.
     pub fn short(&mut self)
-        ensures stands { (packets : List Bytes) → StandsFor self.old packets → StandsFor self.new packets }
-        ensures bytes { (bytes : Bytes) → StandsForBytes self.old bytes → StandsForBytes self.new bytes }
-        ensures only { self.new ≡ record self.old { counts = record self.old.counts { short_tail = up self.old.counts.short_tail } } }
+        ensures stands { (packets : List Bytes)
+            → StandsFor self.old packets
+            → StandsFor self.new packets }
+        ensures bytes { (bytes : Bytes)
+            → StandsForBytes self.old bytes
+            → StandsForBytes self.new bytes }
+        ensures only { self.new
+            ≡ record self.old
+            { counts = record self.old.counts { short_tail = up self.old.counts.short_tail } } }
     {
         self.receiver.short();
     }

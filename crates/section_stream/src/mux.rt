@@ -33,7 +33,8 @@ impl Model for Mux {
 
     ghost Value = { MuxState };
 
-    ghost view = { λ m. record { pid = m.pid; counter = m.counter; tail = m.held.tail; body = m.held.body } };
+    ghost view = { λ m.
+        record { pid = m.pid; counter = m.counter; tail = m.held.tail; body = m.held.body } };
 
     ghost invariant = { λ m. (m.pid < 8192) × (m.counter < 16) };
 }
@@ -65,7 +66,8 @@ impl Mux {
     /// After out of memory, which comes only where packets were to be given, all is as before.
     pub fn packets(&mut self, section: &[u8], out: &mut Vec<[u8; 188]>) -> Result<(), NoMemory>
         requires { IsSectionLike section.now }
-        ensures packets { OnOk result (out.new.items ≡ out.old.items ++ packets_of self.old section.now) }
+        ensures packets { OnOk result
+            (out.new.items ≡ out.old.items ++ packets_of self.old section.now) }
         ensures state { OnOk result (self.new ≡ past self.old section.now) }
         ensures memory { OnErr result (0 < length (packets_of self.old section.now)) }
         ensures err { OnErr result ((self.new ≡ self.old) × (out.new.items ≡ out.old.items)) }
@@ -122,9 +124,11 @@ fn put_rest<'a>(pid: u16, first: u8, section: &'a [u8], out: &mut Vec<[u8; 188]>
     requires pid { pid < 8192 }
     requires counter { first < 16 }
     requires room { vec_len out.old + (length section.now + 1) / 184 ≤ vec_capacity out.old }
-    ensures packets { out.new.items ≡ out.old.items ++ number_packets pid first (sent_of section.now).given }
+    ensures packets { out.new.items
+        ≡ out.old.items ++ number_packets pid first (sent_of section.now).given }
     ensures rest { (result.0.now ≡ (sent_of section.now).tail) × (length result.0.now < 183) }
-    ensures counter { (result.1 ≡ (first + length (sent_of section.now).given) % 16) × (result.1 < 16) }
+    ensures counter { (result.1 ≡ (first + length (sent_of section.now).given) % 16)
+        × (result.1 < 16) }
 {
     let mut rest = section;
     let mut counter = first;
@@ -145,7 +149,11 @@ fn put(pid: u16, counter: u8, pointer: &[u8], held: &[u8], front: &[u8], out: &m
     requires counter { counter < 16 }
     requires size { length pointer.now + length held.now + length front.now ≤ 184 }
     requires room { vec_len out.old < vec_capacity out.old }
-    ensures packet { out.new.items ≡ out.old.items ++ packet_bytes pid (nat_lt 0 (length pointer.now)) counter (with_stuffing (pointer.now ++ (held.now ++ front.now))) ∷ [] }
+    ensures packet { out.new.items
+        ≡ out.old.items
+        ++ packet_bytes pid (nat_lt 0 (length pointer.now)) counter
+        (with_stuffing (pointer.now ++ (held.now ++ front.now)))
+        ∷ [] }
     ensures room { vec_capacity out.old ≤ vec_capacity out.new }
     ensures one { vec_len out.new ≡ vec_len out.old + 1 }
 {
@@ -167,7 +175,8 @@ fn push(pid: u16, start: bool, counter: u8, payload: &[u8; 184], out: &mut Vec<[
     requires pid { pid < 8192 }
     requires counter { counter < 16 }
     requires room { vec_len out.old < vec_capacity out.old }
-    ensures packet { out.new.items ≡ out.old.items ++ packet_bytes pid start counter payload.now ∷ [] }
+    ensures packet { out.new.items
+        ≡ out.old.items ++ packet_bytes pid start counter payload.now ∷ [] }
     ensures room { vec_capacity out.old ≤ vec_capacity out.new }
     ensures one { vec_len out.new ≡ vec_len out.old + 1 }
 {

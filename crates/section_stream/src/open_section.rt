@@ -31,7 +31,8 @@ impl Model for OpenSection {
 
     ghost view = { λ s. if s.is_open then Some s.bytes.items else None };
 
-    ghost invariant = { λ s. (vec_len s.bytes ≤ MOST_SECTION) × (MOST_SECTION ≤ vec_capacity s.bytes) };
+    ghost invariant = { λ s.
+        (vec_len s.bytes ≤ MOST_SECTION) × (MOST_SECTION ≤ vec_capacity s.bytes) };
 }
 
 impl OpenSection {
@@ -112,7 +113,10 @@ impl OpenSection {
         requires whole { IsWhole self.old more.now n }
         requires place { place ≤ length out.old.items }
         ensures closed { OnOk result (self.new ≡ None) }
-        ensures out { OnOk result (map view_bytes out.new.items ≡ insert (map view_bytes out.old.items) place (take n (bytes_of self.old ++ more.now))) }
+        ensures out { OnOk result
+            (map view_bytes out.new.items
+            ≡ insert (map view_bytes out.old.items) place
+            (take n (bytes_of self.old ++ more.now))) }
         ensures err { OnErr result (self.new ≡ self.old) }
     {
         let spare = spare_for(alloc, n)?;

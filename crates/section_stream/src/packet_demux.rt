@@ -23,7 +23,15 @@ impl Model for PacketDemux {
 
     ghost Value = { DemuxState };
 
-    ghost view = { λ d. record { pid = d.receiver.pid; last = d.receiver.last; opened = d.receiver.opened; counts = d.receiver.counts; unfinished = [] } };
+    ghost view = { λ d.
+        record {
+          pid = d.receiver.pid;
+          last = d.receiver.last;
+          opened = d.receiver.opened;
+          counts =
+              d.receiver.counts;
+          unfinished = [];
+        } };
 }
 
 impl PacketDemux {
@@ -41,13 +49,20 @@ impl PacketDemux {
     /// Takes one packet, as `Demux::feed` does: out of memory comes only of a packet that completes a section.
     #[inline]
     pub fn feed(&mut self, packet: &[u8; 188]) -> Result<Vec<Vec<u8>>, NoMemory>
-        ensures stands { OnOk result ((packets : List Bytes) → StandsFor self.old packets → StandsFor self.new (packets ++ packet.now ∷ [])) }
+        ensures stands { OnOk result ((packets : List Bytes)
+            → StandsFor self.old packets
+            → StandsFor self.new (packets ++ packet.now ∷ [])) }
         ensures pid { OnOk result (self.new.pid ≡ self.old.pid) }
         ensures short { OnOk result (self.new.counts.short_tail ≡ self.old.counts.short_tail) }
-        ensures cuts { IfOk result (λ out. (packets : List Bytes) → StandsFor self.old packets
-            → candidates self.old.pid (packets ++ packet.now ∷ []) ≡ candidates self.old.pid packets ++ map view_bytes out.items) }
-        ensures completes { OnErr result ((packets : List Bytes) → StandsFor self.old packets
-            → length (candidates self.old.pid packets) < length (candidates self.old.pid (packets ++ packet.now ∷ []))) }
+        ensures cuts { IfOk result (λ out.
+            (packets : List Bytes)
+            → StandsFor self.old packets
+            → candidates self.old.pid (packets ++ packet.now ∷ [])
+            ≡ candidates self.old.pid packets ++ map view_bytes out.items) }
+        ensures completes { OnErr result ((packets : List Bytes)
+            → StandsFor self.old packets
+            → length (candidates self.old.pid packets)
+            < length (candidates self.old.pid (packets ++ packet.now ∷ []))) }
         ensures err { OnErr result (self.new ≡ self.old) }
     {
         let mut out = Vec::new(self.alloc);
@@ -64,8 +79,12 @@ impl PacketDemux {
 
     /// Counts a last piece of fewer than 188 bytes. It takes no memory.
     pub fn short(&mut self)
-        ensures stands { (packets : List Bytes) → StandsFor self.old packets → StandsFor self.new packets }
-        ensures only { self.new ≡ record self.old { counts = record self.old.counts { short_tail = up self.old.counts.short_tail } } }
+        ensures stands { (packets : List Bytes)
+            → StandsFor self.old packets
+            → StandsFor self.new packets }
+        ensures only { self.new
+            ≡ record self.old
+            { counts = record self.old.counts { short_tail = up self.old.counts.short_tail } } }
     {
         self.receiver.short();
     }

@@ -69,7 +69,8 @@ fn growth_with(front: &[u8], back: &[u8]) -> Growth
 /// Puts the section of the first `n` bytes after the candidates so far.
 fn complete(alloc: Global, here: &[u8], n: usize, out: &mut Vec<Vec<u8>>) -> Result<(), NoMemory>
     requires { n ≤ length here.now }
-    ensures { OnOk result (map view_bytes out.new.items ≡ map view_bytes out.old.items ++ take n here.now ∷ []) }
+    ensures { OnOk result
+        (map view_bytes out.new.items ≡ map view_bytes out.old.items ++ take n here.now ∷ []) }
 {
     let mut section = Vec::with_capacity(alloc, n)?;
     section.extend_from_slice(&here[..n])?;
@@ -87,8 +88,11 @@ fn goes_on(
     out: &mut Vec<Vec<u8>>,
     counts: &mut Counts,
 ) -> Result<(), NoMemory>
-    ensures done { OnOk result (HasDone (rules.goes_on (kept_unless jumped opened.old) payload.now counts.old) opened.new (map view_bytes out.old.items) (map view_bytes out.new.items) counts.new) }
-    ensures memory { OnErr result (HasOut (rules.goes_on (kept_unless jumped opened.old) payload.now counts.old)) }
+    ensures done { OnOk result
+        (HasDone (rules.goes_on (kept_unless jumped opened.old) payload.now counts.old) opened.new
+        (map view_bytes out.old.items) (map view_bytes out.new.items) counts.new) }
+    ensures memory { OnErr result
+        (HasOut (rules.goes_on (kept_unless jumped opened.old) payload.now counts.old)) }
     ensures err { OnErr result ((opened.new ≡ opened.old) × (counts.new ≡ counts.old)) }
 {
     let Some(bytes) = opened.bytes_unless(jumped) else {
@@ -117,7 +121,13 @@ fn goes_on(
 /// The bytes before the first section that begins in a packet: they are the last of the open section. The answer is its
 /// length, where it is whole; else it is counted.
 fn closes(opened: Option<&[u8]>, part: &[u8], counts: &mut Counts) -> Option<usize>
-    ensures closed { rules.closes (option_copied opened.entry) part.now counts.old ≡ record { opened = None; out = section_of (bytes_of (option_copied opened.entry) ++ part.now) result; counts = counts.new } }
+    ensures closed { rules.closes (option_copied opened.entry) part.now counts.old
+        ≡ record {
+          opened = None;
+          out = section_of (bytes_of (option_copied opened.entry) ++ part.now)
+              result;
+          counts = counts.new;
+        } }
     ensures whole { ForSome result (λ n. IsWhole (option_copied opened.entry) part.now n) }
 {
     let Some(opened) = opened else {
@@ -152,8 +162,11 @@ fn open_sections<'a>(
     counts: &mut Counts,
 ) -> Result<Option<&'a [u8]>, NoMemory>
     requires { length here.now ≤ 188 }
-    ensures done { IfOk result (λ opened. HasDone (open_all here.now counts.old) (option_copied opened) (map view_bytes out.old.items) (map view_bytes out.new.items) counts.new) }
-    ensures room { IfOk result (λ opened. ForSome opened (λ bytes. length bytes.now ≤ MOST_SECTION)) }
+    ensures done { IfOk result (λ opened.
+        HasDone (open_all here.now counts.old) (option_copied opened) (map view_bytes out.old.items)
+        (map view_bytes out.new.items) counts.new) }
+    ensures room { IfOk result (λ opened.
+        ForSome opened (λ bytes. length bytes.now ≤ MOST_SECTION)) }
     ensures memory { OnErr result (0 < length (open_all here.now counts.old).out) }
     ensures err { OnErr result (counts.new ≡ counts.old) }
 {
@@ -186,8 +199,11 @@ fn begins(
 ) -> Result<(), NoMemory>
     requires few { length here.now ≤ 188 }
     requires whole { ForSome whole (λ n. IsWhole opened.old part.now n) }
-    ensures done { OnOk result (HasDone (begun_by opened.old part.now whole here.now counts.old) opened.new (map view_bytes out.old.items) (map view_bytes out.new.items) counts.new) }
-    ensures memory { OnErr result (HasOut (begun_by opened.old part.now whole here.now counts.old)) }
+    ensures done { OnOk result
+        (HasDone (begun_by opened.old part.now whole here.now counts.old) opened.new
+        (map view_bytes out.old.items) (map view_bytes out.new.items) counts.new) }
+    ensures memory { OnErr result
+        (HasOut (begun_by opened.old part.now whole here.now counts.old)) }
     ensures err { OnErr result (opened.new ≡ opened.old) }
 {
     let place = out.len();
@@ -216,8 +232,11 @@ fn starts(
     counts: &mut Counts,
 ) -> Result<(), NoMemory>
     requires { (0 < length payload.now) × (length payload.now ≤ 184) }
-    ensures done { OnOk result (HasDone (rules.starts (kept_unless jumped opened.old) payload.now counts.old) opened.new (map view_bytes out.old.items) (map view_bytes out.new.items) counts.new) }
-    ensures memory { OnErr result (HasOut (rules.starts (kept_unless jumped opened.old) payload.now counts.old)) }
+    ensures done { OnOk result
+        (HasDone (rules.starts (kept_unless jumped opened.old) payload.now counts.old) opened.new
+        (map view_bytes out.old.items) (map view_bytes out.new.items) counts.new) }
+    ensures memory { OnErr result
+        (HasOut (rules.starts (kept_unless jumped opened.old) payload.now counts.old)) }
     ensures err { OnErr result ((opened.new ≡ opened.old) × (counts.new ≡ counts.old)) }
 {
     let pointer = usize::from(payload[0]);
@@ -252,8 +271,11 @@ pub fn payload_done(
     counts: &mut Counts,
 ) -> Result<(), NoMemory>
     requires { (0 < length payload.now) × (length payload.now ≤ 184) }
-    ensures done { OnOk result (HasDone (done_by start (kept_unless jumped opened.old) payload.now counts.old) opened.new (map view_bytes out.old.items) (map view_bytes out.new.items) counts.new) }
-    ensures memory { OnErr result (HasOut (done_by start (kept_unless jumped opened.old) payload.now counts.old)) }
+    ensures done { OnOk result
+        (HasDone (done_by start (kept_unless jumped opened.old) payload.now counts.old) opened.new
+        (map view_bytes out.old.items) (map view_bytes out.new.items) counts.new) }
+    ensures memory { OnErr result
+        (HasOut (done_by start (kept_unless jumped opened.old) payload.now counts.old)) }
     ensures err { OnErr result ((opened.new ≡ opened.old) × (counts.new ≡ counts.old)) }
 {
     if start {

@@ -41,7 +41,8 @@ impl Model for Receiver {
 
     ghost view = { view_receiver };
 
-    ghost invariant = { λ r. last_of (parse_packet r.last) ≡ last_from r.payload_at r.counter r.last };
+    ghost invariant = { λ r.
+        last_of (parse_packet r.last) ≡ last_from r.payload_at r.counter r.last };
 }
 
 /// What a packet is to the receiver of one PID.
@@ -108,8 +109,11 @@ impl Receiver {
         bytes: &'a [u8],
         out: &mut Vec<Vec<u8>>,
     ) -> Result<&'a [u8], NoMemory>
-        ensures run { OnOk result (HasRun self.old self.new (packets_of bytes.now) (map view_bytes out.old.items) (map view_bytes out.new.items)) }
-        ensures rest { IfOk result (λ rest. (rest.now ≡ rest_of bytes.now) × (length rest.now < 188)) }
+        ensures run { OnOk result
+            (HasRun self.old self.new (packets_of bytes.now) (map view_bytes out.old.items)
+            (map view_bytes out.new.items)) }
+        ensures rest { IfOk result (λ rest.
+            (rest.now ≡ rest_of bytes.now) × (length rest.now < 188)) }
         ensures memory { OnErr result (0 < length (outputs self.old (packets_of bytes.now))) }
     {
         let mut rest = bytes;
@@ -124,7 +128,9 @@ impl Receiver {
     /// which comes only where it has any, the packet isn't taken.
     #[inline]
     pub fn step(&mut self, packet: &[u8; 188], out: &mut Vec<Vec<u8>>) -> Result<(), NoMemory>
-        ensures ok { OnOk result (Gives (rules.step self.old packet.now) self.new (map view_bytes out.old.items) (map view_bytes out.new.items)) }
+        ensures ok { OnOk result
+            (Gives (rules.step self.old packet.now) self.new (map view_bytes out.old.items)
+            (map view_bytes out.new.items)) }
         ensures memory { OnErr result (Completes (rules.step self.old packet.now)) }
         ensures err { OnErr result (self.new ≡ self.old) }
     {
@@ -140,7 +146,8 @@ impl Receiver {
     /// The counter and the payload of the packet that was kept, if there was one.
     #[inline]
     fn last_kept(&self) -> Option<(u8, &[u8])>
-        ensures { MatchOption result (self.now.last ≡ None) (λ l. self.now.last ≡ Some (l.0, l.1.now)) }
+        ensures { MatchOption result (self.now.last ≡ None) (λ l.
+            self.now.last ≡ Some (l.0, l.1.now)) }
     {
         if self.payload_at < PACKET {
             Some((self.counter, from_place(&self.last, self.payload_at)))
@@ -186,8 +193,11 @@ impl Receiver {
         requires packet { parse_packet packet.now ≡ Ok (view fields) }
         requires payload { (0 < length fields.payload.now) × (length fields.payload.now ≤ 184) }
         requires jumped { rules.jumps_from fields.counter self.old.last ≡ jumped }
-        ensures ok { OnOk result (Gives (rules.takes (one_more self.old) (view fields.entry)) self.new (map view_bytes out.old.items) (map view_bytes out.new.items)) }
-        ensures memory { OnErr result (Completes (rules.takes (one_more self.old) (view fields.entry))) }
+        ensures ok { OnOk result
+            (Gives (rules.takes (one_more self.old) (view fields.entry)) self.new
+            (map view_bytes out.old.items) (map view_bytes out.new.items)) }
+        ensures memory { OnErr result
+            (Completes (rules.takes (one_more self.old) (view fields.entry))) }
         ensures err { OnErr result (self.new ≡ self.old) }
     {
         let before = (self.counts.packets, self.counts.jumps);
@@ -224,7 +234,9 @@ impl Receiver {
 
     /// Counts a last piece that is shorter than a packet.
     pub fn short(&mut self)
-        ensures { self.new ≡ record self.old { counts = record self.old.counts { short_tail = up self.old.counts.short_tail } } }
+        ensures { self.new
+            ≡ record self.old
+            { counts = record self.old.counts { short_tail = up self.old.counts.short_tail } } }
     {
         self.counts.short_tail = up(self.counts.short_tail);
     }

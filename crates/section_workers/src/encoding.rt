@@ -24,7 +24,8 @@ pub fn encode_batch<R: Threads + Sync, G: Gate>(
 ) -> Result<Vec<Vec<u8>>, NoMemory>
     requires count { length items.now ≤ 1024 }
     requires items { All (λ item. Contains (items_of generation.now) item) items.now }
-    ensures exact { IfOk result (λ sections. map (λ s. s.items) sections.items ≡ map (section_of generation.now) items.now) }
+    ensures exact { IfOk result (λ sections.
+        map (λ s. s.items) sections.items ≡ map (section_of generation.now) items.now) }
     ensures framed { IfOk result (λ sections. All (λ s. IsFramed s.items) sections.items) }
 {
     let (low, high) = items.split_at(items.len() / 2);
@@ -32,7 +33,9 @@ pub fn encode_batch<R: Threads + Sync, G: Gate>(
         rt,
         || -> Result<Vec<Vec<u8>>, NoMemory>
             requires { All (λ item. Contains (items_of generation.now) item) low.now }
-            ensures exact { IfOk result (λ sections. map (λ s. s.items) sections.items ≡ map (section_of generation.entry.now) low.entry.now) }
+            ensures exact { IfOk result (λ sections.
+                map (λ s. s.items) sections.items
+                ≡ map (section_of generation.entry.now) low.entry.now) }
             ensures framed { IfOk result (λ sections. All (λ s. IsFramed s.items) sections.items) }
         {
             gate.pass(Actor::Worker(0), 0);
@@ -40,7 +43,9 @@ pub fn encode_batch<R: Threads + Sync, G: Gate>(
         },
         || -> Result<Vec<Vec<u8>>, NoMemory>
             requires { All (λ item. Contains (items_of generation.now) item) high.now }
-            ensures exact { IfOk result (λ sections. map (λ s. s.items) sections.items ≡ map (section_of generation.entry.now) high.entry.now) }
+            ensures exact { IfOk result (λ sections.
+                map (λ s. s.items) sections.items
+                ≡ map (section_of generation.entry.now) high.entry.now) }
             ensures framed { IfOk result (λ sections. All (λ s. IsFramed s.items) sections.items) }
         {
             gate.pass(Actor::Worker(1), 0);
@@ -60,7 +65,8 @@ fn encode(
     room: usize,
 ) -> Result<Vec<Vec<u8>>, NoMemory>
     requires { All (λ item. Contains (items_of generation.now) item) items.now }
-    ensures exact { IfOk result (λ sections. map (λ s. s.items) sections.items ≡ map (section_of generation.now) items.now) }
+    ensures exact { IfOk result (λ sections.
+        map (λ s. s.items) sections.items ≡ map (section_of generation.now) items.now) }
     ensures framed { IfOk result (λ sections. All (λ s. IsFramed s.items) sections.items) }
 {
     let mut sections = Vec::with_capacity(alloc, room)?;

@@ -34,27 +34,41 @@ pub fn run_actors<R: Threads + Wait + Sync, G: Gate>(
     requires editors { All (IsEditorSeat station.now) editors.old }
     requires pass { IsStationPass station.now feeder.old.pass }
     requires lines { All IsDrawLine feeder.old.draws.items }
-    requires room { length (shown_by shower.old) + length feeder.old.draws.items ≤ most_by shower.old + 1 }
+    requires room { length (shown_by shower.old) + length feeder.old.draws.items
+        ≤ most_by shower.old + 1 }
     requires readers { All IsReaderSeat readers.old }
-    ensures editors { (i : ℕ) (d : _) → i < length editors.old → DidEdit station.now (slice_index_or editors.old i d) (slice_index_or editors.new i d) }
-    ensures feeder { DidFeed station.now feeder.old feeder.new (shown_by shower.old) (shown_by shower.new) }
+    ensures editors { (i : ℕ) (d : _)
+        → i < length editors.old
+        → DidEdit station.now (slice_index_or editors.old i d) (slice_index_or editors.new i d) }
+    ensures feeder { DidFeed station.now feeder.old feeder.new (shown_by shower.old)
+        (shown_by shower.new) }
     ensures board { IsSameBoard shower.old shower.new }
-    ensures readers { (i : ℕ) (d : _) → i < length readers.old → DidRead (slice_index_or readers.old i d) (slice_index_or readers.new i d) }
+    ensures readers { (i : ℕ) (d : _)
+        → i < length readers.old
+        → DidRead (slice_index_or readers.old i d) (slice_index_or readers.new i d) }
 {
     join_mut(
         rt,
         &mut ||
             requires { All (IsEditorSeat station.now) editors.now }
-            ensures { (i : ℕ) (d : _) → i < length editors.entry.now → DidEdit station.entry.now (slice_index_or editors.entry.now i d) (slice_index_or editors.exit.now i d) }
+            ensures { (i : ℕ) (d : _)
+                → i < length editors.entry.now
+                → DidEdit station.entry.now (slice_index_or editors.entry.now i d)
+                (slice_index_or editors.exit.now i d) }
         { edit_all(rt, alloc, station, gate, editors) },
         &mut ||
             requires pass { IsStationPass station.now feeder.now.pass }
             requires lines { All IsDrawLine feeder.now.draws.items }
-            requires room { length (shown_by shower.now) + length feeder.now.draws.items ≤ most_by shower.now + 1 }
+            requires room { length (shown_by shower.now) + length feeder.now.draws.items
+                ≤ most_by shower.now + 1 }
             requires readers { All IsReaderSeat readers.now }
-            ensures feeder { DidFeed station.entry.now feeder.entry.now feeder.exit.now (shown_by shower.entry.now) (shown_by shower.exit.now) }
+            ensures feeder { DidFeed station.entry.now feeder.entry.now feeder.exit.now
+                (shown_by shower.entry.now) (shown_by shower.exit.now) }
             ensures board { IsSameBoard shower.entry.now shower.exit.now }
-            ensures readers { (i : ℕ) (d : _) → i < length readers.entry.now → DidRead (slice_index_or readers.entry.now i d) (slice_index_or readers.exit.now i d) }
+            ensures readers { (i : ℕ) (d : _)
+                → i < length readers.entry.now
+                → DidRead (slice_index_or readers.entry.now i d)
+                (slice_index_or readers.exit.now i d) }
         { feed_and_read(rt, alloc, station, gate, shower, feeder, readers) },
     );
 }
@@ -71,23 +85,32 @@ fn feed_and_read<R: Threads + Wait + Sync, G: Gate>(
 )
     requires pass { IsStationPass station.now feeder.old.pass }
     requires lines { All IsDrawLine feeder.old.draws.items }
-    requires room { length (shown_by shower.old) + length feeder.old.draws.items ≤ most_by shower.old + 1 }
+    requires room { length (shown_by shower.old) + length feeder.old.draws.items
+        ≤ most_by shower.old + 1 }
     requires readers { All IsReaderSeat readers.old }
-    ensures feeder { DidFeed station.now feeder.old feeder.new (shown_by shower.old) (shown_by shower.new) }
+    ensures feeder { DidFeed station.now feeder.old feeder.new (shown_by shower.old)
+        (shown_by shower.new) }
     ensures board { IsSameBoard shower.old shower.new }
-    ensures readers { (i : ℕ) (d : _) → i < length readers.old → DidRead (slice_index_or readers.old i d) (slice_index_or readers.new i d) }
+    ensures readers { (i : ℕ) (d : _)
+        → i < length readers.old
+        → DidRead (slice_index_or readers.old i d) (slice_index_or readers.new i d) }
 {
     join_mut(
         rt,
         &mut ||
             requires { All IsReaderSeat readers.now }
-            ensures { (i : ℕ) (d : _) → i < length readers.entry.now → DidRead (slice_index_or readers.entry.now i d) (slice_index_or readers.exit.now i d) }
+            ensures { (i : ℕ) (d : _)
+                → i < length readers.entry.now
+                → DidRead (slice_index_or readers.entry.now i d)
+                (slice_index_or readers.exit.now i d) }
         { read_all(rt, alloc, gate, readers) },
         &mut ||
             requires pass { IsStationPass station.now feeder.now.pass }
             requires lines { All IsDrawLine feeder.now.draws.items }
-            requires room { length (shown_by shower.now) + length feeder.now.draws.items ≤ most_by shower.now + 1 }
-            ensures feeder { DidFeed station.entry.now feeder.entry.now feeder.exit.now (shown_by shower.entry.now) (shown_by shower.exit.now) }
+            requires room { length (shown_by shower.now) + length feeder.now.draws.items
+                ≤ most_by shower.now + 1 }
+            ensures feeder { DidFeed station.entry.now feeder.entry.now feeder.exit.now
+                (shown_by shower.entry.now) (shown_by shower.exit.now) }
             ensures board { IsSameBoard shower.entry.now shower.exit.now }
         { feed(rt, alloc, station, gate, shower, feeder) },
     );
@@ -102,7 +125,9 @@ fn edit_all<R: Threads + Wait + Sync, G: Gate>(
     editors: &mut [EditorSeat],
 )
     requires { All (IsEditorSeat station.now) editors.old }
-    ensures { (i : ℕ) (d : _) → i < length editors.old → DidEdit station.now (slice_index_or editors.old i d) (slice_index_or editors.new i d) }
+    ensures { (i : ℕ) (d : _)
+        → i < length editors.old
+        → DidEdit station.now (slice_index_or editors.old i d) (slice_index_or editors.new i d) }
 {
     let threads = editors.len();
     if threads == 0 {
@@ -122,7 +147,9 @@ fn edit_all<R: Threads + Wait + Sync, G: Gate>(
 /// One thread for each reader.
 fn read_all<R: Threads + Sync, G: Gate>(rt: &R, alloc: Global, gate: &G, readers: &mut [ReaderSeat])
     requires { All IsReaderSeat readers.old }
-    ensures { (i : ℕ) (d : _) → i < length readers.old → DidRead (slice_index_or readers.old i d) (slice_index_or readers.new i d) }
+    ensures { (i : ℕ) (d : _)
+        → i < length readers.old
+        → DidRead (slice_index_or readers.old i d) (slice_index_or readers.new i d) }
 {
     let threads = readers.len();
     if threads == 0 {

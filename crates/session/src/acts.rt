@@ -29,12 +29,18 @@ pub(crate) fn act_all<R: Threads + Wait + Sync, G: Gate>(
     requires cast { IsCast station.now cast.old }
     requires range { AreInRange (map view_happening before.items) }
     requires there { AllMentionedIn cast.old (map view_happening before.items) }
-    requires setting { (setting : Setting) × (map view_happening before.items ≡ before_steps setting.parts) × CastStands setting station.now [] (shown_by shower.old) cast.old × IsBoardOf setting shower.old }
+    requires setting { (setting : Setting)
+        × (map view_happening before.items ≡ before_steps setting.parts)
+        × CastStands setting station.now [] (shown_by shower.old) cast.old
+        × IsBoardOf setting shower.old }
     ensures cast { IsCast station.now cast.new }
     ensures actors { AreSameActors cast.old cast.new }
     ensures board { IsSameBoard shower.old shower.new }
-    ensures stands { OnOk result ((setting : Setting) → map view_happening before.items ≡ before_steps setting.parts → CastStands setting station.now [] (shown_by shower.old) cast.old
-        → CastStands setting station.now (before_steps setting.parts) (shown_by shower.new) cast.new) }
+    ensures stands { OnOk result ((setting : Setting)
+        → map view_happening before.items ≡ before_steps setting.parts
+        → CastStands setting station.now [] (shown_by shower.old) cast.old
+        → CastStands setting station.now (before_steps setting.parts) (shown_by shower.new)
+        cast.new) }
 {
     for deed in before {
         cast.act(rt, alloc, gate, station, shower, deed)?;

@@ -26,7 +26,9 @@ impl<T: Drop> ByActor<T> {
 
     /// One more of the actor, after its others. After out of memory, which is the only refusal, they are given up.
     pub(crate) fn push(&mut self, actor: u32, one: T) -> Result<(), NoMemory>
-        ensures { OnOk result ((n : ℕ) → lists_of self.new n ≡ (if n == actor then lists_of self.old n ++ one ∷ [] else lists_of self.old n)) }
+        ensures { OnOk result ((n : ℕ)
+            → lists_of self.new n
+            ≡ (if n == actor then lists_of self.old n ++ one ∷ [] else lists_of self.old n)) }
     {
         let mut list = self.take(actor);
         list.push(one)?;
@@ -37,7 +39,8 @@ impl<T: Drop> ByActor<T> {
     /// Takes the actor's list out.
     pub(crate) fn take(&mut self, actor: u32) -> Vec<T>
         ensures list { result.items ≡ lists_of self.old actor }
-        ensures left { (n : ℕ) → lists_of self.new n ≡ (if n == actor then [] else lists_of self.old n) }
+        ensures left { (n : ℕ)
+            → lists_of self.new n ≡ (if n == actor then [] else lists_of self.old n) }
     {
         match self.lists.remove(&actor) {
             Some(list) => list,

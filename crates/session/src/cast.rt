@@ -44,13 +44,19 @@ impl Cast {
         requires cast { IsCast station.now self.old }
         requires range { InRange (view_happening deed) }
         requires there { IsMentionedIn self.old (view_happening deed) }
-        requires next { (setting : Setting) × (done : List Step) × CastStands setting station.now done (shown_by shower.old) self.old × IsNext setting done (view_happening deed) × IsBoardOf setting shower.old }
+        requires next { (setting : Setting)
+            × (done : List Step)
+            × CastStands setting station.now done (shown_by shower.old) self.old
+            × IsNext setting done (view_happening deed)
+            × IsBoardOf setting shower.old }
         ensures cast { IsCast station.now self.new }
         ensures actors { AreSameActors self.old self.new }
         ensures board { IsSameBoard shower.old shower.new }
-        ensures stands { OnOk result ((setting : Setting) (done : List Step) → CastStands setting station.now done (shown_by shower.old) self.old
+        ensures stands { OnOk result ((setting : Setting) (done : List Step)
+            → CastStands setting station.now done (shown_by shower.old) self.old
             → IsNext setting done (view_happening deed)
-            → CastStands setting station.now (done ++ view_happening deed ∷ []) (shown_by shower.new) self.new) }
+            → CastStands setting station.now (done ++ view_happening deed ∷ [])
+            (shown_by shower.new) self.new) }
     {
         match deed {
             Happening::Commit(editor, edits) => {

@@ -43,7 +43,8 @@ pub(crate) fn commit<R: Wait>(
 ) -> Result<(), NoMemory>
     requires { IsStationPass station.now pass.old }
     ensures pass { IsStationPass station.now pass.new }
-    ensures commits { OnOk result ((place : ℕ) (lines : List (List EditFields)) → HasCommitted station.now place lines pass.old
+    ensures commits { OnOk result ((place : ℕ) (lines : List (List EditFields))
+        → HasCommitted station.now place lines pass.old
         → HasCommitted station.now place (lines ++ edits.items ∷ []) pass.new) }
     ensures memory { OnErr result (WouldBeEntered station.now pass.old edits.items) }
 {

@@ -27,9 +27,12 @@ pub(crate) fn editor_seats(
     mut edit_lines: BTreeMap<u32, u32>,
 ) -> Result<Vec<EditorSeat>, NoMemory>
     requires passes { AreNewPasses station.now 0 passes.items }
-    requires count { (length passes.items ≡ length numbers.now) × (length numbers.now ≤ MOST_ACTORS) }
+    requires count { (length passes.items ≡ length numbers.now)
+        × (length numbers.now ≤ MOST_ACTORS) }
     requires apart { AreApart numbers.now }
-    ensures plans { IfOk result (λ seats. map editor_plan seats.items ≡ map (planned_for (λ n. map edits_of (lists_of commits n))) numbers.now) }
+    ensures plans { IfOk result (λ seats.
+        map editor_plan seats.items
+        ≡ map (planned_for (λ n. map edits_of (lists_of commits n))) numbers.now) }
     ensures passes { IfOk result (λ seats. All (IsEditorSeat station.now) seats.items) }
     ensures stands { IfOk result (λ seats. EditorsStand station.now [] seats.items) }
 {
@@ -52,7 +55,8 @@ pub(crate) fn editor_seats(
 /// The place of the editor of this number, who is there.
 fn place_of(seats: &[EditorSeat], number: u32) -> usize
     requires { Contains (numbers_of seats.now) number }
-    ensures { (result < length seats.now) × ((d : _) → (slice_index_or seats.now result d).number ≡ number) }
+    ensures { (result < length seats.now)
+        × ((d : _) → (slice_index_or seats.now result d).number ≡ number) }
 {
     for place in 0..seats.len() {
         if seats[place].number == number {

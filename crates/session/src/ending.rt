@@ -51,7 +51,8 @@ pub(crate) struct Closed {
 
 /// All passes of a session: the editors' in order, and then the feeder's.
 fn passes_of(alloc: Global, editors: Vec<EditorSeat>, feeder: Pass) -> Result<Vec<Pass>, NoMemory>
-    ensures { IfOk result (λ passes. passes.items ≡ map (λ seat. seat.pass) editors.items ++ feeder ∷ []) }
+    ensures { IfOk result (λ passes.
+        passes.items ≡ map (λ seat. seat.pass) editors.items ++ feeder ∷ []) }
 {
     let mut passes = Vec::new(alloc);
     for seat in editors {
@@ -71,9 +72,12 @@ fn end_of_threads(
     requires editors { All (IsEditorSeat station) editors.items }
     requires feeder { IsStationPass station feeder.pass }
     requires count { pass_count station ≡ length editors.items + 1 }
-    ensures gathered { IfOk result (λ closed. (numbers : List ℕ) (events : List Step) (draws : List DrawFields) (shots : List ShotFields)
-        → EditorsDone station numbers events editors.items → HasFed station draws feeder shots
-        → HasGathered (carousel_of station) (weights_of station) (map (λ editor. commits_by editor events) numbers) draws shots (view_closed closed)) }
+    ensures gathered { IfOk result (λ closed.
+        (numbers : List ℕ) (events : List Step) (draws : List DrawFields) (shots : List ShotFields)
+        → EditorsDone station numbers events editors.items
+        → HasFed station draws feeder shots
+        → HasGathered (carousel_of station) (weights_of station)
+        (map (λ editor. commits_by editor events) numbers) draws shots (view_closed closed)) }
 {
     let FeederSeat {
         pass,
@@ -108,11 +112,16 @@ impl Closed {
         requires asked { (1 ≤ asked) × (asked ≤ MOST_DRAWN) }
         requires room { length (shown_by shower.old) ≤ most_by shower.old }
         ensures board { IsSameBoard shower.old shower.new }
-        ensures count { OnOk result (length (shown_by shower.new) ≡ length (shown_by shower.old) + 1) }
-        ensures drawn { OnOk result (state self.new.catalogue ≡ with_draw (state self.old.catalogue) asked) }
-        ensures gathered { OnOk result ((id : ℕ) (weights : List ℕ) (commits : List (List (List EditFields))) (draws : List DrawFields)
+        ensures count { OnOk result
+            (length (shown_by shower.new) ≡ length (shown_by shower.old) + 1) }
+        ensures drawn { OnOk result
+            (state self.new.catalogue ≡ with_draw (state self.old.catalogue) asked) }
+        ensures gathered { OnOk result ((id : ℕ) (weights : List ℕ)
+            (commits : List (List (List EditFields))) (draws : List DrawFields)
             → HasGathered id weights commits draws (shown_by shower.old) (view_closed self.old)
-            → HasGathered id weights commits (draws ++ record { asked = asked; fates = fates.items } ∷ []) (shown_by shower.new) (view_closed self.new)) }
+            → HasGathered id weights commits
+            (draws ++ record { asked = asked; fates = fates.items } ∷ []) (shown_by shower.new)
+            (view_closed self.new)) }
     {
         let Ok(batch) = self.catalogue.draw(asked) else {
             return Err(AllocError);
@@ -132,13 +141,20 @@ impl Closed {
         shower: &mut Shower<Shot>,
         settles: bool,
     ) -> Result<(), NoMemory>
-        requires room { length (shown_by shower.old) + length (settling_lines settles) ≤ most_by shower.old + 1 }
+        requires room { length (shown_by shower.old) + length (settling_lines settles)
+            ≤ most_by shower.old + 1 }
         ensures board { IsSameBoard shower.old shower.new }
-        ensures count { OnOk result (length (shown_by shower.new) ≡ length (shown_by shower.old) + length (settling_lines settles)) }
-        ensures drawn { OnOk result (state self.new.catalogue ≡ drawn_all (state self.old.catalogue) (settling_lines settles)) }
-        ensures gathered { OnOk result ((id : ℕ) (weights : List ℕ) (commits : List (List (List EditFields))) (draws : List DrawFields)
+        ensures count { OnOk result
+            (length (shown_by shower.new)
+            ≡ length (shown_by shower.old) + length (settling_lines settles)) }
+        ensures drawn { OnOk result
+            (state self.new.catalogue
+            ≡ drawn_all (state self.old.catalogue) (settling_lines settles)) }
+        ensures gathered { OnOk result ((id : ℕ) (weights : List ℕ)
+            (commits : List (List (List EditFields))) (draws : List DrawFields)
             → HasGathered id weights commits draws (shown_by shower.old) (view_closed self.old)
-            → HasGathered id weights commits (draws ++ settling_lines settles) (shown_by shower.new) (view_closed self.new)) }
+            → HasGathered id weights commits (draws ++ settling_lines settles) (shown_by shower.new)
+            (view_closed self.new)) }
     {
         if !settles {
             return Ok(());
@@ -166,7 +182,8 @@ fn open_all(pass: &mut ReaderPass, paths: Vec<Path>) -> Result<(), NoMemory>
 /// A reader takes the last shot, and opens its paths for the end. Its pass is what is left of it. Out of memory is the only refusal.
 fn read_last(seat: ReaderSeat, shower: &mut Shower<Shot>) -> Result<ReaderPass, NoMemory>
     requires { MayOpenLast (shower_board shower.old) (shown_by shower.old) seat }
-    ensures board { (shown_by shower.new ≡ shown_by shower.old) × IsSameBoard shower.old shower.new }
+    ensures board { (shown_by shower.new ≡ shown_by shower.old)
+        × IsSameBoard shower.old shower.new }
     ensures read { IfOk result (HasReadLast (shown_by shower.old) seat) }
 {
     let mut pass = seat.pass;
@@ -183,8 +200,10 @@ fn read_all(
     shower: &mut Shower<Shot>,
 ) -> Result<Vec<ReaderPass>, NoMemory>
     requires { All (MayOpenLast (shower_board shower.old) (shown_by shower.old)) readers.items }
-    ensures board { (shown_by shower.new ≡ shown_by shower.old) × IsSameBoard shower.old shower.new }
-    ensures read { IfOk result (λ passes. AllReadLast (shown_by shower.old) readers.items passes.items) }
+    ensures board { (shown_by shower.new ≡ shown_by shower.old)
+        × IsSameBoard shower.old shower.new }
+    ensures read { IfOk result (λ passes.
+        AllReadLast (shown_by shower.old) readers.items passes.items) }
 {
     let mut passes = Vec::with_capacity(alloc, readers.len())?;
     for seat in readers {
@@ -209,11 +228,18 @@ pub(crate) fn end<R: Threads + Wait + Sync, G: Gate>(
     settles: bool,
     numbers: &[u32],
 ) -> Result<Vec<(Event, Reply)>, NoMemory>
-    requires ready { (setting : Setting) × AreDone setting settles station numbers.now editors.items feeder readers.items (shown_by shower.old)
-        × (shower_board shower.old ≡ setting.board) × (most_by shower.old ≡ draws_of setting) }
+    requires ready { (setting : Setting)
+        × AreDone setting settles station numbers.now editors.items feeder readers.items
+        (shown_by shower.old)
+        × (shower_board shower.old ≡ setting.board)
+        × (most_by shower.old ≡ draws_of setting) }
     ensures board { IsSameBoard shower.old shower.new }
-    ensures session { IfOk result (λ told. (setting : Setting) → AreDone setting settles station numbers.now editors.items feeder readers.items (shown_by shower.old)
-        → IsSession (weights_of station) (script_of_parts setting.parts) (map known_view told.items)) }
+    ensures session { IfOk result (λ told.
+        (setting : Setting)
+        → AreDone setting settles station numbers.now editors.items feeder readers.items
+        (shown_by shower.old)
+        → IsSession (weights_of station) (script_of_parts setting.parts)
+        (map known_view told.items)) }
 {
     let mut closed = end_of_threads(alloc, station, editors, feeder)?;
     closed.settle(rt, alloc, gate, shower, settles)?;

@@ -63,13 +63,16 @@ pub(crate) fn send_and_show<R: Threads + Wait + Sync, G: Gate>(
     batch: &Batch,
     fates: &[Fate],
 ) -> Result<(), NoMemory>
-    requires items { All (λ item. Contains (items_of (arc_value batch.now.generation)) item) batch.now.items.items }
+    requires items { All (λ item. Contains (items_of (arc_value batch.now.generation)) item)
+        batch.now.items.items }
     requires few { length batch.now.items.items ≤ MOST_DRAWN }
     requires room { length (shown_by shower.old) ≤ most_by shower.old }
     ensures board { IsSameBoard shower.old shower.new }
     ensures count { OnOk result (length (shown_by shower.new) ≡ length (shown_by shower.old) + 1) }
-    ensures shown { OnOk result ((drawings : List Drawing) → HasShown drawings downlink.old (shown_by shower.old)
-        → HasShown (drawings ++ drawing_in batch.now fates.now ∷ []) downlink.new (shown_by shower.new)) }
+    ensures shown { OnOk result ((drawings : List Drawing)
+        → HasShown drawings downlink.old (shown_by shower.old)
+        → HasShown (drawings ++ drawing_in batch.now fates.now ∷ []) downlink.new
+        (shown_by shower.new)) }
 {
     send(
         rt,
@@ -103,9 +106,12 @@ fn send<R: Threads + Sync, G: Gate>(
 ) -> Result<(), NoMemory>
     requires items { All (λ item. Contains (items_of generation.now) item) items.now }
     requires few { length items.now ≤ MOST_DRAWN }
-    ensures { OnOk result ((pid : ℕ) (groups : List (List Bytes)) (packets : List Bytes) → DownlinkStands downlink.old pid groups [] packets
-        → (let sections = map (section_of generation.now) items.now in
-        DownlinkStands downlink.new pid (groups ++ sections ∷ []) [] (packets ++ received_under fates.now 0 (packets_of_group downlink.old.mux sections)))) }
+    ensures { OnOk result ((pid : ℕ) (groups : List (List Bytes)) (packets : List Bytes)
+        → DownlinkStands downlink.old pid groups [] packets
+        → (let sections = map (section_of generation.now) items.now in DownlinkStands downlink.new
+        pid (groups ++ sections ∷ []) []
+        (packets
+        ++ received_under fates.now 0 (packets_of_group downlink.old.mux sections)))) }
 {
     let mut number = 0;
     let mut sent = 0;
@@ -139,7 +145,8 @@ pub(crate) fn draw<R: Threads + Wait + Sync, G: Gate>(
     ensures rest { (seat.new.draws ≡ seat.old.draws) × (seat.new.whole ≡ seat.old.whole) }
     ensures board { IsSameBoard shower.old shower.new }
     ensures count { OnOk result (length (shown_by shower.new) ≡ length (shown_by shower.old) + 1) }
-    ensures fed { OnOk result ((lines : List DrawFields) → HasFed station.now lines seat.old (shown_by shower.old)
+    ensures fed { OnOk result ((lines : List DrawFields)
+        → HasFed station.now lines seat.old (shown_by shower.old)
         → HasFed station.now (lines ++ draw_of line ∷ []) seat.new (shown_by shower.new)) }
 {
     let DrawLine { asked, fates } = line;
@@ -162,8 +169,10 @@ pub(crate) fn feed<R: Threads + Wait + Sync, G: Gate>(
 )
     requires pass { IsStationPass station.now seat.old.pass }
     requires lines { All IsDrawLine seat.old.draws.items }
-    requires room { length (shown_by shower.old) + length seat.old.draws.items ≤ most_by shower.old + 1 }
-    ensures fed { DidFeed station.now seat.old seat.new (shown_by shower.old) (shown_by shower.new) }
+    requires room { length (shown_by shower.old) + length seat.old.draws.items
+        ≤ most_by shower.old + 1 }
+    ensures fed { DidFeed station.now seat.old seat.new (shown_by shower.old)
+        (shown_by shower.new) }
     ensures board { IsSameBoard shower.old shower.new }
 {
     let draws = mem::replace(&mut seat.draws, Vec::new(alloc));

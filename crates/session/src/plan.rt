@@ -84,8 +84,14 @@ pub(crate) fn plan_of(alloc: Global, parts: Parts) -> Result<Plan, NoMemory>
 impl Plan {
     /// How many draws there are in all. Out of memory comes only where they are no `usize`, so never.
     pub(crate) fn count_draws(&self) -> Result<usize, NoMemory>
-        ensures count { IfOk result (λ n. n ≡ length (draws_in (map view_happening self.now.before.items)) + length self.now.work.draws.items + length (settling_lines self.now.settles)) }
-        ensures memory { OnErr result (2 ^ 64 ≤ length (draws_in (map view_happening self.now.before.items)) + length self.now.work.draws.items + length (settling_lines self.now.settles)) }
+        ensures count { IfOk result (λ n.
+            n ≡ length (draws_in (map view_happening self.now.before.items))
+            + length self.now.work.draws.items
+            + length (settling_lines self.now.settles)) }
+        ensures memory { OnErr result
+            (2 ^ 64 ≤ length (draws_in (map view_happening self.now.before.items))
+            + length self.now.work.draws.items
+            + length (settling_lines self.now.settles)) }
     {
         sum_of(
             count_draws(&self.before),
@@ -136,9 +142,14 @@ fn happenings(
     tasks: Vec<TaskLine>,
 ) -> Result<Vec<Happening>, NoMemory>
     requires { All (λ (line : TaskLines). IsInRange (act_of line.task)) tasks.items }
-    ensures happen { IfOk result (λ made. (p : Pending) → Holds interpreter.old p → map view_happening made.items ≡ events_at p tasks.items) }
+    ensures happen { IfOk result (λ made.
+        (p : Pending)
+        → Holds interpreter.old p
+        → map view_happening made.items ≡ events_at p tasks.items) }
     ensures range { IfOk result (λ made. AreInRange (map view_happening made.items)) }
-    ensures waits { OnOk result ((p : Pending) → Holds interpreter.old p → Holds interpreter.new (waiting_below p tasks.items)) }
+    ensures waits { OnOk result ((p : Pending)
+        → Holds interpreter.old p
+        → Holds interpreter.new (waiting_below p tasks.items)) }
 {
     let mut made = Vec::new(alloc);
     for line in tasks {
@@ -154,9 +165,15 @@ fn happen(
     made: &mut Vec<Happening>,
 ) -> Result<(), NoMemory>
     requires { IsInRange (act_of task) }
-    ensures happens { OnOk result ((p : Pending) → Holds interpreter.old p → map view_happening made.new.items ≡ map view_happening made.old.items ++ events_of_line p (act_of task)) }
-    ensures range { OnOk result (AreInRange (map view_happening made.old.items) → AreInRange (map view_happening made.new.items)) }
-    ensures waits { OnOk result ((p : Pending) → Holds interpreter.old p → Holds interpreter.new (pending_after p (act_of task))) }
+    ensures happens { OnOk result ((p : Pending)
+        → Holds interpreter.old p
+        → map view_happening made.new.items
+        ≡ map view_happening made.old.items ++ events_of_line p (act_of task)) }
+    ensures range { OnOk result (AreInRange (map view_happening made.old.items)
+        → AreInRange (map view_happening made.new.items)) }
+    ensures waits { OnOk result ((p : Pending)
+        → Holds interpreter.old p
+        → Holds interpreter.new (pending_after p (act_of task))) }
 {
     match interpreter.read(task)? {
         Some(what) => {
@@ -187,7 +204,10 @@ impl Work {
         tasks: Vec<TaskLine>,
     ) -> Result<(), NoMemory>
         requires { All (λ (line : TaskLines). IsInRange (act_of line.task)) tasks.items }
-        ensures { OnOk result ((done : List Step) (p : Pending) → HasSplit self.old done → Holds interpreter.old p → HasSplit self.new (done ++ events_at p tasks.items)) }
+        ensures { OnOk result ((done : List Step) (p : Pending)
+            → HasSplit self.old done
+            → Holds interpreter.old p
+            → HasSplit self.new (done ++ events_at p tasks.items)) }
     {
         for line in tasks {
             self.add(interpreter, line.task)?;
@@ -198,8 +218,13 @@ impl Work {
     /// Adds what one task asks for.
     fn add(&mut self, interpreter: &mut Interpreter, task: Task) -> Result<(), NoMemory>
         requires { IsInRange (act_of task) }
-        ensures split { OnOk result ((done : List Step) (p : Pending) → HasSplit self.old done → Holds interpreter.old p → HasSplit self.new (done ++ events_of_line p (act_of task))) }
-        ensures waits { OnOk result ((p : Pending) → Holds interpreter.old p → Holds interpreter.new (pending_after p (act_of task))) }
+        ensures split { OnOk result ((done : List Step) (p : Pending)
+            → HasSplit self.old done
+            → Holds interpreter.old p
+            → HasSplit self.new (done ++ events_of_line p (act_of task))) }
+        ensures waits { OnOk result ((p : Pending)
+            → Holds interpreter.old p
+            → Holds interpreter.new (pending_after p (act_of task))) }
     {
         let editor = task.editor();
         match interpreter.read(task)? {
@@ -211,7 +236,9 @@ impl Work {
     /// Gives what happens to its actor.
     fn give(&mut self, what: Happening) -> Result<(), NoMemory>
         requires { InRange (view_happening what) }
-        ensures { OnOk result ((done : List Step) → HasSplit self.old done → HasSplit self.new (done ++ view_happening what ∷ [])) }
+        ensures { OnOk result ((done : List Step)
+            → HasSplit self.old done
+            → HasSplit self.new (done ++ view_happening what ∷ [])) }
     {
         match what {
             Happening::Commit(editor, edits) => {
@@ -228,14 +255,18 @@ impl Work {
 
     /// How many lines of edits the editor has since its last commit, which are counted no more.
     fn take_lines(&mut self, editor: u32) -> u32
-        ensures { (self.new.commits ≡ self.old.commits) × (self.new.draws ≡ self.old.draws) × (self.new.paths ≡ self.old.paths) }
+        ensures { (self.new.commits ≡ self.old.commits)
+            × (self.new.draws ≡ self.old.draws)
+            × (self.new.paths ≡ self.old.paths) }
     {
         self.edit_lines.remove(&editor).unwrap_or(0)
     }
 
     /// Counts a line of an edit, at most the greatest `u32`.
     fn count_line(&mut self, editor: Option<u32>) -> Result<(), NoMemory>
-        ensures { (self.new.commits ≡ self.old.commits) × (self.new.draws ≡ self.old.draws) × (self.new.paths ≡ self.old.paths) }
+        ensures { (self.new.commits ≡ self.old.commits)
+            × (self.new.draws ≡ self.old.draws)
+            × (self.new.paths ≡ self.old.paths) }
     {
         let Some(editor) = editor else {
             return Ok(());
@@ -248,7 +279,8 @@ impl Work {
 
 /// The paths that each reader opens at the end.
 fn by_reader(alloc: Global, finales: Vec<Finale>) -> Result<ByActor<Path>, NoMemory>
-    ensures { IfOk result (λ lists. (n : ℕ) → lists_of lists n ≡ opens_by n (map finale_step finales.items)) }
+    ensures { IfOk result (λ lists.
+        (n : ℕ) → lists_of lists n ≡ opens_by n (map finale_step finales.items)) }
 {
     let mut lists = ByActor::new(alloc);
     for last in finales {

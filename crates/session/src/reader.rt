@@ -30,7 +30,9 @@ pub(crate) fn open(pass: &mut ReaderPass, path: Path) -> Result<(), NoMemory>
     ensures known { IsPrefix pass.old.known pass.new.known }
     ensures most { length pass.new.known ≤ pass.new.most + 1 }
     ensures count { OnOk result (length pass.new.opens ≡ length pass.old.opens + 1) }
-    ensures opened { OnOk result ((least : ℕ) (asked : List Asked) → (least + 1 ≤ length pass.old.told) ⊎ (least + 1 ≤ length pass.old.known) → HasOpened asked pass.old
+    ensures opened { OnOk result ((least : ℕ) (asked : List Asked)
+        → (least + 1 ≤ length pass.old.told) ⊎ (least + 1 ≤ length pass.old.known)
+        → HasOpened asked pass.old
         → HasOpened (asked ++ asked_at least path ∷ []) pass.new) }
 {
     match pass.open_path(path) {

@@ -52,12 +52,20 @@ pub(crate) fn reader_seats(
     mut paths: ByActor<Path>,
     mut finales: ByActor<Path>,
 ) -> Result<Vec<ReaderSeat>, NoMemory>
-    requires count { (length viewers.items ≡ length numbers.now) × (length numbers.now ≤ MOST_ACTORS) }
+    requires count { (length viewers.items ≡ length numbers.now)
+        × (length numbers.now ≤ MOST_ACTORS) }
     requires apart { AreApart numbers.now }
-    ensures plans { IfOk result (λ seats. map reader_plan seats.items ≡ map (asked_for (lists_of paths) (lists_of finales)) numbers.now) }
-    ensures stands { IfOk result (λ seats. (setting : Setting) (shots : List ShotFields) → map view_happening before.now ≡ before_steps setting.parts
-        → ((n : ℕ) → lists_of paths n ≡ opens_by n (during_steps setting.parts)) → ((n : ℕ) → lists_of finales n ≡ opens_by n (end_steps setting.parts))
-        → length shots ≡ 1 → Each (IsViewerOf setting shots) viewers.items → ReadersStand setting [] shots seats.items) }
+    ensures plans { IfOk result (λ seats.
+        map reader_plan seats.items
+        ≡ map (asked_for (lists_of paths) (lists_of finales)) numbers.now) }
+    ensures stands { IfOk result (λ seats.
+        (setting : Setting) (shots : List ShotFields)
+        → map view_happening before.now ≡ before_steps setting.parts
+        → ((n : ℕ) → lists_of paths n ≡ opens_by n (during_steps setting.parts))
+        → ((n : ℕ) → lists_of finales n ≡ opens_by n (end_steps setting.parts))
+        → length shots ≡ 1
+        → Each (IsViewerOf setting shots) viewers.items
+        → ReadersStand setting [] shots seats.items) }
 {
     let mut seats = Vec::with_capacity(alloc, numbers.len())?;
     for viewer in viewers {
@@ -79,7 +87,9 @@ fn reader_seat(
     paths: Vec<Path>,
     finales: Vec<Path>,
 ) -> Result<ReaderSeat, NoMemory>
-    ensures { IfOk result (λ seat. IsNewSeat reader (before + length paths.items + length finales.items) viewer paths.items finales.items seat) }
+    ensures { IfOk result (λ seat.
+        IsNewSeat reader (before + length paths.items + length finales.items) viewer paths.items
+        finales.items seat) }
 {
     let room = sum_of(before, paths.len(), finales.len())?;
     match ReaderPass::new(alloc, reader, viewer, room) {

@@ -29,11 +29,17 @@ pub(crate) fn run_all<R: Threads + Wait + Sync, G: Gate>(
     cast: &mut Cast,
 ) -> bool
     requires cast { IsCast station.now cast.old }
-    requires setting { (setting : Setting) × HasWork setting cast.old × CastStands setting station.now (before_steps setting.parts) (shown_by shower.old) cast.old × IsBoardOf setting shower.old }
+    requires setting { (setting : Setting)
+        × HasWork setting cast.old
+        × CastStands setting station.now (before_steps setting.parts) (shown_by shower.old) cast.old
+        × IsBoardOf setting shower.old }
     ensures board { IsSameBoard shower.old shower.new }
     ensures whole { result ≡ true ↔ IsWhole cast.new }
     ensures passes { result ≡ true → MayEnd station.now cast.new }
-    ensures done { result ≡ true → (setting : Setting) → HasWork setting cast.old → CastStands setting station.now (before_steps setting.parts) (shown_by shower.old) cast.old
+    ensures done { result ≡ true
+        → (setting : Setting)
+        → HasWork setting cast.old
+        → CastStands setting station.now (before_steps setting.parts) (shown_by shower.old) cast.old
         → CastDone setting station.now (shown_by shower.new) cast.new }
 {
     run_actors(

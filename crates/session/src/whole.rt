@@ -54,7 +54,8 @@ pub fn play<R: Threads + Wait + Sync, G: Gate>(
 ) -> Result<Vec<(Event, Reply)>, NoMemory>
     requires ranges { IsInRanges (script_of_parts parts) }
     requires listed { AreListed (script_of_parts parts) }
-    ensures { IfOk result (λ told. IsSession weigh.weights (script_of_parts parts) (map known_view told.items)) }
+    ensures { IfOk result (λ told.
+        IsSession weigh.weights (script_of_parts parts) (map known_view told.items)) }
 {
     let plan = plan_of(alloc, parts)?;
     let downlink = Downlink::new(alloc, PID)?;
@@ -88,9 +89,14 @@ fn perform<R: Threads + Wait + Sync, G: Gate>(
     start: Start,
     weigh: Weigh,
 ) -> Result<Vec<(Event, Reply)>, NoMemory>
-    requires set_up { (setting : Setting) × IsBegun setting (shown_by shower.old) start × IsBoardOf setting shower.old }
+    requires set_up { (setting : Setting)
+        × IsBegun setting (shown_by shower.old) start
+        × IsBoardOf setting shower.old }
     requires readers { length start.viewers.items ≡ length start.plan.readers.items }
-    ensures { IfOk result (λ told. (setting : Setting) → IsBegun setting (shown_by shower.old) start → IsBoardOf setting shower.old
+    ensures { IfOk result (λ told.
+        (setting : Setting)
+        → IsBegun setting (shown_by shower.old) start
+        → IsBoardOf setting shower.old
         → IsSession weigh.weights (script_of_parts setting.parts) (map known_view told.items)) }
 {
     let Start {

@@ -59,7 +59,8 @@ fn numbers(alloc: Global, size: u32) -> Result<Vec<u32>, NoMemory>
 /// A line for each task, numbered from 1 on.
 fn number_tasks(alloc: Global, tasks: Vec<Task>) -> Result<Vec<TaskLine>, NoMemory>
     requires { length tasks.items + 1 < 2 ^ 32 }
-    ensures { IfOk result (λ lines. map (task_line During) lines.items ≡ number_lines 1 During (map act_of tasks.items)) }
+    ensures { IfOk result (λ lines.
+        map (task_line During) lines.items ≡ number_lines 1 During (map act_of tasks.items)) }
 {
     let mut lines = Vec::new(alloc);
     let mut number = 1;
@@ -73,7 +74,8 @@ fn number_tasks(alloc: Global, tasks: Vec<Task>) -> Result<Vec<TaskLine>, NoMemo
 /// A finale of the first reader for each path, numbered from `first` on.
 fn number_finales(alloc: Global, first: u32, paths: Vec<Path>) -> Result<Vec<Finale>, NoMemory>
     requires { first + length paths.items < 2 ^ 32 }
-    ensures { IfOk result (λ finales. map finale_line finales.items ≡ number_lines first After (map (Open 1) paths.items)) }
+    ensures { IfOk result (λ finales.
+        map finale_line finales.items ≡ number_lines first After (map (Open 1) paths.items)) }
 {
     let mut finales = Vec::new(alloc);
     let mut number = first;

@@ -46,8 +46,10 @@ pub enum Said {
 
 /// `EDITOR PATH HEX`
 fn put(alloc: Global, mut words: Words) -> Result<Said, LineFault>
-    ensures gives { Gives view_said line_cause result (said_by Keyword.Put (words_left words.entry)) }
-    ensures memory { result ≡ Err LineFault.NoMemory → reaches_path (words_left words.entry) ≡ true }
+    ensures gives { Gives view_said line_cause result
+        (said_by Keyword.Put (words_left words.entry)) }
+    ensures memory { result ≡ Err LineFault.NoMemory
+        → reaches_path (words_left words.entry) ≡ true }
     ensures kind { IfOk result (λ said. is_said_by Keyword.Put said ≡ true) }
 {
     let editor = actor(&mut words)?;
@@ -59,8 +61,10 @@ fn put(alloc: Global, mut words: Words) -> Result<Said, LineFault>
 
 /// `EDITOR PATH LENGTH FROM`
 fn fill(alloc: Global, mut words: Words) -> Result<Said, LineFault>
-    ensures gives { Gives view_said line_cause result (said_by Keyword.Fill (words_left words.entry)) }
-    ensures memory { result ≡ Err LineFault.NoMemory → reaches_path (words_left words.entry) ≡ true }
+    ensures gives { Gives view_said line_cause result
+        (said_by Keyword.Fill (words_left words.entry)) }
+    ensures memory { result ≡ Err LineFault.NoMemory
+        → reaches_path (words_left words.entry) ≡ true }
     ensures kind { IfOk result (λ said. is_said_by Keyword.Fill said ≡ true) }
 {
     let editor = actor(&mut words)?;
@@ -73,7 +77,8 @@ fn fill(alloc: Global, mut words: Words) -> Result<Said, LineFault>
 
 /// `EDITOR`
 fn commit(mut words: Words) -> Result<Said, LineFault>
-    ensures gives { Gives view_said line_cause result (said_by Keyword.Commit (words_left words.entry)) }
+    ensures gives { Gives view_said line_cause result
+        (said_by Keyword.Commit (words_left words.entry)) }
     ensures plain { result ≡ Err LineFault.NoMemory → ⊥ }
     ensures kind { IfOk result (λ said. is_said_by Keyword.Commit said ≡ true) }
 {
@@ -84,8 +89,10 @@ fn commit(mut words: Words) -> Result<Said, LineFault>
 
 /// `N FATE..`
 fn draw(alloc: Global, mut words: Words) -> Result<Said, LineFault>
-    ensures gives { Gives view_said line_cause result (said_by Keyword.Draw (words_left words.entry)) }
-    ensures memory { result ≡ Err LineFault.NoMemory → is_ok (draw_by (words_left words.entry)) ≡ true }
+    ensures gives { Gives view_said line_cause result
+        (said_by Keyword.Draw (words_left words.entry)) }
+    ensures memory { result ≡ Err LineFault.NoMemory
+        → is_ok (draw_by (words_left words.entry)) ≡ true }
     ensures kind { IfOk result (λ said. is_said_by Keyword.Draw said ≡ true) }
 {
     let asked = number(&mut words, 1, MOST_DRAWN)?;
@@ -95,8 +102,10 @@ fn draw(alloc: Global, mut words: Words) -> Result<Said, LineFault>
 
 /// `EDITOR PATH` or `READER PATH`
 fn named(alloc: Global, mut words: Words) -> Result<(u32, Path), LineFault>
-    ensures gives { Gives (λ named. (named.0, named.1)) line_cause result (named_by (words_left words.entry)) }
-    ensures memory { result ≡ Err LineFault.NoMemory → reaches_path (words_left words.entry) ≡ true }
+    ensures gives { Gives (λ named. (named.0, named.1)) line_cause result
+        (named_by (words_left words.entry)) }
+    ensures memory { result ≡ Err LineFault.NoMemory
+        → reaches_path (words_left words.entry) ≡ true }
 {
     let actor = actor(&mut words)?;
     let path = path(alloc, &mut words)?;
@@ -107,7 +116,8 @@ fn named(alloc: Global, mut words: Words) -> Result<(u32, Path), LineFault>
 /// What the words after a line's first one say.
 fn say(alloc: Global, keyword: Keyword, mut words: Words) -> Result<Said, LineFault>
     ensures gives { Gives view_said line_cause result (said_by keyword (words_left words.entry)) }
-    ensures memory { result ≡ Err LineFault.NoMemory → asks_by keyword (words_left words.entry) ≡ true }
+    ensures memory { result ≡ Err LineFault.NoMemory
+        → asks_by keyword (words_left words.entry) ≡ true }
     ensures kind { IfOk result (λ said. is_said_by keyword said ≡ true) }
 {
     match keyword {
@@ -160,7 +170,8 @@ fn may_stand(part: Part, keyword: Keyword) -> bool
 /// What the words of a line say that isn't passed over.
 fn say_all(alloc: Global, part: Part, mut words: Words) -> Result<Said, LineFault>
     ensures gives { Gives view_said line_cause result (in_words part (words_left words.entry)) }
-    ensures memory { result ≡ Err LineFault.NoMemory → asks_in_words part (words_left words.entry) ≡ true }
+    ensures memory { result ≡ Err LineFault.NoMemory
+        → asks_in_words part (words_left words.entry) ≡ true }
     ensures suits { IfOk result (λ said. Suits part said) }
 {
     let Some(first) = words.next() else {

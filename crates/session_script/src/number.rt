@@ -30,7 +30,8 @@ pub fn decimal(word: &[u8], least: u32, greatest: u32) -> Option<u32>
 /// The number that decimal digits spell, where it fits.
 fn value_of(digits: &[u8]) -> Option<u32>
     requires { decimals.is_decimal digits.now ≡ true }
-    ensures { SomeIff result (decimals.decimal_value digits.now < 2 ^ 32) (decimals.decimal_value digits.now) }
+    ensures { SomeIff result (decimals.decimal_value digits.now < 2 ^ 32)
+        (decimals.decimal_value digits.now) }
 {
     match std::str::from_utf8(digits) {
         Ok(text) => text.parse::<u32>().ok(),

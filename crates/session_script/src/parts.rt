@@ -167,7 +167,9 @@ impl Parts {
 
 /// Adds the lines of tasks of one stage. Out of memory comes only where there is a task.
 fn add_tasks(lines: &mut Vec<Line>, stage: Stage, tasks: Vec<TaskLine>) -> Result<(), NoMemory>
-    ensures added { OnOk result (map view_line lines.new.items ≡ map view_line lines.old.items ++ map (task_line stage) tasks.items) }
+    ensures added { OnOk result
+        (map view_line lines.new.items
+        ≡ map view_line lines.old.items ++ map (task_line stage) tasks.items) }
     ensures memory { OnErr result (0 < length tasks.items) }
 {
     for line in tasks {
@@ -178,7 +180,8 @@ fn add_tasks(lines: &mut Vec<Line>, stage: Stage, tasks: Vec<TaskLine>) -> Resul
 
 /// Adds the line that settles, where there is one. Out of memory comes only there.
 fn add_settle(lines: &mut Vec<Line>, settle: Option<u32>) -> Result<(), NoMemory>
-    ensures added { OnOk result (map view_line lines.new.items ≡ map view_line lines.old.items ++ settle_lines settle) }
+    ensures added { OnOk result
+        (map view_line lines.new.items ≡ map view_line lines.old.items ++ settle_lines settle) }
     ensures memory { OnErr result (0 < length (settle_lines settle)) }
 {
     let Some(number) = settle else {
@@ -194,7 +197,9 @@ fn add_settle(lines: &mut Vec<Line>, settle: Option<u32>) -> Result<(), NoMemory
 
 /// Adds the lines of finales. Out of memory comes only where there is one.
 fn add_finales(lines: &mut Vec<Line>, finales: Vec<Finale>) -> Result<(), NoMemory>
-    ensures added { OnOk result (map view_line lines.new.items ≡ map view_line lines.old.items ++ map finale_line finales.items) }
+    ensures added { OnOk result
+        (map view_line lines.new.items
+        ≡ map view_line lines.old.items ++ map finale_line finales.items) }
     ensures memory { OnErr result (0 < length finales.items) }
 {
     for last in finales {

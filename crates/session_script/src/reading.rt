@@ -62,8 +62,11 @@ impl Reading {
 
     /// Reads one line more. After a refusal it is of no use any more.
     fn read(&mut self, line: &[u8]) -> Result<(), ScriptFault>
-        ensures says { (above : List Saying) → StandsFor self.old above → Reads result above line.now self.new }
-        ensures memory { result ≡ Err ScriptFault.NoMemory → line_asks self.old.part line.now ≡ true }
+        ensures says { (above : List Saying)
+            → StandsFor self.old above
+            → Reads result above line.now self.new }
+        ensures memory { result ≡ Err ScriptFault.NoMemory
+            → line_asks self.old.part line.now ≡ true }
     {
         let number = self.number.saturating_add(1);
         match read_line(self.alloc, self.part, line) {
@@ -123,7 +126,8 @@ impl Reading {
 
     /// Keeps the finale of the line whose number stands.
     fn keep_finale(&mut self, reader: u32, path: Path) -> Result<(), NoMemory>
-        ensures { OnOk result (IsShaped self.old → Adds self.old self.new (Ends (Open reader path))) }
+        ensures { OnOk result (IsShaped self.old
+            → Adds self.old self.new (Ends (Open reader path))) }
     {
         self.part = Part::Closing;
         mention(&mut self.readers, Some(reader))?;
@@ -137,7 +141,14 @@ impl Reading {
 
     /// The parts that the lines make.
     fn finish(self) -> Result<Parts, NoMemory>
-        ensures parts { IfOk result (λ parts. script_of_parts parts ≡ record { editors = self.editors.keys; readers = self.readers.keys; lines = lines_read self }) }
+        ensures parts { IfOk result (λ parts.
+            script_of_parts parts
+            ≡ record {
+              editors = self.editors.keys;
+              readers = self.readers.keys;
+              lines = lines_read
+                  self;
+            }) }
         ensures memory { OnErr result (0 < length self.editors.keys + length self.readers.keys) }
     {
         let (editors, readers) = self.actors()?;
@@ -148,7 +159,8 @@ impl Reading {
     fn actors(&self) -> Result<(Vec<u32>, Vec<u32>), NoMemory>
         ensures editors { IfOk result (λ lists. lists.0.items ≡ self.now.editors.keys) }
         ensures readers { IfOk result (λ lists. lists.1.items ≡ self.now.readers.keys) }
-        ensures memory { OnErr result (0 < length self.now.editors.keys + length self.now.readers.keys) }
+        ensures memory { OnErr result
+            (0 < length self.now.editors.keys + length self.now.readers.keys) }
     {
         let editors = listed(self.alloc, &self.editors)?;
         let readers = listed(self.alloc, &self.readers)?;
@@ -157,7 +169,8 @@ impl Reading {
 
     /// The parts of these editors and readers.
     fn into_parts(self, editors: Vec<u32>, readers: Vec<u32>) -> Parts
-        ensures { script_of_parts result ≡ record { editors = editors.items; readers = readers.items; lines = lines_read self } }
+        ensures { script_of_parts result
+            ≡ record { editors = editors.items; readers = readers.items; lines = lines_read self } }
     {
         Parts {
             editors,
@@ -176,8 +189,10 @@ fn mention_actor(
     readers: &mut IndexSet<u32>,
     task: &Task,
 ) -> Result<(), NoMemory>
-    ensures editors { OnOk result (editors.new.keys ≡ with_mention (editor_of (act_of task.now)) editors.old.keys) }
-    ensures readers { OnOk result (readers.new.keys ≡ with_mention (reader_of (act_of task.now)) readers.old.keys) }
+    ensures editors { OnOk result
+        (editors.new.keys ≡ with_mention (editor_of (act_of task.now)) editors.old.keys) }
+    ensures readers { OnOk result
+        (readers.new.keys ≡ with_mention (reader_of (act_of task.now)) readers.old.keys) }
 {
     mention(editors, task.editor())?;
     mention(readers, task.reader())
@@ -237,7 +252,8 @@ pub fn read_parts(alloc: Global, text: &[u8]) -> Result<Parts, ScriptFault>
     ensures grammar { Gives script_of_parts cause result (meaning_of text.now) }
     ensures ranges { IfOk result (λ parts. IsInRanges (script_of_parts parts)) }
     ensures listed { IfOk result (λ parts. AreListed (script_of_parts parts)) }
-    ensures asks { IfOk result (λ parts. 0 < length (script_of_parts parts).lines → AsksForMemory text.now) }
+    ensures asks { IfOk result (λ parts.
+        0 < length (script_of_parts parts).lines → AsksForMemory text.now) }
     ensures memory { IsErrOf result ScriptFault.NoMemory → AsksForMemory text.now }
 {
     let mut reading = Reading::new(alloc);

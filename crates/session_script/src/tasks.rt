@@ -88,7 +88,8 @@ fn put_commit(
 ) -> Result<(), NoMemory>
     requires editor { editor ≤ 16 }
     requires commit { commit < 4 }
-    ensures { OnOk result (map act_of tasks.new.items ≡ map act_of tasks.old.items ++ specs.commit_of editor commit) }
+    ensures { OnOk result
+        (map act_of tasks.new.items ≡ map act_of tasks.old.items ++ specs.commit_of editor commit) }
 {
     let first = FILES_IN_COMMIT * commit;
     for place in 0..FILES_IN_COMMIT {
@@ -101,7 +102,8 @@ fn put_commit(
 /// All that an editor does.
 fn put_editor(alloc: Global, tasks: &mut Vec<Task>, editor: u32) -> Result<(), NoMemory>
     requires { editor ≤ 16 }
-    ensures { OnOk result (map act_of tasks.new.items ≡ map act_of tasks.old.items ++ specs.lines_of_editor editor) }
+    ensures { OnOk result
+        (map act_of tasks.new.items ≡ map act_of tasks.old.items ++ specs.lines_of_editor editor) }
 {
     for commit in 0..COMMITS {
         put_commit(alloc, tasks, editor, commit)?;
@@ -120,7 +122,8 @@ fn fates(alloc: Global) -> Result<Vec<Fate>, NoMemory>
 
 /// All that the feeder does.
 fn put_feeder(alloc: Global, tasks: &mut Vec<Task>) -> Result<(), NoMemory>
-    ensures { OnOk result (map act_of tasks.new.items ≡ map act_of tasks.old.items ++ specs.lines_of_feeder) }
+    ensures { OnOk result
+        (map act_of tasks.new.items ≡ map act_of tasks.old.items ++ specs.lines_of_feeder) }
 {
     for _draw in 0..DRAWS {
         tasks.push(Task::Draw(ITEMS, fates(alloc)?))?;
@@ -145,7 +148,9 @@ fn put_reader(alloc: Global, tasks: &mut Vec<Task>, size: u32, reader: u32) -> R
     requires least { 1 ≤ size }
     requires most { size ≤ 16 }
     requires reader { reader ≤ 16 }
-    ensures { OnOk result (map act_of tasks.new.items ≡ map act_of tasks.old.items ++ specs.lines_of_reader size reader) }
+    ensures { OnOk result
+        (map act_of tasks.new.items
+        ≡ map act_of tasks.old.items ++ specs.lines_of_reader size reader) }
 {
     for turn in 0..OPENS {
         tasks.push(opening(alloc, size, reader, turn)?)?;
@@ -156,7 +161,8 @@ fn put_reader(alloc: Global, tasks: &mut Vec<Task>, size: u32, reader: u32) -> R
 /// The paths of an editor's files.
 fn put_files(alloc: Global, paths: &mut Vec<Path>, editor: u32) -> Result<(), NoMemory>
     requires { editor ≤ 16 }
-    ensures { OnOk result (map (Open 1) paths.new.items ≡ map (Open 1) paths.old.items ++ specs.finales_of editor) }
+    ensures { OnOk result
+        (map (Open 1) paths.new.items ≡ map (Open 1) paths.old.items ++ specs.finales_of editor) }
 {
     for file in 0..FILES {
         paths.push(file_path(alloc, editor, file)?)?;
@@ -180,7 +186,9 @@ pub(crate) fn tasks_during(alloc: Global, size: u32) -> Result<Vec<Task>, NoMemo
 /// All that the editors do.
 fn put_editors(alloc: Global, tasks: &mut Vec<Task>, size: u32) -> Result<(), NoMemory>
     requires { size ≤ 16 }
-    ensures { OnOk result (map act_of tasks.new.items ≡ map act_of tasks.old.items ++ flat_map specs.lines_of_editor (specs.numbers size)) }
+    ensures { OnOk result
+        (map act_of tasks.new.items
+        ≡ map act_of tasks.old.items ++ flat_map specs.lines_of_editor (specs.numbers size)) }
 {
     for editor in 1..size + 1 {
         put_editor(alloc, tasks, editor)?;
@@ -192,7 +200,10 @@ fn put_editors(alloc: Global, tasks: &mut Vec<Task>, size: u32) -> Result<(), No
 fn put_readers(alloc: Global, tasks: &mut Vec<Task>, size: u32) -> Result<(), NoMemory>
     requires least { 1 ≤ size }
     requires most { size ≤ 16 }
-    ensures { OnOk result (map act_of tasks.new.items ≡ map act_of tasks.old.items ++ flat_map (specs.lines_of_reader size) (specs.numbers size)) }
+    ensures { OnOk result
+        (map act_of tasks.new.items
+        ≡ map act_of tasks.old.items
+        ++ flat_map (specs.lines_of_reader size) (specs.numbers size)) }
 {
     for reader in 1..size + 1 {
         put_reader(alloc, tasks, size, reader)?;
@@ -203,7 +214,8 @@ fn put_readers(alloc: Global, tasks: &mut Vec<Task>, size: u32) -> Result<(), No
 /// The paths that the first reader opens at the end of a session of this size: those of all files, by their editors. The size is 1 to 16.
 pub(crate) fn paths_at_end(alloc: Global, size: u32) -> Result<Vec<Path>, NoMemory>
     requires { size ≤ 16 }
-    ensures { IfOk result (λ paths. map (Open 1) paths.items ≡ flat_map specs.finales_of (specs.numbers size)) }
+    ensures { IfOk result (λ paths.
+        map (Open 1) paths.items ≡ flat_map specs.finales_of (specs.numbers size)) }
 {
     let mut paths = Vec::new(alloc);
     for editor in 1..size + 1 {

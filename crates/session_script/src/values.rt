@@ -28,7 +28,8 @@ const LAST_BIT: u32 = 1_503;
 
 /// Takes a number of a range.
 pub fn number(words: &mut Words, least: u32, greatest: u32) -> Result<u32, LineFault>
-    ensures takes { Takes (λ n. n) result (words_left words.new) (word_by (decimal_in least greatest) LineCause.BadNumber (words_left words.old)) }
+    ensures takes { Takes (λ n. n) result (words_left words.new)
+        (word_by (decimal_in least greatest) LineCause.BadNumber (words_left words.old)) }
     ensures most { IfOk result (λ n. n ≤ greatest) }
     ensures plain { result ≡ Err LineFault.NoMemory → ⊥ }
 {
@@ -41,7 +42,8 @@ pub fn number(words: &mut Words, least: u32, greatest: u32) -> Result<u32, LineF
 
 /// Takes the number of an editor or of a reader, 1 to [`MOST_ACTORS`].
 pub fn actor(words: &mut Words) -> Result<u32, LineFault>
-    ensures takes { Takes (λ n. n) result (words_left words.new) (word_by actor_of LineCause.BadNumber (words_left words.old)) }
+    ensures takes { Takes (λ n. n) result (words_left words.new)
+        (word_by actor_of LineCause.BadNumber (words_left words.old)) }
     ensures plain { result ≡ Err LineFault.NoMemory → ⊥ }
 {
     number(words, 1, MOST_ACTORS)
@@ -49,7 +51,8 @@ pub fn actor(words: &mut Words) -> Result<u32, LineFault>
 
 /// Takes a path.
 pub fn path(alloc: Global, words: &mut Words) -> Result<Path, LineFault>
-    ensures takes { Takes (λ path. path) result (words_left words.new) (word_by path_in LineCause.BadPath (words_left words.old)) }
+    ensures takes { Takes (λ path. path) result (words_left words.new)
+        (word_by path_in LineCause.BadPath (words_left words.old)) }
     ensures memory { result ≡ Err LineFault.NoMemory → 0 < length (words_left words.old) }
 {
     let word = words.word()?;
@@ -62,7 +65,8 @@ pub fn path(alloc: Global, words: &mut Words) -> Result<Path, LineFault>
 
 /// Takes a file's bytes: `-` for none, else two hexadecimal digits for each.
 pub fn content(alloc: Global, words: &mut Words) -> Result<Blob, LineFault>
-    ensures takes { Takes (λ blob. blob) result (words_left words.new) (word_by content_in LineCause.BadHex (words_left words.old)) }
+    ensures takes { Takes (λ blob. blob) result (words_left words.new)
+        (word_by content_in LineCause.BadHex (words_left words.old)) }
 {
     let word = words.word()?;
     let bytes = match word {
@@ -75,7 +79,8 @@ pub fn content(alloc: Global, words: &mut Words) -> Result<Blob, LineFault>
 
 /// The bytes that hexadecimal digits write.
 fn bytes_of(alloc: Global, digits: &[u8]) -> Result<Vec<u8>, LineFault>
-    ensures { Gives (λ bytes. bytes.items) line_cause result (or_bad LineCause.BadHex (result_ok (decode_of digits.now))) }
+    ensures { Gives (λ bytes. bytes.items) line_cause result
+        (or_bad LineCause.BadHex (result_ok (decode_of digits.now))) }
 {
     match hex::decode(alloc, digits) {
         Ok(bytes) => Ok(bytes),
@@ -124,7 +129,8 @@ fn fate_count(mut words: Words) -> Option<usize>
 
 /// The fates that the words that are left make. Memory is asked for once they are known to fit.
 pub fn fates(alloc: Global, mut words: Words) -> Result<Vec<Fate>, LineFault>
-    ensures gives { Gives (λ fates. fates.items) line_cause result (or_bad LineCause.BadFate (fates_of (words_left words.entry))) }
+    ensures gives { Gives (λ fates. fates.items) line_cause result
+        (or_bad LineCause.BadFate (fates_of (words_left words.entry))) }
     ensures memory { result ≡ Err LineFault.NoMemory → IsSome (fates_of (words_left words.entry)) }
 {
     let Some(count) = fate_count(words) else {

@@ -48,7 +48,8 @@ impl<'a> Words<'a> {
 
     /// Takes the next word, where there is one.
     pub fn next(&mut self) -> Option<&'a [u8]>
-        ensures { MatchOption result ((words_left self.old ≡ []) × (words_left self.new ≡ [])) (λ word. words_left self.old ≡ word.now ∷ words_left self.new) }
+        ensures { MatchOption result ((words_left self.old ≡ []) × (words_left self.new ≡ []))
+            (λ word. words_left self.old ≡ word.now ∷ words_left self.new) }
     {
         let text = self.rest?;
         let (word, rest) = first_word(text);
@@ -69,7 +70,8 @@ impl<'a> Words<'a> {
     /// Refuses a word that is left.
     pub fn end(&mut self) -> Result<(), LineFault>
         ensures fits { OnOk result (words_left self.old ≡ []) }
-        ensures extra { IfErr result (λ e. (e ≡ LineFault.Bad LineCause.Extra) × (0 < length (words_left self.old))) }
+        ensures extra { IfErr result (λ e.
+            (e ≡ LineFault.Bad LineCause.Extra) × (0 < length (words_left self.old))) }
     {
         match self.next() {
             Some(_) => Err(LineFault::Bad(LineCause::Extra)),
@@ -86,7 +88,8 @@ fn first_space(text: &[u8]) -> Option<usize>
 
 /// The text up to the first space, and what follows that space where there is one.
 fn first_word(text: &[u8]) -> (&[u8], Option<&[u8]>)
-    ensures { words_in text.now ≡ result.0.now ∷ words_of_rest (option_map (λ rest. rest.now) result.1) }
+    ensures { words_in text.now
+        ≡ result.0.now ∷ words_of_rest (option_map (λ rest. rest.now) result.1) }
 {
     match first_space(text) {
         Some(end) => (&text[..end], Some(&text[end + 1..])),

@@ -38,8 +38,9 @@ pub fn air<O: Output, F: Folders, N: Notices>(
     requires in_range { pid < 8192 }
     requires some { 1 ≤ cycles }
     requires untold { N.told notices.old notices.old [] }
-    ensures stays { StaysOnAir pid folder.now carousel weigh.now.weights cycles result (sink_over (O.state out.old) (O.state out.new)) (over F.tree F.faults folders.old folders.new)
-        (N.told notices.old notices.new) }
+    ensures stays { StaysOnAir pid folder.now carousel weigh.now.weights cycles result
+        (sink_over (O.state out.old) (O.state out.new))
+        (over F.tree F.faults folders.old folders.new) (N.told notices.old notices.new) }
     ensures same { (O.state out.new).name ≡ (O.state out.old).name }
     ensures in_time { IsInTime (O.state out.old) (O.state out.new) }
 {

@@ -24,8 +24,13 @@ pub trait Answerer {
         path: &Path,
         out: &mut O,
     ) -> Result<bool, OutputFault>
-        ensures found { IfOk result (λ found. (answer : AllAnswers) → answers self.now answer → found ≡ texts.is_found (answer path.now)) }
-        ensures puts { (answer : AllAnswers) → answers self.now answer → Puts result (O.state out.old) (O.state out.new) (texts.open_entry answer path.now) };
+        ensures found { IfOk result (λ found.
+            (answer : AllAnswers)
+            → answers self.now answer
+            → found ≡ texts.is_found (answer path.now)) }
+        ensures puts { (answer : AllAnswers)
+            → answers self.now answer
+            → Puts result (O.state out.old) (O.state out.new) (texts.open_entry answer path.now) };
 }
 
 impl Answerer for Shot {
@@ -53,8 +58,13 @@ pub fn write_answers<A: Answerer, O: Output>(
     paths: &[Path],
     out: &mut O,
 ) -> Result<bool, OutputFault>
-    ensures found { IfOk result (λ all. (answer : AllAnswers) → A.answers answerer.now answer → all ≡ list_all (λ p. texts.is_found (answer p)) paths.now) }
-    ensures puts { (answer : AllAnswers) → A.answers answerer.now answer → Puts result (O.state out.old) (O.state out.new) (texts.open_text answer paths.now) }
+    ensures found { IfOk result (λ all.
+        (answer : AllAnswers)
+        → A.answers answerer.now answer
+        → all ≡ list_all (λ p. texts.is_found (answer p)) paths.now) }
+    ensures puts { (answer : AllAnswers)
+        → A.answers answerer.now answer
+        → Puts result (O.state out.old) (O.state out.new) (texts.open_text answer paths.now) }
     ensures empty { OnOk result ((O.state out.new).pending ≡ []) }
 {
     let mut all = true;
@@ -80,7 +90,8 @@ pub(crate) fn put_entry<O: Output>(
     out: &mut O,
 ) -> Result<bool, OutputFault>
     ensures found { IfOk result (λ found. found ≡ texts.is_found answer.now) }
-    ensures puts { Puts result (O.state out.old) (O.state out.new) (texts.answered_line path.now answer.now ++ texts.tail_of answer.now) }
+    ensures puts { Puts result (O.state out.old) (O.state out.new)
+        (texts.answered_line path.now answer.now ++ texts.tail_of answer.now) }
 {
     put_line(alloc, path, answer, out)?;
     put_tail(alloc, answer, out)?;
@@ -94,7 +105,8 @@ pub(crate) fn put_line<O: Output>(
     answer: &Answer,
     out: &mut O,
 ) -> Result<(), OutputFault>
-    ensures { Puts result (O.state out.old) (O.state out.new) (texts.answered_line path.now answer.now) }
+    ensures { Puts result (O.state out.old) (O.state out.new)
+        (texts.answered_line path.now answer.now) }
 {
     let line = answered_text(alloc, path, answer)?;
     out.put(line.as_bytes())
@@ -119,7 +131,8 @@ fn put_bytes_line<O: Output>(bytes: &[u8], out: &mut O) -> Result<(), OutputFaul
 }
 
 fn put_names<O: Output>(alloc: Global, folder: &FolderRef, out: &mut O) -> Result<(), OutputFault>
-    ensures { Puts result (O.state out.old) (O.state out.new) (flat_map texts.name_line folder.now) }
+    ensures { Puts result (O.state out.old) (O.state out.new)
+        (flat_map texts.name_line folder.now) }
 {
     for i in 0..folder.count() {
         put_name(alloc, folder.name(i), out)?;

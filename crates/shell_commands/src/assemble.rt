@@ -57,7 +57,9 @@ pub fn assemble<S: Source, O: Output>(
 ) -> Status
     requires size { wanted.size ≤ MOST_MODULE_SIZE }
     requires pending { (O.state out.old).pending ≡ [] }
-    ensures assembles { Assembles (asked_of wanted) result (over S.left S.faults source.old source.new) (sink_over (O.state out.old) (O.state out.new)) }
+    ensures assembles { Assembles (asked_of wanted) result
+        (over S.left S.faults source.old source.new)
+        (sink_over (O.state out.old) (O.state out.new)) }
     ensures same { (O.state out.new).name ≡ (O.state out.old).name }
     ensures in_time { IsInTime (O.state out.old) (O.state out.new) }
 {
@@ -81,7 +83,8 @@ pub fn assemble<S: Source, O: Output>(
 /// Writes the module where no block of it is missing.
 fn write_module<O: Output>(assembler: &Assembler, out: &mut O) -> Status
     requires { (O.state out.old).pending ≡ [] }
-    ensures writes { IsModule assembler.now.blocks (sink_over (O.state out.old) (O.state out.new)) result }
+    ensures writes { IsModule assembler.now.blocks (sink_over (O.state out.old) (O.state out.new))
+        result }
     ensures same { (O.state out.new).name ≡ (O.state out.old).name }
     ensures in_time { IsInTime (O.state out.old) (O.state out.new) }
 {
@@ -107,7 +110,9 @@ fn write_all<O: Output>(bytes: &[u8], out: &mut O) -> Result<(), OutputFault>
 
 /// Offers the block that a section carries, where it is one of the wanted. The block's bytes are lent up to the assembler.
 fn offer_section(wanted: Wanted, section: &[u8], assembler: &mut Assembler)
-    ensures { (sections : List Bytes) → HasBlocks (asked_of wanted) assembler.old sections → HasBlocks (asked_of wanted) assembler.new (sections ++ section.now ∷ []) }
+    ensures { (sections : List Bytes)
+        → HasBlocks (asked_of wanted) assembler.old sections
+        → HasBlocks (asked_of wanted) assembler.new (sections ++ section.now ∷ []) }
 {
     if let Some(block) = block_in(section) {
         if is_wanted(wanted, &block) {
@@ -118,7 +123,9 @@ fn offer_section(wanted: Wanted, section: &[u8], assembler: &mut Assembler)
 
 /// Whether it is a block of the module.
 fn is_wanted(wanted: Wanted, block: &Parts<'_>) -> bool
-    ensures { result ≡ ((block.now.download == wanted.download) && (block.now.module == wanted.id) && (block.now.version == wanted.version)) }
+    ensures { result ≡ ((block.now.download == wanted.download)
+        && (block.now.module == wanted.id)
+        && (block.now.version == wanted.version)) }
 {
     block.download == wanted.download
         && block.module == wanted.id

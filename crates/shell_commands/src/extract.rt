@@ -32,7 +32,8 @@ pub fn extract<S: Source, O: Output, T: Store>(
     store: &mut T,
 ) -> Status
     requires { (O.state out.old).pending ≡ [] }
-    ensures extracts { Extracts pid folder.now result (over S.left S.faults source.old source.new) (sink_over (O.state out.old) (O.state out.new)) (over T.tree T.faults store.old store.new) }
+    ensures extracts { Extracts pid folder.now result (over S.left S.faults source.old source.new)
+        (sink_over (O.state out.old) (O.state out.new)) (over T.tree T.faults store.old store.new) }
     ensures same { (O.state out.new).name ≡ (O.state out.old).name }
     ensures in_time { IsInTime (O.state out.old) (O.state out.new) }
 {

@@ -24,7 +24,9 @@ impl PacketListener for Seeking {
     ghost use Rattle.std.specs.Prelude.{◌≡◌};
     ghost use Rattle.psi_tables.specs.Stands.{StandsFor};
 
-    ghost heard = { λ start now packets. (now.finder.directory.carousel ≡ start.finder.directory.carousel) × StandsFor now.finder packets };
+    ghost heard = { λ start now packets.
+        (now.finder.directory.carousel ≡ start.finder.directory.carousel)
+        × StandsFor now.finder packets };
 
     fn hear(&mut self, packet: &[u8; 188]) -> Result<(), NoMemory> {
         self.finder.feed(packet)
@@ -48,7 +50,8 @@ pub fn find<S: Source, O: Output>(
     out: &mut O,
 ) -> Status
     requires { (O.state out.old).pending ≡ [] }
-    ensures finds { Finds carousel result (over S.left S.faults source.old source.new) (sink_over (O.state out.old) (O.state out.new)) }
+    ensures finds { Finds carousel result (over S.left S.faults source.old source.new)
+        (sink_over (O.state out.old) (O.state out.new)) }
     ensures same { (O.state out.new).name ≡ (O.state out.old).name }
     ensures in_time { IsInTime (O.state out.old) (O.state out.new) }
 {
@@ -60,7 +63,8 @@ pub fn find<S: Source, O: Output>(
 
 /// Where the carousel is, by all packets of the source.
 fn place<S: Source>(alloc: Global, carousel: u32, source: &mut S) -> Result<Find, InputFault>
-    ensures { Hears all_packets (λ found packets. found ≡ found_in carousel packets) result (S.left source.old) (S.left source.new) (S.faults source.old) (S.faults source.new) }
+    ensures { Hears all_packets (λ found packets. found ≡ found_in carousel packets) result
+        (S.left source.old) (S.left source.new) (S.faults source.old) (S.faults source.new) }
 {
     let finder = Finder::new(alloc, carousel)?;
     let mut seeking = Seeking { finder };

@@ -19,7 +19,8 @@ use std::alloc::Global;
 /// Nothing may be pending in the output when it is called.
 pub fn inspect<S: Source, O: Output>(alloc: Global, pid: u16, source: &mut S, out: &mut O) -> Status
     requires { (O.state out.old).pending ≡ [] }
-    ensures inspects { Inspects pid result (over S.left S.faults source.old source.new) (sink_over (O.state out.old) (O.state out.new)) }
+    ensures inspects { Inspects pid result (over S.left S.faults source.old source.new)
+        (sink_over (O.state out.old) (O.state out.new)) }
     ensures same { (O.state out.new).name ≡ (O.state out.old).name }
     ensures in_time { IsInTime (O.state out.old) (O.state out.new) }
 {

@@ -20,7 +20,8 @@ use std::alloc::Global;
 /// It says whether each answer is a file or a folder, and no `more` is written. This is the project's own rule.
 pub fn write_list<O: Output>(alloc: Global, shot: &Shot, out: &mut O) -> Result<bool, OutputFault>
     ensures listed { IfOk result (λ all. all ≡ all_listed (answer_of (held_of shot.now))) }
-    ensures puts { Puts result (O.state out.old) (O.state out.new) (list_text (answer_of (held_of shot.now))) }
+    ensures puts { Puts result (O.state out.old) (O.state out.new)
+        (list_text (answer_of (held_of shot.now))) }
     ensures empty { OnOk result ((O.state out.new).pending ≡ []) }
 {
     let listing = listed_paths(alloc, shot)?;
@@ -37,8 +38,10 @@ fn put_paths<O: Output>(
     paths: &[Path],
     out: &mut O,
 ) -> Result<bool, OutputFault>
-    ensures found { IfOk result (λ all. all ≡ list_all (λ p. found (answer_of (held_of shot.now) p)) paths.now) }
-    ensures puts { Puts result (O.state out.old) (O.state out.new) (flat_map (list_line (answer_of (held_of shot.now))) paths.now) }
+    ensures found { IfOk result (λ all.
+        all ≡ list_all (λ p. found (answer_of (held_of shot.now) p)) paths.now) }
+    ensures puts { Puts result (O.state out.old) (O.state out.new)
+        (flat_map (list_line (answer_of (held_of shot.now))) paths.now) }
 {
     let mut all = true;
     for path in paths {
@@ -56,7 +59,8 @@ fn put_path<O: Output>(
     out: &mut O,
 ) -> Result<bool, OutputFault>
     ensures found { IfOk result (λ b. b ≡ found (answer_of (held_of shot.now) path.now)) }
-    ensures puts { Puts result (O.state out.old) (O.state out.new) (list_line (answer_of (held_of shot.now)) path.now) }
+    ensures puts { Puts result (O.state out.old) (O.state out.new)
+        (list_line (answer_of (held_of shot.now)) path.now) }
 {
     let answer = resolve(shot, path)?;
     put_line(alloc, path, &answer, out)?;

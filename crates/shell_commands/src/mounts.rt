@@ -31,7 +31,8 @@ impl PacketListener for Mounting {
     ghost use Rattle.std.specs.Prelude.{◌≡◌};
     ghost use Rattle.mount_table.specs.Stands.{StandsFor, mounts_of};
 
-    ghost heard = { λ start now packets. (mounts_of now.mounts ≡ mounts_of start.mounts) × StandsFor now.mounts packets };
+    ghost heard = { λ start now packets.
+        (mounts_of now.mounts ≡ mounts_of start.mounts) × StandsFor now.mounts packets };
 
     fn hear(&mut self, packet: &[u8; 188]) -> Result<(), NoMemory> {
         self.mounts.feed(packet)
@@ -81,7 +82,9 @@ pub fn mounts<S: Source, O: Output>(
     out: &mut O,
 ) -> Status
     requires { (O.state out.old).pending ≡ [] }
-    ensures serves { ServesMounts entries.items paths.now result (over S.left S.faults source.old source.new) (sink_over (O.state out.old) (O.state out.new)) }
+    ensures serves { ServesMounts entries.items paths.now result
+        (over S.left S.faults source.old source.new)
+        (sink_over (O.state out.old) (O.state out.new)) }
     ensures same { (O.state out.new).name ≡ (O.state out.old).name }
     ensures in_time { IsInTime (O.state out.old) (O.state out.new) }
 {
@@ -93,7 +96,8 @@ pub fn mounts<S: Source, O: Output>(
 
 /// The table of these names and PIDs, which has had no packet.
 fn table_of(alloc: Global, entries: Vec<(Name, u16)>) -> Result<Mounts, TableFault>
-    ensures refused { IfErr result (λ fault. IfSome (refusal_in fault) (λ f. refusal_of (mounts_in entries.items) ≡ Some f)) }
+    ensures refused { IfErr result (λ fault.
+        IfSome (refusal_in fault) (λ f. refusal_of (mounts_in entries.items) ≡ Some f)) }
     ensures accepted { OnOk result (refusal_of (mounts_in entries.items) ≡ None) }
     ensures table { IfOk result (λ m. IsTableOf (mounts_in entries.items) (mounts_of m)) }
     ensures stands { IfOk result (λ m. StandsFor m []) }
@@ -123,8 +127,10 @@ fn serve<S: Source, O: Output>(
 ) -> Status
     requires pending { (O.state out.old).pending ≡ [] }
     requires stands { StandsFor table [] }
-    ensures replies { Replies all_packets (reply_by (mounted_answer (mounts_of table)) (asks_paths paths.now)) result
-        (over S.left S.faults source.old source.new) (sink_over (O.state out.old) (O.state out.new)) }
+    ensures replies { Replies all_packets
+        (reply_by (mounted_answer (mounts_of table)) (asks_paths paths.now)) result
+        (over S.left S.faults source.old source.new)
+        (sink_over (O.state out.old) (O.state out.new)) }
     ensures same { (O.state out.new).name ≡ (O.state out.old).name }
     ensures in_time { IsInTime (O.state out.old) (O.state out.new) }
 {
@@ -157,7 +163,8 @@ fn put_mount_names<O: Output>(
     mounts: &Mounts,
     out: &mut O,
 ) -> Result<(), OutputFault>
-    ensures { Puts result (O.state out.old) (O.state out.new) (flat_map texts.name_line (names_of (mounts_of mounts.now))) }
+    ensures { Puts result (O.state out.old) (O.state out.new)
+        (flat_map texts.name_line (names_of (mounts_of mounts.now))) }
 {
     for i in 0..mounts.len() {
         put_name(alloc, mounts.mount(i).name.bytes(), out)?;

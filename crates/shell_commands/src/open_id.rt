@@ -54,7 +54,9 @@ impl Seeker {
     /// Takes a packet before the carousel is found.
     fn seek(&mut self, packet: &[u8; 188]) -> Result<(), NoMemory>
         requires { self.old.stream ≡ None }
-        ensures { OnOk result ((packets : List Bytes) → HasHeard self.old.finder.directory.carousel self.old packets → HasHeard self.old.finder.directory.carousel self.new (packets ++ packet.now ∷ [])) }
+        ensures { OnOk result ((packets : List Bytes)
+            → HasHeard self.old.finder.directory.carousel self.old packets
+            → HasHeard self.old.finder.directory.carousel self.new (packets ++ packet.now ∷ [])) }
     {
         self.finder.feed(packet)?;
         if let Find::At(pid) = self.finder.find() {
@@ -83,7 +85,8 @@ pub fn open_id<S: Source, O: Output>(
     out: &mut O,
 ) -> Status
     requires { (O.state out.old).pending ≡ [] }
-    ensures opens { OpensId carousel paths.now result (over S.left S.faults source.old source.new) (sink_over (O.state out.old) (O.state out.new)) }
+    ensures opens { OpensId carousel paths.now result (over S.left S.faults source.old source.new)
+        (sink_over (O.state out.old) (O.state out.new)) }
     ensures same { (O.state out.new).name ≡ (O.state out.old).name }
     ensures in_time { IsInTime (O.state out.old) (O.state out.new) }
 {
@@ -99,7 +102,8 @@ fn receive_by_id<S: Source>(
     carousel: u32,
     source: &mut S,
 ) -> Result<Arc<Shot>, InputFault>
-    ensures { Hears (sections_by_id carousel) (λ shot sections. held_of (arc_value shot) ≡ held_after (map as_heard sections)) result
+    ensures { Hears (sections_by_id carousel)
+        (λ shot sections. held_of (arc_value shot) ≡ held_after (map as_heard sections)) result
         (S.left source.old) (S.left source.new) (S.faults source.old) (S.faults source.new) }
 {
     let finder = Finder::new(alloc, carousel)?;

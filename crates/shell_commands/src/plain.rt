@@ -95,10 +95,15 @@ pub fn run_plain<S: Source, K: Sink, F: Folders, T: Store, N: Notices>(
     filters: Vec<Filter>,
 ) -> Status
     requires untold { N.told notices.old notices.old [] }
-    ensures keeps { Keeps weigh.weights (prefixes_of filters.items) (commands.command_of (map string_bytes words.now)) result (over S.left S.faults source.old source.new)
-        (over K.written K.faults sink.old sink.new) (over F.tree F.faults folders.old folders.new) (over T.tree T.faults store.old store.new) (F.refused folders.new) (N.told notices.old notices.new) }
-    ensures stored { writes_store (commands.command_of (map string_bytes words.now)) ≡ false → store.new ≡ store.old }
-    ensures quiet { gives_notices (commands.command_of (map string_bytes words.now)) ≡ false → notices.new ≡ notices.old }
+    ensures keeps { Keeps weigh.weights (prefixes_of filters.items)
+        (commands.command_of (map string_bytes words.now)) result
+        (over S.left S.faults source.old source.new) (over K.written K.faults sink.old sink.new)
+        (over F.tree F.faults folders.old folders.new) (over T.tree T.faults store.old store.new)
+        (F.refused folders.new) (N.told notices.old notices.new) }
+    ensures stored { writes_store (commands.command_of (map string_bytes words.now)) ≡ false
+        → store.new ≡ store.old }
+    ensures quiet { gives_notices (commands.command_of (map string_bytes words.now)) ≡ false
+        → notices.new ≡ notices.old }
     ensures in_time { K.failed sink.old ≡ false → K.late sink.new ≡ K.late sink.old }
     ensures receptions { Receptions }
     ensures playouts { PlayoutsMeet }
@@ -122,7 +127,8 @@ pub fn run_plain<S: Source, K: Sink, F: Folders, T: Store, N: Notices>(
 /// its output, in which nothing is. `Words` comes exactly where the words don't fit, as [`shell_words::command`] says, and `NoMemory` where no
 /// memory was found for either.
 pub fn begin(alloc: Global, words: &[String]) -> Result<(Command, Vec<u8>), WordsFault>
-    ensures gives { Gives (λ begun. commands.view begun.0) commands.cause result (commands.command_of (map string_bytes words.now)) }
+    ensures gives { Gives (λ begun. commands.view begun.0) commands.cause result
+        (commands.command_of (map string_bytes words.now)) }
     ensures sized { IfOk result (λ begun. commands.IsSized begun.0) }
     ensures empty { IfOk result (λ begun. begun.1.items ≡ []) }
 {
@@ -150,8 +156,11 @@ pub fn run_command<S: Source, O: Output, F: Folders, T: Store, N: Notices>(
     requires sized { commands.IsSized command }
     requires pending { (O.state out.old).pending ≡ [] }
     requires untold { N.told notices.old notices.old [] }
-    ensures promises { Promises weigh.weights (prefixes_of filters.items) (commands.view command) result (over S.left S.faults source.old source.new) (sink_over (O.state out.old) (O.state out.new))
-        (over F.tree F.faults folders.old folders.new) (over T.tree T.faults store.old store.new) (F.refused folders.new) (N.told notices.old notices.new) }
+    ensures promises { Promises weigh.weights (prefixes_of filters.items) (commands.view command)
+        result (over S.left S.faults source.old source.new)
+        (sink_over (O.state out.old) (O.state out.new))
+        (over F.tree F.faults folders.old folders.new) (over T.tree T.faults store.old store.new)
+        (F.refused folders.new) (N.told notices.old notices.new) }
     ensures same { (O.state out.new).name ≡ (O.state out.old).name }
     ensures stored { writes_store (Ok (commands.view command)) ≡ false → store.new ≡ store.old }
     ensures quiet { gives_notices (Ok (commands.view command)) ≡ false → notices.new ≡ notices.old }

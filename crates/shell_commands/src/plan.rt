@@ -29,7 +29,9 @@ pub fn plan<O: Output, F: Folders>(
 ) -> Status
     requires pending { (O.state out.old).pending ≡ [] }
     requires rate { 1 ≤ bitrate }
-    ensures tells { TellsPlan folder.now carousel weigh.now.weights bitrate result (sink_over (O.state out.old) (O.state out.new)) (over F.tree F.faults folders.old folders.new) (F.refused folders.new) }
+    ensures tells { TellsPlan folder.now carousel weigh.now.weights bitrate result
+        (sink_over (O.state out.old) (O.state out.new))
+        (over F.tree F.faults folders.old folders.new) (F.refused folders.new) }
     ensures same { (O.state out.new).name ≡ (O.state out.old).name }
     ensures in_time { IsInTime (O.state out.old) (O.state out.new) }
 {

@@ -48,7 +48,9 @@ pub fn publish<O: Output, F: Folders>(
 ) -> Status
     requires pending { (O.state out.old).pending ≡ [] }
     requires in_range { pid < 8192 }
-    ensures publishes { Publishes pid folder.now carousel weigh.weights cycles result (sink_over (O.state out.old) (O.state out.new)) (over F.tree F.faults folders.old folders.new) }
+    ensures publishes { Publishes pid folder.now carousel weigh.weights cycles result
+        (sink_over (O.state out.old) (O.state out.new))
+        (over F.tree F.faults folders.old folders.new) }
     ensures same { (O.state out.new).name ≡ (O.state out.old).name }
     ensures in_time { IsInTime (O.state out.old) (O.state out.new) }
 {
@@ -71,8 +73,10 @@ pub fn first_generation<F: Folders>(
     weigh: &Weigh,
     folders: &mut F,
 ) -> Result<Arc<Generation>, Status>
-    ensures made { IfOk result (λ g. IsOfFolder folder.now carousel (F.tree folders.old) (arc_value g)) }
-    ensures refused { IfErr result (Refused folder.now carousel (over F.tree F.faults folders.old folders.new)) }
+    ensures made { IfOk result (λ g.
+        IsOfFolder folder.now carousel (F.tree folders.old) (arc_value g)) }
+    ensures refused { IfErr result
+        (Refused folder.now carousel (over F.tree F.faults folders.old folders.new)) }
 {
     edits_make_the_files();
     let edits = read_tree(alloc, folders, folder)?;
@@ -95,8 +99,12 @@ fn send<O: Output>(
     out: &mut O,
 ) -> Result<(), OutputFault>
     requires in_range { pid < 8192 }
-    requires like { All IsSectionLike (map (section_of generation.now) (cycle_of weigh.now.weights (lines_of generation.now))) }
-    ensures puts { Puts result (O.state out.old) (O.state out.new) (group_bytes pid (map (section_of generation.now) (repeat_list cycles (cycle_of weigh.now.weights (lines_of generation.now))))) }
+    requires like { All IsSectionLike
+        (map (section_of generation.now) (cycle_of weigh.now.weights (lines_of generation.now))) }
+    ensures puts { Puts result (O.state out.old) (O.state out.new)
+        (group_bytes pid
+        (map (section_of generation.now)
+        (repeat_list cycles (cycle_of weigh.now.weights (lines_of generation.now))))) }
     ensures empty { OnOk result ((O.state out.new).pending ≡ []) }
 {
     let mut sender = Sender::new(alloc, pid);

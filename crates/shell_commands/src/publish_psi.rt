@@ -35,7 +35,9 @@ pub fn publish_psi<O: Output, F: Folders>(
     folders: &mut F,
 ) -> Status
     requires { (O.state out.old).pending ≡ [] }
-    ensures publishes { PublishesPsi folder.now carousel weigh.weights cycles result (sink_over (O.state out.old) (O.state out.new)) (over F.tree F.faults folders.old folders.new) }
+    ensures publishes { PublishesPsi folder.now carousel weigh.weights cycles result
+        (sink_over (O.state out.old) (O.state out.new))
+        (over F.tree F.faults folders.old folders.new) }
     ensures same { (O.state out.new).name ≡ (O.state out.old).name }
     ensures in_time { IsInTime (O.state out.old) (O.state out.new) }
 {
@@ -59,8 +61,14 @@ fn send_announced<O: Output>(
     cycles: u32,
     out: &mut O,
 ) -> Result<(), OutputFault>
-    requires { All IsSectionLike (map (section_of generation.now) (cycle_of weigh.now.weights (lines_of generation.now))) }
-    ensures puts { Puts result (O.state out.old) (O.state out.new) (concat (cycles_sent (map (section_of generation.now) (cycle_of weigh.now.weights (lines_of generation.now))) cycles (senders_start carousel))) }
+    requires { All IsSectionLike
+        (map (section_of generation.now) (cycle_of weigh.now.weights (lines_of generation.now))) }
+    ensures puts { Puts result (O.state out.old) (O.state out.new)
+        (concat
+        (cycles_sent
+        (map (section_of generation.now)
+        (cycle_of weigh.now.weights (lines_of generation.now))) cycles
+        (senders_start carousel))) }
     ensures empty { OnOk result ((O.state out.new).pending ≡ []) }
 {
     let mut announcer = Announcer::new(alloc, carousel)?;
@@ -78,7 +86,8 @@ fn announce<O: Output>(
     room: &mut Vec<[u8; 188]>,
     out: &mut O,
 ) -> Result<(), OutputFault>
-    ensures puts { Puts result (O.state out.old) (O.state out.new) (concat (announcer_packets announcer.old)) }
+    ensures puts { Puts result (O.state out.old) (O.state out.new)
+        (concat (announcer_packets announcer.old)) }
     ensures counters { OnOk result (announcer.new ≡ after_announcing announcer.old) }
 {
     room.clear();

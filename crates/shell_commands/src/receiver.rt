@@ -35,7 +35,8 @@ pub fn receive<S: Source>(
     carrier: Carrier,
     source: &mut S,
 ) -> Result<Arc<Shot>, InputFault>
-    ensures { Hears (sections_by carrier) (λ shot sections. held_of (arc_value shot) ≡ held_after (map as_heard sections)) result
+    ensures { Hears (sections_by carrier)
+        (λ shot sections. held_of (arc_value shot) ≡ held_after (map as_heard sections)) result
         (S.left source.old) (S.left source.new) (S.faults source.old) (S.faults source.new) }
 {
     let mut receiver = Receiver {

@@ -29,7 +29,8 @@ use std::alloc::Global;
 /// Nothing may be pending in the output when it is called.
 pub fn record<S: Source, O: Output>(alloc: Global, pid: u16, source: &mut S, out: &mut O) -> Status
     requires { (O.state out.old).pending ≡ [] }
-    ensures records { Records pid result (over S.left S.faults source.old source.new) (sink_over (O.state out.old) (O.state out.new)) }
+    ensures records { Records pid result (over S.left S.faults source.old source.new)
+        (sink_over (O.state out.old) (O.state out.new)) }
     ensures same { (O.state out.new).name ≡ (O.state out.old).name }
     ensures in_time { IsInTime (O.state out.old) (O.state out.new) }
 {
@@ -47,7 +48,8 @@ fn record_all<S: Source, O: Output>(
     out: &mut O,
 ) -> Result<(), Status>
     requires { (O.state out.old).pending ≡ [] }
-    ensures records { Records pid (end_status result) (over S.left S.faults source.old source.new) (sink_over (O.state out.old) (O.state out.new)) }
+    ensures records { Records pid (end_status result) (over S.left S.faults source.old source.new)
+        (sink_over (O.state out.old) (O.state out.new)) }
     ensures same { (O.state out.new).name ≡ (O.state out.old).name }
     ensures in_time { IsInTime (O.state out.old) (O.state out.new) }
 {
@@ -75,7 +77,8 @@ fn write_before_reading<O: Output>(reader: &PacketReader, out: &mut O) -> Result
 
 /// Puts those of the candidates that are sections after what is pending.
 fn put_accepted<O: Output>(candidates: &[Vec<u8>], out: &mut O) -> Result<(), OutputFault>
-    ensures { Puts result (O.state out.old) (O.state out.new) (sections.accepted_bytes (map view_bytes candidates.now)) }
+    ensures { Puts result (O.state out.old) (O.state out.new)
+        (sections.accepted_bytes (map view_bytes candidates.now)) }
 {
     for candidate in candidates {
         put_one(candidate, out)?;
@@ -85,7 +88,8 @@ fn put_accepted<O: Output>(candidates: &[Vec<u8>], out: &mut O) -> Result<(), Ou
 
 /// Puts a candidate after what is pending, where it is a section.
 fn put_one<O: Output>(candidate: &[u8], out: &mut O) -> Result<(), OutputFault>
-    ensures { Puts result (O.state out.old) (O.state out.new) (sections.accepted_one candidate.now) }
+    ensures { Puts result (O.state out.old) (O.state out.new)
+        (sections.accepted_one candidate.now) }
 {
     if is_accepted(candidate) {
         out.put(candidate)

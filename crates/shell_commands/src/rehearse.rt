@@ -30,7 +30,8 @@ pub fn rehearse<S: Source, O: Output>(
     out: &mut O,
 ) -> Status
     requires { (O.state out.old).pending ≡ [] }
-    ensures rehearses { Rehearses weigh.weights result (over S.left S.faults source.old source.new) (sink_over (O.state out.old) (O.state out.new)) }
+    ensures rehearses { Rehearses weigh.weights result (over S.left S.faults source.old source.new)
+        (sink_over (O.state out.old) (O.state out.new)) }
     ensures same { (O.state out.new).name ≡ (O.state out.old).name }
     ensures in_time { IsInTime (O.state out.old) (O.state out.new) }
 {

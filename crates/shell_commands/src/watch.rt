@@ -54,7 +54,9 @@ pub fn watch<S: Source, O: Output>(
 ) -> Status
     requires few { length paths.now ≤ MOST_WATCHED }
     requires pending { (O.state out.old).pending ≡ [] }
-    ensures watches { Watches pid (prefixes_of filters.items) paths.now result (over S.left S.faults source.old source.new) (sink_over (O.state out.old) (O.state out.new)) }
+    ensures watches { Watches pid (prefixes_of filters.items) paths.now result
+        (over S.left S.faults source.old source.new)
+        (sink_over (O.state out.old) (O.state out.new)) }
     ensures same { (O.state out.new).name ≡ (O.state out.old).name }
     ensures in_time { IsInTime (O.state out.old) (O.state out.new) }
 {
@@ -75,7 +77,9 @@ fn watch_all<S: Source, O: Output>(
 ) -> Result<(), Status>
     requires few { length paths.now ≤ MOST_WATCHED }
     requires pending { (O.state out.old).pending ≡ [] }
-    ensures watches { Watches pid (prefixes_of filters.items) paths.now (end_status result) (over S.left S.faults source.old source.new) (sink_over (O.state out.old) (O.state out.new)) }
+    ensures watches { Watches pid (prefixes_of filters.items) paths.now (end_status result)
+        (over S.left S.faults source.old source.new)
+        (sink_over (O.state out.old) (O.state out.new)) }
     ensures same { (O.state out.new).name ≡ (O.state out.old).name }
     ensures in_time { IsInTime (O.state out.old) (O.state out.new) }
 {
@@ -104,7 +108,8 @@ impl Watcher {
     /// One that has heard nothing, of the paths, each at its first place only, and of the first filters.
     fn new(alloc: Global, paths: &[Path], mut filters: Vec<Filter>) -> Result<Watcher, NoMemory>
         requires { length paths.now ≤ MOST_WATCHED }
-        ensures { IfOk result (λ w. StandsFor w (watched_paths paths.now) (first_watchers (prefixes_of filters.items)) []) }
+        ensures { IfOk result (λ w.
+            StandsFor w (watched_paths paths.now) (first_watchers (prefixes_of filters.items)) []) }
     {
         shots_are_needed_at_changes();
         let watched = each_once(alloc, paths)?;
@@ -127,9 +132,12 @@ impl Watcher {
         out: &mut O,
     ) -> Result<(), OutputFault>
         requires { (O.state out.old).pending ≡ [] }
-        ensures puts { (paths prefixes : List PathNames) (before : List Bytes) → StandsFor self.old paths prefixes before
-            → Puts result (O.state out.old) (O.state out.new) (lines_behind paths prefixes before (map view_bytes candidates.now)) }
-        ensures stands { OnOk result ((paths prefixes : List PathNames) (before : List Bytes) → StandsFor self.old paths prefixes before
+        ensures puts { (paths prefixes : List PathNames) (before : List Bytes)
+            → StandsFor self.old paths prefixes before
+            → Puts result (O.state out.old) (O.state out.new)
+            (lines_behind paths prefixes before (map view_bytes candidates.now)) }
+        ensures stands { OnOk result ((paths prefixes : List PathNames) (before : List Bytes)
+            → StandsFor self.old paths prefixes before
             → StandsFor self.new paths prefixes (before ++ map view_bytes candidates.now)) }
         ensures empty { OnOk result ((O.state out.new).pending ≡ []) }
     {
@@ -142,9 +150,12 @@ impl Watcher {
     /// Hears one candidate, and writes what it changes. Nothing is pending in the output before and after.
     fn hear<O: Output>(&mut self, candidate: &[u8], out: &mut O) -> Result<(), OutputFault>
         requires { (O.state out.old).pending ≡ [] }
-        ensures puts { (paths prefixes : List PathNames) (before : List Bytes) → StandsFor self.old paths prefixes before
-            → Puts result (O.state out.old) (O.state out.new) (lines_after paths prefixes before candidate.now) }
-        ensures stands { OnOk result ((paths prefixes : List PathNames) (before : List Bytes) → StandsFor self.old paths prefixes before
+        ensures puts { (paths prefixes : List PathNames) (before : List Bytes)
+            → StandsFor self.old paths prefixes before
+            → Puts result (O.state out.old) (O.state out.new)
+            (lines_after paths prefixes before candidate.now) }
+        ensures stands { OnOk result ((paths prefixes : List PathNames) (before : List Bytes)
+            → StandsFor self.old paths prefixes before
             → StandsFor self.new paths prefixes (before ++ candidate.now ∷ [])) }
         ensures empty { OnOk result ((O.state out.new).pending ≡ []) }
     {
@@ -179,7 +190,9 @@ fn put_notices<O: Output>(
     out: &mut O,
 ) -> Result<(), OutputFault>
     requires { All (λ n. n.path < length paths.now) notices.now }
-    ensures { Puts result (O.state out.old) (O.state out.new) (flat_map (notice_line paths.now shot.now.mark (answer_of (held_of shot.now))) notices.now) }
+    ensures { Puts result (O.state out.old) (O.state out.new)
+        (flat_map (notice_line paths.now shot.now.mark (answer_of (held_of shot.now)))
+        notices.now) }
 {
     for notice in notices {
         put_notice(alloc, paths, *notice, shot, out)?;
@@ -196,7 +209,8 @@ fn put_notice<O: Output>(
     out: &mut O,
 ) -> Result<(), OutputFault>
     requires { notice.path < length paths.now }
-    ensures { Puts result (O.state out.old) (O.state out.new) (notice_line paths.now shot.now.mark (answer_of (held_of shot.now)) notice) }
+    ensures { Puts result (O.state out.old) (O.state out.new)
+        (notice_line paths.now shot.now.mark (answer_of (held_of shot.now)) notice) }
 {
     let place = notice.path as usize;
     let path = &paths[place];
@@ -226,7 +240,8 @@ fn each_once(alloc: Global, paths: &[Path]) -> Result<Vec<Path>, NoMemory>
 
 /// Adds a path that is none of the earlier ones.
 fn add_new(once: &mut Vec<Path>, earlier: &[Path], path: &Path) -> Result<(), NoMemory>
-    ensures { OnOk result (once.new.items ≡ with_new same_path once.old.items earlier.now path.now) }
+    ensures { OnOk result
+        (once.new.items ≡ with_new same_path once.old.items earlier.now path.now) }
 {
     if is_among(earlier, path) {
         return Ok(());

@@ -29,7 +29,9 @@ pub trait Listener {
 
     /// Hears the next one.
     fn hear(&mut self, section: &[u8]) -> Result<(), NoMemory>
-        ensures { OnOk result ((start : Self) (sections : List Bytes) → heard start self.old sections → heard start self.new (sections ++ section.now ∷ [])) };
+        ensures { OnOk result ((start : Self) (sections : List Bytes)
+            → heard start self.old sections
+            → heard start self.new (sections ++ section.now ∷ [])) };
 }
 
 /// Lets a listener that heard nothing hear all sections of the source.
@@ -40,7 +42,8 @@ pub fn hear_all<S: Source, L: Listener>(
     listener: &mut L,
 ) -> Result<(), InputFault>
     requires { L.heard listener.old listener.old [] }
-    ensures { Hears (sections_by carrier) (λ _. L.heard listener.old listener.new) result (S.left source.old) (S.left source.new) (S.faults source.old) (S.faults source.new) }
+    ensures { Hears (sections_by carrier) (λ _. L.heard listener.old listener.new) result
+        (S.left source.old) (S.left source.new) (S.faults source.old) (S.faults source.new) }
 {
     match carrier {
         Carrier::Sections(most) => hear_sections(alloc, most, source, listener),
@@ -55,7 +58,8 @@ fn hear_sections<S: Source, L: Listener>(
     listener: &mut L,
 ) -> Result<(), InputFault>
     requires { L.heard listener.old listener.old [] }
-    ensures { Hears (sections_by (Carrier.Sections most)) (λ _. L.heard listener.old listener.new) result (S.left source.old) (S.left source.new) (S.faults source.old) (S.faults source.new) }
+    ensures { Hears (sections_by (Carrier.Sections most)) (λ _. L.heard listener.old listener.new)
+        result (S.left source.old) (S.left source.new) (S.faults source.old) (S.faults source.new) }
 {
     let mut unread = Unread::new(alloc)?;
     for taken in 0..most {
@@ -79,7 +83,8 @@ fn hear_packets<S: Source, L: Listener>(
     listener: &mut L,
 ) -> Result<(), InputFault>
     requires { L.heard listener.old listener.old [] }
-    ensures { Hears (sections_by (Carrier.Packets pid)) (λ _. L.heard listener.old listener.new) result (S.left source.old) (S.left source.new) (S.faults source.old) (S.faults source.new) }
+    ensures { Hears (sections_by (Carrier.Packets pid)) (λ _. L.heard listener.old listener.new)
+        result (S.left source.old) (S.left source.new) (S.faults source.old) (S.faults source.new) }
 {
     let mut reader = PacketReader::new(alloc, pid)?;
     while let Some(sections) = reader.next(source)? {
@@ -90,7 +95,9 @@ fn hear_packets<S: Source, L: Listener>(
 
 /// Lets a listener hear sections, in order.
 pub fn hear_each<L: Listener>(sections: &[Vec<u8>], listener: &mut L) -> Result<(), NoMemory>
-    ensures { OnOk result ((start : L) (before : List Bytes) → L.heard start listener.old before → L.heard start listener.new (before ++ map view_bytes sections.now)) }
+    ensures { OnOk result ((start : L) (before : List Bytes)
+        → L.heard start listener.old before
+        → L.heard start listener.new (before ++ map view_bytes sections.now)) }
 {
     for section in sections {
         listener.hear(section)?;

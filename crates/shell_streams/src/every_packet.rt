@@ -20,7 +20,9 @@ pub trait PacketListener {
 
     /// Hears the next one.
     fn hear(&mut self, packet: &[u8; 188]) -> Result<(), NoMemory>
-        ensures { OnOk result ((start : Self) (packets : List Bytes) → heard start self.old packets → heard start self.new (packets ++ packet.now ∷ [])) };
+        ensures { OnOk result ((start : Self) (packets : List Bytes)
+            → heard start self.old packets
+            → heard start self.new (packets ++ packet.now ∷ [])) };
 }
 
 /// Lets a listener that heard nothing hear all packets of the source, whatever their PIDs. A last piece of fewer than 188 bytes is
@@ -34,7 +36,8 @@ pub fn hear_all_packets<S: Source, L: PacketListener>(
     listener: &mut L,
 ) -> Result<(), InputFault>
     requires { L.heard listener.old listener.old [] }
-    ensures { Hears all_packets (λ _. L.heard listener.old listener.new) result (S.left source.old) (S.left source.new) (S.faults source.old) (S.faults source.new) }
+    ensures { Hears all_packets (λ _. L.heard listener.old listener.new) result (S.left source.old)
+        (S.left source.new) (S.faults source.old) (S.faults source.new) }
 {
     match hear_packets_and_rest(alloc, source, listener) {
         Ok(_) => Ok(()),
@@ -49,8 +52,10 @@ pub fn hear_packets_and_rest<S: Source, L: PacketListener>(
     listener: &mut L,
 ) -> Result<usize, InputFault>
     requires { L.heard listener.old listener.old [] }
-    ensures hears { Hears all_packets (λ _. L.heard listener.old listener.new) result (S.left source.old) (S.left source.new) (S.faults source.old) (S.faults source.new) }
-    ensures rest { IfOk result (λ n. Known (S.left source.old) (S.left source.new) (λ input _. n ≡ length (rest_of input))) }
+    ensures hears { Hears all_packets (λ _. L.heard listener.old listener.new) result
+        (S.left source.old) (S.left source.new) (S.faults source.old) (S.faults source.new) }
+    ensures rest { IfOk result (λ n.
+        Known (S.left source.old) (S.left source.new) (λ input _. n ≡ length (rest_of input))) }
 {
     let mut unread = Unread::new(alloc)?;
     let mut most = MOST_PACKETS;

@@ -91,7 +91,16 @@ impl<'a, K: Sink> Buffered<'a, K> {
 }
 
 impl<K: Sink> Output for Buffered<'_, K> {
-    ghost state = { λ o. record { name = o.sink.ghost_name; written = K.written o.sink.now; faults = K.faults o.sink.now; failed = K.failed o.sink.now; late = K.late o.sink.now; pending = o.pending.now.items } };
+    ghost state = { λ o.
+        record {
+          name = o.sink.ghost_name;
+          written = K.written o.sink.now;
+          faults = K.faults o.sink.now;
+          failed = K.failed o.sink.now;
+          late = K.late o.sink.now;
+          pending =
+              o.pending.now.items;
+        } };
 
     fn put(&mut self, more: &[u8]) -> Result<(), OutputFault> {
         let used = self.pending.len();

@@ -52,16 +52,25 @@ impl PacketReader {
     /// `TooLong` comes exactly where [`MOST_PACKETS`] packets were taken and at least a byte more is read, `Failed` where
     /// the source fails, and `NoMemory` where the sections find no memory. Where the next packet is ready `NoMemory` alone can come.
     pub fn next<S: Source>(&mut self, source: &mut S) -> Result<Option<Vec<Vec<u8>>>, InputFault>
-        ensures next { IfOk result (λ out. IfSome out (λ out. (pid : ℕ) (start : Option Bytes) (cs : List Bytes) → HasCut pid self.old start (S.left source.old) cs
+        ensures next { IfOk result (λ out.
+            IfSome out (λ out.
+            (pid : ℕ) (start : Option Bytes) (cs : List Bytes)
+            → HasCut pid self.old start (S.left source.old) cs
             → HasCut pid self.new start (S.left source.new) (cs ++ map view_bytes out.items))) }
         ensures fewer { IfOk result (λ out. IfSome out (λ _. self.new.most < self.old.most)) }
-        ensures ended { result ≡ Ok None → (pid : ℕ) (start : Option Bytes) (cs : List Bytes) → HasCut pid self.old start (S.left source.old) cs
+        ensures ended { result ≡ Ok None
+            → (pid : ℕ) (start : Option Bytes) (cs : List Bytes)
+            → HasCut pid self.old start (S.left source.old) cs
             → Known start (S.left source.new) (HasEnded pid cs) }
-        ensures stopped { IfErr result (λ s. (pid : ℕ) (start : Option Bytes) (cs : List Bytes) → HasCut pid self.old start (S.left source.old) cs
+        ensures stopped { IfErr result (λ s.
+            (pid : ℕ) (start : Option Bytes) (cs : List Bytes)
+            → HasCut pid self.old start (S.left source.old) cs
             → Known start (S.left source.new) (Halts pid cs s)) }
-        ensures needed { IfErr result (λ s. (s ≡ InputFault.NoMemory → ⊥) → is_ready self.old ≡ false) }
+        ensures needed { IfErr result (λ s.
+            (s ≡ InputFault.NoMemory → ⊥) → is_ready self.old ≡ false) }
         ensures later { S.faults source.old ≤ S.faults source.new }
-        ensures read_fault { IfErr result (λ s. s ≡ InputFault.Failed → Rose (S.faults source.old) (S.faults source.new)) }
+        ensures read_fault { IfErr result (λ s.
+            s ≡ InputFault.Failed → Rose (S.faults source.old) (S.faults source.new)) }
     {
         if !has_next(&mut self.unread, self.most, source)? {
             if !self.unread.held().is_empty() {
@@ -86,14 +95,20 @@ pub fn has_next<S: Source>(
     source: &mut S,
 ) -> Result<bool, InputFault>
     ensures next { result ≡ Ok true → (188 ≤ length unread.new) × (0 < most) }
-    ensures rest { onto_left unread.new (S.left source.new) ≡ onto_left unread.old (S.left source.old) }
-    ensures ended { result ≡ Ok false → (start : Option Bytes) (packets : List Bytes) → HasTaken packets most start (onto_left unread.old (S.left source.old))
+    ensures rest { onto_left unread.new (S.left source.new)
+        ≡ onto_left unread.old (S.left source.old) }
+    ensures ended { result ≡ Ok false
+        → (start : Option Bytes) (packets : List Bytes)
+        → HasTaken packets most start (onto_left unread.old (S.left source.old))
         → Known start (S.left source.new) (AreAllTaken packets) }
-    ensures stopped { IfErr result (λ s. (start : Option Bytes) (packets : List Bytes) → HasTaken packets most start (onto_left unread.old (S.left source.old))
+    ensures stopped { IfErr result (λ s.
+        (start : Option Bytes) (packets : List Bytes)
+        → HasTaken packets most start (onto_left unread.old (S.left source.old))
         → Known start (S.left source.new) (Stops packets s)) }
     ensures needed { OnErr result (0 < most → length unread.old < 188) }
     ensures later { S.faults source.old ≤ S.faults source.new }
-    ensures read_fault { IfErr result (λ s. s ≡ InputFault.Failed → Rose (S.faults source.old) (S.faults source.new)) }
+    ensures read_fault { IfErr result (λ s.
+        s ≡ InputFault.Failed → Rose (S.faults source.old) (S.faults source.new)) }
 {
     if most > 0 {
         return Ok(has_packet(unread, source)?);
@@ -111,7 +126,8 @@ fn has_packet<S: Source>(unread: &mut Unread, source: &mut S) -> Result<bool, Fa
     ensures ended { result ≡ Ok false → IsDry (S.left source.new) }
     ensures short { OnErr result (length unread.new < 188) }
     ensures needed { OnErr result (length unread.old < 188) }
-    ensures rest { onto_left unread.new (S.left source.new) ≡ onto_left unread.old (S.left source.old) }
+    ensures rest { onto_left unread.new (S.left source.new)
+        ≡ onto_left unread.old (S.left source.old) }
     ensures later { S.faults source.old ≤ S.faults source.new }
     ensures cause { OnErr result (Rose (S.faults source.old) (S.faults source.new)) }
 {

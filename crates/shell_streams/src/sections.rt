@@ -23,7 +23,8 @@ fn section_len(bytes: &[u8]) -> Option<usize>
 pub fn next_section<S: Source>(unread: &mut Unread, source: &mut S) -> Result<Option<usize>, Failed>
     ensures len { IfOk result (λ len. len ≡ prefix_length unread.new) }
     ensures ended { result ≡ Ok None → IsDry (S.left source.new) }
-    ensures rest { onto_left unread.new (S.left source.new) ≡ onto_left unread.old (S.left source.old) }
+    ensures rest { onto_left unread.new (S.left source.new)
+        ≡ onto_left unread.old (S.left source.old) }
     ensures later { S.faults source.old ≤ S.faults source.new }
     ensures cause { OnErr result (Rose (S.faults source.old) (S.faults source.new)) }
 {
@@ -37,10 +38,14 @@ pub fn next_section<S: Source>(unread: &mut Unread, source: &mut S) -> Result<Op
 
 /// Whether at least one byte more is there.
 pub fn goes_on<S: Source>(unread: &mut Unread, source: &mut S) -> Result<bool, Failed>
-    ensures more { IfOk result (λ more. (rest : Bytes) → onto_left unread.old (S.left source.old) ≡ Some rest → IsTrue more ↔ (rest ≢ [])) }
+    ensures more { IfOk result (λ more.
+        (rest : Bytes)
+        → onto_left unread.old (S.left source.old) ≡ Some rest
+        → IsTrue more ↔ (rest ≢ [])) }
     ensures ended { result ≡ Ok false → IsDry (S.left source.new) }
     ensures none { OnErr result (unread.new ≡ []) }
-    ensures rest { onto_left unread.new (S.left source.new) ≡ onto_left unread.old (S.left source.old) }
+    ensures rest { onto_left unread.new (S.left source.new)
+        ≡ onto_left unread.old (S.left source.old) }
     ensures later { S.faults source.old ≤ S.faults source.new }
     ensures cause { OnErr result (Rose (S.faults source.old) (S.faults source.new)) }
 {

@@ -28,7 +28,8 @@ impl Model for Unread {
 
     ghost view = { λ u. slice_range u.bytes.items u.at u.end };
 
-    ghost invariant = { λ u. (u.at ≤ u.end) × (u.end ≤ vec_len u.bytes) × (vec_len u.bytes ≡ 73732) };
+    ghost invariant = { λ u.
+        (u.at ≤ u.end) × (u.end ≤ vec_len u.bytes) × (vec_len u.bytes ≡ 73732) };
 }
 
 impl Unread {
@@ -62,7 +63,8 @@ impl Unread {
     /// Reads at least one byte more after those that are held, and says whether there was one.
     pub fn more<S: Source>(&mut self, source: &mut S) -> Result<bool, Failed>
         requires { length self.old < MOST_HELD }
-        ensures rest { onto_left self.new (S.left source.new) ≡ onto_left self.old (S.left source.old) }
+        ensures rest { onto_left self.new (S.left source.new)
+            ≡ onto_left self.old (S.left source.old) }
         ensures grew { result ≡ Ok true → length self.old < length self.new }
         ensures ended { result ≡ Ok false → (self.new ≡ self.old) × IsDry (S.left source.new) }
         ensures kept { OnErr result (self.new ≡ self.old) }
@@ -100,7 +102,9 @@ fn read_behind<S: Source>(source: &mut S, bytes: &mut [u8], start: usize) -> Res
     requires { start < length bytes.old }
     ensures front { take start bytes.new ≡ take start bytes.old }
     ensures within { IfOk result (λ n. start + n ≤ length bytes.old) }
-    ensures read { IfOk result (λ n. Known (S.left source.old) (S.left source.new) (λ before after. ReadsAfter bytes.new before after start n)) }
+    ensures read { IfOk result (λ n.
+        Known (S.left source.old) (S.left source.new) (λ before after.
+        ReadsAfter bytes.new before after start n)) }
     ensures nothing { OnErr result (S.left source.new ≡ S.left source.old) }
     ensures later { S.faults source.old ≤ S.faults source.new }
     ensures cause { OnErr result (Rose (S.faults source.old) (S.faults source.new)) }

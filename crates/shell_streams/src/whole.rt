@@ -19,10 +19,14 @@ pub fn read_all<S: Source>(
     source: &mut S,
     most: usize,
 ) -> Result<Vec<u8>, InputFault>
-    ensures whole { IfOk result (λ bytes. Known (S.left source.old) (S.left source.new) (AllTaken (λ input. input) (is_longer most) bytes.items)) }
-    ensures stopped { IfErr result (λ fault. Known (S.left source.old) (S.left source.new) (Stopped (is_longer most) fault)) }
+    ensures whole { IfOk result (λ bytes.
+        Known (S.left source.old) (S.left source.new)
+        (AllTaken (λ input. input) (is_longer most) bytes.items)) }
+    ensures stopped { IfErr result (λ fault.
+        Known (S.left source.old) (S.left source.new) (Stopped (is_longer most) fault)) }
     ensures later { S.faults source.old ≤ S.faults source.new }
-    ensures cause { result ≡ Err InputFault.Failed → Rose (S.faults source.old) (S.faults source.new) }
+    ensures cause { result ≡ Err InputFault.Failed
+        → Rose (S.faults source.old) (S.faults source.new) }
 {
     let mut piece = vec![in alloc; 0; PIECE]?;
     let mut bytes = Vec::new(alloc);

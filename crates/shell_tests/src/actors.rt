@@ -60,7 +60,8 @@ fn editor_seat(
 fn feeder_seat(alloc: Global, station: &Station, pass: Pass) -> Result<FeederSeat, Fail>
     requires { IsStationPass station.now pass }
     ensures pass { IfOk result (λ seat. IsStationPass station.now seat.pass) }
-    ensures draws { IfOk result (λ seat. All IsDrawLine seat.draws.items × (length seat.draws.items ≡ 1)) }
+    ensures draws { IfOk result (λ seat.
+        All IsDrawLine seat.draws.items × (length seat.draws.items ≡ 1)) }
 {
     let mut draws = Vec::new(alloc);
     draws.push(DrawLine {

@@ -33,7 +33,8 @@ pub fn complaint_text(alloc: Global, complaint: Complaint) -> Result<String, NoM
 
 /// The line of a word that doesn't fit.
 fn misfit_text(alloc: Global, number: usize, slot: Slot) -> Result<String, NoMemory>
-    ensures { IfOk result (λ text. string_bytes text ≡ complaints.complaint_line (Misfit number slot)) }
+    ensures { IfOk result (λ text.
+        string_bytes text ≡ complaints.complaint_line (Misfit number slot)) }
 {
     let name = slot_name(slot);
     let rule = rule_text(alloc, slot)?;

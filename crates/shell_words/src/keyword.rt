@@ -56,7 +56,8 @@ fn keywords() -> &'static [(&'static str, Keyword)]
 impl Keyword {
     /// The keyword that a word is, byte for byte.
     pub fn parse(word: &str) -> Option<Keyword>
-        ensures words { (words : List Bytes) → command_named word.now words ≡ words_after words result }
+        ensures words { (words : List Bytes)
+            → command_named word.now words ≡ words_after words result }
         ensures keyword { result ≡ keyword_of word.now }
     {
         for (name, keyword) in keywords() {

@@ -40,7 +40,8 @@ pub const MOST_BIG: u32 = 16;
 /// `WordsFault::Words` comes exactly where the words don't fit that, and `WordsFault::NoMemory` only where no memory was
 /// found.
 pub fn command(alloc: Global, words: &[String]) -> Result<Command, WordsFault>
-    ensures gives { Gives commands.view commands.cause result (commands.command_of (map string_bytes words.now)) }
+    ensures gives { Gives commands.view commands.cause result
+        (commands.command_of (map string_bytes words.now)) }
     ensures sized { IfOk result commands.IsSized }
 {
     if asks_why(words) {
@@ -52,7 +53,8 @@ pub fn command(alloc: Global, words: &[String]) -> Result<Command, WordsFault>
 
 /// The command that the words name, where it isn't `why`.
 fn plain_command(alloc: Global, words: &[String]) -> Result<Command, WordsFault>
-    ensures gives { Gives commands.view commands.cause result (commands.plain_command_of (map string_bytes words.now)) }
+    ensures gives { Gives commands.view commands.cause result
+        (commands.plain_command_of (map string_bytes words.now)) }
     ensures sized { IfOk result commands.IsSized }
 {
     if words.is_empty() || has_dash(words) {
@@ -74,7 +76,8 @@ fn has_dash(words: &[String]) -> bool
 /// The command of this keyword, with the values of the words after it.
 fn read(alloc: Global, keyword: Keyword, words: &[String]) -> Result<Command, WordsFault>
     requires { Fits keyword (length words.now) }
-    ensures gives { Gives commands.view commands.cause result (commands.or_misfit (words_by keyword (map string_bytes words.now))) }
+    ensures gives { Gives commands.view commands.cause result
+        (commands.or_misfit (words_by keyword (map string_bytes words.now))) }
     ensures sized { IfOk result commands.IsSized }
 {
     match keyword {
@@ -119,7 +122,8 @@ fn read(alloc: Global, keyword: Keyword, words: &[String]) -> Result<Command, Wo
 
 fn assemble(words: &[String]) -> Option<Command>
     requires { length words.now ≡ 4 }
-    ensures by { option_map commands.view result ≡ commands.assemble_by (map string_bytes words.now) }
+    ensures by { option_map commands.view result
+        ≡ commands.assemble_by (map string_bytes words.now) }
     ensures sized { IfSome result commands.IsSized }
 {
     let [id, version, size, download] = words else {
@@ -139,7 +143,8 @@ fn assemble(words: &[String]) -> Option<Command>
 
 fn open(alloc: Global, words: &[String]) -> Result<Command, WordsFault>
     requires { 2 ≤ length words.now }
-    ensures gives { Gives commands.view commands.cause result (commands.or_misfit (commands.open_by (map string_bytes words.now))) }
+    ensures gives { Gives commands.view commands.cause result
+        (commands.or_misfit (commands.open_by (map string_bytes words.now))) }
     ensures sized { IfOk result commands.IsSized }
 {
     if words[0].as_str() == "sections" {
@@ -172,7 +177,8 @@ fn publication(
     greatest: u32,
 ) -> Result<(String, u32, u32), WordsFault>
     requires { length words.now ≡ 3 }
-    ensures gives { Gives commands.publication_view commands.cause result (commands.or_misfit (commands.publication_in greatest (map string_bytes words.now))) }
+    ensures gives { Gives commands.publication_view commands.cause result
+        (commands.or_misfit (commands.publication_in greatest (map string_bytes words.now))) }
     ensures sized { IfOk result (λ p. commands.IsPublication greatest (string_bytes p.0) p.2) }
 {
     let [folder, carousel, number] = words else {
@@ -191,7 +197,8 @@ fn publication(
 /// A PID, and what is published on it.
 fn publish_on(alloc: Global, words: &[String]) -> Result<Command, WordsFault>
     requires { length words.now ≡ 4 }
-    ensures gives { Gives commands.view commands.cause result (commands.or_misfit (commands.publish_on_by (map string_bytes words.now))) }
+    ensures gives { Gives commands.view commands.cause result
+        (commands.or_misfit (commands.publish_on_by (map string_bytes words.now))) }
     ensures sized { IfOk result commands.IsSized }
 {
     let Some(pid) = values::pid(words[0].as_str()) else {
@@ -204,7 +211,8 @@ fn publish_on(alloc: Global, words: &[String]) -> Result<Command, WordsFault>
 /// A PID, and what stays on the air on it.
 fn air(alloc: Global, words: &[String]) -> Result<Command, WordsFault>
     requires { length words.now ≡ 4 }
-    ensures gives { Gives commands.view commands.cause result (commands.or_misfit (commands.air_by (map string_bytes words.now))) }
+    ensures gives { Gives commands.view commands.cause result
+        (commands.or_misfit (commands.air_by (map string_bytes words.now))) }
     ensures sized { IfOk result commands.IsSized }
 {
     let Some(pid) = values::pid(words[0].as_str()) else {
@@ -217,7 +225,8 @@ fn air(alloc: Global, words: &[String]) -> Result<Command, WordsFault>
 /// A PID, and the folder that is made.
 fn extract(alloc: Global, words: &[String]) -> Result<Command, WordsFault>
     requires { length words.now ≡ 2 }
-    ensures gives { Gives commands.view commands.cause result (commands.or_misfit (commands.extract_by (map string_bytes words.now))) }
+    ensures gives { Gives commands.view commands.cause result
+        (commands.or_misfit (commands.extract_by (map string_bytes words.now))) }
     ensures sized { IfOk result commands.IsSized }
 {
     let [pid, folder] = words else {
@@ -233,7 +242,8 @@ fn extract(alloc: Global, words: &[String]) -> Result<Command, WordsFault>
 /// A table of carousels, and paths.
 fn mounts(alloc: Global, words: &[String]) -> Result<Command, WordsFault>
     requires { 2 ≤ length words.now }
-    ensures gives { Gives commands.view commands.cause result (commands.or_misfit (commands.mounts_by (map string_bytes words.now))) }
+    ensures gives { Gives commands.view commands.cause result
+        (commands.or_misfit (commands.mounts_by (map string_bytes words.now))) }
     ensures sized { IfOk result commands.IsSized }
 {
     let table = table(alloc, words[0].as_str())?;
@@ -244,7 +254,8 @@ fn mounts(alloc: Global, words: &[String]) -> Result<Command, WordsFault>
 /// A PID, and the paths that are watched.
 fn watch(alloc: Global, words: &[String]) -> Result<Command, WordsFault>
     requires { 2 ≤ length words.now }
-    ensures gives { Gives commands.view commands.cause result (commands.or_misfit (commands.watch_by (map string_bytes words.now))) }
+    ensures gives { Gives commands.view commands.cause result
+        (commands.or_misfit (commands.watch_by (map string_bytes words.now))) }
     ensures sized { IfOk result commands.IsSized }
 {
     let Some(pid) = values::pid(words[0].as_str()) else {
@@ -268,7 +279,8 @@ fn find(words: &[String]) -> Option<Command>
 
 fn open_id(alloc: Global, words: &[String]) -> Result<Command, WordsFault>
     requires { 2 ≤ length words.now }
-    ensures gives { Gives commands.view commands.cause result (commands.or_misfit (commands.open_id_by (map string_bytes words.now))) }
+    ensures gives { Gives commands.view commands.cause result
+        (commands.or_misfit (commands.open_id_by (map string_bytes words.now))) }
     ensures sized { IfOk result commands.IsSized }
 {
     let Some(carousel) = values::decimal(&words[0], 0, u32::MAX) else {

@@ -274,7 +274,9 @@ fn complaint_behind(
     keyword: Keyword,
     words: &[String],
 ) -> Result<Complaint, NoMemory>
-    ensures { IfOk result (λ c. c ≡ places.complaint_by keyword (length words.now) (places.first_breaking keyword (map string_bytes words.now))) }
+    ensures { IfOk result (λ c.
+        c ≡ places.complaint_by keyword (length words.now)
+        (places.first_breaking keyword (map string_bytes words.now))) }
 {
     for (place, word) in words.iter().enumerate() {
         if breaks(alloc, keyword, place, word)? {

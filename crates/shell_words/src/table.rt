@@ -16,7 +16,8 @@ pub const MOST_MOUNT_NAME: usize = 32;
 
 /// The names and PIDs of a table: one or more of NAME=PID, with a comma between each two.
 pub fn table(alloc: Global, word: &str) -> Result<Vec<(Name, u16)>, WordsFault>
-    ensures gives { Gives (λ table. table.items) commands.cause result (commands.or_misfit (values.table_in word.now)) }
+    ensures gives { Gives (λ table. table.items) commands.cause result
+        (commands.or_misfit (values.table_in word.now)) }
     ensures ranges { IfOk result (λ table. values.IsTable table.items) }
 {
     let mut table = Vec::new(alloc);
@@ -29,7 +30,8 @@ pub fn table(alloc: Global, word: &str) -> Result<Vec<(Name, u16)>, WordsFault>
 
 /// The name and the PID of an entry.
 fn entry(alloc: Global, text: &str) -> Result<(Name, u16), WordsFault>
-    ensures gives { Gives (λ entry. entry) commands.cause result (commands.or_misfit (values.entry_in text.now)) }
+    ensures gives { Gives (λ entry. entry) commands.cause result
+        (commands.or_misfit (values.entry_in text.now)) }
     ensures ranges { IfOk result values.IsEntry }
 {
     let Some((name, pid)) = parts(text) else {

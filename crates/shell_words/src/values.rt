@@ -85,7 +85,8 @@ fn are_digits(text: &[u8]) -> bool
 /// The paths of one or more words.
 pub fn paths(alloc: Global, words: &[String]) -> Result<Vec<Path>, WordsFault>
     requires { 0 < length words.now }
-    ensures { Gives (λ paths. paths.items) commands.cause result (commands.or_misfit (values.paths_in (map string_bytes words.now))) }
+    ensures { Gives (λ paths. paths.items) commands.cause result
+        (commands.or_misfit (values.paths_in (map string_bytes words.now))) }
 {
     let mut paths = Vec::new(alloc);
     for word in words {
@@ -97,7 +98,8 @@ pub fn paths(alloc: Global, words: &[String]) -> Result<Vec<Path>, WordsFault>
 /// The paths of 1 to [`MOST_WATCHED`] words.
 pub fn watched(alloc: Global, words: &[String]) -> Result<Vec<Path>, WordsFault>
     requires { 0 < length words.now }
-    ensures gives { Gives (λ paths. paths.items) commands.cause result (commands.or_misfit (values.watched_in (map string_bytes words.now))) }
+    ensures gives { Gives (λ paths. paths.items) commands.cause result
+        (commands.or_misfit (values.watched_in (map string_bytes words.now))) }
     ensures few { IfOk result (λ paths. length paths.items ≤ MOST_WATCHED) }
 {
     if words.len() <= MOST_WATCHED {
@@ -108,7 +110,8 @@ pub fn watched(alloc: Global, words: &[String]) -> Result<Vec<Path>, WordsFault>
 }
 
 fn path(alloc: Global, word: &String) -> Result<Path, WordsFault>
-    ensures { Gives (λ path. path) commands.cause result (commands.or_misfit (values.path_in (string_bytes word.now))) }
+    ensures { Gives (λ path. path) commands.cause result
+        (commands.or_misfit (values.path_in (string_bytes word.now))) }
 {
     match Path::parse(alloc, word.as_bytes()) {
         Ok(path) => Ok(path),
@@ -119,7 +122,8 @@ fn path(alloc: Global, word: &String) -> Result<Path, WordsFault>
 
 /// The folder that a word names: any but the empty word.
 pub fn folder(alloc: Global, word: &String) -> Result<String, WordsFault>
-    ensures { Gives string_bytes commands.cause result (commands.or_misfit (values.folder_in (string_bytes word.now))) }
+    ensures { Gives string_bytes commands.cause result
+        (commands.or_misfit (values.folder_in (string_bytes word.now))) }
 {
     if word.is_empty() {
         return Err(WordsFault::Words);

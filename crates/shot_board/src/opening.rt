@@ -65,10 +65,13 @@ fn seated<S: Numbered, R: Wait>(
     readers: u32,
 ) -> Result<(Desk<S>, Vec<Viewer<S>>), AllocError>
     requires { readers ≤ 64 }
-    ensures shown { IfOk result (λ made. (made.0.desk.shown.value.front.seen ≡ shown.now.front.seen) × (made.0.desk.shown.value.most ≡ shown.now.most)) }
+    ensures shown { IfOk result (λ made.
+        (made.0.desk.shown.value.front.seen ≡ shown.now.front.seen)
+        × (made.0.desk.shown.value.most ≡ shown.now.most)) }
     ensures idle { IfOk result (λ made. drop made.0.behind made.0.log.items ≡ []) }
     ensures count { IfOk result (λ made. length made.1.items ≡ readers) }
-    ensures viewers { IfOk result (λ made. Each (IsSeated shown.now.front shown.now.most) made.1.items) }
+    ensures viewers { IfOk result (λ made.
+        Each (IsSeated shown.now.front shown.now.most) made.1.items) }
 {
     let Ok(mut viewers) = Vec::with_capacity(alloc, readers as usize) else {
         return Err(AllocError);
@@ -89,7 +92,9 @@ fn desk<S: Numbered, R: Wait>(
 ) -> Result<Desk<S>, AllocError>
     requires { readers ≤ 64 }
     ensures name { IfOk result (λ w. view w.desk.place ≡ name_of w.desk.shown.value) }
-    ensures shown { IfOk result (λ w. (w.desk.shown.value.front.seen ≡ shown.now.front.seen) × (w.desk.shown.value.most ≡ shown.now.most)) }
+    ensures shown { IfOk result (λ w.
+        (w.desk.shown.value.front.seen ≡ shown.now.front.seen)
+        × (w.desk.shown.value.most ≡ shown.now.most)) }
     ensures idle { IfOk result (λ w. drop w.behind w.log.items ≡ []) }
 {
     let (posted, spare) = (shown.share()?, shown.share()?);
@@ -103,7 +108,10 @@ fn desk<S: Numbered, R: Wait>(
 /// A new book whose list has the first value.
 fn opened<S: Numbered>(shot: &S) -> Option<(Word<S, u64, Law>, Front<S>)>
     requires { S.number shot.now ≡ 0 }
-    ensures { IfSome result (λ made. (made.0 ≡ head_of made.1.seen.book) × (made.1.number ≡ 0) × (made.1.seen.log ≡ shot.now ∷ [])) }
+    ensures { IfSome result (λ made.
+        (made.0 ≡ head_of made.1.seen.book)
+        × (made.1.number ≡ 0)
+        × (made.1.seen.log ≡ shot.now ∷ [])) }
 {
     let (mut seen, mut first, _second) = Seen::open(Start::alone(), 0, 0);
     let head = Word::tracked(0, &mut first);
@@ -119,7 +127,11 @@ fn opened<S: Numbered>(shot: &S) -> Option<(Word<S, u64, Law>, Front<S>)>
 /// The writer takes its board's name.
 fn named<S: Numbered, R: Wait>(rt: &R, writer: Desk<S>) -> Option<Desk<S>>
     requires { drop writer.behind writer.log.items ≡ [] }
-    ensures { IfSome result (λ w. (view w.desk.place ≡ name_of w.desk.shown.value) × (w.desk.shown.value.front.seen ≡ writer.desk.shown.value.front.seen) × (w.desk.shown.value.most ≡ writer.desk.shown.value.most) × (drop w.behind w.log.items ≡ [])) }
+    ensures { IfSome result (λ w.
+        (view w.desk.place ≡ name_of w.desk.shown.value)
+        × (w.desk.shown.value.front.seen ≡ writer.desk.shown.value.front.seen)
+        × (w.desk.shown.value.most ≡ writer.desk.shown.value.most)
+        × (drop w.behind w.log.items ≡ [])) }
 {
     let (writer, published) = writer.publish_as::<TakesName, R>(rt);
     if published.is_err() {
@@ -137,10 +149,15 @@ fn seat_all<S: Numbered, R: Wait>(
     readers: u32,
     viewers: &mut Vec<Viewer<S>>,
 ) -> Option<Desk<S>>
-    requires name { ((view writer.desk.place).named ≡ true) × ((view writer.desk.place).book.book ≡ shown.now.front.seen.book) × ((view writer.desk.place).most ≡ shown.now.most) }
+    requires name { ((view writer.desk.place).named ≡ true)
+        × ((view writer.desk.place).book.book ≡ shown.now.front.seen.book)
+        × ((view writer.desk.place).most ≡ shown.now.most) }
     requires room { (viewers.old.items ≡ []) × (readers ≤ vec_capacity viewers.old) }
-    ensures viewers { OnSome result ((length viewers.new.items ≡ readers) × Each (IsSeated shown.now.front shown.now.most) viewers.new.items) }
-    ensures writer { IfSome result (λ w. (w.desk.shown.value ≡ writer.desk.shown.value) × (drop w.behind w.log.items ≡ drop writer.behind writer.log.items)) }
+    ensures viewers { OnSome result ((length viewers.new.items ≡ readers)
+        × Each (IsSeated shown.now.front shown.now.most) viewers.new.items) }
+    ensures writer { IfSome result (λ w.
+        (w.desk.shown.value ≡ writer.desk.shown.value)
+        × (drop w.behind w.log.items ≡ drop writer.behind writer.log.items)) }
 {
     for _seated in 0..readers {
         let Ok(share) = shown.share() else {
@@ -154,9 +171,14 @@ fn seat_all<S: Numbered, R: Wait>(
 
 /// A viewer at a place of its own, which holds this share. A place that is refused is asked for again.
 fn seat<S: Numbered, R: Wait>(rt: &R, writer: &mut Desk<S>, share: Shown<S>) -> Viewer<S>
-    requires name { ((view writer.old.desk.place).named ≡ true) × ((view writer.old.desk.place).book.book ≡ share.front.seen.book) × ((view writer.old.desk.place).most ≡ share.most) }
+    requires name { ((view writer.old.desk.place).named ≡ true)
+        × ((view writer.old.desk.place).book.book ≡ share.front.seen.book)
+        × ((view writer.old.desk.place).most ≡ share.most) }
     ensures viewer { IsSeated share.front share.most result }
-    ensures writer { (writer.new.desk.shown ≡ writer.old.desk.shown) × (writer.new.log ≡ writer.old.log) × (writer.new.behind ≡ writer.old.behind) × (view writer.new.desk.place ≡ view writer.old.desk.place) }
+    ensures writer { (writer.new.desk.shown ≡ writer.old.desk.shown)
+        × (writer.new.log ≡ writer.old.log)
+        × (writer.new.behind ≡ writer.old.behind)
+        × (view writer.new.desk.place ≡ view writer.old.desk.place) }
 {
     for _ in rt.forever() {
         if let Ok(mut reader) = writer.factory().reader() {

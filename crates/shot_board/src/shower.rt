@@ -34,7 +34,11 @@ where
     ghost whole: { is_some writer ≡ true },
     ghost head_is: { head ≡ head_of front.seen.book },
     ghost bounded: { front.number ≤ most },
-    ghost ready: { spent ≡ false → ForSome writer (λ w. (w.desk.shown.value.front.seen ≡ front.seen) × (w.desk.shown.value.most ≡ most) × (drop w.behind w.log.items ≡ [])) },
+    ghost ready: { spent ≡ false
+        → ForSome writer (λ w.
+        (w.desk.shown.value.front.seen ≡ front.seen)
+        × (w.desk.shown.value.most ≡ most)
+        × (drop w.behind w.log.items ≡ [])) },
 }
 
 impl<S: Numbered> Shower<S> {
@@ -80,7 +84,8 @@ impl<S: Numbered> Shower<S> {
     /// Publishes a value of this board, which ends the list `front`. Where it answers false, nothing more is shown.
     fn sent<R: Wait>(&mut self, rt: &R, shown: Shown<S>, front: Front<S>) -> bool
         requires fresh { self.old.spent ≡ false }
-        requires same { (self.old.front.seen.book ≡ shown.front.seen.book) × (self.old.most ≡ shown.most) }
+        requires same { (self.old.front.seen.book ≡ shown.front.seen.book)
+            × (self.old.most ≡ shown.most) }
         requires list { (front.seen ≡ shown.front.seen) × (front.number ≤ self.old.most) }
         ensures most { self.new.most ≡ self.old.most }
         ensures yes { result ≡ true → (self.new.front ≡ front) × (self.new.spent ≡ false) }
@@ -128,8 +133,12 @@ impl<S: Numbered> Shower<S> {
 /// The list with one value more, which is then in the book. There is none where the book has more than the list, as only
 /// another shower of it could bring about, or has 2^64 - 1 values.
 fn added<S: Numbered>(head: &Word<S, u64, Law>, front: &Front<S>, shot: &S) -> Option<Front<S>>
-    requires { (head.now ≡ head_of front.now.seen.book) × (S.number shot.now ≡ front.now.number + 1) }
-    ensures { IfSome result (λ f. (f.seen.book ≡ front.now.seen.book) × (f.number ≡ front.now.number + 1) × (f.seen.log ≡ front.now.seen.log ++ shot.now ∷ [])) }
+    requires { (head.now ≡ head_of front.now.seen.book)
+        × (S.number shot.now ≡ front.now.number + 1) }
+    ensures { IfSome result (λ f.
+        (f.seen.book ≡ front.now.seen.book)
+        × (f.number ≡ front.now.number + 1)
+        × (f.seen.log ≡ front.now.seen.log ++ shot.now ∷ [])) }
 {
     let next = front.number.checked_add(2)?;
     let mut seen = front.seen.again();
@@ -148,9 +157,13 @@ fn added<S: Numbered>(head: &Word<S, u64, Law>, front: &Front<S>, shot: &S) -> O
 
 /// Sends a value of the same board. Where it answers false, the writer takes no more.
 fn send<S: Numbered, R: Wait>(rt: &R, mut writer: Desk<S>, shown: Shown<S>) -> (Desk<S>, bool)
-    requires same { (writer.desk.shown.value.front.seen.book ≡ shown.front.seen.book) × (writer.desk.shown.value.most ≡ shown.most) }
+    requires same { (writer.desk.shown.value.front.seen.book ≡ shown.front.seen.book)
+        × (writer.desk.shown.value.most ≡ shown.most) }
     requires idle { drop writer.behind writer.log.items ≡ [] }
-    ensures { result.1 ≡ true → (result.0.desk.shown.value.front.seen ≡ shown.front.seen) × (result.0.desk.shown.value.most ≡ shown.most) × (drop result.0.behind result.0.log.items ≡ []) }
+    ensures { result.1 ≡ true
+        → (result.0.desk.shown.value.front.seen ≡ shown.front.seen)
+        × (result.0.desk.shown.value.most ≡ shown.most)
+        × (drop result.0.behind result.0.log.items ≡ []) }
 {
     let Ok(()) = writer.append(shown) else {
         return (writer, false);

@@ -22,7 +22,10 @@ pub struct Shown<S: Numbered> {
 impl<S: Numbered> Shown<S> {
     /// A copy, which shares the value.
     pub fn share(&self) -> Result<Shown<S>, AllocError>
-        ensures { IfOk result (λ s. (arc_value s.shot ≡ arc_value self.now.shot) × (s.front.seen ≡ self.now.front.seen) × (s.most ≡ self.now.most)) }
+        ensures { IfOk result (λ s.
+            (arc_value s.shot ≡ arc_value self.now.shot)
+            × (s.front.seen ≡ self.now.front.seen)
+            × (s.most ≡ self.now.most)) }
     {
         let shot = Arc::try_clone(&self.shot)?;
         Ok(Shown {

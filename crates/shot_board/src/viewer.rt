@@ -26,7 +26,10 @@ pub struct Viewer<S: Numbered> {
     shown: Shown<S>,
     told: Front<S>,
     ghost whole: { is_some reader ≡ true },
-    ghost at_board: { ForSome reader (λ r. ((view r.place).named ≡ true) × ((view r.place).book.book ≡ shown.front.seen.book) × ((view r.place).most ≡ shown.most)) },
+    ghost at_board: { ForSome reader (λ r.
+        ((view r.place).named ≡ true)
+        × ((view r.place).book.book ≡ shown.front.seen.book)
+        × ((view r.place).most ≡ shown.most)) },
     ghost same_book: { told.seen.book ≡ shown.front.seen.book },
 }
 
@@ -36,8 +39,13 @@ impl<S: Numbered> Viewer<S> {
     ghost use Rattle.shot_board.specs.Viewers.{known_of, told_of, viewer_board, most_of};
 
     pub(crate) fn at(reader: Place<S>, shown: Shown<S>) -> Viewer<S>
-        requires { ((view reader.place).named ≡ true) × ((view reader.place).book.book ≡ shown.front.seen.book) × ((view reader.place).most ≡ shown.most) }
-        ensures { (viewer_board result ≡ front_board shown.front) × (most_of result ≡ shown.most) × (known_of result ≡ shots_in shown.front) × (told_of result ≡ shots_in shown.front) }
+        requires { ((view reader.place).named ≡ true)
+            × ((view reader.place).book.book ≡ shown.front.seen.book)
+            × ((view reader.place).most ≡ shown.most) }
+        ensures { (viewer_board result ≡ front_board shown.front)
+            × (most_of result ≡ shown.most)
+            × (known_of result ≡ shots_in shown.front)
+            × (told_of result ≡ shots_in shown.front) }
     {
         let told = shown.front.again();
         Viewer {
@@ -50,9 +58,11 @@ impl<S: Numbered> Viewer<S> {
     /// Tells the viewer of the list of a prefix of its own board. What it knows stays. It takes no memory.
     pub fn learn(&mut self, front: Front<S>)
         requires { front_board front ≡ viewer_board self.old }
-        ensures board { (viewer_board self.new ≡ viewer_board self.old) × (most_of self.new ≡ most_of self.old) }
+        ensures board { (viewer_board self.new ≡ viewer_board self.old)
+            × (most_of self.new ≡ most_of self.old) }
         ensures known { known_of self.new ≡ known_of self.old }
-        ensures told { IsPrefix (told_of self.old) (told_of self.new) × IsPrefix (shots_in front) (told_of self.new) }
+        ensures told { IsPrefix (told_of self.old) (told_of self.new)
+            × IsPrefix (shots_in front) (told_of self.new) }
     {
         if front.goes_on(&self.told) {
             self.told = front;
@@ -75,7 +85,8 @@ impl<S: Numbered> Viewer<S> {
     /// that knows all that it was told of is never refused.
     #[tactic(auto, using(crate::proofs::Prefixes::same_begins))]
     pub fn look(&mut self) -> Result<(), AllocError>
-        ensures board { (viewer_board self.new ≡ viewer_board self.old) × (most_of self.new ≡ most_of self.old) }
+        ensures board { (viewer_board self.new ≡ viewer_board self.old)
+            × (most_of self.new ≡ most_of self.old) }
         ensures told { told_of self.new ≡ told_of self.old }
         ensures knew { IsPrefix (known_of self.old) (known_of self.new) }
         ensures heard { OnOk result (IsPrefix (told_of self.old) (known_of self.new)) }
@@ -100,9 +111,11 @@ impl<S: Numbered> Viewer<S> {
     /// is full. No clause of std says when that count is full, so none says it here: who needs no owner of its own calls `look`.
     #[tactic(auto, using(crate::proofs::Prefixes::same_begins))]
     pub fn take(&mut self) -> Result<Arc<S>, AllocError>
-        ensures board { (viewer_board self.new ≡ viewer_board self.old) × (most_of self.new ≡ most_of self.old) }
+        ensures board { (viewer_board self.new ≡ viewer_board self.old)
+            × (most_of self.new ≡ most_of self.old) }
         ensures told { told_of self.new ≡ told_of self.old }
-        ensures last { IfOk result (λ shot. EndsWith S.number (known_of self.new) (arc_value shot)) }
+        ensures last { IfOk result (λ shot.
+            EndsWith S.number (known_of self.new) (arc_value shot)) }
         ensures knew { IfOk result (λ _. IsPrefix (known_of self.old) (known_of self.new)) }
         ensures heard { IfOk result (λ _. IsPrefix (told_of self.old) (known_of self.new)) }
         ensures numbers { IfOk result (λ _. AreNumbered S.number (known_of self.new)) }
@@ -120,9 +133,15 @@ impl<S: Numbered> Viewer<S> {
 
     /// A share of what is published, if it goes on with all that the viewer knows and was told of.
     fn newer(&mut self) -> Option<Shown<S>>
-        ensures same { (self.new.shown.front ≡ self.old.shown.front) × (self.new.shown.most ≡ self.old.shown.most) × (self.new.told ≡ self.old.told) }
-        ensures board { IfSome result (λ shown. (shown.front.seen.book ≡ self.old.shown.front.seen.book) × (shown.most ≡ self.old.shown.most)) }
-        ensures newer { IfSome result (λ shown. IsPrefix (known_of self.old) (shots_in shown.front) × IsPrefix (told_of self.old) (shots_in shown.front)) }
+        ensures same { (self.new.shown.front ≡ self.old.shown.front)
+            × (self.new.shown.most ≡ self.old.shown.most)
+            × (self.new.told ≡ self.old.told) }
+        ensures board { IfSome result (λ shown.
+            (shown.front.seen.book ≡ self.old.shown.front.seen.book)
+            × (shown.most ≡ self.old.shown.most)) }
+        ensures newer { IfSome result (λ shown.
+            IsPrefix (known_of self.old) (shots_in shown.front)
+            × IsPrefix (told_of self.old) (shots_in shown.front)) }
         ensures numbers { IfSome result (λ shown. AreNumbered S.number (shots_in shown.front)) }
     {
         let Some(reader) = self.reader.take() else {
@@ -155,9 +174,11 @@ impl<S: Numbered> Viewer<S> {
 
 /// A share of what is published, if the writer is there, the list is longer than `known`, and the value can be shared.
 fn read<S: Numbered>(reader: Place<S>, known: &Front<S>) -> (Option<Shown<S>>, Place<S>)
-    requires { ((view reader.place).named ≡ true) × ((view reader.place).book.book ≡ known.now.seen.book) }
+    requires { ((view reader.place).named ≡ true)
+        × ((view reader.place).book.book ≡ known.now.seen.book) }
     ensures reader { view result.1.place ≡ view reader.place }
-    ensures board { IfSome result.0 (λ shown. (shown.front.seen.book ≡ known.now.seen.book) × (shown.most ≡ (view reader.place).most)) }
+    ensures board { IfSome result.0 (λ shown.
+        (shown.front.seen.book ≡ known.now.seen.book) × (shown.most ≡ (view reader.place).most)) }
     ensures newer { IfSome result.0 (λ shown. IsPrefix known.now.seen.log shown.front.seen.log) }
 {
     match reader.enter_as::<Reads>() {
@@ -172,7 +193,10 @@ fn read<S: Numbered>(reader: Place<S>, known: &Front<S>) -> (Option<Shown<S>>, P
 /// A share of what is shown, if its list is longer than `known` and the value can be shared.
 fn share_of_newer<S: Numbered>(shown: &Shown<S>, known: &Front<S>) -> Option<Shown<S>>
     requires { shown.now.front.seen.book ≡ known.now.seen.book }
-    ensures { IfSome result (λ share. (share.front.seen ≡ shown.now.front.seen) × (share.most ≡ shown.now.most) × IsPrefix known.now.seen.log share.front.seen.log) }
+    ensures { IfSome result (λ share.
+        (share.front.seen ≡ shown.now.front.seen)
+        × (share.most ≡ shown.now.most)
+        × IsPrefix known.now.seen.log share.front.seen.log) }
 {
     if known.goes_on(&shown.front) {
         return None;

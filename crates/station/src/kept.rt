@@ -58,7 +58,8 @@ impl Kept {
         ensures history { IsHistory self.old.journal }
         ensures call { IsDrawn self.old.journal n result self.new.journal }
         ensures some { IfOk result (λ b. (1 ≤ length b.items.items) × (length b.items.items ≤ n)) }
-        ensures items { IfOk result (λ b. All (λ item. Contains (items_in (arc_value b.generation)) item) b.items.items) }
+        ensures items { IfOk result (λ b.
+            All (λ item. Contains (items_in (arc_value b.generation)) item) b.items.items) }
     {
         self.journal.entries();
         self.journal.draw(weigh, n)

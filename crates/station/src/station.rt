@@ -75,9 +75,15 @@ impl Station {
         requires { IsStationPass self.now pass.old }
         ensures pass { IsStationPass self.now pass.new }
         ensures number { number_of pass.new ≡ number_of pass.old }
-        ensures call { InOneHold (carousel_of self.now) (weights_of self.now) pass.old pass.new (λ c d. IsCommitted c (number_of pass.old) edits.items result d) }
-        ensures entered { IfAnswered result (λ outcome. is_entered outcome ≡ true → EndsWith (entries_seen pass.new) (entries.Commit (number_of pass.old) edits.items outcome)) }
-        ensures full { IfAnswered result (λ outcome. is_entered outcome ≡ false → outcome_of (seen_by self.now pass.new) edits.items ≡ outcome) }
+        ensures call { InOneHold (carousel_of self.now) (weights_of self.now) pass.old pass.new
+            (λ c d. IsCommitted c (number_of pass.old) edits.items result d) }
+        ensures entered { IfAnswered result (λ outcome.
+            is_entered outcome ≡ true
+            → EndsWith (entries_seen pass.new)
+            (entries.Commit (number_of pass.old) edits.items outcome)) }
+        ensures full { IfAnswered result (λ outcome.
+            is_entered outcome ≡ false
+            → outcome_of (seen_by self.now pass.new) edits.items ≡ outcome) }
     {
         let editor = pass.number();
         let mut hold = self.lock.hold(rt, pass);
@@ -94,11 +100,16 @@ impl Station {
         requires count { (1 ≤ n) × (n ≤ MOST_DRAWN) }
         ensures pass { IsStationPass self.now pass.new }
         ensures number { number_of pass.new ≡ number_of pass.old }
-        ensures call { InOneHold (carousel_of self.now) (weights_of self.now) pass.old pass.new (λ c d. IsDrawn c n result d) }
-        ensures entered { IfOk result (λ b. EndsWith (entries_seen pass.new) (entries.Draw n (arc_value b.generation).number b.first (length b.items.items))) }
-        ensures full { IfFull result (λ draws. (draws ≡ MOST_DRAWS) × (MOST_DRAWS ≤ draws_of (seen_by self.now pass.new))) }
+        ensures call { InOneHold (carousel_of self.now) (weights_of self.now) pass.old pass.new
+            (λ c d. IsDrawn c n result d) }
+        ensures entered { IfOk result (λ b.
+            EndsWith (entries_seen pass.new)
+            (entries.Draw n (arc_value b.generation).number b.first (length b.items.items))) }
+        ensures full { IfFull result (λ draws.
+            (draws ≡ MOST_DRAWS) × (MOST_DRAWS ≤ draws_of (seen_by self.now pass.new))) }
         ensures some { IfOk result (λ b. (1 ≤ length b.items.items) × (length b.items.items ≤ n)) }
-        ensures items { IfOk result (λ b. All (λ item. Contains (items_in (arc_value b.generation)) item) b.items.items) }
+        ensures items { IfOk result (λ b.
+            All (λ item. Contains (items_in (arc_value b.generation)) item) b.items.items) }
     {
         let mut hold = self.lock.hold(rt, pass);
         let answer = hold.value().draw(&self.weigh, n);
@@ -112,8 +123,10 @@ impl Station {
         requires { AreAllPasses self passes.items }
         ensures carousel { (state result).carousel ≡ carousel_of self }
         ensures weights { (state result).weights ≡ weights_of self }
-        ensures seen { Each (λ pass. Begins (entries_seen pass) (state result).entries) passes.items }
-        ensures owned { (place : ℕ) → owners_of place passes.items ≡ once_within 0 (length (state result).entries) place }
+        ensures seen { Each (λ pass. Begins (entries_seen pass) (state result).entries)
+            passes.items }
+        ensures owned { (place : ℕ)
+            → owners_of place passes.items ≡ once_within 0 (length (state result).entries) place }
     {
         let Station { lock, weigh } = self;
         let Kept { journal } = lock.close(passes);

@@ -105,8 +105,10 @@ fn with_bit_flipped(packet: [u8; 188], bit: u16) -> [u8; 188]
 /// The payload is empty where the adaptation field control is 10, whatever the adaptation field's
 /// length is then. It takes no memory.
 pub fn parse(bytes: &[u8; 188]) -> Result<Packet<'_>, PacketFault>
-    ensures grammar { MatchResult result (λ p. parse_packet bytes.now ≡ Ok (view p)) (λ fault. parse_packet bytes.now ≡ Err fault) }
-    ensures ranges { IfOk result (λ p. (p.pid < 8192) × (p.counter < 16) × (length p.payload.now ≤ 184)) }
+    ensures grammar { MatchResult result (λ p. parse_packet bytes.now ≡ Ok (view p)) (λ fault.
+        parse_packet bytes.now ≡ Err fault) }
+    ensures ranges { IfOk result (λ p.
+        (p.pid < 8192) × (p.counter < 16) × (length p.payload.now ≤ 184)) }
 {
     if bytes[0] != SYNC {
         return Err(PacketFault::NoSync);
@@ -153,7 +155,8 @@ pub fn build(pid: u16, start: bool, counter: u8, payload: &[u8; 184]) -> [u8; 18
     requires pid { pid < 8192 }
     requires counter { counter < 16 }
     ensures bytes { result ≡ packet_bytes pid start counter payload.now }
-    ensures parses { parse_packet result ≡ Ok (record { pid = pid; start = start; counter = counter; payload = payload.now }) }
+    ensures parses { parse_packet result
+        ≡ Ok (record { pid = pid; start = start; counter = counter; payload = payload.now }) }
 {
     let mut bytes = [0; 188];
     bytes[0] = SYNC;

@@ -67,7 +67,9 @@ pub fn copy_of_held(alloc: Global, held: &Option<Gateway>) -> Result<Option<Gate
 /// Takes the gateway of a DSI. Where it is the held one, or there is none, nothing changes.
 #[tactic(auto, using(crate::proofs::Gateways::other_gateway))]
 pub fn take_dsi(alloc: Global, held: &mut Option<Gateway>, dsi: &Dsi) -> Result<Fed, NoMemory>
-    ensures ok { IfOk result (λ fed. (held.new, fed) ≡ after_dsi held.old (biop_of_profiles (view_dsi dsi.now).gateway.profiles)) }
+    ensures ok { IfOk result (λ fed.
+        (held.new, fed)
+        ≡ after_dsi held.old (biop_of_profiles (view_dsi dsi.now).gateway.profiles)) }
     ensures changed { IfOk result (λ fed. fed ≡ Fed.Changed → held.new ≢ held.old) }
     ensures err { OnErr result (held.new ≡ held.old) }
 {

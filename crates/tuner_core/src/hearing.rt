@@ -31,7 +31,8 @@ pub enum Told<'a> {
 #[tactic(auto, using(crate::proofs::Asking::asks_control))]
 fn control_of(alloc: Global, payload: &[u8]) -> Result<Told<'_>, NoMemory>
     ensures says { IfOk result (λ t. view_told t ≡ heard_control (controls.read payload.now)) }
-    ensures memory { (held : CacheState) → IsTrue (asks held (heard_control (controls.read payload.now))) }
+    ensures memory { (held : CacheState)
+        → IsTrue (asks held (heard_control (controls.read payload.now))) }
 {
     match dsi_dii::decode(alloc, payload) {
         Ok(Control::Dsi(d)) => Ok(Told::Dsi(d)),
@@ -53,7 +54,8 @@ fn block_of(payload: &[u8]) -> Told<'_>
 /// What a candidate says. Only a control message takes memory.
 pub fn hear(alloc: Global, candidate: &[u8]) -> Result<Told<'_>, NoMemory>
     ensures says { IfOk result (λ t. view_told t ≡ as_heard candidate.now) }
-    ensures memory { OnErr result ((held : CacheState) → IsTrue (asks held (as_heard candidate.now))) }
+    ensures memory { OnErr result ((held : CacheState)
+        → IsTrue (asks held (as_heard candidate.now))) }
 {
     match payload_of(candidate) {
         Ok((Table::Control, payload)) => control_of(alloc, payload),

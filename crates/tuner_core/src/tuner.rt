@@ -57,7 +57,14 @@ impl Model for Tuner {
 
 /// The line of a shot. A module is shared where it is whole.
 fn held_line(identification: u16, line: &Line) -> Result<Held, NoMemory>
-    ensures { IfOk result (λ h. shots.view_held h ≡ record { identification = identification; line = line.now.line; bytes = bytes_of line.now.stored.content }) }
+    ensures { IfOk result (λ h.
+        shots.view_held h
+        ≡ record {
+          identification = identification;
+          line = line.now.line;
+          bytes = bytes_of
+              line.now.stored.content;
+        }) }
 {
     let lent = lent(identification, line);
     let module = match lent.module {
@@ -73,7 +80,9 @@ fn held_line(identification: u16, line: &Line) -> Result<Held, NoMemory>
 
 /// Appends the lines of a DII to the table of a shot.
 fn put_lines(table: &mut Vec<Held>, tuned: &Tuned) -> Result<(), NoMemory>
-    ensures { OnOk result (map shots.view_held table.new.items ≡ map shots.view_held table.old.items ++ modules_of tuned.now) }
+    ensures { OnOk result
+        (map shots.view_held table.new.items
+        ≡ map shots.view_held table.old.items ++ modules_of tuned.now) }
 {
     let identification = tuned.identification();
     for line in tuned.lines() {
@@ -124,8 +133,13 @@ impl Tuner {
 
     /// What a candidate changes, but for the count of candidates.
     fn take(&mut self, candidate: &[u8]) -> Result<Fed, NoMemory>
-        ensures answer { IfOk result (λ fed. (self.new, fed) ≡ after_heard self.old (as_heard candidate.now)) }
-        ensures changed { IfOk result (λ fed. fed ≡ Fed.Changed → self.new.gateway ≡ self.old.gateway → self.new.cache ≡ self.old.cache → ⊥) }
+        ensures answer { IfOk result (λ fed.
+            (self.new, fed) ≡ after_heard self.old (as_heard candidate.now)) }
+        ensures changed { IfOk result (λ fed.
+            fed ≡ Fed.Changed
+            → self.new.gateway ≡ self.old.gateway
+            → self.new.cache ≡ self.old.cache
+            → ⊥) }
         ensures err { OnErr result (self.new ≡ self.old) }
         ensures memory { OnErr result (IsTrue (asks self.old.cache (as_heard candidate.now))) }
     {
@@ -178,9 +192,15 @@ impl Tuner {
     /// new.
     pub fn feed(&mut self, candidate: &[u8]) -> Result<Fed, NoMemory>
         ensures answer { IfOk result (λ fed. (self.new, fed) ≡ step self.old candidate.now) }
-        ensures looks_back { IfOk result (λ fed. (candidates : List Bytes) → StandsFor self.old candidates → fed ≡ fed_after candidates candidate.now) }
-        ensures nothing { IfOk result (λ fed. (fed ≢ Fed.Changed) ↔ (self.new ≡ with_next_mark self.old)) }
-        ensures stands { OnOk result ((candidates : List Bytes) → StandsFor self.old candidates → StandsFor self.new (candidates ++ candidate.now ∷ [])) }
+        ensures looks_back { IfOk result (λ fed.
+            (candidates : List Bytes)
+            → StandsFor self.old candidates
+            → fed ≡ fed_after candidates candidate.now) }
+        ensures nothing { IfOk result (λ fed.
+            (fed ≢ Fed.Changed) ↔ (self.new ≡ with_next_mark self.old)) }
+        ensures stands { OnOk result ((candidates : List Bytes)
+            → StandsFor self.old candidates
+            → StandsFor self.new (candidates ++ candidate.now ∷ [])) }
         ensures err { OnErr result (self.new ≡ self.old) }
         ensures memory { OnErr result (IsTrue (asks self.old.cache (as_heard candidate.now))) }
     {
@@ -192,7 +212,9 @@ impl Tuner {
     /// The held DIIs in the order in which they were heard, each with what is there of its modules. Takes no memory.
     pub fn held(&self) -> &[Tuned]
         ensures held { result.now ≡ self.now.cache.held }
-        ensures looks_back { (candidates : List Bytes) → StandsFor self.now candidates → result.now ≡ held_diis candidates }
+        ensures looks_back { (candidates : List Bytes)
+            → StandsFor self.now candidates
+            → result.now ≡ held_diis candidates }
     {
         self.turns.cache.held()
     }
@@ -224,8 +246,10 @@ impl Tuner {
     /// DIIs are given by their identifications in the order in which they were heard, the one that turned first, and the table has
     /// their modules in the same order. What waits isn't in it. `NoMemory` says that there was no room for the shot.
     pub fn shot(&self, number: u64, draws: u64) -> Result<Arc<Shot>, NoMemory>
-        ensures numbers { IfOk result (λ s. ((arc_value s).number ≡ number) × ((arc_value s).draws ≡ draws)) }
-        ensures state { IfOk result (λ s. shots.view (arc_value s) ≡ snapshot_of number draws self.now) }
+        ensures numbers { IfOk result (λ s.
+            ((arc_value s).number ≡ number) × ((arc_value s).draws ≡ draws)) }
+        ensures state { IfOk result (λ s.
+            shots.view (arc_value s) ≡ snapshot_of number draws self.now) }
         ensures held { IfOk result (λ s. (candidates : List Bytes) → StandsFor self.now candidates
             → shots.view (arc_value s) ≡ snapshot_after number draws candidates) }
     {

@@ -45,7 +45,8 @@ fn version_held(held: &[Tuned]) -> Option<u16>
 
 /// The DII lists no module that a held one lists, and the modules of all of them fit.
 fn is_beside(held: &[Tuned], dii: &Dii) -> bool
-    ensures { result ≡ (joining.is_apart (map outline_held held.now) (view_dii dii.now) && joining.fits_beside (map outline_held held.now) (view_dii dii.now)) }
+    ensures { result ≡ (joining.is_apart (map outline_held held.now) (view_dii dii.now)
+        && joining.fits_beside (map outline_held held.now) (view_dii dii.now)) }
 {
     is_apart(held, dii) && fits_beside(held, dii)
 }
@@ -53,7 +54,9 @@ fn is_beside(held: &[Tuned], dii: &Dii) -> bool
 /// A DII turns.
 fn turn(turns: &mut Turns, dii: &Dii) -> Result<(), NoMemory>
     requires { IsTrue (limits.is_within (view_dii dii.now)) }
-    ensures ok { OnOk result (view_turns turns.new ≡ turn_from (view_turns turns.old) (held_outlines turns.old.cache) (view_dii dii.now)) }
+    ensures ok { OnOk result
+        (view_turns turns.new
+        ≡ turn_from (view_turns turns.old) (held_outlines turns.old.cache) (view_dii dii.now)) }
     ensures err { OnErr result (turns.new ≡ turns.old) }
 {
     let version = dii.transaction.version();
@@ -84,7 +87,8 @@ fn is_anew(held: &[Tuned], dii: &Dii) -> bool
 /// Takes a DII of the held version: it joins, or is refused.
 fn take_same(turns: &mut Turns, dii: &Dii) -> Result<Fed, NoMemory>
     requires { IsTrue (limits.is_within (view_dii dii.now)) }
-    ensures ok { IfOk result (λ fed. (view_turns turns.new, fed) ≡ after_same (view_turns turns.old) (view_dii dii.now)) }
+    ensures ok { IfOk result (λ fed.
+        (view_turns turns.new, fed) ≡ after_same (view_turns turns.old) (view_dii dii.now)) }
     ensures err { OnErr result (turns.new ≡ turns.old) }
 {
     if is_identification_held(turns.cache.held(), dii) {
@@ -102,7 +106,8 @@ fn take_same(turns: &mut Turns, dii: &Dii) -> Result<Fed, NoMemory>
 
 /// Takes a DII: it turns, joins, or is refused.
 fn admit(turns: &mut Turns, dii: &Dii) -> Result<Fed, NoMemory>
-    ensures ok { IfOk result (λ fed. (view_turns turns.new, fed) ≡ after_dii (view_turns turns.old) (view_dii dii.now)) }
+    ensures ok { IfOk result (λ fed.
+        (view_turns turns.new, fed) ≡ after_dii (view_turns turns.old) (view_dii dii.now)) }
     ensures err { OnErr result (turns.new ≡ turns.old) }
 {
     if dii.transaction.identification() == 0 {
@@ -120,7 +125,8 @@ fn admit(turns: &mut Turns, dii: &Dii) -> Result<Fed, NoMemory>
 
 /// Takes a DII: it turns or joins, and what is held changes, or it is refused.
 pub fn take_dii(turns: &mut Turns, dii: &Dii) -> Result<Fed, NoMemory>
-    ensures ok { IfOk result (λ fed. (view_turns turns.new, fed) ≡ after_dii (view_turns turns.old) (view_dii dii.now)) }
+    ensures ok { IfOk result (λ fed.
+        (view_turns turns.new, fed) ≡ after_dii (view_turns turns.old) (view_dii dii.now)) }
     ensures changed { IfOk result (λ fed. fed ≡ Fed.Changed → turns.new.cache ≢ turns.old.cache) }
     ensures err { OnErr result (turns.new ≡ turns.old) }
 {
@@ -130,7 +136,8 @@ pub fn take_dii(turns: &mut Turns, dii: &Dii) -> Result<Fed, NoMemory>
 
 /// Takes a block of a module of a held DII.
 pub fn take_block(cache: &mut Cache, parts: &Parts<'_>) -> Result<Fed, NoMemory>
-    ensures ok { IfOk result (λ fed. (cache.new, fed) ≡ after_block cache.old (parts_view parts.now)) }
+    ensures ok { IfOk result (λ fed.
+        (cache.new, fed) ≡ after_block cache.old (parts_view parts.now)) }
     ensures changed { IfOk result (λ fed. fed ≡ Fed.Changed → cache.new ≢ cache.old) }
     ensures err { OnErr result (cache.new ≡ cache.old) }
     ensures memory { OnErr result (taken_of cache.old (parts_view parts.now) ≡ Taken.New) }

@@ -65,7 +65,8 @@ impl Desk {
     pub fn show(&mut self, shot: Arc<Shot>) -> Result<Vec<Notice>, (NoMemory, Arc<Shot>)>
         ensures told { IfOk result (λ told. (shots : List Held) → StandsFor (state self.old) shots
             → told.items ≡ notices_of (state self.old) shots (held_of (arc_value shot))) }
-        ensures within { IfOk result (λ told. All (λ n. n.path < length (state self.old).paths) told.items) }
+        ensures within { IfOk result (λ told.
+            All (λ n. n.path < length (state self.old).paths) told.items) }
         ensures stands { OnOk result ((shots : List Held) → StandsFor (state self.old) shots
             → StandsFor (state self.new) (shots ++ held_of (arc_value shot) ∷ [])) }
         ensures same { ((state self.new).prefixes ≡ (state self.old).prefixes)
@@ -82,7 +83,8 @@ impl Desk {
 
     /// Compares the answers on a shot with those that are kept, and keeps them.
     fn turn_to(&mut self, shot: &Shot) -> Result<Vec<Notice>, NoMemory>
-        ensures told { IfOk result (λ told. told.items ≡ told_of (state self.old) (held_of shot.now)) }
+        ensures told { IfOk result (λ told.
+            told.items ≡ told_of (state self.old) (held_of shot.now)) }
         ensures kept { OnOk result (state self.new ≡ keeping (state self.old) (held_of shot.now)) }
         ensures refused { OnErr result (state self.new ≡ state self.old) }
         ensures memory { OnErr result (0 < length (state self.old).paths) }

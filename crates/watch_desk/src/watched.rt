@@ -54,7 +54,8 @@ impl Watched {
 
     /// The answers to the paths on a shot. Each path is resolved once.
     pub(crate) fn answers_on(&self, alloc: Global, shot: &Shot) -> Result<Vec<Answer>, NoMemory>
-        ensures answers { IfOk result (λ v. v.items ≡ map (answer_of (held_of shot.now)) self.now.paths) }
+        ensures answers { IfOk result (λ v.
+            v.items ≡ map (answer_of (held_of shot.now)) self.now.paths) }
         ensures memory { OnErr result (0 < length self.now.paths) }
     {
         answers_to(alloc, &self.paths, shot)

@@ -1,8 +1,8 @@
 use Rattle.std.proofs.Common.{rules, ◌≡◌, ◌==◌, cond, sym, ◌∙◌, subst}
 use denote.Param.Callables.{held_fn}
-use Rattle.carousel.proofs.run.OwnLists.{own-1}
+use Rattle.carousel_start.proofs.run.OwnLists.{own-1}
 use Rattle.cycle_planner.proofs.CallerLemmas.{are_twice_first, weighs_first_twice}
-use Rattle.carousel.proofs.run.Goals as goal
+use Rattle.carousel_start.proofs.run.Goals as goal
 
 pub new-weigh-requires-clause-weights : goal.new-weigh-requires-clause-weights
 new-weigh-requires-clause-weights g c = are_twice_first
