@@ -11,12 +11,12 @@ use Rattle.shell_words.specs.declared.words.Command.{Command}
 use Rattle.shell_words.specs.declared.words.Command.TheVariants as code
 use Rattle.shell_words.specs.declared.words.WordsFault.{WordsFault}
 use Rattle.shell_words.specs.declared.words.WordsFault.TheVariants as word_faults
-use Rattle.shell_commands.specs.Over.{Over, over, IsUntouched}
+use Rattle.receiver_commands.specs.Over.{Over, over, IsUntouched}
 use Rattle.shell_commands.specs.Promises.{Promises, Keeps, WithoutInput}
-use Rattle.shell_commands.specs.Refusing.{Declines}
-use Rattle.shell_commands.specs.Statuses.{words_status}
-use Rattle.shell_commands.specs.declared.status.Status.{Status}
-use Rattle.shell_commands.specs.declared.status.Status.TheVariants as status
+use Rattle.receiver_commands.specs.Refusing.{Declines}
+use Rattle.receiver_commands.specs.Statuses.{words_status}
+use Rattle.receiver_commands.specs.declared.status.Status.{Status}
+use Rattle.receiver_commands.specs.declared.status.Status.TheVariants as status
 use Rattle.shell_commands.proofs.CallerLemmas.{done_nothing, fault_keeps, takes_nothing, sink_as}
 use Rattle.carousel_shell.specs.Session.{Plays}
 use Rattle.carousel_shell.specs.Big.{PlaysBig}

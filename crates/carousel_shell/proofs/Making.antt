@@ -7,10 +7,10 @@ use Rattle.session_script.specs.Generated.{generated_script}
 use Rattle.shell_streams.specs.Sending.{OutputState, Puts}
 use Rattle.shell_streams.specs.declared.output.OutputFault.{OutputFault}
 use Rattle.shell_streams.specs.declared.output.OutputFault.TheVariants as outputs
-use Rattle.shell_commands.specs.Over.{sink_over}
-use Rattle.shell_commands.specs.Statuses.{output_status}
-use Rattle.shell_commands.specs.declared.status.Status.TheVariants as status
-use Rattle.shell_commands.proofs.CallerLemmas.{writes_all, writes_prefix}
+use Rattle.receiver_commands.specs.Over.{sink_over}
+use Rattle.receiver_commands.specs.Statuses.{output_status}
+use Rattle.receiver_commands.specs.declared.status.Status.TheVariants as status
+use Rattle.receiver_commands.proofs.CallerLemmas.{writes_all, writes_prefix}
 use Rattle.carousel_shell.specs.Big.{big_line, PlaysBig}
 
 -- the session was played, and its line was put

@@ -20,11 +20,11 @@ use Rattle.shell_streams.specs.declared.input.InputFault.TheVariants as inputs
 use Rattle.shell_streams.specs.declared.output.OutputFault.{OutputFault}
 use Rattle.shell_streams.specs.declared.output.OutputFault.TheVariants as outputs
 use Rattle.shell_streams.proofs.CallerLemmas.{told_weaker, all_rear}
-use Rattle.shell_commands.specs.Over.{Over, sink_over, Failed, IsUntouched}
+use Rattle.receiver_commands.specs.Over.{Over, sink_over, Failed, IsUntouched}
 use Rattle.shell_commands.specs.Rehearse.{ReadsAll, ReadsScript}
-use Rattle.shell_commands.specs.Statuses.{input_status, output_status, script_status}
-use Rattle.shell_commands.specs.declared.status.Status.TheVariants as status
-use Rattle.shell_commands.proofs.CallerLemmas.{goes_on, writes_all, writes_prefix}
+use Rattle.receiver_commands.specs.Statuses.{input_status, output_status, script_status}
+use Rattle.receiver_commands.specs.declared.status.Status.TheVariants as status
+use Rattle.receiver_commands.proofs.CallerLemmas.{goes_on, writes_all, writes_prefix}
 use Rattle.carousel_shell.specs.Session.{EndsSession, Plays, report_of_known}
 
 -- the report of what was told is that of its view

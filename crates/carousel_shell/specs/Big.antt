@@ -12,10 +12,10 @@ use Rattle.history_merge.specs.Merged.{is_open_by}
 use Rattle.session.specs.Sessions.{IsSession, accepted_in}
 use Rattle.session_script.specs.Generated.{generated_script}
 use Rattle.shell_streams.specs.Cuts.{Bytes}
-use Rattle.shell_commands.specs.Over.{Over, IsUntouched, WritesAll, WritesPrefix}
-use Rattle.shell_commands.specs.Ends.{EndsWriting}
-use Rattle.shell_commands.specs.declared.status.Status.{Status}
-use Rattle.shell_commands.specs.declared.status.Status.TheVariants as status
+use Rattle.receiver_commands.specs.Over.{Over, IsUntouched, WritesAll, WritesPrefix}
+use Rattle.receiver_commands.specs.Ends.{EndsWriting}
+use Rattle.receiver_commands.specs.declared.status.Status.{Status}
+use Rattle.receiver_commands.specs.declared.status.Status.TheVariants as status
 
 -- ---- the counts
 

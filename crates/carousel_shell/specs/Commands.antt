@@ -6,10 +6,10 @@ use Rattle.folder_store.specs.Folders.{FolderTree}
 use Rattle.folder_playout.specs.Notices.{Notice}
 use Rattle.shell_words.specs.Words as commands
 use Rattle.shell_streams.specs.Cuts.{Bytes}
-use Rattle.shell_commands.specs.Over.{Over}
+use Rattle.receiver_commands.specs.Over.{Over}
 use Rattle.shell_commands.specs.Promises.{Keeps, WithoutInput}
-use Rattle.shell_commands.specs.Refusing.{Declines}
-use Rattle.shell_commands.specs.declared.status.Status.{Status}
+use Rattle.receiver_commands.specs.Refusing.{Declines}
+use Rattle.receiver_commands.specs.declared.status.Status.{Status}
 use Rattle.carousel_shell.specs.Session.{Plays}
 use Rattle.carousel_shell.specs.Big.{PlaysBig}
 

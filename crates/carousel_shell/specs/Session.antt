@@ -7,9 +7,9 @@ use Rattle.carousel_world.specs.declared.event.Reply.{Reply}
 use Rattle.rehearsal.specs.Reports.{report}
 use Rattle.session.specs.Sessions.{IsSession}
 use Rattle.shell_streams.specs.Cuts.{Bytes}
-use Rattle.shell_commands.specs.Over.{Over, TakesPrefix, WritesAll, WritesPrefix}
+use Rattle.receiver_commands.specs.Over.{Over, TakesPrefix, WritesAll, WritesPrefix}
 use Rattle.shell_commands.specs.Rehearse.{ReadsScript, EndsScript}
-use Rattle.shell_commands.specs.declared.status.Status.{Status}
+use Rattle.receiver_commands.specs.declared.status.Status.{Status}
 
 -- the report of events, each with its reply
 abbrev pub report_of_known : List (Step × Reply) → Bytes

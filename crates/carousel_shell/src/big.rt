@@ -1,6 +1,6 @@
 ghost use Rattle.std.specs.Prelude.{◌≡◌, ◌≤◌, [], OnOk};
 ghost use Rattle.shell_streams.specs.Sending.{IsInTime, Puts};
-ghost use Rattle.shell_commands.specs.Over.{sink_over};
+ghost use Rattle.receiver_commands.specs.Over.{sink_over};
 ghost use Rattle.carousel_shell.specs.Big.{PlaysBig};
 
 use crate::counts::big_line;

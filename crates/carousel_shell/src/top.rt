@@ -7,7 +7,7 @@ ghost use Rattle.watch_desk.specs.Prefixes.{prefixes_of};
 ghost use Rattle.shell_streams.specs.Sending.{IsInTime};
 ghost use Rattle.shell_commands.specs.Laws.{Receptions};
 ghost use Rattle.shell_commands.specs.Limits.{Limits};
-ghost use Rattle.shell_commands.specs.Over.{over, sink_over};
+ghost use Rattle.receiver_commands.specs.Over.{over, sink_over};
 ghost use Rattle.shell_commands.specs.Promises.{gives_notices, writes_store};
 ghost use Rattle.carousel_shell.specs.Commands.{KeepsAll, KeepsSession, PromisesSession};
 

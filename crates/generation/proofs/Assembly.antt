@@ -1,10 +1,13 @@
 -- The layouts of a list of trees are lawful.
-use Rattle.std.proofs.Common.{◌≡◌, ◌≢◌, ℕ, zero, suc, ◌+◌, ◌<◌, ◌≤◌, Bool, true, false, List, [], ◌∷◌, length, map, Option, Some, None, cond, refl, sym, ◌∙◌, ap, subst, arith, get_or, length-append, nat_le, lit<, lit≤}
+use Rattle.std.proofs.Common.{◌≡◌, ◌≢◌, ℕ, zero, suc, ◌+◌, ◌<◌, ◌≤◌, Bool, true, false, List, [], ◌∷◌, length, map, Option, Some, None, cond, refl, sym, ◌∙◌, ap, subst, arith, get_or, length-append, nat_le, lit<, lit≤, inl, inr}
 use Rattle.std.specs.List.{All, list_any, range_with_len, filter, filter_map, flat_map, sum_by}
 use Rattle.std.proofs.lemmas.Bool.Decides.{nat_tests}
 use Rattle.std.proofs.lemmas.List.Elements.{All-cons}
 use Rattle.std.proofs.lemmas.Option.{same_Some}
 use Rattle.std.proofs.lemmas.List.Sums.{sum_by-cons}
+use Rattle.std.proofs.lemmas.Bool.{cond_both, cases_Bool}
+use Rattle.generation.proofs.Naming.{carries}
+use Rattle.generation.proofs.Numbering.{all_unmap}
 use Rattle.oc_bytes.specs.Numbers.{IsBytes}
 use Rattle.path_tree.specs.Paths.{Bytes}
 use Rattle.path_tree.specs.Trees.{Tree, IsTree}
@@ -16,12 +19,10 @@ use Rattle.generation.specs.Publication.{gateway_spot}
 use Rattle.generation.specs.Layouts.{GenerationState, Placed, object_bytes, is_in, module_bytes, module_if_used, layout_of, greatest, first_of, next_of, gateway_before}
 use Rattle.generation.specs.Lawful.{IsLayout, Carries, IsPublishable, layout_at, tree_at}
 use Rattle.generation.specs.Kept.{states_from, layouts_of, LayoutsAreLawful}
-use Rattle.generation.proofs.Placing.{total_length, greatest_most, all_unmap}
-use Rattle.generation.proofs.Lists.{ids_from, state_at, state_tree, state_layout, length_states}
+use Rattle.generation.proofs.Placing.{total_length, greatest_most, rising, each_listed}
+use Rattle.generation.proofs.Lists.{state_at, state_tree, state_layout, length_states}
 use Rattle.generation.proofs.Carrying.{module_found}
-use Rattle.generation.proofs.Inside.{carries}
-use Rattle.generation.proofs.Soundness.{Made, Before, made_of}
-use Rattle.generation.proofs.Filling.{Filled, rising, each_listed, module_size}
+use Rattle.generation.proofs.Filling.{Filled, module_size, Made, Before, made_of}
 use Rattle.generation.proofs.Octets.{IsByteSpot, module_octets, tree_octets}
 
 -- ---- sizes
@@ -34,10 +35,10 @@ high f a (o ∷ os) = cond (nat_le a o.module_id) (f o) 0 + high f a os
 high_all : (f : Placed → ℕ) (a : ℕ) (os : List Placed) → high f a os ≤ sum_by f os
 unfolding high
 high_all f a [] = omega arith
-high_all f a (o ∷ os) = go (nat_le a o.module_id) (high_all f a os) (sum_by-cons f o os) where
-  go : (t : Bool) → high f a os ≤ sum_by f os → sum_by f (o ∷ os) ≡ f o + sum_by f os → cond t (f o) 0 + high f a os ≤ sum_by f (o ∷ os)
-  go true h more = omega (arith, h, more)
-  go false h more = omega (arith, h, more)
+high_all f a (o ∷ os) =
+    let h = high_all f a os in
+    let more = sum_by-cons f o os in
+    cond_both {A = ℕ} (nat_le a o.module_id) (f o) 0 (λ n. n + high f a os ≤ sum_by f (o ∷ os)) (λ _. omega (arith, h, more)) (λ _. omega (arith, h, more))
 
 piece_high : (g : Placed → Bytes) (a : ℕ) (os : List Placed) → length (flat_map g (filter (is_in a) os)) + high (λ o. length (g o)) (a + 1) os ≡ high (λ o. length (g o)) a os
 unfolding high
@@ -58,12 +59,13 @@ piece_high g a (o ∷ os) = go (is_in a o) (nat_le (a + 1) o.module_id) (nat_le 
 
 total_high : (c : ℕ) (objects : List Placed) (a n : ℕ) → sum_by (λ m. length m.1) (filter_map (module_if_used c objects) (range_with_len a n)) ≤ high (λ o. length (object_bytes c objects o)) a objects
 total_high c objects a zero = omega arith
-total_high c objects a (suc n) = go (list_any (is_in a) objects) refl (total_high c objects (a + 1) n) (piece_high (object_bytes c objects) a objects) where
-  go : (t : Bool) → list_any (is_in a) objects ≡ t → sum_by (λ m. length m.1) (filter_map (module_if_used c objects) (range_with_len (a + 1) n)) ≤ high (λ o. length (object_bytes c objects o)) (a + 1) objects
-      → length (flat_map (object_bytes c objects) (filter (is_in a) objects)) + high (λ o. length (object_bytes c objects o)) (a + 1) objects ≡ high (λ o. length (object_bytes c objects o)) a objects
-      → sum_by (λ m. length m.1) (filter_map (module_if_used c objects) (range_with_len a (suc n))) ≤ high (λ o. length (object_bytes c objects o)) a objects
-  go true e h piece = rw e (omega (arith, h, piece, sum_by-cons (λ m. length m.1) (a, module_bytes c objects a) (filter_map (module_if_used c objects) (range_with_len (a + 1) n))))
-  go false e h piece = rw e (omega (arith, h, piece))
+total_high c objects a (suc n) =
+    let h = total_high c objects (a + 1) n in
+    let piece = piece_high (object_bytes c objects) a objects in
+    elim (cases_Bool (list_any (is_in a) objects)) [
+      | inl e ↦ rw e (omega (arith, h, piece, sum_by-cons (λ m. length m.1) (a, module_bytes c objects a) (filter_map (module_if_used c objects) (range_with_len (a + 1) n))))
+      | inr e ↦ rw e (omega (arith, h, piece))
+    ]
 
 -- ---- one generation's layout
 
@@ -89,13 +91,13 @@ fine c t objects made =
     record {
       form = record {
         rising = rising c objects 1 top;
-        from_one = ids_from c objects 1 top;
-        ids = each_listed (λ m. m.0 ≤ GREATEST_ID) c objects 1 top (λ m lt used. omega (arith, lt, most));
-        bytes = each_listed (λ m. IsBytes m.1) c objects 1 top (λ m lt used. module_octets c objects octets m);
+        from_one = each_listed (λ m. 1 ≤ m.0) c objects 1 top (λ m low lt used. low);
+        ids = each_listed (λ m. m.0 ≤ GREATEST_ID) c objects 1 top (λ m low lt used. omega (arith, lt, most));
+        bytes = each_listed (λ m. IsBytes m.1) c objects 1 top (λ m low lt used. module_octets c objects octets m);
         first = there (module_in (layout_of c objects) 1) (module_bytes c objects sound.gateway.module_id) (ap (module_in (layout_of c objects)) (sym sound.is_gateway.2) ∙ gateway);
       };
       total = omega (arith, total_high c objects 1 top, high_all (λ o. length (object_bytes c objects o)) 1 objects, sum);
-      sizes = each_listed (λ m. length m.1 ≤ 16842752) c objects 1 top (λ m lt used. module_size c t objects (filled_of c t objects made) m);
+      sizes = each_listed (λ m. length m.1 ≤ 16842752) c objects 1 top (λ m low lt used. module_size c t objects (filled_of c t objects made) m);
     } where
       there : (o : Option Bytes) (b : Bytes) → o ≡ Some b → o ≢ None
       there o b e = λ f. cc

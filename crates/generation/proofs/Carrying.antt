@@ -1,9 +1,12 @@
 -- The modules carry the tree.
-use Rattle.std.proofs.Common.{◌≡◌, ℕ, zero, suc, ◌+◌, ◌<◌, ◌≤◌, Bool, true, false, ◌||◌, ◌==◌, List, [], ◌∷◌, ◌++◌, length, map, take, drop, Option, Some, None, cond, refl, sym, ◌∙◌, ap, subst, arith, append_assoc, length-append, ◌⊎◌, inl, inr, max}
+use Rattle.std.proofs.Common.{◌≡◌, ℕ, zero, suc, ◌+◌, ◌<◌, ◌≤◌, Bool, true, false, ◌==◌, List, [], ◌∷◌, ◌++◌, length, map, take, drop, Option, Some, None, cond, refl, sym, ◌∙◌, ap, subst, arith, append_assoc, length-append, ◌⊎◌, inl, inr, max}
 use Rattle.std.specs.List.{All, list_any, range_with_len, filter, filter_map, flat_map, find, fold}
 use Rattle.std.specs.Option.{option_map}
-use Rattle.std.proofs.lemmas.Bool.Decides.{nat_tests}
-use Rattle.std.proofs.lemmas.List.Elements.{All-cons, All-map}
+use Rattle.std.proofs.lemmas.List.Elements.{All-cons, All-map, All-filter}
+use Rattle.std.proofs.lemmas.Bool.{or_parts, or_right, eq-eqb, cond_both, cases_eq, cases_Bool, ne_eqb}
+use Rattle.std.proofs.lemmas.List.{drop-drop, drop_at, take_at}
+use Rattle.generation.proofs.Numbering.{option_cases}
+use Rattle.generation.proofs.Placing.{fold_least}
 use Rattle.path_tree.specs.Paths.{Bytes, same_name}
 use Rattle.path_tree.specs.Trees.{Tree, IsTree}
 use Rattle.biop_object.specs.Names.{module_in, Thing, AFile, AFolder, thing_at, thing_in, thing_of, first_of_key}
@@ -30,41 +33,26 @@ spelled c objects o = go o.spot.content where
   go None = SpelledFolder (folder_kind_of o.spot.path) (key_bytes o.key) (entries_of c objects o.spot.number)
 
 spelled_is : (c : ℕ) (objects : List Placed) (o : Placed) → spelled_bytes (spelled c objects o) ≡ object_bytes c objects o
-spelled_is c objects o = go o.spot.content refl where
-  go : (b : Option Bytes) → o.spot.content ≡ b → spelled_bytes (spelled c objects o) ≡ object_bytes c objects o
-  go (Some b) e = rw e refl
-  go None e = rw e refl
+spelled_is c objects o = elim (option_cases o.spot.content) [ inl h ↦ rw h.1 refl | inr h ↦ rw h refl ]
 
 spelled_all : (c : ℕ) (objects os : List Placed) → flat_map spelled_bytes (map (spelled c objects) os) ≡ flat_map (object_bytes c objects) os
 spelled_all c objects [] = refl
 spelled_all c objects (o ∷ os) = ap (λ b. b ++ flat_map spelled_bytes (map (spelled c objects) os)) (spelled_is c objects o) ∙ ap (λ r. object_bytes c objects o ++ r) (spelled_all c objects os)
 
-take_front : (b rest : List ℕ) → take (length b) (b ++ rest) ≡ b
-take_front [] rest = refl
-take_front (x ∷ xs) rest = ap (λ ys. x ∷ ys) (take_front xs rest)
-
-drop_front : (before rest : List ℕ) (n : ℕ) → drop (length before + n) (before ++ rest) ≡ drop n rest
-drop_front [] rest n = ap (λ k. drop k rest) (omega arith)
-drop_front (x ∷ xs) rest n = let e : suc (length xs) + n ≡ suc (length xs + n) = omega arith in ap (λ k. drop k (x ∷ xs ++ rest)) e ∙ drop_front xs rest n
-
 -- a file's content stands 44 bytes after the front of its object
 file_content : (before rest : List ℕ) (k : ℕ) (b : Bytes) → take (length b) (drop (length before + 44) (before ++ (file_spelling (key_bytes k) b ++ rest))) ≡ b
-file_content before rest k b = ap (λ d. take (length b) d) (drop_front before (file_spelling (key_bytes k) b ++ rest) 44) ∙ take_front b rest
+file_content before rest k b =
+    ap (take (length b)) (sym (drop-drop 44 (length before) (before ++ (file_spelling (key_bytes k) b ++ rest))) ∙ ap (drop 44) (drop_at before (file_spelling (key_bytes k) b ++ rest) (length before) refl))
+    ∙ take_at b rest (length b) refl
 
 abbrev pub AreSmall : List Placed → Type 0
 AreSmall os = All (λ o. o.key < 8194) os
 
 spelled_key : (c : ℕ) (objects : List Placed) (o : Placed) (at : ℕ) → (spelled_object at (spelled c objects o)).key ≡ key_bytes o.key
-spelled_key c objects o at = go o.spot.content refl where
-  go : (b : Option Bytes) → o.spot.content ≡ b → (spelled_object at (spelled c objects o)).key ≡ key_bytes o.key
-  go (Some b) e = rw e refl
-  go None e = rw e refl
+spelled_key c objects o at = elim (option_cases o.spot.content) [ inl h ↦ rw h.1 refl | inr h ↦ rw h refl ]
 
 spelled_thing : (c : ℕ) (objects : List Placed) (o : Placed) (before rest : Bytes) → thing_of (before ++ (object_bytes c objects o ++ rest)) (spelled_object (length before) (spelled c objects o)).shape ≡ seen c objects o
-spelled_thing c objects o before rest = go o.spot.content refl where
-  go : (b : Option Bytes) → o.spot.content ≡ b → thing_of (before ++ (object_bytes c objects o ++ rest)) (spelled_object (length before) (spelled c objects o)).shape ≡ seen c objects o
-  go (Some b) e = rw e (ap AFile (file_content before rest o.key b))
-  go None e = rw e refl
+spelled_thing c objects o before rest = elim (option_cases o.spot.content) [ inl h ↦ rw h.1 (ap AFile (file_content before rest o.key h.0)) | inr h ↦ rw h refl ]
 
 first_step : (bytes key : Bytes) (x : Object) (xs : List Object) (t : Bool) → same_name key x.key ≡ t → first_of_key bytes key (x ∷ xs) ≡ cond t (Some (thing_of bytes x.shape)) (first_of_key bytes key xs)
 first_step bytes key x xs t e = rw e refl
@@ -116,69 +104,46 @@ pub all_in : (P : Placed → Type 0) (xs : List Placed) → ((o : Placed) → In
 all_in P [] h = λ k d lt. absurd (omega (arith, lt))
 all_in P (x ∷ xs) h = All-cons P x xs (h x (inl refl)) (all_in P xs (λ o has. h o (inr has)))
 
-or_parts : (a b : Bool) → (a || b) ≡ false → (a ≡ false) × (b ≡ false)
-or_parts true b e = cc
-or_parts false b e = (refl, e)
-
 other_key : (xs : List Placed) (o : Placed) (k : ℕ) → list_any (λ j. j == k) (map (λ x. x.key) xs) ≡ false → In o xs → (o.key == k) ≡ false
 other_key [] o k none has = absurd has
 other_key (x ∷ xs) o k none (inl is) = subst (λ z. (z.key == k) ≡ false) is (or_parts (x.key == k) _ none).0
 other_key (x ∷ xs) o k none (inr has) = other_key xs o k (or_parts (x.key == k) _ none).1 has
 
-same_number : (n : ℕ) → (n == n) ≡ true
-same_number n = grind (arith, nat_tests)
-
 find_filter_skip : (p t : Placed → Bool) (x : Placed) (xs : List Placed) → p x ≡ false → find p (filter t (x ∷ xs)) ≡ find p (filter t xs)
-find_filter_skip p t x xs e = go (t x) where
-  go : (b : Bool) → find p (cond b (x ∷ filter t xs) (filter t xs)) ≡ find p (filter t xs)
-  go true = find_step p x (filter t xs) false e
-  go false = refl
+find_filter_skip p t x xs e = cond_both (t x) (x ∷ filter t xs) (filter t xs) (λ l. find p l ≡ find p (filter t xs)) (λ _. find_step p x (filter t xs) false e) (λ _. refl)
 
 -- the object of its key in its module
 key_found : (xs : List Placed) (o : Placed) → Distinct (map (λ x. x.key) xs) → In o xs → find (λ q. o.key == q.key) (filter (is_in o.module_id) xs) ≡ Some o
 key_found [] o d has = absurd has
 key_found (x ∷ xs) o d (inl is) = subst (λ z. find (λ q. z.key == q.key) (filter (is_in z.module_id) (x ∷ xs)) ≡ Some z) is here where
   here : find (λ q. x.key == q.key) (filter (is_in x.module_id) (x ∷ xs)) ≡ Some x
-  here = rw (same_number x.module_id) (find_step (λ q. x.key == q.key) x (filter (is_in x.module_id) xs) true (same_number x.key))
+  here = rw (eq-eqb x.module_id x.module_id refl) (find_step (λ q. x.key == q.key) x (filter (is_in x.module_id) xs) true (eq-eqb x.key x.key refl))
 key_found (x ∷ xs) o d (inr has) = find_filter_skip (λ q. o.key == q.key) (is_in o.module_id) x xs (other_key xs o x.key d.0 has) ∙ key_found xs o d.1 has
 
 used : (xs : List Placed) (o : Placed) → In o xs → list_any (is_in o.module_id) xs ≡ true
 used [] o has = absurd has
-used (x ∷ xs) o (inl is) = subst (λ z. list_any (is_in z.module_id) (x ∷ xs) ≡ true) is (rw (same_number x.module_id) refl)
-used (x ∷ xs) o (inr has) = or_right (is_in o.module_id x) (list_any (is_in o.module_id) xs) (used xs o has) where
-  or_right : (a b : Bool) → b ≡ true → (a || b) ≡ true
-  or_right true b h = refl
-  or_right false b h = h
+used (x ∷ xs) o (inl is) = subst (λ z. list_any (is_in z.module_id) (x ∷ xs) ≡ true) is (rw (eq-eqb x.module_id x.module_id refl) refl)
+used (x ∷ xs) o (inr has) = or_right (is_in o.module_id x) (list_any (is_in o.module_id) xs) (used xs o has)
 
 -- ---- modules
 
 pub in_range : (c : ℕ) (objects : List Placed) (a n m : ℕ) → a ≤ m → m < a + n → list_any (is_in m) objects ≡ true
     → module_in (filter_map (module_if_used c objects) (range_with_len a n)) m ≡ Some (module_bytes c objects m)
 in_range c objects a zero m low high has = absurd (omega (arith, low, high))
-in_range c objects a (suc n) m low high has = go (a == m) refl (λ l. in_range c objects (a + 1) n m l (omega (arith, high)) has) where
-  go : (t : Bool) → (a == m) ≡ t → (a + 1 ≤ m → module_in (filter_map (module_if_used c objects) (range_with_len (a + 1) n)) m ≡ Some (module_bytes c objects m))
-      → module_in (filter_map (module_if_used c objects) (range_with_len a (suc n))) m ≡ Some (module_bytes c objects m)
-  go true e rest =
-      let is : a ≡ m = grind (arith, nat_tests, e) in
+in_range c objects a (suc n) m low high has = elim (cases_eq a m) [
+  | inl is ↦
       let here : list_any (is_in a) objects ≡ true = subst (λ z. list_any (is_in z) objects ≡ true) (sym is) has in
-      rw (here, e) (ap (λ z. Some (module_bytes c objects z)) is)
-  go false e rest = step (list_any (is_in a) objects) refl where
-    above : a + 1 ≤ m
-    above = grind (arith, nat_tests, e, low)
-
-    step : (b : Bool) → list_any (is_in a) objects ≡ b → module_in (filter_map (module_if_used c objects) (range_with_len a (suc n))) m ≡ Some (module_bytes c objects m)
-    step true h = rw (h, e) (rest above)
-    step false h = rw h (rest above)
+      rw (here, eq-eqb a m is) (ap (λ z. Some (module_bytes c objects z)) is)
+  | inr ne ↦
+      let rest = in_range c objects (a + 1) n m (omega (arith, low, ne)) (omega (arith, high)) has in
+      elim (cases_Bool (list_any (is_in a) objects)) [ inl h ↦ rw (h, ne_eqb a m ne) rest | inr h ↦ rw h rest ]
+]
 
 below_greatest : (os : List Placed) (o : Placed) → In o os → o.module_id ≤ greatest (map (λ x. x.module_id) os)
 below_greatest os o has = go os 0 o has where
-  from : (ms : List ℕ) (a : ℕ) → a ≤ fold max a ms
-  from [] a = omega arith
-  from (m ∷ ms) a = omega (arith, from ms (max a m))
-
   go : (os : List Placed) (a : ℕ) (o : Placed) → In o os → o.module_id ≤ fold max a (map (λ x. x.module_id) os)
   go [] a o has = absurd has
-  go (x ∷ xs) a o (inl is) = subst (λ z. z.module_id ≤ fold max (max a x.module_id) (map (λ y. y.module_id) xs)) is (omega (arith, from (map (λ y. y.module_id) xs) (max a x.module_id)))
+  go (x ∷ xs) a o (inl is) = subst (λ z. z.module_id ≤ fold max (max a x.module_id) (map (λ y. y.module_id) xs)) is (omega (arith, fold_least (map (λ y. y.module_id) xs) (max a x.module_id)))
   go (x ∷ xs) a o (inr has) = go xs (max a x.module_id) o has
 
 pub module_found : (c : ℕ) (objects : List Placed) (o : Placed) → In o objects → 1 ≤ o.module_id → module_in (layout_of c objects) o.module_id ≡ Some (module_bytes c objects o.module_id)
@@ -199,18 +164,11 @@ pub record Sound (c : ℕ) (t : Tree) (objects : List Placed) : Type 0 where
   pub has_gateway : In gateway objects
   pub is_gateway : (gateway.spot ≡ gateway_spot) × (gateway.key ≡ 1) × (gateway.module_id ≡ 1)
 
-pub filter_all : {A : Type 0} (P : A → Type 0) (t : A → Bool) (xs : List A) → All P xs → All P (filter t xs)
-filter_all P t [] all = λ i d lt. absurd (omega (arith, lt))
-filter_all P t (x ∷ xs) all = go (t x) (all 0 x (omega arith)) (filter_all P t xs (λ i d lt. all (suc i) d (omega (arith, lt)))) where
-  go : (b : Bool) → P x → All P (filter t xs) → All P (cond b (x ∷ filter t xs) (filter t xs))
-  go true here rest = All-cons P x (filter t xs) here rest
-  go false here rest = rest
-
 pub module_index : SpellingsReadBack → (c : ℕ) (t : Tree) (objects : List Placed) → Sound c t objects → (m : ℕ)
     → index_of (module_bytes c objects m) ≡ (spelled_objects 0 (map (spelled c objects) (filter (is_in m) objects)), None)
 module_index law c t objects sound m =
     ap index_of (sym (spelled_all c objects (filter (is_in m) objects)))
-    ∙ law (map (spelled c objects) (filter (is_in m) objects)) (All-map IsSpellable (spelled c objects) (filter (is_in m) objects) (filter_all (λ o. IsSpellable (spelled c objects o)) (is_in m) objects sound.spellable))
+    ∙ law (map (spelled c objects) (filter (is_in m) objects)) (All-map IsSpellable (spelled c objects) (filter (is_in m) objects) (All-filter (is_in m) (λ o. IsSpellable (spelled c objects o)) objects sound.spellable))
 
 -- a location leads to its object
 pub thing_found : SpellingsReadBack → (c : ℕ) (t : Tree) (objects : List Placed) → Sound c t objects → (o : Placed) → In o objects
@@ -221,5 +179,5 @@ thing_found law c t objects sound o has =
     let key = in_all (λ q. q.key < 8194) objects o sound.small has in
     ap (λ b. thing_in b (key_bytes o.key)) (module_found c objects o has (in_all (λ q. (1 ≤ q.module_id) × (q.module_id ≤ GREATEST_ID)) objects o sound.modules has).0)
     ∙ (ap (λ i. first_of_key bytes (key_bytes o.key) i.0) (module_index law c t objects sound m)
-    ∙ (first_found c objects (filter (is_in m) objects) [] o.key key (filter_all (λ q. q.key < 8194) (is_in m) objects sound.small)
+    ∙ (first_found c objects (filter (is_in m) objects) [] o.key key (All-filter (is_in m) (λ q. q.key < 8194) objects sound.small)
     ∙ ap (option_map (seen c objects)) (key_found objects o sound.keys has)))

@@ -1,7 +1,7 @@
 -- How often each module has changed, by id.
 use Rattle.std.proofs.Common.{◌≡◌, ℕ, zero, suc, ◌+◌, ◌<◌, ◌≤◌, ◌==◌, max, not, ◌&&◌, ltb, Bool, true, false, cond, List, [], ◌∷◌, length, take, map, get_or, set, Some, None, refl, sym, ◌∙◌, ap, subst, arith, lit<}
 use Rattle.std.specs.List.{All, count_by, fold, range_with_len}
-use Rattle.std.proofs.lemmas.Bool.{eq-eqb, ne_eqb, eqb-true, ltb-true, ltb-false}
+use Rattle.std.proofs.lemmas.Bool.{eq-eqb, ne_eqb, eqb-true, ltb-true, ltb-false, and_right}
 use Rattle.std.proofs.lemmas.List.{get_or_default, get_or_past, get_or-set_same, get_or-set_other, length-set}
 use Rattle.std.proofs.lemmas.List.Elements.{All-head, All-tail, All-map}
 use Rattle.std.proofs.lemmas.List.FromFn.{length-map-range_with_len, get_or-map-range_with_len, fill_by_all}
@@ -20,11 +20,6 @@ use Rattle.generation.proofs.Writing.{small_count}
 counted_up : (layout : Layout) (end : ℕ) → end ≤ fold (λ end m. max end (m.0 + 1)) end layout
 counted_up [] end = omega arith
 counted_up (m ∷ ms) end = let up = counted_up ms (max end (m.0 + 1)) in omega (arith, up)
-
-listed_counted : (layout : Layout) (end k : ℕ) (d : ℕ × Bytes) → k < length layout → (get_or layout k d).0 < fold (λ end m. max end (m.0 + 1)) end layout
-listed_counted [] end k d lt = absurd (omega (arith, lt))
-listed_counted (m ∷ ms) end zero d lt = let up = counted_up ms (max end (m.0 + 1)) in omega (arith, up)
-listed_counted (m ∷ ms) end (suc k) d lt = listed_counted ms (max end (m.0 + 1)) k d (omega (arith, lt))
 
 -- a listed module's id is counted
 pub id_counted : (ms : List Listed) (end k : ℕ) (d : Listed) → k < length ms → (get_or ms k d).id < fold (λ end m. max end (m.0 + 1)) end (map view_listed ms)
@@ -150,12 +145,9 @@ pub one_stays : (counts : List ℕ) (ms : List Listed) (k : ℕ) (after : List �
 one_stays counts ms k after d inside stays so_far = record {
   many = so_far.many;
   each = λ m.
-      let no : is_raised m (get_or ms k d) ≡ false = ap (λ b. ((get_or ms k d).id == m) && not b) stays ∙ and_false ((get_or ms k d).id == m) in
+      let no : is_raised m (get_or ms k d) ≡ false = ap (λ b. ((get_or ms k d).id == m) && not b) stays ∙ and_right ((get_or ms k d).id == m) false refl in
       so_far.each m ∙ ap (λ n. get_or counts m 0 + n) (sym (count_by_more_no (is_raised m) ms k d inside no));
-} where
-  and_false : (b : Bool) → (b && false) ≡ false
-  and_false true = refl
-  and_false false = refl
+}
 
 pub one_rises : (counts : List ℕ) (ms : List Listed) (k : ℕ) (after : List ℕ) (d : Listed) → k < length ms → (get_or ms k d).stays ≡ false → AreRaised counts ms k after
     → AreRaised counts ms (k + 1) (set after (get_or ms k d).id (get_or after (get_or ms k d).id 0 + 1))

@@ -1,10 +1,10 @@
 -- Which DII lists which module, and how many one lists.
-use Rattle.std.proofs.Common.{◌≡◌, ℕ, zero, suc, ◌+◌, ◌-◌, ◌*◌, ◌<◌, ◌≤◌, inl, inr, Bool, true, false, cond, ◌==◌, eqb, List, [], ◌∷◌, ◌++◌, length, get_or, Some, refl, ◌∙◌, ap, subst, arith}
-use Rattle.std.specs.List.{All, AllPairs, Contains, filter, flat_map}
-use Rattle.std.proofs.lemmas.Bool.{eqb-true}
+use Rattle.std.proofs.Common.{◌≡◌, ℕ, zero, suc, ◌+◌, ◌-◌, ◌*◌, ◌<◌, ◌≤◌, inl, inr, ◌==◌, List, [], ◌∷◌, ◌++◌, length, get_or, Some, ◌∙◌, ap, subst, arith}
+use Rattle.std.specs.List.{All, AllPairs, Contains, flat_map}
+use Rattle.std.proofs.lemmas.Bool.{eqb-true, cases_Bool}
 use Rattle.std.proofs.lemmas.Option.{same_Some}
-use Rattle.std.proofs.lemmas.List.{get_or-map}
-use Rattle.std.proofs.lemmas.List.Elements.{All-head, All-tail, All-cons, All-nil, All-append, All-filter}
+use Rattle.std.proofs.lemmas.List.{get_or-map, length-map}
+use Rattle.std.proofs.lemmas.List.Elements.{All-head, All-tail, All-cons, All-append, All-filter, filter_passes}
 use Rattle.std.proofs.lemmas.List.Kept.{AllPairs-filter}
 use Rattle.path_tree.specs.Paths.{Bytes}
 use Rattle.ddb_block.specs.Blocks.{block_count_of}
@@ -17,7 +17,6 @@ use Rattle.cycle_planner.specs.Places.{IsListed}
 use Rattle.cycle_planner.specs.declared.Item.{Item}
 use Rattle.cycle_planner.specs.declared.Item.TheVariants.{Dsi, Dii}
 use Rattle.cycle_planner.proofs.CallerLemmas.{all_diis, all_blocks_of}
-use Rattle.generation.proofs.Limiting.{len_map}
 use Rattle.generation.specs.Groups.{group_of, is_in_group, group_in}
 use Rattle.generation.specs.Layouts.{GenerationState, lines_in, lines_of, items_of}
 use Rattle.generation.specs.Lawful.{layout_at, HasDii}
@@ -36,11 +35,7 @@ rising_few (m ∷ ms) a u le rising low high =
     omega (arith, rest, here)
 
 pub all_of_group : (j : ℕ) (ms : Layout) → All (λ m. group_of m.0 ≡ j) (group_in ms j)
-all_of_group j [] = All-nil (λ m. group_of m.0 ≡ j)
-all_of_group j (m ∷ ms) = go (eqb (group_of m.0) j) refl (all_of_group j ms) where
-  go : (t : Bool) → eqb (group_of m.0) j ≡ t → All (λ m. group_of m.0 ≡ j) (filter (is_in_group j) ms) → All (λ m. group_of m.0 ≡ j) (cond t (m ∷ filter (is_in_group j) ms) (filter (is_in_group j) ms))
-  go true e rest = All-cons (λ m. group_of m.0 ≡ j) m (filter (is_in_group j) ms) (eqb-true _ _ e) rest
-  go false e rest = rest
+all_of_group j ms = λ k d lt. eqb-true _ j (filter_passes (is_in_group j) ms k d lt)
 
 pub few_of_group : (ms : Layout) (j : ℕ) → IsRising ms → 1 ≤ j → length (group_in ms j) ≤ GROUP_SIZE
 few_of_group ms j is some =
@@ -56,13 +51,10 @@ few_of_group ms j is some =
 
 line_there : (layout : Layout) (m : ℕ) (bytes : Bytes) → module_in layout m ≡ Some bytes → Contains (lines_in layout) (m, block_count_of (length bytes) BLOCK_SIZE)
 line_there [] m bytes e = cc
-line_there (x ∷ xs) m bytes e = go (x.0 == m) refl (line_there xs m bytes) where
-  go : (t : Bool) → (x.0 == m) ≡ t → (module_in xs m ≡ Some bytes → Contains (lines_in xs) (m, block_count_of (length bytes) BLOCK_SIZE)) → Contains (lines_in (x ∷ xs)) (m, block_count_of (length bytes) BLOCK_SIZE)
-  go true t later =
-      let id : x.0 ≡ m = eqb-true x.0 m t in
-      let same : x.1 ≡ bytes = same_Some x.1 bytes (rw t at e) in
-      (0, omega arith, ap (λ i. (i, block_count_of (length x.1) BLOCK_SIZE)) id ∙ ap (λ b. (m, block_count_of (length b) BLOCK_SIZE)) same)
-  go false t later = let r = later (rw t at e) in (suc r.0, omega (arith, r.1), r.2)
+line_there (x ∷ xs) m bytes e = elim (cases_Bool (x.0 == m)) [
+  | inl t ↦ (0, omega arith, ap (λ i. (i, block_count_of (length x.1) BLOCK_SIZE)) (eqb-true x.0 m t) ∙ ap (λ b. (m, block_count_of (length b) BLOCK_SIZE)) (same_Some x.1 bytes (rw t at e)))
+  | inr t ↦ let r = line_there xs m bytes (rw t at e) in (suc r.0, omega (arith, r.1), r.2)
+]
 
 pub dii_of_lines : (ls : List Layout) (g j : ℕ) → HasDii ls g j → IsGroupOf (lines_in (layout_at ls g)) j
 dii_of_lines ls g j (inl e) = inl e
@@ -83,7 +75,7 @@ id_at layout k d lt = ap (λ (l : Line). l.0) (get_or-map line_of layout k d (0,
 
 pub rising_of : (layout : Layout) → AreLines (lines_in layout) → IsRising layout
 rising_of layout are =
-    let n : length (lines_in layout) ≡ length layout = len_map line_of layout in
+    let n : length (lines_in layout) ≡ length layout = length-map layout line_of in
     record {
       rising = λ i j d lt inside.
           let up = are.rising i j (0, 0) lt (omega (arith, inside, n)) in

@@ -1,13 +1,14 @@
--- The keys of a generation's objects are apart and small.
-use Rattle.std.proofs.Common.{◌≡◌, ℕ, zero, suc, ◌+◌, ◌/◌, ◌%◌, ◌<◌, ◌≤◌, Bool, true, false, not, ◌||◌, ◌==◌, List, [], ◌∷◌, length, map, Option, Some, None, cond, refl, sym, ◌∙◌, ap, subst, arith, get_or}
+-- The keys of a generation's objects are apart and small: those that are kept, and those that are free.
+use Rattle.std.proofs.Common.{◌≡◌, ℕ, zero, suc, ◌+◌, ◌/◌, ◌%◌, ◌<◌, ◌≤◌, Bool, true, false, not, ◌||◌, ◌==◌, List, [], ◌∷◌, length, map, Option, Some, None, refl, sym, ◌∙◌, ap, subst, arith, get_or, inl, inr, ◌-◌, ◌++◌, cond, add-zero, append-nil, eqb}
 use Rattle.std.specs.List.{All, list_any, range_with_len, filter, find}
-use Rattle.std.specs.declared.cmp.Ordering.TheVariants.{Less, Equal}
-use Rattle.std.proofs.lemmas.Bool.{and_parts, not-true, or_from, or_parts}
+use Rattle.std.specs.declared.cmp.Ordering.TheVariants.{Less}
+use Rattle.std.proofs.lemmas.Bool.{and_parts, not-true, or_from, or_parts, cond_both, cases_Bool, cases_eq, eq-eqb, ne_eqb, false_from_ne_true}
 use Rattle.std.proofs.lemmas.Bool.Decides.{nat_tests}
 use Rattle.std.proofs.lemmas.Option.{same_Some}
-use Rattle.std.proofs.lemmas.List.Elements.{All-cons}
+use Rattle.std.proofs.lemmas.List.Elements.{All-cons, filter-append}
+use Rattle.generation.proofs.Spotting.{less_differ}
 use Rattle.path_tree.specs.Paths.{path_cmp, same_name}
-use Rattle.path_tree.proofs.CallerLemmas.{path_cmp-refl, same_name-is, same_name-refl, same_path-is}
+use Rattle.path_tree.proofs.CallerLemmas.{same_name-is, same_name-refl, same_path-is}
 use Rattle.generation.specs.Publication.{Spot, AreRising}
 use Rattle.generation.specs.Layouts.{Placed, placed_at, key_in, old_keys, taken_in, free_keys, fill_keys, keys_of, is_same_spot, key_bytes}
 
@@ -55,40 +56,32 @@ filled_all P (None ∷ keys) (f ∷ free) ak af = All-cons P f (fill_keys keys f
 
 free_high : (test : ℕ → Bool) (a n k : ℕ) → k < a → list_any (λ j. j == k) (filter test (range_with_len a n)) ≡ false
 free_high test a zero k lt = refl
-free_high test a (suc n) k lt = go (test a) (free_high test (a + 1) n k (omega (arith, lt))) where
-  go : (b : Bool) → list_any (λ j. j == k) (filter test (range_with_len (a + 1) n)) ≡ false → list_any (λ j. j == k) (cond b (a ∷ filter test (range_with_len (a + 1) n)) (filter test (range_with_len (a + 1) n))) ≡ false
-  go true h = or_from (a == k) _ (grind (arith, nat_tests, lt)) h
-  go false h = h
+free_high test a (suc n) k lt =
+    let h = free_high test (a + 1) n k (omega (arith, lt)) in
+    cond_both (test a) (a ∷ filter test (range_with_len (a + 1) n)) (filter test (range_with_len (a + 1) n)) (λ l. list_any (λ j. j == k) l ≡ false) (λ _. or_from (a == k) _ (ne_eqb a k (λ e. omega (arith, lt, e))) h) (λ _. h)
 
 free_distinct : (test : ℕ → Bool) (a n : ℕ) → Distinct (filter test (range_with_len a n))
 free_distinct test a zero = tt
-free_distinct test a (suc n) = go (test a) (free_distinct test (a + 1) n) (free_high test (a + 1) n a (omega arith)) where
-  go : (b : Bool) → Distinct (filter test (range_with_len (a + 1) n)) → list_any (λ j. j == a) (filter test (range_with_len (a + 1) n)) ≡ false → Distinct (cond b (a ∷ filter test (range_with_len (a + 1) n)) (filter test (range_with_len (a + 1) n)))
-  go true d h = (h, d)
-  go false d h = d
+free_distinct test a (suc n) =
+    let d = free_distinct test (a + 1) n in
+    cond_both (test a) (a ∷ filter test (range_with_len (a + 1) n)) (filter test (range_with_len (a + 1) n)) Distinct (λ _. (free_high test (a + 1) n a (omega arith), d)) (λ _. d)
 
 free_all : (P : ℕ → Type 0) (test : ℕ → Bool) (a n : ℕ) → ((k : ℕ) → a ≤ k → k < a + n → test k ≡ true → P k) → All P (filter test (range_with_len a n))
 free_all P test a zero h = λ i d lt. absurd (omega (arith, lt))
-free_all P test a (suc n) h = go (test a) refl (free_all P test (a + 1) n (λ k l m t. h k (omega (arith, l)) (omega (arith, m)) t)) where
-  go : (b : Bool) → test a ≡ b → All P (filter test (range_with_len (a + 1) n)) → All P (cond b (a ∷ filter test (range_with_len (a + 1) n)) (filter test (range_with_len (a + 1) n)))
-  go true e all = All-cons P a (filter test (range_with_len (a + 1) n)) (h a (omega arith) (omega arith) e) all
-  go false e all = all
+free_all P test a (suc n) h =
+    let all = free_all P test (a + 1) n (λ k l m t. h k (omega (arith, l)) (omega (arith, m)) t) in
+    cond_both (test a) (a ∷ filter test (range_with_len (a + 1) n)) (filter test (range_with_len (a + 1) n)) (All P) (λ e. All-cons P a (filter test (range_with_len (a + 1) n)) (h a (omega arith) (omega arith) e) all) (λ _. all)
 
 -- ---- kept keys
 
 found_passes : (p : Placed → Bool) (xs : List Placed) (o : Placed) → find p xs ≡ Some o → p o ≡ true
 found_passes p [] o e = cc
-found_passes p (x ∷ xs) o e = go (p x) refl (λ h. found_passes p xs o h) where
-  go : (b : Bool) → p x ≡ b → (find p xs ≡ Some o → p o ≡ true) → p o ≡ true
-  go true h rest = subst (λ z. p z ≡ true) (same_Some x o (rw h at e)) h
-  go false h rest = rest (rw h at e)
+found_passes p (x ∷ xs) o e = elim (cases_Bool (p x)) [ inl h ↦ subst (λ z. p z ≡ true) (same_Some x o (rw h at e)) h | inr h ↦ found_passes p xs o (rw h at e) ]
 
 found_key : (q : Placed → Bool) (xs : List Placed) (o : Placed) (k : ℕ) → find q xs ≡ Some o → list_any (λ j. j == k) (map (λ x. x.key) xs) ≡ false → (o.key == k) ≡ false
 found_key q [] o k e none = cc
-found_key q (x ∷ xs) o k e none = go (q x) refl (λ h. found_key q xs o k h (or_parts (x.key == k) _ none).1) where
-  go : (b : Bool) → q x ≡ b → (find q xs ≡ Some o → (o.key == k) ≡ false) → (o.key == k) ≡ false
-  go true h rest = subst (λ z. (z.key == k) ≡ false) (same_Some x o (rw h at e)) (or_parts (x.key == k) _ none).0
-  go false h rest = rest (rw h at e)
+found_key q (x ∷ xs) o k e none = let parts = or_parts (x.key == k) _ none in
+    elim (cases_Bool (q x)) [ inl h ↦ subst (λ z. (z.key == k) ≡ false) (same_Some x o (rw h at e)) parts.0 | inr h ↦ found_key q xs o k (rw h at e) parts.1 ]
 
 -- objects with one key are one object
 one_object : (old : List Placed) → Distinct (map (λ x. x.key) old) → (p q : Placed → Bool) (o r : Placed) → find p old ≡ Some o → find q old ≡ Some r → (r.key == o.key) ≡ true → q o ≡ true
@@ -112,15 +105,10 @@ kept_apart old d s o e [] less = refl
 kept_apart old d s o e (r ∷ ss) less = go (placed_at old r) refl (kept_apart old d s o e ss (λ i x lt. less (suc i) x (omega (arith, lt)))) where
   go : (f : Option Placed) → placed_at old r ≡ f → list_any (λ j. j == o.key) (taken_in (old_keys old ss)) ≡ false → list_any (λ j. j == o.key) (taken_in (key_in f ∷ old_keys old ss)) ≡ false
   go None h rest = rest
-  go (Some q) h rest = or_from (q.key == o.key) _ (differs (q.key == o.key) refl) rest where
-    differs : (b : Bool) → (q.key == o.key) ≡ b → (q.key == o.key) ≡ false
-    differs false same = same
-    differs true same =
-        let left : o.spot.path ≡ s.path = same_path-is o.spot.path s.path ((and_parts _ _ (found_passes (λ x. is_same_spot x.spot s) old o e)).0) in
-        let right : o.spot.path ≡ r.path = same_path-is o.spot.path r.path ((and_parts _ _ (one_object old d (λ x. is_same_spot x.spot s) (λ x. is_same_spot x.spot r) o q e h same)).0) in
-        let here : path_cmp s.path r.path ≡ Less = less 0 r (omega arith) in
-        let self : path_cmp r.path r.path ≡ Less = subst (λ z. path_cmp z r.path ≡ Less) (sym left ∙ right) here in
-        let bad : Equal ≡ Less = sym (path_cmp-refl r.path) ∙ self in cc
+  go (Some q) h rest = or_from (q.key == o.key) _ (false_from_ne_true (q.key == o.key) (λ same.
+      let left : o.spot.path ≡ s.path = same_path-is o.spot.path s.path ((and_parts _ _ (found_passes (λ x. is_same_spot x.spot s) old o e)).0) in
+      let right : o.spot.path ≡ r.path = same_path-is o.spot.path r.path ((and_parts _ _ (one_object old d (λ x. is_same_spot x.spot s) (λ x. is_same_spot x.spot r) o q e h same)).0) in
+      less_differ s.path r.path (less 0 r (omega arith)) (sym left ∙ right))) rest
 
 kept_distinct : (old : List Placed) → Distinct (map (λ x. x.key) old) → (spots : List Spot) → AreRising spots → Distinct (taken_in (old_keys old spots))
 kept_distinct old d [] rising = tt
@@ -134,10 +122,7 @@ kept_all P old all [] = λ i d lt. absurd (omega (arith, lt))
 kept_all P old all (s ∷ ss) = go (placed_at old s) refl (kept_all P old all ss) where
   found : (q : Placed → Bool) (xs : List Placed) → All (λ o. P o.key) xs → (o : Placed) → find q xs ≡ Some o → P o.key
   found q [] ax o e = cc
-  found q (x ∷ xs) ax o e = step (q x) refl (λ h. found q xs (λ i d lt. ax (suc i) d (omega (arith, lt))) o h) where
-    step : (b : Bool) → q x ≡ b → (find q xs ≡ Some o → P o.key) → P o.key
-    step true h rest = subst (λ z. P z.key) (same_Some x o (rw h at e)) (ax 0 x (omega arith))
-    step false h rest = rest (rw h at e)
+  found q (x ∷ xs) ax o e = elim (cases_Bool (q x)) [ inl h ↦ subst (λ z. P z.key) (same_Some x o (rw h at e)) (ax 0 x (omega arith)) | inr h ↦ found q xs (λ i d lt. ax (suc i) d (omega (arith, lt))) o (rw h at e) ]
 
   go : (f : Option Placed) → placed_at old s ≡ f → All P (taken_in (old_keys old ss)) → All P (taken_in (key_in f ∷ old_keys old ss))
   go None h rest = rest
@@ -159,15 +144,34 @@ keys_small old spots small few =
     (free_all (λ k. k < 8194) (λ k. not (list_any (λ j. j == k) taken)) 2 (length spots) (λ k l m t. omega (arith, m, few)))
 
 pub same_keys : (a b : ℕ) → a < 8194 → b < 8194 → same_name (key_bytes a) (key_bytes b) ≡ (a == b)
-same_keys a b la lb = go (a == b) refl where
-  go : (t : Bool) → (a == b) ≡ t → same_name (key_bytes a) (key_bytes b) ≡ t
-  go true e = let is : a ≡ b = grind (arith, nat_tests, e) in subst (λ z. same_name (key_bytes a) (key_bytes z) ≡ true) is (same_name-refl (key_bytes a))
-  go false e = step (same_name (key_bytes a) (key_bytes b)) refl where
-    step : (t : Bool) → same_name (key_bytes a) (key_bytes b) ≡ t → same_name (key_bytes a) (key_bytes b) ≡ false
-    step false h = h
-    step true h =
-        let lists = same_name-is (key_bytes a) (key_bytes b) h in
-        let low : a % 256 ≡ b % 256 = ap (λ l. get_or l 3 0) lists in
-        let high : a / 256 % 256 ≡ b / 256 % 256 = ap (λ l. get_or l 2 0) lists in
-        let is : a ≡ b = omega (arith, low, high, la, lb) in
-        absurd (grind (arith, nat_tests, e, is))
+same_keys a b la lb = elim (cases_eq a b) [
+  | inl is ↦ subst (λ z. same_name (key_bytes a) (key_bytes z) ≡ (a == z)) is (same_name-refl (key_bytes a) ∙ sym (eq-eqb a a refl))
+  | inr ne ↦ false_from_ne_true (same_name (key_bytes a) (key_bytes b)) (λ h.
+      let lists = same_name-is (key_bytes a) (key_bytes b) h in
+      let low : a % 256 ≡ b % 256 = ap (λ l. get_or l 3 0) lists in
+      let high : a / 256 % 256 ≡ b / 256 % 256 = ap (λ l. get_or l 2 0) lists in
+      ne (omega (arith, low, high, la, lb))) ∙ sym (ne_eqb a b ne)
+]
+
+-- ---- keys one after another, as the code goes through them
+
+pub range_more : (a n : ℕ) → range_with_len a (suc n) ≡ range_with_len a n ++ (a + n) ∷ []
+range_more a zero = ap (λ k. k ∷ []) (sym (add-zero a))
+range_more a (suc n) = ap (λ ks. a ∷ ks) (range_more (a + 1) n ∙ ap (λ k. range_with_len (a + 1) n ++ k ∷ []) (omega arith))
+
+free_more : (taken : List ℕ) (k : ℕ) → 2 ≤ k → free_keys taken (k + 1 - 2) ≡ free_keys taken (k - 2) ++ cond (not (list_any (λ j. eqb j k) taken)) (k ∷ []) []
+free_more taken k le =
+    ap (λ n. free_keys taken n) (after k le)
+    ∙ (ap (λ ks. filter (λ k. not (list_any (λ j. eqb j k) taken)) ks) (range_more 2 (k - 2) ∙ ap (λ j. range_with_len 2 (k - 2) ++ j ∷ []) (back k le))
+    ∙ filter-append (λ k. not (list_any (λ j. eqb j k) taken)) (range_with_len 2 (k - 2)) (k ∷ [])) where
+      after : (k : ℕ) → 2 ≤ k → k + 1 - 2 ≡ suc (k - 2)
+      after k le = omega arith
+
+      back : (k : ℕ) → 2 ≤ k → 2 + (k - 2) ≡ k
+      back k le = omega arith
+
+pub free_taken : (taken xs : List ℕ) (k : ℕ) → 2 ≤ k → xs ≡ free_keys taken (k - 2) → list_any (λ j. eqb j k) taken ≡ true → xs ≡ free_keys taken (k + 1 - 2)
+free_taken taken xs k le so_far is = sym (free_more taken k le ∙ rw is (append-nil (free_keys taken (k - 2)) ∙ sym so_far))
+
+pub free_found : (taken xs : List ℕ) (k : ℕ) → 2 ≤ k → xs ≡ free_keys taken (k - 2) → list_any (λ j. eqb j k) taken ≡ false → xs ++ k ∷ [] ≡ free_keys taken (k + 1 - 2)
+free_found taken xs k le so_far is = sym (free_more taken k le ∙ rw (is, so_far) refl)

@@ -1,9 +1,9 @@
 -- One number more among the links, from the last to the first; and what a walk along the links meets.
-use Rattle.std.proofs.Common.{◌≡◌, ◌≢◌, ◌||◌, ℕ, zero, suc, ◌+◌, ◌-◌, ◌<◌, ◌≤◌, ◌==◌, Bool, true, false, List, [], ◌∷◌, length, drop, get_or, set, replicate, Option, Some, None, cond, refl, sym, ◌∙◌, ap, subst, inl, inr, arith, length-drop, get_or-drop}
+use Rattle.std.proofs.Common.{◌≡◌, ◌≢◌, ℕ, zero, suc, ◌+◌, ◌-◌, ◌<◌, ◌≤◌, Bool, true, false, List, [], ◌∷◌, length, drop, get_or, set, replicate, Option, Some, None, cond, refl, sym, ◌∙◌, ap, subst, inl, inr, arith, length-drop, get_or-drop}
 use Rattle.std.specs.List.{All, list_any}
 use Rattle.std.specs.Option.{is_some}
 use Rattle.std.proofs.lemmas.Bool.Decides.{nat_tests}
-use Rattle.std.proofs.lemmas.Bool.{cases_eq}
+use Rattle.std.proofs.lemmas.Bool.{cases_eq, eq-eqb, ne_eqb, cases_Bool}
 use Rattle.std.proofs.lemmas.Option.{same_Some}
 use Rattle.std.proofs.lemmas.List.{drop_more, drop_all, drop-drop, length-set, get_or-set_same, get_or-set_other, length-replicate, get_or_default}
 use Rattle.generation.specs.Inner.Linking.{is_of, IsBelow, member_from, members_in, AreLinksFrom, AreLinks}
@@ -25,12 +25,6 @@ linked_none groups count = record {
   next_is = λ g i low lt is. absurd (omega (arith, low, lt));
 }
 
-is_not : (g k : ℕ) → g ≢ k → (k == g) ≡ false
-is_not g k ne = grind (arith, nat_tests, ne)
-
-is_one : (g k : ℕ) → g ≡ k → (k == g) ≡ true
-is_one g k e = grind (arith, nat_tests, e)
-
 -- the first member from a number on, by that number's group
 member-none : (groups : Groups) (g at : ℕ) → at < length groups → get_or groups at None ≡ None → member_from g at (drop at groups) ≡ member_from g (at + 1) (drop (at + 1) groups)
 member-none groups g at lt is = ap (member_from g at) (drop_more groups at None lt) ∙ ap (λ o. member_from g at (o ∷ drop (at + 1) groups)) is
@@ -38,29 +32,31 @@ member-none groups g at lt is = ap (member_from g at) (drop_more groups at None 
 member-same : (groups : Groups) (g at : ℕ) → at < length groups → get_or groups at None ≡ Some g → member_from g at (drop at groups) ≡ Some at
 member-same groups g at lt is =
     ap (member_from g at) (drop_more groups at None lt) ∙ (ap (λ o. member_from g at (o ∷ drop (at + 1) groups)) is
-    ∙ ap (λ b. cond b (Some at) (member_from g (at + 1) (drop (at + 1) groups))) (is_one g g refl))
+    ∙ ap (λ b. cond b (Some at) (member_from g (at + 1) (drop (at + 1) groups))) (eq-eqb g g refl))
 
 member-other : (groups : Groups) (g k at : ℕ) → at < length groups → get_or groups at None ≡ Some k → g ≢ k → member_from g at (drop at groups) ≡ member_from g (at + 1) (drop (at + 1) groups)
 member-other groups g k at lt is ne =
     ap (member_from g at) (drop_more groups at None lt) ∙ (ap (λ o. member_from g at (o ∷ drop (at + 1) groups)) is
-    ∙ ap (λ b. cond b (Some at) (member_from g (at + 1) (drop (at + 1) groups))) (is_not g k ne))
+    ∙ ap (λ b. cond b (Some at) (member_from g (at + 1) (drop (at + 1) groups))) (ne_eqb k g (λ e. ne (sym e))))
 
 -- a number in no group
-pub linked_free : (groups : Groups) (count at : ℕ) (first next : List (Option ℕ)) → at < length groups → get_or groups at None ≡ None → AreLinksFrom groups count (at + 1) first next → AreLinksFrom groups count at first next
-linked_free groups count at first next lt is h = record {
-  groups_many = h.groups_many;
-  members_many = h.members_many;
-  first_is = λ g. h.first_is g ∙ sym (member-none groups g at lt is);
-  next_is = λ g i low l e. elim (cases_eq i at) [
-    | inl same ↦ let bad : Some g ≡ None = sym e ∙ (ap (λ j. get_or groups j None) same ∙ is) in cc
-    | inr other ↦ h.next_is g i (omega (arith, low, other)) l e
-  ];
-}
+pub linked_free_at : (groups : Groups) (count at : ℕ) (first next : List (Option ℕ)) (d : Option ℕ) → at < length groups → get_or groups at d ≡ None → AreLinksFrom groups count (at + 1) first next → AreLinksFrom groups count at first next
+linked_free_at groups count at first next d lt read h =
+    let is : get_or groups at None ≡ None = get_or_default groups at None d lt ∙ read in
+    record {
+      groups_many = h.groups_many;
+      members_many = h.members_many;
+      first_is = λ g. h.first_is g ∙ sym (member-none groups g at lt is);
+      next_is = λ g i low l e. elim (cases_eq i at) [
+        | inl same ↦ let bad : Some g ≡ None = sym e ∙ (ap (λ j. get_or groups j None) same ∙ is) in cc
+        | inr other ↦ h.next_is g i (omega (arith, low, other)) l e
+      ];
+    }
 
 -- a number in a group: it is the first of them now, and the one that was first comes next
-pub linked_in : (groups : Groups) (count at k : ℕ) (first next : List (Option ℕ)) → at < length groups → k < count → get_or groups at None ≡ Some k → AreLinksFrom groups count (at + 1) first next
+pub linked_in_at : (groups : Groups) (count at k : ℕ) (first next : List (Option ℕ)) (d : Option ℕ) → All (IsBelow count) groups → at < length groups → get_or groups at d ≡ Some k → AreLinksFrom groups count (at + 1) first next
     → AreLinksFrom groups count at (set first k (Some at)) (set next at (get_or first k None))
-linked_in groups count at k first next lt below is h = record {
+linked_in_at groups count at k first next d all lt read h = record {
   groups_many = length-set first k (Some at) ∙ h.groups_many;
   members_many = length-set next at (get_or first k None) ∙ h.members_many;
   first_is = λ g. elim (cases_eq g k) [
@@ -76,19 +72,16 @@ linked_in groups count at k first next lt below is h = record {
         ∙ (h.first_is k ∙ (ap (λ j. member_from j (at + 1) (drop (at + 1) groups)) group ∙ ap (λ j. member_from g (j + 1) (drop (j + 1) groups)) (sym same))))
     | inr other ↦ get_or-set_other next at i (get_or first k None) None other ∙ h.next_is g i (omega (arith, low, other)) l e
   ];
-}
+} where
+  is : get_or groups at None ≡ Some k
+  is = get_or_default groups at None d lt ∙ read
+
+  below : k < count
+  below = subst (IsBelow count) read (all at d lt)
 
 -- a group is one of those that are counted
 pub group_within : (groups : Groups) (count i at k : ℕ) (first next : List (Option ℕ)) (d : Option ℕ) → All (IsBelow count) groups → i < length groups → get_or groups i d ≡ Some k → AreLinksFrom groups count at first next → k < length first
 group_within groups count i at k first next d all lt is h = let below : k < count = subst (IsBelow count) is (all i d lt) in omega (arith, below, h.groups_many)
-
--- the same as they are read
-pub linked_free_at : (groups : Groups) (count at : ℕ) (first next : List (Option ℕ)) (d : Option ℕ) → at < length groups → get_or groups at d ≡ None → AreLinksFrom groups count (at + 1) first next → AreLinksFrom groups count at first next
-linked_free_at groups count at first next d lt is h = linked_free groups count at first next lt (get_or_default groups at None d lt ∙ is) h
-
-pub linked_in_at : (groups : Groups) (count at k : ℕ) (first next : List (Option ℕ)) (d : Option ℕ) → All (IsBelow count) groups → at < length groups → get_or groups at d ≡ Some k → AreLinksFrom groups count (at + 1) first next
-    → AreLinksFrom groups count at (set first k (Some at)) (set next at (get_or first k None))
-linked_in_at groups count at k first next d all lt is h = linked_in groups count at k first next lt (subst (IsBelow count) is (all at d lt)) (get_or_default groups at None d lt ∙ is) h
 
 -- ---- a walk along the links of a group
 
@@ -159,7 +152,7 @@ walk_more g count groups xs first next n d member after many links here is follo
     subst (λ o. GoesOn g groups xs (get_or xs n d) o after) (sym here) (subst (GoesOn g groups xs (get_or xs n d) (Some n)) (sym found) (record {
       all = ap (λ l. members_in g l (drop n xs)) (drop_more groups n None m.0 ∙ ap (λ o. o ∷ drop (n + 1) groups) m.1)
           ∙ (ap (members_in g (Some g ∷ drop (n + 1) groups)) (drop_more xs n d (omega (arith, m.0, many)))
-          ∙ (ap (λ b. cond b (get_or xs n d ∷ own) own) (is_one g g refl) ∙ ap (λ l. get_or xs n d ∷ l) rest.all));
+          ∙ (ap (λ b. cond b (get_or xs n d ∷ own) own) (eq-eqb g g refl) ∙ ap (λ l. get_or xs n d ∷ l) rest.all));
       is = rest.member;
       shorter = go (member_from g (n + 1) (drop (n + 1) groups)) rest.member rest.later m.0;
     })) where
@@ -171,7 +164,4 @@ walk_more g count groups xs first next n d member after many links here is follo
 
 pub any_member : (g at : ℕ) (groups : Groups) → is_some (member_from g at groups) ≡ list_any (is_of g) groups
 any_member g at [] = refl
-any_member g at (y ∷ ys) = go (is_of g y) (any_member g (at + 1) ys) where
-  go : (b : Bool) → is_some (member_from g (at + 1) ys) ≡ list_any (is_of g) ys → is_some (cond b (Some at) (member_from g (at + 1) ys)) ≡ (b || list_any (is_of g) ys)
-  go true rest = refl
-  go false rest = rest
+any_member g at (y ∷ ys) = elim (cases_Bool (is_of g y)) [ inl e ↦ rw e refl | inr e ↦ rw e (any_member g (at + 1) ys) ]

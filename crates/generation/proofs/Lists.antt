@@ -1,15 +1,15 @@
--- A generation is the one that the lists of trees and layouts give.
-use Rattle.std.proofs.Common.{◌≡◌, ℕ, zero, suc, ◌+◌, ◌-◌, ◌%◌, ◌<◌, ◌≤◌, Bool, true, false, ◌==◌, List, [], ◌∷◌, ◌++◌, length, take, map, Some, refl, sym, ◌∙◌, ap, subst, arith, get_or, length-append, inl, inr}
-use Rattle.std.proofs.lemmas.List.{get_or-map}
+-- A generation is the one that the lists of trees and layouts give, and so is the one after it.
+use Rattle.std.proofs.Common.{◌≡◌, ℕ, zero, suc, ◌+◌, ◌%◌, ◌<◌, ◌≤◌, false, ◌==◌, List, [], ◌∷◌, ◌++◌, length, take, map, Some, refl, sym, ◌∙◌, ap, subst, arith, get_or, inl, inr}
+use Rattle.std.proofs.lemmas.List.{get_or-map, length-map}
 use Rattle.std.proofs.lemmas.List.FromFn.{length-map-range_with_len, get_or-map-range_with_len}
 use Rattle.biop_object.specs.Objects.{gateway_kind}
 use Rattle.dsi_dii.specs.declared.ModuleLine.{ModuleLine}
-use Rattle.generation.proofs.Limiting.{len_map}
-use Rattle.std.specs.List.{All, Contains, filter_map, flat_map, fold, range_with_len, list_any}
+use Rattle.std.specs.List.{All, Contains, flat_map, fold, range_with_len, AllPairs}
 use Rattle.std.specs.Option.{unwrap_or}
-use Rattle.std.proofs.lemmas.Bool.Decides.{nat_tests}
 use Rattle.std.proofs.lemmas.Option.{same_Some}
 use Rattle.std.proofs.lemmas.List.Elements.{All-cons, All-append, Contains-append_left, Contains-append_right}
+use Rattle.std.proofs.lemmas.Bool.{cases_Bool, eqb-true, eq-eqb, ne_eqb}
+use Rattle.generation.proofs.Placing.{rising}
 use Rattle.path_tree.specs.Paths.{Bytes}
 use Rattle.path_tree.specs.Trees.{Tree}
 use Rattle.biop_object.specs.Names.{Layout, module_in}
@@ -20,12 +20,14 @@ use Rattle.ddb_block.specs.Blocks.{block_count_of}
 use Rattle.dsi_dii.specs.Controls.{DiiFields, dii_spelling, dsi_spelling}
 use Rattle.dsmcc_section.specs.Sections.{spelling}
 use Rattle.generation.specs.Groups.{group_in, dii_transaction}
-use Rattle.generation.specs.Layouts.{GenerationState, Placed, first_of, next_of, count_in, module_if_used, layout_of, is_in, module_bytes, items_of, lines_in, lines_of, section_of, dii_of, dii_lines, control_section, block_section, greatest, gateway_location}
+use Rattle.generation.specs.Layouts.{GenerationState, first_of, next_of, count_in, layout_of, items_of, lines_in, lines_of, section_of, dii_of, dii_lines, control_section, block_section, greatest, gateway_location, Placed, modules_for, placed_all, keys_of, counts_after, generation_of}
 use Rattle.generation.specs.Lawful.{layout_at, tree_at, one_if_changed, count_of, version_in, dii_in, section_in, IsItem, HasDii}
-use Rattle.generation.specs.Kept.{states_from, layouts_of, IsGenerationOf, GenerationsAreOfTheLists}
+use Rattle.generation.specs.Kept.{states_from, layouts_of, IsGenerationOf, GenerationsAreOfTheLists, StandsFor}
 use Rattle.generation.proofs.Counting.{count_step}
 use Rattle.generation.proofs.Grouping.{dii_of_lines}
 use Rattle.cycle_planner.proofs.CallerLemmas.{all_diis, all_blocks_of, group_known, group_has, dii_contained}
+use Rattle.std.proofs.lemmas.List.Sums.{fold_push}
+use Rattle.generation.specs.Publication.{spots_of}
 
 -- ---- the states on the way
 
@@ -97,69 +99,28 @@ map_ext f g e (x ∷ xs) = ap (λ y. y ∷ map f xs) (e x) ∙ ap (λ ys. g x �
 
 -- ---- a layout lists each id once
 
-pub ids_from : (c : ℕ) (objects : List Placed) (a n : ℕ) → All (λ m. a ≤ m.0) (filter_map (module_if_used c objects) (range_with_len a n))
-ids_from c objects a zero = λ k d lt. absurd (omega (arith, lt))
-ids_from c objects a (suc n) = go (list_any (is_in a) objects) refl (ids_from c objects (a + 1) n) where
-  weaker : All (λ m. a + 1 ≤ m.0) (filter_map (module_if_used c objects) (range_with_len (a + 1) n)) → All (λ m. a ≤ m.0) (filter_map (module_if_used c objects) (range_with_len (a + 1) n))
-  weaker all = λ k d lt. let h = all k d lt in omega (arith, h)
-
-  go : (b : Bool) → list_any (is_in a) objects ≡ b → All (λ m. a + 1 ≤ m.0) (filter_map (module_if_used c objects) (range_with_len (a + 1) n)) → All (λ m. a ≤ m.0) (filter_map (module_if_used c objects) (range_with_len a (suc n)))
-  go true e all = rw e (All-cons (λ m. a ≤ m.0) (a, module_bytes c objects a) (filter_map (module_if_used c objects) (range_with_len (a + 1) n)) (omega arith) (weaker all))
-  go false e all = rw e (weaker all)
-
-once : (c : ℕ) (objects : List Placed) (a n : ℕ) (k : ℕ) (d : ℕ × Bytes) → k < length (filter_map (module_if_used c objects) (range_with_len a n))
-    → module_in (filter_map (module_if_used c objects) (range_with_len a n)) (get_or (filter_map (module_if_used c objects) (range_with_len a n)) k d).0 ≡ Some (get_or (filter_map (module_if_used c objects) (range_with_len a n)) k d).1
-once c objects a zero k d lt = absurd (omega (arith, lt))
-once c objects a (suc n) k d lt = go (list_any (is_in a) objects) refl k lt (λ i l. once c objects (a + 1) n i d l) (ids_from c objects (a + 1) n) where
-  later : List (ℕ × Bytes)
-  later = filter_map (module_if_used c objects) (range_with_len (a + 1) n)
-
-  all : List (ℕ × Bytes)
-  all = filter_map (module_if_used c objects) (range_with_len a (suc n))
-
-  first : (i : ℕ) → ((i : ℕ) → i < length later → module_in later (get_or later i d).0 ≡ Some (get_or later i d).1) → All (λ m. a + 1 ≤ m.0) later → i < suc (length later)
-      → module_in ((a, module_bytes c objects a) ∷ later) (get_or ((a, module_bytes c objects a) ∷ later) i d).0 ≡ Some (get_or ((a, module_bytes c objects a) ∷ later) i d).1
-  first zero rest above l = let same : (a == a) ≡ true = grind (arith, nat_tests) in rw same refl
-  first (suc i) rest above l =
-      let more : a + 1 ≤ (get_or later i d).0 = above i d (omega (arith, l)) in
-      let differs : (a == (get_or later i d).0) ≡ false = grind (arith, nat_tests, more) in
-      rw differs (rest i (omega (arith, l)))
-
-  go : (b : Bool) → list_any (is_in a) objects ≡ b → (i : ℕ) → i < length all → ((i : ℕ) → i < length later → module_in later (get_or later i d).0 ≡ Some (get_or later i d).1) → All (λ m. a + 1 ≤ m.0) later
-      → module_in all (get_or all i d).0 ≡ Some (get_or all i d).1
-  go true e i l rest above = rw e (first i rest above (rw e at l))
-  go false e i l rest above = rw e (rest i (rw e at l))
+once : (layout : Layout) → AllPairs (λ m n. m.0 < n.0) layout → (k : ℕ) (d : ℕ × Bytes) → k < length layout → module_in layout (get_or layout k d).0 ≡ Some (get_or layout k d).1
+once [] up k d lt = absurd (omega (arith, lt))
+once (m ∷ ms) up zero d lt = rw (eq-eqb m.0 m.0 refl) refl
+once (m ∷ ms) up (suc k) d lt =
+    let above : m.0 < (get_or ms k d).0 = up 0 (suc k) d (omega arith) lt in
+    rw (ne_eqb m.0 (get_or ms k d).0 (λ e. omega (arith, above, e))) (once ms (λ i j e below inside. up (suc i) (suc j) e (omega (arith, below)) (omega (arith, inside))) k d (omega (arith, lt)))
 
 -- ---- items
 
-get_left : {A : Type 0} (xs ys : List A) (k : ℕ) (d : A) → k < length xs → get_or (xs ++ ys) k d ≡ get_or xs k d
-get_left [] ys k d lt = absurd (omega (arith, lt))
-get_left (x ∷ xs) ys zero d lt = refl
-get_left (x ∷ xs) ys (suc k) d lt = get_left xs ys k d (omega (arith, lt))
-
-get_right : {A : Type 0} (xs ys : List A) (k : ℕ) (d : A) → length xs ≤ k → get_or (xs ++ ys) k d ≡ get_or ys (k - length xs) d
-get_right [] ys k d le = ap (λ n. get_or ys n d) (omega arith)
-get_right (x ∷ xs) ys zero d le = absurd (omega (arith, le))
-get_right (x ∷ xs) ys (suc k) d le = get_right xs ys k d (omega (arith, le)) ∙ ap (λ n. get_or ys n d) (omega (arith, le))
-
 abbrev blocks_in : Line → List Item
 blocks_in l = map (λ b. Block l.0 b) (range_with_len 0 l.1)
-
-length-blocks_in : (l : Line) → length (blocks_in l) ≡ l.1
-length-blocks_in l = length-map-range_with_len (λ b. Block l.0 b) 0 l.1
 
 -- the module of a line of the layout
 listed_at : (s : GenerationState) → s.layout ≡ layout_of s.carousel s.objects → (line : Line) → Contains (lines_of s) line
     → (bytes : Bytes) × (module_in s.layout line.0 ≡ Some bytes) × (line.1 ≡ block_count_of (length bytes) 4066)
 listed_at s made line c =
     let x = get_or s.layout c.0 (0, []) in
-    let n : length (lines_of s) ≡ length s.layout = len_map _ s.layout in
+    let n : length (lines_of s) ≡ length s.layout = length-map s.layout _ in
     let is : line ≡ (x.0, block_count_of (length x.1) 4066) = sym c.2 ∙ get_or-map (λ l. (l.0, block_count_of (length l.1) 4066)) s.layout c.0 (0, []) line (omega (arith, c.1, n)) in
-    let found : module_in s.layout x.0 ≡ Some x.1 = in_layout s.layout made c.0 (omega (arith, c.1, n)) in
-    (x.1, ap (λ (l : Line). module_in s.layout l.0) is ∙ found, ap (λ (l : Line). l.1) is) where
-      in_layout : (layout : Layout) → layout ≡ layout_of s.carousel s.objects → (i : ℕ) → i < length layout → module_in layout (get_or layout i (0, [])).0 ≡ Some (get_or layout i (0, [])).1
-      in_layout layout e i lt = subst (λ l. i < length l → module_in l (get_or l i (0, [])).0 ≡ Some (get_or l i (0, [])).1) (sym e)
-          (once s.carousel s.objects 1 (greatest (map (λ o. o.module_id) s.objects)) i (0, [])) lt
+    let up : AllPairs (λ m n. m.0 < n.0) s.layout = subst (AllPairs (λ m n. m.0 < n.0)) (sym made) (rising s.carousel s.objects 1 (greatest (map (λ o. o.module_id) s.objects))) in
+    let found : module_in s.layout x.0 ≡ Some x.1 = once s.layout up c.0 (0, []) (omega (arith, c.1, n)) in
+    (x.1, ap (λ (l : Line). module_in s.layout l.0) is ∙ found, ap (λ (l : Line). l.1) is)
 
 dii_is : (ls : List Layout) (g : ℕ) (s : GenerationState) → s.layout ≡ layout_at ls g → s.layout ≡ layout_of s.carousel s.objects → (j : ℕ) → IsGroupOf (lines_of s) j → HasDii ls g j
 dii_is ls g s el made j (inl e) = inl e
@@ -183,34 +144,17 @@ item_is ls g s within el made item has = subst (IsItem ls g) has.2 (all_items ls
 -- the blocks of a module of the layout stand among those of its lines
 block_listed : (layout : Layout) (m b : ℕ) (bytes : Bytes) → module_in layout m ≡ Some bytes → b < block_count_of (length bytes) 4066 → Contains (flat_map blocks_in (lines_in layout)) (Block m b)
 block_listed [] m b bytes e lt = cc
-block_listed (l ∷ ls) m b bytes e lt = go (l.0 == m) refl (block_listed ls m b bytes) where
-  line : Line
-  line = (l.0, block_count_of (length l.1) 4066)
-
-  later : List Item
-  later = flat_map blocks_in (lines_in ls)
-
-  go : (t : Bool) → (l.0 == m) ≡ t → (module_in ls m ≡ Some bytes → b < block_count_of (length bytes) 4066 → Contains later (Block m b)) → Contains (blocks_in line ++ later) (Block m b)
-  go true t more =
-      let is : l.0 ≡ m = grind (arith, nat_tests, t) in
-      let same : l.1 ≡ bytes = same_Some l.1 bytes (rw t at e) in
-      let here : b < block_count_of (length l.1) 4066 = subst (λ c. b < block_count_of (length c) 4066) (sym same) lt in
-      let n = length-blocks_in line in (
+block_listed (l ∷ ls) m b bytes e lt = elim (cases_Bool (l.0 == m)) [
+  | inl t ↦
+      let count = block_count_of (length l.1) 4066 in
+      let here : b < count = subst (λ c. b < block_count_of (length c) 4066) (sym (same_Some l.1 bytes (rw t at e))) lt in
+      Contains-append_left (blocks_in (l.0, count)) (flat_map blocks_in (lines_in ls)) (Block m b) (
         b,
-        omega (arith, here, n, length-append (blocks_in line) later),
-        get_left (blocks_in line) later b (Block m b) (omega (arith, here, n))
-            ∙ (get_or-map-range_with_len (λ j. Block l.0 j) 0 line.1 b b (Block m b) here (omega arith) ∙ ap (λ i. Block i b) is),
+        omega (arith, here, length-map-range_with_len (λ j. Block l.0 j) 0 count),
+        get_or-map-range_with_len (λ j. Block l.0 j) 0 count b b (Block m b) here (omega arith) ∙ ap (λ i. Block i b) (eqb-true l.0 m t),
       )
-  go false t more =
-      let r = more (rw t at e) lt in
-      let n = length (blocks_in line) in (
-        n + r.0,
-        omega (arith, r.1, length-append (blocks_in line) later),
-        get_right (blocks_in line) later (n + r.0) (Block m b) (omega arith) ∙ (ap (λ k. get_or later k (Block m b)) (omega arith) ∙ r.2),
-      )
-
-behind_dsi : (xs : List Item) (item : Item) → Contains xs item → Contains (Dsi ∷ xs) item
-behind_dsi xs item c = (suc c.0, omega (arith, c.1), c.2)
+  | inr t ↦ Contains-append_right (blocks_in (l.0, block_count_of (length l.1) 4066)) (flat_map blocks_in (lines_in ls)) (Block m b) (block_listed ls m b bytes (rw t at e) lt)
+]
 
 item_listed : (ls : List Layout) (g : ℕ) (s : GenerationState) → s.layout ≡ layout_at ls g → (item : Item) → IsItem ls g item → Contains (items_of s) item
 item_listed ls g s el Dsi is = (0, omega arith, refl)
@@ -218,11 +162,11 @@ item_listed ls g s el (Dii j) is =
     let lines = lines_of s in
     let of : IsGroupOf lines j = subst (λ l. IsGroupOf (lines_in l) j) (sym el) (dii_of_lines ls g j is.1) in
     let there = dii_contained lines j (record { above = is.2; within = is.3; has = group_has lines j of }) in
-    behind_dsi (diis_of lines ++ flat_map blocks_of lines) (Dii j) (Contains-append_left (diis_of lines) (flat_map blocks_of lines) (Dii j) there)
+    Contains-append_right (Dsi ∷ []) (diis_of lines ++ flat_map blocks_of lines) (Dii j) (Contains-append_left (diis_of lines) (flat_map blocks_of lines) (Dii j) there)
 item_listed ls g s el (Block m b) is =
     let lines = lines_of s in
     let there = block_listed s.layout m b is.1.0 (ap (λ l. module_in l m) el ∙ is.1.1) is.1.2 in
-    behind_dsi (diis_of lines ++ flat_map blocks_of lines) (Block m b) (Contains-append_right (diis_of lines) (flat_map blocks_of lines) (Block m b) there)
+    Contains-append_right (Dsi ∷ []) (diis_of lines ++ flat_map blocks_of lines) (Block m b) (Contains-append_right (diis_of lines) (flat_map blocks_of lines) (Block m b) there)
 
 layout_made : (s : GenerationState) → s.layout ≡ layout_of s.carousel s.objects → (ts : List Tree) (g : ℕ) → (state_at s ts g).layout ≡ layout_of (state_at s ts g).carousel (state_at s ts g).objects
 unfolding state_at
@@ -272,3 +216,19 @@ of_the_lists c ts g le =
       listed = item_listed (layouts_of c ts) g s layout;
       sections = λ item has. section_same c g (layouts_of c ts) s carousel number layout counts item;
     })
+
+-- ---- the generation after another
+
+pub next_is : (s : GenerationState) (t : Tree) (objects : List Placed) (layout : Layout) (counts : List ℕ)
+    → objects ≡ placed_all (spots_of t) (keys_of s.objects (spots_of t)) (modules_for s.objects t) → layout ≡ layout_of s.carousel objects → counts ≡ counts_after s.layout layout s.counts
+    → record { carousel = s.carousel; number = s.number + 1; tree = t; objects = objects; layout = layout; counts = counts } ≡ next_of s t
+next_is s t objects layout counts eo el ec =
+    let all = placed_all (spots_of t) (keys_of s.objects (spots_of t)) (modules_for s.objects t) in
+    let placed : layout ≡ layout_of s.carousel all = el ∙ ap (layout_of s.carousel) eo in
+    let counted : counts ≡ counts_after s.layout (layout_of s.carousel all) s.counts = ec ∙ ap (λ l. counts_after s.layout l s.counts) placed in
+    ap (λ o. let x : GenerationState = record { carousel = s.carousel; number = s.number + 1; tree = t; objects = o; layout = layout; counts = counts } in x) eo
+    ∙ (ap (λ l. let x : GenerationState = record { carousel = s.carousel; number = s.number + 1; tree = t; objects = all; layout = l; counts = counts } in x) placed
+    ∙ ap (λ k. let x : GenerationState = record { carousel = s.carousel; number = s.number + 1; tree = t; objects = all; layout = layout_of s.carousel all; counts = k } in x) counted)
+
+pub stands_next : (s g : GenerationState) (t : Tree) → g ≡ next_of s t → (trees : List Tree) → StandsFor s trees → g ≡ generation_of s.carousel (trees ++ t ∷ [])
+stands_next s g t e trees stands = e ∙ (ap (λ x. next_of x t) stands ∙ sym (fold_push next_of (first_of s.carousel) trees t))

@@ -1,9 +1,11 @@
 -- The members of folders and modules: the objects that stand in a folder, and those that lie in a module.
-use Rattle.std.proofs.Common.{◌≡◌, ◌∙◌, ◌≤◌, ◌+◌, ◌++◌, ◌<◌, ◌==◌, ℕ, max, Bool, true, false, List, [], ◌∷◌, length, map, take, Option, Some, None, cond, get_or, refl, sym, ap, arith}
-use Rattle.std.specs.List.{All, filter, flat_map, fold, list_any, cons_option}
+use Rattle.std.proofs.Common.{◌≡◌, ◌∙◌, ◌≤◌, ◌+◌, ◌++◌, ◌<◌, ◌==◌, ℕ, max, Bool, true, List, [], ◌∷◌, length, map, take, Option, Some, get_or, refl, sym, ap, arith, inl, inr}
+use Rattle.std.specs.List.{All, filter, flat_map, fold, list_any}
 use Rattle.std.proofs.lemmas.Grind.{common_steps}
 use Rattle.std.proofs.lemmas.List.{take_more}
 use Rattle.std.proofs.lemmas.List.Elements.{All-cons, All-head, All-tail}
+use Rattle.std.proofs.lemmas.Bool.{cond_both, cases_Bool}
+use Rattle.generation.proofs.Weighing.{top_spot}
 use Rattle.path_tree.specs.Trees.{Tree}
 use Rattle.biop_object.specs.declared.written.Written.{Written}
 use Rattle.generation.specs.declared.objects.Placed.{Placed as CodePlaced}
@@ -12,16 +14,19 @@ use Rattle.generation.specs.Layouts.{Placed, bound_of, location_of, entries_of, 
 use Rattle.generation.specs.Inner.Linking.{is_of, IsBelow, members_in}
 use Rattle.generation.specs.Inner.Stays.{bytes_of_all}
 use Rattle.generation.specs.View.{view_spot, view_placed, IsSpotIn}
-use Rattle.generation.proofs.Numbering.{child_has}
+use Rattle.generation.proofs.Numbering.{child_has, option_cases}
+
+-- what stands where no object does
+abbrev pub no_object : CodePlaced
+no_object = record { spot = top_spot; key = 0; «module» = 0 }
 
 -- what holds of all holds of the members, which are in the group
 pub members_all : {A : Type 0} (P : A → Type 0) (g : ℕ) (group : A → Option ℕ) (xs : List A) → All P xs → All (λ x. P x × (is_of g (group x) ≡ true)) (members_in g (map group xs) xs)
 members_all P g group [] all = λ k d lt. absurd (omega (arith, lt))
-members_all P g group (x ∷ xs) all = go (is_of g (group x)) refl (members_all P g group xs (All-tail P x xs all)) where
-  go : (b : Bool) → is_of g (group x) ≡ b → All (λ x. P x × (is_of g (group x) ≡ true)) (members_in g (map group xs) xs)
-      → All (λ x. P x × (is_of g (group x) ≡ true)) (cond b (x ∷ members_in g (map group xs) xs) (members_in g (map group xs) xs))
-  go true is rest = All-cons (λ x. P x × (is_of g (group x) ≡ true)) x (members_in g (map group xs) xs) (All-head P x xs all, is) rest
-  go false is rest = rest
+members_all P g group (x ∷ xs) all =
+    let rest = members_all P g group xs (All-tail P x xs all) in
+    cond_both (is_of g (group x)) (x ∷ members_in g (map group xs) xs) (members_in g (map group xs) xs) (All (λ x. P x × (is_of g (group x) ≡ true)))
+    (λ is. All-cons (λ x. P x × (is_of g (group x) ≡ true)) x (members_in g (map group xs) xs) (All-head P x xs all, is) rest) (λ _. rest)
 
 pub all_lying : (group : CodePlaced → Option ℕ) (P : CodePlaced → Type 0) (g : ℕ) (os members : List CodePlaced) → members ≡ members_in g (map group os) os → All P os → All P members
 all_lying group P g os members is all = rw is (λ k d lt. (members_all P g group os all k d lt).0)
@@ -35,11 +40,7 @@ module_group o = Some o.«module»
 -- the members of a module, in order, are the objects that the test finds in it
 pub members_seen : (t : Tree) (m : ℕ) (os : List CodePlaced) → map (view_placed t) (members_in m (map module_group os) os) ≡ filter (is_in m) (map (view_placed t) os)
 members_seen t m [] = refl
-members_seen t m (o ∷ os) = go (o.«module» == m) (members_seen t m os) where
-  go : (b : Bool) → map (view_placed t) (members_in m (map module_group os) os) ≡ filter (is_in m) (map (view_placed t) os)
-      → map (view_placed t) (cond b (o ∷ members_in m (map module_group os) os) (members_in m (map module_group os) os)) ≡ cond b (view_placed t o ∷ filter (is_in m) (map (view_placed t) os)) (filter (is_in m) (map (view_placed t) os))
-  go true rest = ap (λ l. view_placed t o ∷ l) rest
-  go false rest = rest
+members_seen t m (o ∷ os) = let rest = members_seen t m os in elim (cases_Bool (o.«module» == m)) [ inl e ↦ rw e (ap (λ l. view_placed t o ∷ l) rest) | inr e ↦ rw e rest ]
 
 -- so their bytes are those of the module
 pub members_bytes : (c : ℕ) (t : Tree) (os : List CodePlaced) (m : ℕ) (members : List CodePlaced) → members ≡ members_in m (map module_group os) os
@@ -75,10 +76,7 @@ abbrev pub folder_group : CodePlaced → Option ℕ
 folder_group o = o.spot.parent
 
 child_group : (folder : ℕ) (s : Spot) → is_child folder s ≡ is_of folder s.parent
-child_group folder s = go s.parent refl where
-  go : (o : Option ℕ) → s.parent ≡ o → is_child folder s ≡ is_of folder s.parent
-  go (Some p) e = rw e refl
-  go None e = rw e refl
+child_group folder s = elim (option_cases s.parent) [ inl h ↦ rw h.1 refl | inr h ↦ rw h refl ]
 
 -- an object's binding
 abbrev pub binding_of : ℕ → Tree → CodePlaced → Written
@@ -87,14 +85,10 @@ binding_of carousel t o = record { name = (view_spot t o.spot).name; bound = bou
 -- the bindings of a folder are those of the objects that stand in it
 pub bindings_are : (carousel folder : ℕ) (t : Tree) (os : List CodePlaced) → map (binding_of carousel t) (members_in folder (map folder_group os) os) ≡ entries_of carousel (map (view_placed t) os) folder
 bindings_are carousel folder t [] = refl
-bindings_are carousel folder t (o ∷ os) = rw (child_group folder (view_spot t o.spot)) (go (is_of folder o.spot.parent) (bindings_are carousel folder t os)) where
-  rest : List CodePlaced
-  rest = members_in folder (map folder_group os) os
-
-  go : (b : Bool) → map (binding_of carousel t) rest ≡ entries_of carousel (map (view_placed t) os) folder
-      → map (binding_of carousel t) (cond b (o ∷ rest) rest) ≡ cons_option (cond b (Some (binding_of carousel t o)) None) (entries_of carousel (map (view_placed t) os) folder)
-  go true h = ap (λ l. binding_of carousel t o ∷ l) h
-  go false h = h
+bindings_are carousel folder t (o ∷ os) =
+    let rest = bindings_are carousel folder t os in
+    let group = child_group folder (view_spot t o.spot) in
+    elim (cases_Bool (is_of folder o.spot.parent)) [ inl e ↦ rw (group, e) (ap (λ l. binding_of carousel t o ∷ l) rest) | inr e ↦ rw (group, e) rest ]
 
 -- an object that stands in a folder has a name
 has_name : (folder : ℕ) (t : Tree) (o : CodePlaced) → IsSpotIn t o.spot → is_of folder o.spot.parent ≡ true → 1 ≤ o.spot.names

@@ -1,24 +1,32 @@
--- A path names in the modules what stands there: each folder holds what stands in it, and so on down.
-use Rattle.std.proofs.Common.{◌≡◌, ◌⊎◌, ℕ, suc, ◌+◌, ◌<◌, ◌≤◌, ◌==◌, Bool, true, false, List, [], ◌∷◌, ◌++◌, map, Option, Some, None, cond, refl, sym, ◌∙◌, ap, subst, inl, inr, arith, get_or, append-nil}
-use Rattle.std.specs.List.{All, filter_map, find, cons_option}
+-- A path names in the modules what stands there: each folder holds what stands in it, and so on down; every module reads to its end, and every binding leads into a listed module.
+use Rattle.std.proofs.Common.{◌≡◌, ◌⊎◌, ℕ, suc, ◌+◌, ◌<◌, ◌≤◌, ◌==◌, false, List, [], ◌∷◌, ◌++◌, map, Option, Some, None, cond, refl, sym, ◌∙◌, ap, subst, inl, inr, arith, get_or, append-nil, ◌≢◌, zero, length}
+use Rattle.std.specs.List.{All, filter_map, find, cons_option, list_any, range_with_len, filter}
 use Rattle.std.proofs.lemmas.Bool.Decides.{nat_tests}
-use Rattle.std.proofs.lemmas.List.{get_or-map, get_or_default}
-use Rattle.std.proofs.lemmas.List.Elements.{All-head, All-tail, All-map, filter_map-append}
+use Rattle.std.proofs.lemmas.List.{get_or-map, get_or_default, length-map}
+use Rattle.std.proofs.lemmas.List.Elements.{All-head, All-tail, All-map, filter_map-append, All-cons}
+use Rattle.std.proofs.lemmas.Bool.{eq-eqb, cases_Bool, cases_eq, ne_eqb}
 use Rattle.path_tree.specs.Paths.{Bytes, PathNames, same_name}
 use Rattle.path_tree.specs.Trees.{Tree, Folder, NoSuch, node_at}
 use Rattle.path_tree.specs.Nestings.{Nesting, Empty, FileThen, FolderThen, names_in, in_file, stands_in, stands_at, nested}
 use Rattle.path_tree.proofs.CallerLemmas.{walk}
 use Rattle.ior_tap.specs.declared.Location.{Location}
-use Rattle.biop_object.specs.Names.{Layout, Thing, AFile, AFolder, thing_at, thing_named, location_in, location_of as location_from}
-use Rattle.biop_object.specs.Objects.{binding_of}
-use Rattle.biop_object.specs.Spelled.{SpellingsReadBack}
+use Rattle.biop_object.specs.Names.{Layout, Thing, AFile, AFolder, thing_at, thing_named, location_in, location_of as location_from, module_in}
+use Rattle.biop_object.specs.Objects.{binding_of, Object, IsFile, IsFolder, BindingFields}
+use Rattle.biop_object.specs.Spelled.{SpellingsReadBack, spelled_object, spelled_objects}
 use Rattle.biop_object.specs.declared.written.Written.{Written}
 use Rattle.generation.specs.Publication.{Spot, gateway_spot, count_in, below, spots_in, spots_of, is_child}
-use Rattle.generation.specs.Layouts.{Placed, key_bytes, bound_of, gateway_location, location_of, entries_of, layout_of}
-use Rattle.generation.specs.Lawful.{IsNode}
-use Rattle.generation.proofs.Carrying.{seen, Sound, thing_found, all_in, in_all}
-use Rattle.generation.proofs.Limiting.{len_map}
-use Rattle.generation.proofs.Numbering.{Numbered, numbered, number_at, all_numbered, InOne, parents_in, all_front, all_back, all_unbelow, length-spots}
+use Rattle.generation.specs.Layouts.{Placed, key_bytes, bound_of, gateway_location, location_of, entries_of, layout_of, is_in, module_bytes, module_if_used, greatest}
+use Rattle.generation.specs.Lawful.{IsNode, IsInside, Carries}
+use Rattle.generation.proofs.Carrying.{seen, Sound, thing_found, all_in, in_all, spelled, module_found, module_index}
+use Rattle.generation.proofs.Numbering.{Numbered, numbered, number_at, all_numbered, InOne, parents_in, all_front, all_back, length-spots, all_unmap, option_cases}
+use Rattle.std.specs.Prelude.{IsTrue}
+use Rattle.std.specs.Option.{is_none}
+use Rattle.std.proofs.lemmas.Option.{same_Some}
+use Rattle.ior_tap.specs.Iors as iors
+use Rattle.dsi_dii.specs.Controls.{identification_of}
+use Rattle.biop_object.specs.ObjectReading.{objects_of, reads_to_end}
+use Rattle.module_groups.specs.declared.TheConstants.{GREATEST_ID}
+use Rattle.generation.specs.Groups.{group_of}
 
 -- where the object of a number lies
 abbrev pub Places : Type 0
@@ -64,28 +72,17 @@ down : (ms : Layout) (l : Location) (place : Places) (next : ℕ) (inside : Nest
     → thing_at ms l ≡ Some (AFolder (map binding_of (held_in place next inside))) → thing_named ms (Some l) (k ∷ ks) ≡ thing_named ms (led place next inside k) ks
 down ms l place next inside k ks e = ap (λ x. thing_named ms (location_from k x) ks) e
 
--- the binding of the first object, or one of the later ones
-abbrev led_by : Bool → Places → ℕ → Bytes → Option Bytes → Bytes → List Written → Option Location
-led_by t place next m content n later = location_in (cond t (Some (binding_of (bound place next m content))) (find (λ b. same_name n b.name) (map binding_of later)))
-
 named : (ms : Layout) (place : Places) (next : ℕ) (g : Nesting) (n : Bytes) (q : PathNames) → AreHeld ms place next g → IsNode (thing_named ms (led place next g n) q) (stands_in g n q)
 named ms place next Empty n q held = tt
-named ms place next (FileThen m b rest) n q held = go (same_name n m) (named ms place (suc next) rest n q held.1) where
-  go : (t : Bool) → IsNode (thing_named ms (led place (suc next) rest n) q) (stands_in rest n q)
-      → IsNode (thing_named ms (led_by t place next m (Some b) n (held_in place (suc next) rest)) q) (cond t (in_file b q) (stands_in rest n q))
-  go true ih = at_file ms (place next) b q held.0
-  go false ih = ih
-named ms place next (FolderThen m made inside rest) n [] held = go (same_name n m) (named ms place (suc (next + count_in inside)) rest n [] held.2) where
-  go : (t : Bool) → IsNode (thing_named ms (led place (suc (next + count_in inside)) rest n) []) (stands_in rest n [])
-      → IsNode (thing_named ms (led_by t place next m None n (held_in place (suc (next + count_in inside)) rest)) []) (cond t (Folder (names_in inside)) (stands_in rest n []))
-  go true ih = at_folder ms (place next) place (suc next) inside held.0
-  go false ih = ih
-named ms place next (FolderThen m made inside rest) n (k ∷ ks) held = go (same_name n m) (named ms place (suc next) inside k ks held.1) (named ms place (suc (next + count_in inside)) rest n (k ∷ ks) held.2) where
-  go : (t : Bool) → IsNode (thing_named ms (led place (suc next) inside k) ks) (stands_in inside k ks)
-      → IsNode (thing_named ms (led place (suc (next + count_in inside)) rest n) (k ∷ ks)) (stands_in rest n (k ∷ ks))
-      → IsNode (thing_named ms (led_by t place next m None n (held_in place (suc (next + count_in inside)) rest)) (k ∷ ks)) (cond t (stands_in inside k ks) (stands_in rest n (k ∷ ks)))
-  go true ih other = subst (λ (x : Option Thing). IsNode x (stands_in inside k ks)) (sym (down ms (place next) place (suc next) inside k ks held.0)) ih
-  go false ih other = other
+named ms place next (FileThen m b rest) n q held = elim (cases_Bool (same_name n m)) [ inl e ↦ rw e (at_file ms (place next) b q held.0) | inr e ↦ rw e (named ms place (suc next) rest n q held.1) ]
+named ms place next (FolderThen m made inside rest) n [] held = elim (cases_Bool (same_name n m)) [
+  | inl e ↦ rw e (at_folder ms (place next) place (suc next) inside held.0)
+  | inr e ↦ rw e (named ms place (suc (next + count_in inside)) rest n [] held.2)
+]
+named ms place next (FolderThen m made inside rest) n (k ∷ ks) held = elim (cases_Bool (same_name n m)) [
+  | inl e ↦ rw e (subst (λ (x : Option Thing). IsNode x (stands_in inside k ks)) (sym (down ms (place next) place (suc next) inside k ks held.0)) (named ms place (suc next) inside k ks held.1))
+  | inr e ↦ rw e (named ms place (suc (next + count_in inside)) rest n (k ∷ ks) held.2)
+]
 
 -- from the gateway on
 named_all : (ms : Layout) (place : Places) (g : Nesting) → thing_at ms (place 0) ≡ Some (AFolder (map binding_of (held_in place 1 g))) → AreHeld ms place 1 g
@@ -120,9 +117,6 @@ not_number : (a b : ℕ) → (a < b) ⊎ (b < a) → (a == b) ≡ false
 not_number a b (inl l) = grind (arith, nat_tests, l)
 not_number a b (inr l) = grind (arith, nat_tests, l)
 
-same_number : (n : ℕ) → (n == n) ≡ true
-same_number n = grind (arith, nat_tests)
-
 none_in : (place : Places) (i parent next end : ℕ) (ss : List Spot) → (i < parent) ⊎ (parent < i) → (i < next) ⊎ (end ≤ i) → All (InOne (Among parent next end)) ss → held_by place i ss ≡ []
 none_in place i parent next end [] other out all = refl
 none_in place i parent next end (s ∷ ss) other out all = go s.parent refl (none_in place i parent next end ss other out (All-tail (InOne (Among parent next end)) s ss all)) where
@@ -141,9 +135,9 @@ none_named place i parent next g other out = none_in place i parent next (next +
 -- those that name the folder itself are what stands right in it
 own_held : (place : Places) (parent next : ℕ) (g : Nesting) → parent < next → held_by place parent (spots_in parent next g) ≡ held_in place next g
 own_held place parent next Empty up = refl
-own_held place parent next (FileThen n b rest) up = rw (same_number parent) (ap (λ l. bound place next n (Some b) ∷ l) (own_held place parent (suc next) rest (omega (arith, up))))
+own_held place parent next (FileThen n b rest) up = rw (eq-eqb parent parent refl) (ap (λ l. bound place next n (Some b) ∷ l) (own_held place parent (suc next) rest (omega (arith, up))))
 own_held place parent next (FolderThen n made inside rest) up =
-    rw (same_number parent) (ap (λ l. bound place next n None ∷ l)
+    rw (eq-eqb parent parent refl) (ap (λ l. bound place next n None ∷ l)
     (by_folder place parent n (spots_in next (suc next) inside) (spots_in parent (suc (next + count_in inside)) rest)
     ∙ (ap (λ l. l ++ held_by place parent (spots_in parent (suc (next + count_in inside)) rest)) (none_named place parent next (suc next) inside (inl up) (inl (omega (arith, up))))
     ∙ own_held place parent (suc (next + count_in inside)) rest (omega (arith, up)))))
@@ -172,7 +166,7 @@ held ms place all parent next (FileThen n b rest) up stand seen =
       later i low high = stand i (omega (arith, low)) (omega (arith, high)) ∙ rw (not_number parent i (inl (omega (arith, low, up)))) refl
 held ms place all parent next (FolderThen n made inside rest) up stand seen = (
   subst (λ (l : List Written). thing_at ms (place next) ≡ Some (AFolder (map binding_of l))) here (All-head (IsSeen ms place all) _ (map (below n) os ++ ps) seen),
-  held ms place all next (suc next) inside (omega arith) inner (all_unbelow (IsSeen ms place all) n os (λ s h. h) (all_front (IsSeen ms place all) (map (below n) os) ps parts)),
+  held ms place all next (suc next) inside (omega arith) inner (all_unmap (IsSeen ms place all) (below n) os (all_front (IsSeen ms place all) (map (below n) os) ps parts)),
   held ms place all parent more rest (omega (arith, up)) outer (all_back (IsSeen ms place all) (map (below n) os) ps parts),
 )
   where
@@ -228,7 +222,7 @@ are_placed : (c : ℕ) (objects : List Placed) (d : Placed) → Numbered 0 (map 
 are_placed c objects d numbers i e lt =
     let number : (get_or objects i e).spot.number ≡ i =
     ap (λ s. s.number) (sym (get_or-map (λ o. o.spot) objects i e e.spot lt))
-    ∙ (number_at 0 (map (λ o. o.spot) objects) numbers i e.spot (omega (arith, lt, len_map (λ o. o.spot) objects)) ∙ omega arith) in
+    ∙ (number_at 0 (map (λ o. o.spot) objects) numbers i e.spot (omega (arith, lt, length-map objects (λ o. o.spot))) ∙ omega arith) in
     ap (λ k. location_of c (get_or objects k d)) number ∙ ap (location_of c) (get_or_default objects i d e lt)
 
 entries_are : (c : ℕ) (place : Places) (objects : List Placed) (i : ℕ) → All (IsPlacedBy c place) objects → entries_of c objects i ≡ held_by place i (map (λ o. o.spot) objects)
@@ -238,10 +232,10 @@ entries_are c place (o ∷ os) i placed =
     ∙ ap (cons_option (written_by place i o.spot)) (entries_are c place os i (All-tail (IsPlacedBy c place) o os placed))
 
 seen_is : (c : ℕ) (place : Places) (objects : List Placed) (o : Placed) → All (IsPlacedBy c place) objects → seen c objects o ≡ to_see place (map (λ o. o.spot) objects) o.spot
-seen_is c place objects o placed = go o.spot.content refl where
-  go : (b : Option Bytes) → o.spot.content ≡ b → seen c objects o ≡ to_see place (map (λ o. o.spot) objects) o.spot
-  go (Some b) e = rw e refl
-  go None e = rw e (ap (λ l. AFolder (map binding_of l)) (entries_are c place objects o.spot.number placed))
+seen_is c place objects o placed = elim (option_cases o.spot.content) [
+  | inl h ↦ rw h.1 refl
+  | inr h ↦ rw h (ap (λ l. AFolder (map binding_of l)) (entries_are c place objects o.spot.number placed))
+]
 
 pub paths_named : SpellingsReadBack → (c : ℕ) (t : Tree) (objects : List Placed) → Sound c t objects → (p : PathNames)
     → IsNode (thing_named (layout_of c objects) (Some (gateway_location c)) p) (node_at t p)
@@ -259,3 +253,105 @@ paths_named law c t objects sound p =
     ap (λ s. place s.number) (sym sound.is_gateway.0) ∙ (own ∙ (ap (λ k. let l : Location = record { carousel = c; «module» = sound.gateway.module_id; key = key_bytes k } in l) sound.is_gateway.1
     ∙ ap (λ m. let l : Location = record { carousel = c; «module» = m; key = key_bytes 1 } in l) sound.is_gateway.2)) in
     rw (walk t p sound.tree) (subst (λ (l : Location). IsNode (thing_named ms (Some l) p) (stands_at (nested t) p)) top (paths_by_number ms place t seen_all p))
+
+-- ---- what a module lists
+
+from_range : (c : ℕ) (objects : List Placed) (a n m : ℕ) (bytes : Bytes) → module_in (filter_map (module_if_used c objects) (range_with_len a n)) m ≡ Some bytes → bytes ≡ module_bytes c objects m
+from_range c objects a zero m bytes e = cc
+from_range c objects a (suc n) m bytes e = elim (cases_Bool (list_any (is_in a) objects)) [
+  | inr h ↦ from_range c objects (a + 1) n m bytes (rw h at e)
+  | inl h ↦
+      let f = rw h at e in
+      elim (cases_eq a m) [
+        | inl is ↦ sym (same_Some (module_bytes c objects a) bytes (rw (eq-eqb a m is) at f)) ∙ ap (module_bytes c objects) is
+        | inr ne ↦ from_range c objects (a + 1) n m bytes (rw (ne_eqb a m ne) at f)
+      ]
+]
+
+pub listed_bytes : (c : ℕ) (objects : List Placed) (m : ℕ) (bytes : Bytes) → module_in (layout_of c objects) m ≡ Some bytes → bytes ≡ module_bytes c objects m
+listed_bytes c objects m bytes e = from_range c objects 1 (greatest (map (λ o. o.module_id) objects)) m bytes e
+
+to_end : SpellingsReadBack → (c : ℕ) (t : Tree) (objects : List Placed) → Sound c t objects → (m : ℕ) (bytes : Bytes) → module_in (layout_of c objects) m ≡ Some bytes → IsTrue (reads_to_end bytes)
+to_end law c t objects sound m bytes e =
+    subst (λ b. IsTrue (reads_to_end b)) (sym (listed_bytes c objects m bytes e)) (subst (λ i. IsTrue (is_none i.1)) (sym (module_index law c t objects sound m)) refl)
+
+-- ---- bindings
+
+-- an object's module is listed
+abbrev pub IsListed : Layout → Placed → Type 0
+IsListed layout o = (module_in layout o.module_id ≢ None) × (o.module_id ≤ GREATEST_ID)
+
+-- the delivery that is written for a module is by the DII of its group
+by_group : (m : ℕ) → m ≤ GREATEST_ID → identification_of (iors.delivery_of_module m) ≡ group_of m
+by_group m le = omega (arith, le)
+
+-- which is read back out of its tap
+delivered : (m : ℕ) → m ≤ GREATEST_ID → Some (iors.delivery_of_module m) ≡ iors.delivery_of_taps (iors.written_tap m ∷ [])
+delivered m le = ap (λ (n : ℕ). Some n) (omega (arith, le))
+
+binding_inside : (c : ℕ) (layout : Layout) (k : Bytes) (o : Placed) → IsListed layout o
+    → IsInside layout c (binding_of (record { name = k; bound = bound_of o.spot.content; location = location_of c o }))
+binding_inside c layout k o there = record {
+  inside = λ l taps e.
+      let h = same_Some (location_of c o, iors.written_tap o.module_id ∷ []) (l, taps) e in
+      let is : location_of c o ≡ l = ap (λ x. x.0) h in
+      (ap (λ z. z.carousel) (sym is), subst (λ z. module_in layout z.module ≢ None) is there.0);
+  delivered = λ l taps t e d.
+      let h = same_Some (location_of c o, iors.written_tap o.module_id ∷ []) (l, taps) e in
+      let is : iors.written_tap o.module_id ∷ [] ≡ taps = ap (λ x. x.1) h in
+      let one : iors.delivery_of_taps (iors.written_tap o.module_id ∷ []) ≡ Some t = ap iors.delivery_of_taps is ∙ d in
+      let number : iors.delivery_of_module o.module_id ≡ t = same_Some (iors.delivery_of_module o.module_id) t (delivered o.module_id there.1 ∙ one) in
+      let place : location_of c o ≡ l = ap (λ x. x.0) h in
+      ap identification_of (sym number) ∙ subst (λ (z : Location). identification_of (iors.delivery_of_module o.module_id) ≡ group_of z.module) place (by_group o.module_id there.1);
+}
+
+entries_inside : (c : ℕ) (layout : Layout) (os : List Placed) → All (IsListed layout) os → (folder : ℕ)
+    → All (IsInside layout c) (map binding_of (entries_of c os folder))
+entries_inside c layout [] there folder = λ k d lt. absurd (omega (arith, lt))
+entries_inside c layout (o ∷ os) there folder =
+    let rest = entries_inside c layout os (λ i d lt. there (suc i) d (omega (arith, lt))) folder in
+    elim (cases_Bool (is_child folder o.spot)) [
+      | inl e ↦ rw e (All-cons (IsInside layout c) (binding_of (record { name = o.spot.name; bound = bound_of o.spot.content; location = location_of c o })) (map binding_of (entries_of c os folder))
+          (binding_inside c layout o.spot.name o (there 0 o (omega arith))) rest)
+      | inr e ↦ rw e rest
+    ]
+
+-- what an object's bindings say
+abbrev pub BindsInside : Layout → ℕ → Object → Type 0
+BindsInside layout c x = (key : Bytes) (bindings : List BindingFields) → x ≡ record { key = key; shape = IsFolder bindings } → All (IsInside layout c) bindings
+
+object_inside : (c : ℕ) (layout : Layout) (objects : List Placed) → All (IsListed layout) objects → (o : Placed) (at : ℕ) → BindsInside layout c (spelled_object at (spelled c objects o))
+object_inside c layout objects there o at = elim (option_cases o.spot.content) [
+  | inl h ↦ rw h.1 (λ key bindings e. let s : IsFile (at + 44) (length h.0) ≡ IsFolder bindings = ap (λ x. x.shape) e in cc)
+  | inr h ↦ rw h (λ key bindings e.
+      let s : IsFolder (map binding_of (entries_of c objects o.spot.number)) ≡ IsFolder bindings = ap (λ x. x.shape) e in
+      subst (All (IsInside layout c)) (same (map binding_of (entries_of c objects o.spot.number)) bindings s) (entries_inside c layout objects there o.spot.number))
+] where
+  same : (a b : List BindingFields) → IsFolder a ≡ IsFolder b → a ≡ b
+  same a b e = cc
+
+objects_inside : (c : ℕ) (layout : Layout) (objects os : List Placed) → All (IsListed layout) objects → (at : ℕ) → All (BindsInside layout c) (spelled_objects at (map (spelled c objects) os))
+objects_inside c layout objects [] there at = λ k d lt. absurd (omega (arith, lt))
+objects_inside c layout objects (o ∷ os) there at = All-cons (BindsInside layout c) (spelled_object at (spelled c objects o)) (spelled_objects _ (map (spelled c objects) os))
+    (object_inside c layout objects there o at) (objects_inside c layout objects os there _)
+
+all_listed : (c : ℕ) (t : Tree) (objects : List Placed) → Sound c t objects → All (IsListed (layout_of c objects)) objects
+all_listed c t objects sound = all_in (IsListed (layout_of c objects)) objects (λ o has.
+    let range = in_all (λ q. (1 ≤ q.module_id) × (q.module_id ≤ GREATEST_ID)) objects o sound.modules has in
+    ((λ h. none (module_in (layout_of c objects) o.module_id) (module_bytes c objects o.module_id) (module_found c objects o has range.0) h), range.1))
+  where
+    none : (found : Option Bytes) (bytes : Bytes) → found ≡ Some bytes → found ≡ None → ⊥
+    none found bytes e f = cc
+
+pub carries : SpellingsReadBack → (c : ℕ) (t : Tree) (objects : List Placed) → Sound c t objects → Carries c (layout_of c objects) t
+carries law c t objects sound = record {
+  paths = paths_named law c t objects sound;
+  to_end = to_end law c t objects sound;
+  inside = λ m bytes key bindings e has.
+      let is = listed_bytes c objects m bytes e in
+      let all : All (BindsInside (layout_of c objects) c) (objects_of bytes) =
+      subst (λ b. All (BindsInside (layout_of c objects) c) (objects_of b)) (sym is)
+      (subst (λ i. All (BindsInside (layout_of c objects) c) i.0) (sym (module_index law c t objects sound m))
+      (objects_inside c (layout_of c objects) objects (filter (is_in m) objects) (all_listed c t objects sound) 0)) in
+      all has.0 (record { key = key; shape = IsFolder bindings }) has.1 key bindings has.2;
+}

@@ -1,9 +1,11 @@
 -- The objects of a tree: their numbers, the folders that they stand in, their names and contents, and their order.
-use Rattle.std.proofs.Common.{◌≡◌, ℕ, zero, suc, ◌+◌, ◌<◌, ◌≤◌, true, false, List, [], ◌∷◌, ◌++◌, length, map, Option, Some, None, refl, sym, ◌∙◌, ap, subst, arith, get_or, length-append}
+use Rattle.std.proofs.Common.{◌≡◌, ℕ, zero, suc, ◌+◌, ◌<◌, ◌≤◌, true, false, List, [], ◌∷◌, ◌++◌, length, map, Option, Some, None, refl, sym, ◌∙◌, ap, subst, arith, get_or, length-append, ◌⊎◌, inl, inr}
 use Rattle.std.specs.List.{All, AllByRecursion}
 use Rattle.std.specs.declared.cmp.Ordering.TheVariants.{Less}
 use Rattle.std.proofs.lemmas.Option.{same_Some}
 use Rattle.std.proofs.lemmas.List.Elements.{All-cons, All-append, All-map, All-head, All-tail, recursion_from_All}
+use Rattle.std.proofs.lemmas.List.{length-map, get_or-map, get_or_default}
+use Rattle.generation.specs.Standing.{IsIn, IsNumbered}
 use Rattle.path_tree.specs.Paths.{Bytes, PathNames, name_cmp, path_cmp, IsName}
 use Rattle.path_tree.specs.Trees.{Tree, IsTree, HasContent, Fits}
 use Rattle.path_tree.specs.Nestings.{Nesting, Empty, FileThen, FolderThen, under, flat, nested, IsAfter, IsNesting}
@@ -11,7 +13,11 @@ use Rattle.path_tree.specs.declared.entry.Entry.{Entry}
 use Rattle.path_tree.proofs.CallerLemmas.{name_cmp-refl, rises_tree, nested-flat, has_first}
 use Rattle.oc_bytes.specs.Numbers.{IsBytes}
 use Rattle.generation.specs.Publication.{Spot, gateway_spot, count_in, below, spots_in, spots_of, is_child, AreRising}
-use Rattle.generation.proofs.Limiting.{len_map}
+
+-- something is there, or nothing
+pub option_cases : {A : Type 0} (o : Option A) → ((x : A) × (o ≡ Some x)) ⊎ (o ≡ None)
+option_cases (Some x) = inl (x, refl)
+option_cases None = inr refl
 
 -- ---- how many there are
 
@@ -22,14 +28,14 @@ length-spots parent next (FolderThen n made inside rest) =
     omega (
       arith,
       length-append (map (below n) (spots_in next (suc next) inside)) (spots_in parent (suc (next + count_in inside)) rest),
-      len_map (below n) (spots_in next (suc next) inside),
+      length-map (spots_in next (suc next) inside) (below n),
       length-spots next (suc next) inside,
       length-spots parent (suc (next + count_in inside)) rest,
     )
 
 -- the number of what comes behind a folder
 pub past_folder : (next : ℕ) (n : Bytes) (inside : Nesting) → suc next + length (map (below n) (spots_in next (suc next) inside)) ≡ suc (next + count_in inside)
-past_folder next n inside = omega (arith, len_map (below n) (spots_in next (suc next) inside), length-spots next (suc next) inside)
+past_folder next n inside = omega (arith, length-map (spots_in next (suc next) inside) (below n), length-spots next (suc next) inside)
 
 -- ---- numbers
 
@@ -72,9 +78,8 @@ InOne F s = (p : ℕ) → s.parent ≡ Some p → F p
 abbrev pub IfFolder : (ℕ → Type 0) → Spot → Type 0
 IfFolder F s = s.content ≡ None → F s.number
 
-pub all_unbelow : (P : Spot → Type 0) (n : Bytes) (ss : List Spot) → ((s : Spot) → P (below n s) → P s) → All P (map (below n) ss) → All P ss
-all_unbelow P n [] f h = λ i d lt. absurd (omega (arith, lt))
-all_unbelow P n (s ∷ ss) f h = All-cons P s ss (f s (All-head P (below n s) (map (below n) ss) h)) (all_unbelow P n ss f (All-tail P (below n s) (map (below n) ss) h))
+pub all_unmap : {A B : Type 0} (P : B → Type 0) (f : A → B) (xs : List A) → All P (map f xs) → All (λ x. P (f x)) xs
+all_unmap P f xs all = λ k d lt. subst P (get_or-map f xs k d (f d) lt) (all k (f d) (omega (arith, lt, length-map xs f)))
 
 pub all_front : (P : Spot → Type 0) (xs ys : List Spot) → All P (xs ++ ys) → All P xs
 all_front P [] ys h = λ i d lt. absurd (omega (arith, lt))
@@ -84,20 +89,41 @@ pub all_back : (P : Spot → Type 0) (xs ys : List Spot) → All P (xs ++ ys) �
 all_back P [] ys h = h
 all_back P (x ∷ xs) ys h = all_back P xs ys (All-tail P x (xs ++ ys) h)
 
-pub parents_in : (F : ℕ → Type 0) (parent next : ℕ) (g : Nesting) → F parent → All (IfFolder F) (spots_in parent next g) → All (InOne F) (spots_in parent next g)
-parents_in F parent next Empty here folders = λ i d lt. absurd (omega (arith, lt))
-parents_in F parent next (FileThen n b rest) here folders =
-    All-cons (InOne F) _ (spots_in parent (suc next) rest) (λ p e. subst F (same_Some parent p e) here)
-    (parents_in F parent (suc next) rest here (All-tail (IfFolder F) _ (spots_in parent (suc next) rest) folders))
-parents_in F parent next (FolderThen n made inside rest) here folders =
+-- what is said of the number and the path of each folder
+abbrev EachFolder : (ℕ → PathNames → Type 0) → Spot → Type 0
+EachFolder F s = s.content ≡ None → F s.number s.path
+
+-- and so of those of the folder that an object stands in
+abbrev Under : (ℕ → PathNames → Type 0) → Spot → Option ℕ → Type 0
+Under F s (Some p) = (folder : PathNames) × (s.path ≡ folder ++ s.name ∷ []) × F p folder
+Under F s None = ⊥
+
+abbrev within : (ℕ → PathNames → Type 0) → Bytes → ℕ → PathNames → Type 0
+within F n p path = F p (n ∷ path)
+
+under_below : (F : ℕ → PathNames → Type 0) (n : Bytes) (s : Spot) (o : Option ℕ) → Under (within F n) s o → Under F (below n s) o
+under_below F n s (Some p) u = (n ∷ u.0, ap (λ path. n ∷ path) u.1, u.2)
+under_below F n s None u = u
+
+under_all : (F : ℕ → PathNames → Type 0) (parent next : ℕ) (g : Nesting) → F parent [] → All (EachFolder F) (spots_in parent next g) → All (λ s. Under F s s.parent) (spots_in parent next g)
+under_all F parent next Empty here folders = λ i d lt. absurd (omega (arith, lt))
+under_all F parent next (FileThen n b rest) here folders =
+    All-cons (λ s. Under F s s.parent) _ (spots_in parent (suc next) rest) ([], refl, here)
+    (under_all F parent (suc next) rest here (All-tail (EachFolder F) _ (spots_in parent (suc next) rest) folders))
+under_all F parent next (FolderThen n made inside rest) here folders =
     let down = spots_in next (suc next) inside in
     let more = spots_in parent (suc (next + count_in inside)) rest in
-    let later = All-tail (IfFolder F) _ (map (below n) down ++ more) folders in
-    let own : F next = All-head (IfFolder F) _ (map (below n) down ++ more) folders refl in
-    All-cons (InOne F) _ (map (below n) down ++ more) (λ p e. subst F (same_Some parent p e) here)
-    (All-append (InOne F) (map (below n) down) more
-    (All-map (InOne F) (below n) down (parents_in F next (suc next) inside own (all_unbelow (IfFolder F) n down (λ s h. h) (all_front (IfFolder F) (map (below n) down) more later))))
-    (parents_in F parent (suc (next + count_in inside)) rest here (all_back (IfFolder F) (map (below n) down) more later)))
+    let later = All-tail (EachFolder F) _ (map (below n) down ++ more) folders in
+    let own : F next (n ∷ []) = All-head (EachFolder F) _ (map (below n) down ++ more) folders refl in
+    let deep = under_all (within F n) next (suc next) inside own (all_unmap (EachFolder F) (below n) down (all_front (EachFolder F) (map (below n) down) more later)) in
+    All-cons (λ s. Under F s s.parent) _ (map (below n) down ++ more) ([], refl, here)
+    (All-append (λ s. Under F s s.parent) (map (below n) down) more
+    (All-map (λ s. Under F s s.parent) (below n) down (λ i d lt. under_below F n (get_or down i d) (get_or down i d).parent (deep i d lt)))
+    (under_all F parent (suc (next + count_in inside)) rest here (all_back (EachFolder F) (map (below n) down) more later)))
+
+pub parents_in : (F : ℕ → Type 0) (parent next : ℕ) (g : Nesting) → F parent → All (IfFolder F) (spots_in parent next g) → All (InOne F) (spots_in parent next g)
+parents_in F parent next g here folders i d lt p e =
+    (subst (Under (λ k path. F k) (get_or (spots_in parent next g) i d)) e (under_all (λ k path. F k) parent next g here folders i d lt)).2
 
 -- a number is that of a folder among the objects
 abbrev pub IsFolderOf : List Spot → ℕ → Type 0
@@ -110,14 +136,29 @@ all_in_folders t =
     let rest = spots_in 0 1 (nested t) in
     let folders : All (IfFolder (IsFolderOf all)) all = λ i d lt none.
     let is : (get_or all i d).number ≡ i = number_at 0 all (all_numbered t) i d lt ∙ omega arith in
-    subst (IsFolderOf all) (sym is) (lt, same_default all i d gateway_spot lt none) in
+    subst (IsFolderOf all) (sym is) (lt, ap (λ (s : Spot). s.content) (get_or_default all i gateway_spot d lt) ∙ none) in
     All-cons (InOne (IsFolderOf all)) gateway_spot rest (λ p e. cc)
     (parents_in (IsFolderOf all) 0 1 (nested t) (omega arith, refl) (All-tail (IfFolder (IsFolderOf all)) gateway_spot rest folders))
-  where
-    same_default : (ss : List Spot) (i : ℕ) (d e : Spot) → i < length ss → (get_or ss i d).content ≡ None → (get_or ss i e).content ≡ None
-    same_default [] i d e lt h = absurd (omega (arith, lt))
-    same_default (s ∷ ss) zero d e lt h = h
-    same_default (s ∷ ss) (suc i) d e lt h = same_default ss i d e (omega (arith, lt)) h
+
+-- an object of a number has a path
+abbrev IsAt : List Spot → ℕ → PathNames → Type 0
+IsAt ss p path = (p < length ss) × ((get_or ss p gateway_spot).path ≡ path)
+
+in_folder : (ss : List Spot) (s : Spot) (o : Option ℕ) → Under (IsAt ss) s o → IsIn ss s o
+in_folder ss s (Some p) u = (u.2.0, u.1 ∙ ap (λ path. path ++ s.name ∷ []) (sym u.2.1))
+in_folder ss s None u = absurd u
+
+pub all_parents : (t : Tree) → IsNumbered (spots_of t)
+all_parents t =
+    let all = spots_of t in
+    let rest = spots_in 0 1 (nested t) in
+    let places : (i : ℕ) (d : Spot) → i < length all → (get_or all i d).number ≡ i = λ i d lt. number_at 0 all (all_numbered t) i d lt ∙ omega arith in
+    let folders : All (EachFolder (IsAt all)) all = λ i d lt none. subst (λ k. IsAt all k (get_or all i d).path) (sym (places i d lt)) (lt, ap (λ (s : Spot). s.path) (get_or_default all i gateway_spot d lt)) in
+    let under = under_all (IsAt all) 0 1 (nested t) (omega arith, refl) (All-tail (EachFolder (IsAt all)) gateway_spot rest folders) in
+    record {
+      numbers = places;
+      parents = All-cons (λ s. IsIn all s s.parent) gateway_spot rest refl (λ i d lt. in_folder all (get_or rest i d) (get_or rest i d).parent (under i d lt));
+    }
 
 -- ---- names and contents
 
@@ -203,10 +244,7 @@ all_valid t tree =
 
 -- an object that stands in a folder names one
 pub child_has : (folder : ℕ) (s : Spot) → is_child folder s ≡ true → (p : ℕ) × (s.parent ≡ Some p)
-child_has folder s e = go s.parent refl where
-  go : (o : Option ℕ) → s.parent ≡ o → (p : ℕ) × (s.parent ≡ Some p)
-  go (Some p) is = (p, is)
-  go None is = let bad = rw is at e in cc
+child_has folder s e = elim (option_cases s.parent) [ inl h ↦ h | inr h ↦ let bad = rw h at e in cc ]
 
 -- ---- order
 

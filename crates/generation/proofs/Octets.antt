@@ -1,8 +1,8 @@
 -- What is written of objects are bytes.
-use Rattle.std.proofs.Common.{◌≡◌, ℕ, suc, ◌<◌, ◌≤◌, Bool, true, false, ◌&&◌, List, [], ◌∷◌, ◌++◌, length, Option, Some, None, cond, refl, arith, nat_lt, lit<}
+use Rattle.std.proofs.Common.{◌≡◌, ℕ, suc, ◌<◌, ◌≤◌, true, List, [], ◌∷◌, ◌++◌, length, Option, Some, None, refl, arith, nat_lt, lit<, inl, inr}
 use Rattle.std.specs.List.{All, filter, flat_map, list_all}
-use Rattle.std.proofs.lemmas.Bool.Decides.{nat_tests}
 use Rattle.std.proofs.lemmas.List.Elements.{All-cons, All-append}
+use Rattle.std.proofs.lemmas.Bool.{and_parts, ltb-true, cases_Bool, cond_both}
 use Rattle.oc_bytes.specs.Numbers.{IsBytes, two_bytes, four_bytes, eight_bytes}
 use Rattle.path_tree.specs.Paths.{Bytes}
 use Rattle.path_tree.specs.Trees.{Tree, IsTree}
@@ -13,7 +13,7 @@ use Rattle.biop_object.specs.declared.written.FolderKind.{FolderKind}
 use Rattle.biop_object.specs.declared.written.FolderKind.TheVariants.{Directory, Gateway}
 use Rattle.generation.specs.Publication.{Spot, spots_of, is_child}
 use Rattle.generation.specs.Layouts.{Placed, key_bytes, bound_of, entries_of, folder_kind_of, object_bytes, is_in, module_bytes}
-use Rattle.generation.proofs.Numbering.{all_valid, child_has}
+use Rattle.generation.proofs.Numbering.{all_valid, child_has, option_cases}
 
 pub record Octets (xs : List ℕ) : Type 0 where
   pub all : IsBytes xs
@@ -29,10 +29,7 @@ none = record { all = λ i d lt. absurd (omega (arith, lt)) }
 
 tested : (xs : List ℕ) → list_all (λ b. nat_lt b 256) xs ≡ true → Octets xs
 tested [] e = none
-tested (x ∷ xs) e = let p = and_both (nat_lt x 256) (list_all (λ b. nat_lt b 256) xs) e in more (grind (arith, nat_tests, p.0)) (tested xs p.1) where
-  and_both : (a b : Bool) → (a && b) ≡ true → (a ≡ true) × (b ≡ true)
-  and_both true b e = (refl, e)
-  and_both false b e = cc
+tested (x ∷ xs) e = let p = and_parts (nat_lt x 256) (list_all (λ b. nat_lt b 256) xs) e in more (ltb-true x 256 p.0) (tested xs p.1)
 
 two : (n : ℕ) → Octets (two_bytes n)
 two n = more (omega arith) (more (omega arith) none)
@@ -84,32 +81,33 @@ pub record IsByteSpot (s : Spot) : Type 0 where
 
 entries : (c folder : ℕ) (os : List Placed) → All (λ o. IsByteSpot o.spot) os → Octets (flat_map binding_spelling (entries_of c os folder))
 entries c folder [] ok = none
-entries c folder (o ∷ os) ok = go (is_child folder o.spot) refl (entries c folder os (λ i d lt. ok (suc i) d (omega (arith, lt)))) where
-  go : (b : Bool) → is_child folder o.spot ≡ b → Octets (flat_map binding_spelling (entries_of c os folder)) → Octets (flat_map binding_spelling (entries_of c (o ∷ os) folder))
-  go false e rest = rw e rest
-  go true e rest =
-      let p = child_has folder o.spot e in
-      let h = (ok 0 o (omega arith)).name p.0 p.1 in rw e (both (binding o.spot.name o.spot.content c o.module_id o.key h.0 h.1) rest)
+entries c folder (o ∷ os) ok =
+    let rest = entries c folder os (λ i d lt. ok (suc i) d (omega (arith, lt))) in
+    elim (cases_Bool (is_child folder o.spot)) [
+      | inl e ↦
+          let p = child_has folder o.spot e in
+          let h = (ok 0 o (omega arith)).name p.0 p.1 in rw e (both (binding o.spot.name o.spot.content c o.module_id o.key h.0 h.1) rest)
+      | inr e ↦ rw e rest
+    ]
 
 folder_kind_ok : (kind : FolderKind) → Octets (kind_of kind)
 folder_kind_ok Directory = tested (kind_of Directory) refl
 folder_kind_ok Gateway = tested (kind_of Gateway) refl
 
 object : (c : ℕ) (objects : List Placed) → All (λ o. IsByteSpot o.spot) objects → (o : Placed) → IsByteSpot o.spot → Octets (object_bytes c objects o)
-object c objects all o ok = go o.spot.content refl where
-  go : (b : Option Bytes) → o.spot.content ≡ b → Octets (object_bytes c objects o)
-  go (Some b) e = rw e (file o.key b (ok.content b e))
-  go None e = rw e (message (key_bytes o.key) (kind_of (folder_kind_of o.spot.path)) [] (two_bytes (length (entries_of c objects o.spot.number)) ++ flat_map binding_spelling (entries_of c objects o.spot.number))
+object c objects all o ok = elim (option_cases o.spot.content) [
+  | inl h ↦ rw h.1 (file o.key h.0 (ok.content h.0 h.1))
+  | inr h ↦ rw h (message (key_bytes o.key) (kind_of (folder_kind_of o.spot.path)) [] (two_bytes (length (entries_of c objects o.spot.number)) ++ flat_map binding_spelling (entries_of c objects o.spot.number))
       (four o.key) (lit< tt) (folder_kind_ok (folder_kind_of o.spot.path)) none (both (two _) (entries c o.spot.number objects all)))
+]
 
 pub module_octets : (c : ℕ) (objects : List Placed) → All (λ o. IsByteSpot o.spot) objects → (m : ℕ) → IsBytes (module_bytes c objects m)
 module_octets c objects all m = (go objects all).all where
   go : (os : List Placed) → All (λ o. IsByteSpot o.spot) os → Octets (flat_map (object_bytes c objects) (filter (is_in m) os))
   go [] ok = none
-  go (o ∷ os) ok = step (is_in m o) (object c objects all o (ok 0 o (omega arith))) (go os (λ i d lt. ok (suc i) d (omega (arith, lt)))) where
-    step : (t : Bool) → Octets (object_bytes c objects o) → Octets (flat_map (object_bytes c objects) (filter (is_in m) os)) → Octets (flat_map (object_bytes c objects) (cond t (o ∷ filter (is_in m) os) (filter (is_in m) os)))
-    step true here rest = both here rest
-    step false here rest = rest
+  go (o ∷ os) ok =
+      let rest = go os (λ i d lt. ok (suc i) d (omega (arith, lt))) in
+      cond_both (is_in m o) (o ∷ filter (is_in m) os) (filter (is_in m) os) (λ l. Octets (flat_map (object_bytes c objects) l)) (λ _. both (object c objects all o (ok 0 o (omega arith))) rest) (λ _. rest)
 
 pub tree_octets : (t : Tree) → IsTree t → All IsByteSpot (spots_of t)
 tree_octets t tree i d lt = let h = all_valid t tree i d lt in record { name = λ p e. ((h.name p e).in_byte, (h.name p e).at_most); content = h.bytes }

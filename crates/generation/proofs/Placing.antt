@@ -1,29 +1,29 @@
 -- The objects of a generation: as many keys and modules as objects, and the sizes of their bytes.
-use Rattle.std.proofs.Common.{◌≡◌, ℕ, zero, suc, ◌+◌, ◌-◌, ◌<◌, ◌≤◌, max, Bool, true, false, not, List, [], ◌∷◌, ◌++◌, length, map, Option, Some, None, cond, refl, sym, ◌∙◌, ap, subst, arith, get_or, length-append, append-nil, ◌==◌, nat_lt, nat_le, sum, inl, inr, ◌⊎◌, Result, Ok, Err, Vec, Global}
-use Rattle.std.specs.Prelude.{IfOk}
-use Rattle.std.specs.List.{All, find, sum_by, filter, filter_map, flat_map, list_any, range_with_len, fold, cons_option}
+use Rattle.std.proofs.Common.{◌≡◌, ℕ, zero, suc, ◌+◌, ◌-◌, ◌<◌, ◌≤◌, max, Bool, true, false, not, List, [], ◌∷◌, ◌++◌, length, map, Option, Some, None, cond, refl, sym, ◌∙◌, ap, arith, get_or, length-append, append-nil, ◌==◌, nat_lt, nat_le, sum, inl, inr}
+use Rattle.std.specs.List.{All, find, sum_by, filter, filter_map, flat_map, list_any, range_with_len, fold, cons_option, AllPairs}
 use Rattle.std.proofs.lemmas.Bool.Decides.{nat_tests}
 use Rattle.std.proofs.lemmas.List.Sums.{sum_by-cons}
-use Rattle.std.proofs.lemmas.List.Elements.{All-cons, filter_map-append}
-use Rattle.std.proofs.lemmas.List.{map-append, get_or-map}
+use Rattle.std.proofs.lemmas.List.Elements.{All-cons, filter_map-append, All-nil}
+use Rattle.std.proofs.lemmas.List.{map-append, get_or-map, length-map}
 use Rattle.module_groups.specs.declared.TheConstants.{GREATEST_ID}
-use Rattle.generation.proofs.Keying.{range_more}
 use Rattle.path_tree.specs.Paths.{Bytes}
 use Rattle.path_tree.specs.Trees.{Tree, IsTree}
 use Rattle.biop_object.specs.Objects.{folder_spelling, binding_spelling, bound_tail, bound_kind}
 use Rattle.biop_object.specs.declared.written.FolderKind.{FolderKind}
 use Rattle.biop_object.specs.declared.written.FolderKind.TheVariants.{Directory, Gateway}
 use Rattle.std.proofs.lemmas.List.FromFn.{length-range_with_len}
+use Rattle.std.proofs.lemmas.Bool.{cases_Bool, or_cases, cond_both, ltb-false, le-leb, lt-leb, cond-true, cond-false, not-false}
+use Rattle.std.proofs.lemmas.List.Kept.{AllPairs-cons}
+use Rattle.generation.proofs.Keyed.{range_more}
 use Rattle.oc_bytes.specs.Outcome.{cap_at_u64, cap_at_u32}
-use Rattle.module_packer.specs.Placement.{modules_needed, IsPlacement}
+use Rattle.module_packer.specs.Placement.{modules_needed}
 use Rattle.generation.specs.declared.spots.Spot.{Spot as CodeSpot}
 use Rattle.generation.specs.declared.objects.Placed.{Placed as CodePlaced}
 use Rattle.generation.specs.Publication.{Spot, size_of, spots_of, sizes_of, binding_size, binding_rest, is_child, is_large_folder, large_folder, limit_of, or_else, over, Passed, Objects, Total, Modules}
 use Rattle.generation.specs.Layouts.{Placed, placed_all, fill_keys, free_keys, taken_in, old_keys, keys_of, written_in, entries_of, object_bytes, key_bytes, location_of, bound_of, folder_kind_of, is_in, module_bytes, module_if_used, layout_of, greatest}
 use Rattle.generation.specs.Inner.Linking.{IsBelow}
 use Rattle.generation.specs.View.{view_spot, view_placed, placed_from, IsSpotIn, AreFoldered, AreReady}
-use Rattle.generation.proofs.Limiting.{len_map}
-use Rattle.generation.proofs.Numbering.{number_at, all_numbered, all_in_folders}
+use Rattle.generation.proofs.Numbering.{number_at, all_numbered, all_in_folders, all_unmap, option_cases}
 
 -- ---- keys
 
@@ -36,32 +36,23 @@ unfolding above
 above_less a [] = omega arith
 above_less a (j ∷ js) = go (nat_le (a + 1) j) (nat_le a j) refl refl (above_less a js) where
   go : (x y : Bool) → nat_le (a + 1) j ≡ x → nat_le a j ≡ y → above (a + 1) js ≤ above a js → cond x 1 0 + above (a + 1) js ≤ cond y 1 0 + above a js
-  go x true ex ey h = bit x h where
-    bit : (x : Bool) → above (a + 1) js ≤ above a js → cond x 1 0 + above (a + 1) js ≤ 1 + above a js
-    bit true h = omega (arith, h)
-    bit false h = omega (arith, h)
+  go true true ex ey h = omega (arith, h)
+  go false true ex ey h = omega (arith, h)
   go true false ex ey h = absurd (grind (arith, nat_tests, ex, ey))
   go false false ex ey h = omega (arith, h)
-
-any_cases : (p : ℕ → Bool) (x : ℕ) (xs : List ℕ) → list_any p (x ∷ xs) ≡ true → (p x ≡ true) ⊎ (list_any p xs ≡ true)
-any_cases p x xs e = go (p x) refl where
-  go : (b : Bool) → p x ≡ b → (p x ≡ true) ⊎ (list_any p xs ≡ true)
-  go true h = inl h
-  go false h = inr (rw h at e)
 
 above_taken : (a : ℕ) (js : List ℕ) → list_any (λ j. j == a) js ≡ true → above (a + 1) js + 1 ≤ above a js
 unfolding above
 above_taken a [] e = cc
-above_taken a (j ∷ js) e = elim (any_cases (λ j. j == a) j js e) [
+above_taken a (j ∷ js) e = elim (or_cases (j == a) (list_any (λ k. k == a) js) e) [
   | inl here ↦ let is : j ≡ a = grind (arith, nat_tests, here) in first j is (above_less a js)
   | inr later ↦ rest (above_taken a js later) (above_less a (j ∷ []))
 ] where
   first : (j : ℕ) → j ≡ a → above (a + 1) js ≤ above a js → cond (nat_le (a + 1) j) 1 0 + above (a + 1) js + 1 ≤ cond (nat_le a j) 1 0 + above a js
-  first j is h = go (nat_le (a + 1) j) (nat_le a j) refl refl where
-    go : (x y : Bool) → nat_le (a + 1) j ≡ x → nat_le a j ≡ y → cond x 1 0 + above (a + 1) js + 1 ≤ cond y 1 0 + above a js
-    go true y ex ey = absurd (grind (arith, nat_tests, ex, is))
-    go false true ex ey = omega (arith, h)
-    go false false ex ey = absurd (grind (arith, nat_tests, ey, is))
+  first j is h =
+      let past : cond {A = ℕ} (nat_le (a + 1) j) 1 0 ≡ 0 = cond-false (nat_le (a + 1) j) 1 0 (lt-leb (a + 1) j (omega (arith, is))) in
+      let here : cond {A = ℕ} (nat_le a j) 1 0 ≡ 1 = cond-true (nat_le a j) 1 0 (le-leb a j (omega (arith, is))) in
+      omega (arith, h, past, here)
 
   rest : above (a + 1) js + 1 ≤ above a js → cond (nat_le (a + 1) j) 1 0 + 0 ≤ cond (nat_le a j) 1 0 + 0 → cond (nat_le (a + 1) j) 1 0 + above (a + 1) js + 1 ≤ cond (nat_le a j) 1 0 + above a js
   rest h bits = omega (arith, h, bits)
@@ -69,21 +60,15 @@ above_taken a (j ∷ js) e = elim (any_cases (λ j. j == a) j js e) [
 above_all : (a : ℕ) (js : List ℕ) → above a js ≤ length js
 unfolding above
 above_all a [] = omega arith
-above_all a (j ∷ js) = bit (nat_le a j) (above_all a js) where
-  bit : (x : Bool) → above a js ≤ length js → cond x 1 0 + above a js ≤ suc (length js)
-  bit true h = omega (arith, h)
-  bit false h = omega (arith, h)
+above_all a (j ∷ js) = let h = above_all a js in cond_both {A = ℕ} (nat_le a j) 1 0 (λ n. n + above a js ≤ suc (length js)) (λ _. omega (arith, h)) (λ _. omega (arith, h))
 
 many_free : (taken : List ℕ) (a n : ℕ) → n ≤ length (filter (λ k. not (list_any (λ j. j == k) taken)) (range_with_len a n)) + above a taken
 many_free taken a zero = omega arith
-many_free taken a (suc n) = go (list_any (λ j. j == a) taken) refl (many_free taken (a + 1) n) (above_less a taken) (λ e. above_taken a taken e) where
-  rest : List ℕ
-  rest = filter (λ k. not (list_any (λ j. j == k) taken)) (range_with_len (a + 1) n)
-
-  go : (b : Bool) → list_any (λ j. j == a) taken ≡ b → n ≤ length rest + above (a + 1) taken → above (a + 1) taken ≤ above a taken → (list_any (λ j. j == a) taken ≡ true → above (a + 1) taken + 1 ≤ above a taken)
-      → suc n ≤ length (cond (not b) (a ∷ rest) rest) + above a taken
-  go true e h less taken_more = omega (arith, h, taken_more e)
-  go false e h less taken_more = omega (arith, h, less)
+many_free taken a (suc n) =
+    let rest = filter (λ k. not (list_any (λ j. j == k) taken)) (range_with_len (a + 1) n) in
+    let h = many_free taken (a + 1) n in
+    cond_both (not (list_any (λ j. j == a) taken)) (a ∷ rest) rest (λ l. suc n ≤ length l + above a taken)
+    (λ _. omega (arith, h, above_less a taken)) (λ e. omega (arith, h, above_taken a taken (not-false (list_any (λ j. j == a) taken) e)))
 
 nones : List (Option ℕ) → ℕ
 nones [] = 0
@@ -106,32 +91,22 @@ length-filled (None ∷ keys) (k ∷ free) le = ap suc (length-filled keys free 
 pub length-keys_of : (old : List Placed) (spots : List Spot) → length (keys_of old spots) ≡ length spots
 length-keys_of old spots =
     let keys = old_keys old spots in
-    let n : length keys ≡ length spots = len_map _ spots in
+    let n : length keys ≡ length spots = length-map spots _ in
     let many = many_free (taken_in keys) 2 (length spots) in
     let most = above_all 2 (taken_in keys) in
     length-filled keys (free_keys (taken_in keys) (length spots)) (omega (arith, many, most, n, nones_rest keys)) ∙ n
 
 -- ---- objects
 
-pub placed_spots : (spots : List Spot) (keys ms : List ℕ) → length keys ≡ length spots → length ms ≡ length spots → map (λ o. o.spot) (placed_all spots keys ms) ≡ spots
-placed_spots [] keys ms ek em = refl
-placed_spots (s ∷ ss) [] ms ek em = absurd (omega (arith, ek))
-placed_spots (s ∷ ss) (k ∷ ks) [] ek em = absurd (omega (arith, em))
-placed_spots (s ∷ ss) (k ∷ ks) (m ∷ ms) ek em = ap (λ xs. s ∷ xs) (placed_spots ss ks ms (omega (arith, ek)) (omega (arith, em)))
-
-pub placed_modules : (spots : List Spot) (keys ms : List ℕ) → length keys ≡ length spots → length ms ≡ length spots → map (λ o. o.module_id) (placed_all spots keys ms) ≡ ms
-placed_modules [] keys [] ek em = refl
-placed_modules [] keys (m ∷ ms) ek em = absurd (omega (arith, em))
-placed_modules (s ∷ ss) [] ms ek em = absurd (omega (arith, ek))
-placed_modules (s ∷ ss) (k ∷ ks) [] ek em = absurd (omega (arith, em))
-placed_modules (s ∷ ss) (k ∷ ks) (m ∷ ms) ek em = ap (λ xs. m ∷ xs) (placed_modules ss ks ms (omega (arith, ek)) (omega (arith, em)))
-
-pub placed_keys : (spots : List Spot) (keys ms : List ℕ) → length keys ≡ length spots → length ms ≡ length spots → map (λ o. o.key) (placed_all spots keys ms) ≡ keys
-placed_keys [] [] ms ek em = refl
-placed_keys [] (k ∷ ks) ms ek em = absurd (omega (arith, ek))
-placed_keys (s ∷ ss) [] ms ek em = absurd (omega (arith, ek))
-placed_keys (s ∷ ss) (k ∷ ks) [] ek em = absurd (omega (arith, em))
-placed_keys (s ∷ ss) (k ∷ ks) (m ∷ ms) ek em = ap (λ xs. k ∷ xs) (placed_keys ss ks ms (omega (arith, ek)) (omega (arith, em)))
+pub placed_parts : (spots : List Spot) (keys ms : List ℕ) → length keys ≡ length spots → length ms ≡ length spots
+    → (map (λ o. o.spot) (placed_all spots keys ms) ≡ spots) × (map (λ o. o.key) (placed_all spots keys ms) ≡ keys) × (map (λ o. o.module_id) (placed_all spots keys ms) ≡ ms)
+placed_parts [] [] [] ek em = (refl, refl, refl)
+placed_parts [] [] (m ∷ ms) ek em = absurd (omega (arith, em))
+placed_parts [] (k ∷ ks) ms ek em = absurd (omega (arith, ek))
+placed_parts (s ∷ ss) [] ms ek em = absurd (omega (arith, ek))
+placed_parts (s ∷ ss) (k ∷ ks) [] ek em = absurd (omega (arith, em))
+placed_parts (s ∷ ss) (k ∷ ks) (m ∷ ms) ek em =
+    let h = placed_parts ss ks ms (omega (arith, ek)) (omega (arith, em)) in (ap (λ xs. s ∷ xs) h.0, ap (λ xs. k ∷ xs) h.1, ap (λ xs. m ∷ xs) h.2)
 
 pub placed_view : (t : Tree) (spots : List CodeSpot) (keys ms : List ℕ) → map (view_placed t) (placed_from spots keys ms) ≡ placed_all (map (view_spot t) spots) keys ms
 placed_view t [] keys ms = refl
@@ -167,13 +142,13 @@ entries_length c folder (o ∷ os) = go (is_child folder o.spot) refl (entries_l
   go false e h = rw e (omega (arith, h))
 
 pub length-object_bytes : (c : ℕ) (objects : List Placed) (o : Placed) → length (object_bytes c objects o) ≡ size_of (map (λ o. o.spot) objects) o.spot
-length-object_bytes c objects o = go o.spot.content refl where
-  go : (content : Option Bytes) → o.spot.content ≡ content → length (object_bytes c objects o) ≡ size_of (map (λ o. o.spot) objects) o.spot
-  go (Some b) e = rw e (omega arith)
-  go None e = rw e (folder_length (folder_kind_of o.spot.path) ∙ ap (λ n. 34 + n) (entries_length c o.spot.number objects)) where
-    folder_length : (kind : FolderKind) → length (folder_spelling kind (key_bytes o.key) (entries_of c objects o.spot.number)) ≡ 34 + length (flat_map binding_spelling (entries_of c objects o.spot.number))
-    folder_length Directory = omega arith
-    folder_length Gateway = omega arith
+length-object_bytes c objects o = elim (option_cases o.spot.content) [
+  | inl h ↦ rw h.1 (omega arith)
+  | inr h ↦ rw h (folder_length (folder_kind_of o.spot.path) ∙ ap (λ n. 34 + n) (entries_length c o.spot.number objects))
+] where
+  folder_length : (kind : FolderKind) → length (folder_spelling kind (key_bytes o.key) (entries_of c objects o.spot.number)) ≡ 34 + length (flat_map binding_spelling (entries_of c objects o.spot.number))
+  folder_length Directory = omega arith
+  folder_length Gateway = omega arith
 
 -- ---- limits
 
@@ -195,9 +170,6 @@ no_folder : (f : Option Spot) → large_folder f ≡ None → f ≡ None
 no_folder (Some s) e = cc
 no_folder None e = refl
 
-at_most : (n x : ℕ) → nat_lt n x ≡ false → x ≤ n
-at_most n x e = grind (arith, nat_tests, e)
-
 pub within_limits : (t : Tree) → limit_of t ≡ None → Within t
 within_limits t e =
     let all = spots_of t in
@@ -205,30 +177,27 @@ within_limits t e =
     let b = passed_none (large_folder (find (is_large_folder all) all)) _ a.1 in
     let c = passed_none (over (nat_lt 268435456 (sum (sizes_of t))) (Total (cap_at_u64 (sum (sizes_of t))))) _ b.1 in
     record {
-      few = at_most 8192 (length all) (over_none (nat_lt 8192 (length all)) (Objects (cap_at_u32 (length all))) a.0);
+      few = ltb-false 8192 (length all) (over_none (nat_lt 8192 (length all)) (Objects (cap_at_u32 (length all))) a.0);
       folders = no_folder (find (is_large_folder all) all) b.0;
-      total = at_most 268435456 (sum (sizes_of t)) (over_none _ (Total (cap_at_u64 (sum (sizes_of t)))) c.0);
-      modules = at_most GREATEST_ID (modules_needed (sizes_of t)) (over_none _ (Modules (cap_at_u64 (modules_needed (sizes_of t)))) c.1);
+      total = ltb-false 268435456 (sum (sizes_of t)) (over_none _ (Total (cap_at_u64 (sum (sizes_of t)))) c.0);
+      modules = ltb-false GREATEST_ID (modules_needed (sizes_of t)) (over_none _ (Modules (cap_at_u64 (modules_needed (sizes_of t)))) c.1);
     }
 
 pub find_none : {A : Type 0} (p : A → Bool) (xs : List A) → find p xs ≡ None → All (λ x. p x ≡ false) xs
-find_none p [] e = λ k d lt. absurd (omega (arith, lt))
-find_none p (x ∷ xs) e = go (p x) refl (λ h. find_none p xs h) where
-  go : (b : Bool) → p x ≡ b → (find p xs ≡ None → All (λ x. p x ≡ false) xs) → All (λ x. p x ≡ false) (x ∷ xs)
-  go true h rest = let k = rw h at e in cc
-  go false h rest = All-cons (λ x. p x ≡ false) x xs h (rest (rw h at e))
-
-pub all_unmap : {A B : Type 0} (P : B → Type 0) (f : A → B) (xs : List A) → All P (map f xs) → All (λ x. P (f x)) xs
-all_unmap P f [] all = λ k d lt. absurd (omega (arith, lt))
-all_unmap P f (x ∷ xs) all = All-cons (λ x. P (f x)) x xs (all 0 (f x) (omega arith)) (all_unmap P f xs (λ k d lt. all (suc k) d (omega (arith, lt))))
+find_none p [] e = All-nil (λ x. p x ≡ false)
+find_none p (x ∷ xs) e = elim (cases_Bool (p x)) [ inl h ↦ let bad = rw h at e in cc | inr h ↦ All-cons (λ x. p x ≡ false) x xs h (find_none p xs (rw h at e)) ]
 
 pub folder_small : (spots : List Spot) (s : Spot) → s.content ≡ None → is_large_folder spots s ≡ false → size_of spots s ≤ 1048576
 folder_small spots s e small = go s.content e small where
   go : (c : Option Bytes) → c ≡ None → is_large_folder spots (record s { content = c }) ≡ false → size_of spots (record s { content = c }) ≤ 1048576
   go (Some b) e small = cc
-  go None e small = at_most 1048576 _ small
+  go None e small = ltb-false 1048576 _ small
 
 -- ---- modules
+
+pub fold_least : (ms : List ℕ) (a : ℕ) → a ≤ fold max a ms
+fold_least [] a = omega arith
+fold_least (m ∷ ms) a = omega (arith, fold_least ms (max a m))
 
 pub greatest_most : (ms : List ℕ) (n : ℕ) → All (λ m. (1 ≤ m) × (m ≤ n)) ms → greatest ms ≤ n
 greatest_most ms n all = go ms 0 n (omega arith) all where
@@ -236,31 +205,44 @@ greatest_most ms n all = go ms 0 n (omega arith) all where
   go [] a n le all = le
   go (m ∷ ms) a n le all = let h = all 0 m (omega arith) in go ms (max a m) n (omega (arith, le, h.1)) (λ k d lt. all (suc k) d (omega (arith, lt)))
 
-pub listed_length : (c : ℕ) (objects : List Placed) (ids : List ℕ) → length (filter_map (module_if_used c objects) ids) ≤ length ids
-listed_length c objects [] = omega arith
-listed_length c objects (m ∷ ms) = go (list_any (is_in m) objects) refl (listed_length c objects ms) where
-  go : (b : Bool) → list_any (is_in m) objects ≡ b → length (filter_map (module_if_used c objects) ms) ≤ length ms → length (filter_map (module_if_used c objects) (m ∷ ms)) ≤ suc (length ms)
-  go true e h = rw e (omega (arith, h))
-  go false e h = rw e (omega (arith, h))
+few_cons : {A : Type 0} (o : Option A) (ys : List A) (n : ℕ) → length ys ≤ n → length (cons_option o ys) ≤ suc n
+few_cons (Some y) ys n h = omega (arith, h)
+few_cons None ys n h = omega (arith, h)
+
+pub few_kept : {A B : Type 0} (f : A → Option B) (xs : List A) → length (filter_map f xs) ≤ length xs
+few_kept f [] = omega arith
+few_kept f (x ∷ xs) = few_cons (f x) (filter_map f xs) (length xs) (few_kept f xs)
+
+-- what holds of each module that is used holds of each that is listed
+pub each_listed : (P : ℕ × Bytes → Type 0) (c : ℕ) (objects : List Placed) (a n : ℕ) → ((m : ℕ) → a ≤ m → m < a + n → list_any (is_in m) objects ≡ true → P (m, module_bytes c objects m))
+    → All P (filter_map (module_if_used c objects) (range_with_len a n))
+each_listed P c objects a zero h = All-nil P
+each_listed P c objects a (suc n) h =
+    let later = each_listed P c objects (a + 1) n (λ m low lt used. h m (omega (arith, low)) (omega (arith, lt)) used) in
+    elim (cases_Bool (list_any (is_in a) objects)) [
+      | inl e ↦ rw e (All-cons P (a, module_bytes c objects a) (filter_map (module_if_used c objects) (range_with_len (a + 1) n)) (h a (omega arith) (omega arith) e) later)
+      | inr e ↦ rw e later
+    ]
+
+-- and they rise
+pub rising : (c : ℕ) (objects : List Placed) (a n : ℕ) → AllPairs (λ m n. m.0 < n.0) (filter_map (module_if_used c objects) (range_with_len a n))
+rising c objects a zero = λ i j d lt l. absurd (omega (arith, l))
+rising c objects a (suc n) = elim (cases_Bool (list_any (is_in a) objects)) [
+  | inl e ↦ rw e (AllPairs-cons (λ m n. m.0 < n.0) (a, module_bytes c objects a) (filter_map (module_if_used c objects) (range_with_len (a + 1) n))
+      (each_listed (λ m. a < m.0) c objects (a + 1) n (λ m low lt used. omega (arith, low))) (rising c objects (a + 1) n))
+  | inr e ↦ rw e (rising c objects (a + 1) n)
+]
 
 pub piece_length : (f : Placed → Bytes) (p : Placed → Bool) (os : List Placed) → length (flat_map f (filter p os)) ≤ sum_by (λ o. length (f o)) os
 piece_length f p [] = omega arith
-piece_length f p (o ∷ os) = go (p o) refl (piece_length f p os) (sum_by-cons (λ o. length (f o)) o os) where
-  go : (b : Bool) → p o ≡ b → length (flat_map f (filter p os)) ≤ sum_by (λ o. length (f o)) os → sum_by (λ o. length (f o)) (o ∷ os) ≡ length (f o) + sum_by (λ o. length (f o)) os
-      → length (flat_map f (filter p (o ∷ os))) ≤ sum_by (λ o. length (f o)) (o ∷ os)
-  go true e h more = rw (e, more) (omega (arith, h, length-append (f o) (flat_map f (filter p os))))
-  go false e h more = rw (e, more) (omega (arith, h))
+piece_length f p (o ∷ os) =
+    let h = piece_length f p os in
+    let more = sum_by-cons (λ o. length (f o)) o os in
+    elim (cases_Bool (p o)) [ inl e ↦ rw (e, more) (omega (arith, h, length-append (f o) (flat_map f (filter p os)))) | inr e ↦ rw (e, more) (omega (arith, h)) ]
 
 pub total_length : (c : ℕ) (objects os : List Placed) → sum_by (λ o. length (object_bytes c objects o)) os ≡ sum (map (size_of (map (λ o. o.spot) objects)) (map (λ o. o.spot) os))
 total_length c objects [] = refl
 total_length c objects (o ∷ os) = sum_by-cons _ o os ∙ (omega (arith, length-object_bytes c objects o, total_length c objects os, sum_by-cons {X = ℕ} (λ n. n) (size_of (map (λ o. o.spot) objects) o.spot) (map (size_of (map (λ o. o.spot) objects)) (map (λ o. o.spot) os))))
-
-pub listed_small : (c : ℕ) (objects : List Placed) (most : ℕ) → sum_by (λ o. length (object_bytes c objects o)) objects ≤ most → (ids : List ℕ) → All (λ m. length m.1 ≤ most) (filter_map (module_if_used c objects) ids)
-listed_small c objects most total [] = λ k d lt. absurd (omega (arith, lt))
-listed_small c objects most total (m ∷ ms) = go (list_any (is_in m) objects) refl (listed_small c objects most total ms) where
-  go : (b : Bool) → list_any (is_in m) objects ≡ b → All (λ m. length m.1 ≤ most) (filter_map (module_if_used c objects) ms) → All (λ m. length m.1 ≤ most) (filter_map (module_if_used c objects) (m ∷ ms))
-  go true e h = rw e (All-cons (λ m. length m.1 ≤ most) (m, module_bytes c objects m) (filter_map (module_if_used c objects) ms) (omega (arith, piece_length (object_bytes c objects) (is_in m) objects, total)) h)
-  go false e h = rw e h
 
 -- ---- what `next` needs of its objects
 
@@ -285,10 +267,10 @@ ids_same f v k xs le so_far is = sym (ids_before f k le ∙ rw (← is, ← so_f
 -- the objects of a tree name folders among them
 pub are_foldered : (t : Tree) (objects : List CodePlaced) → map (λ o. o.spot) (map (view_placed t) objects) ≡ spots_of t → AreFoldered objects
 are_foldered t objects spots =
-    let n : length (spots_of t) ≡ length objects = ap length (sym spots) ∙ (len_map (λ o. o.spot) (map (view_placed t) objects) ∙ len_map (view_placed t) objects) in
+    let n : length (spots_of t) ≡ length objects = ap length (sym spots) ∙ (length-map (map (view_placed t) objects) (λ o. o.spot) ∙ length-map objects (view_placed t)) in
     let at : (i : ℕ) (d : CodePlaced) → i < length objects → get_or (spots_of t) i (view_spot t d.spot) ≡ view_spot t (get_or objects i d).spot = λ i d lt.
     ap (λ ss. get_or ss i (view_spot t d.spot)) (sym spots)
-    ∙ (get_or-map (λ o. o.spot) (map (view_placed t) objects) i (view_placed t d) (view_spot t d.spot) (omega (arith, lt, len_map (view_placed t) objects))
+    ∙ (get_or-map (λ o. o.spot) (map (view_placed t) objects) i (view_placed t d) (view_spot t d.spot) (omega (arith, lt, length-map objects (view_placed t)))
     ∙ ap (λ (o : Placed). o.spot) (get_or-map (view_placed t) objects i d (view_placed t d) lt)) in
     record {
       numbers = λ i d lt. ap (λ s. s.number) (sym (at i d lt)) ∙ (number_at 0 (spots_of t) (all_numbered t) i (view_spot t d.spot) (omega (arith, lt, n)) ∙ omega arith);
@@ -321,31 +303,9 @@ are_ready c t objects tree limit valid spots numbers =
           rw is (folder_small (spots_of t) (view_placed t o).spot (rw whole refl) small);
       listed = all_unmap (λ m. (1 ≤ m) × (m ≤ GREATEST_ID)) (λ (o : CodePlaced). o.module) objects (rw (modules_seen t objects) numbers);
       numbers = rw (modules_seen t objects) most;
-      modules = omega (arith, listed_length c objs (range_with_len 1 (greatest (map (λ o. o.module_id) objs))), length-range_with_len 1 (greatest (map (λ o. o.module_id) objs)), most);
-      sizes = listed_small c objs 268435456 total (range_with_len 1 (greatest (map (λ o. o.module_id) objs)));
+      modules = omega (arith, few_kept (module_if_used c objs) (range_with_len 1 (greatest (map (λ o. o.module_id) objs))), length-range_with_len 1 (greatest (map (λ o. o.module_id) objs)), most);
+      sizes = each_listed (λ m. length m.1 ≤ 268435456) c objs 1 (greatest (map (λ o. o.module_id) objs)) (λ m low lt used. omega (arith, piece_length (object_bytes c objs) (is_in m) objs, total));
     }
-
-pub objects_arm : {E : Type 0} (r : Result (Vec CodePlaced Global) E) (t : Tree) (old : List Placed) (modules : List ℕ) (spots : List CodeSpot) (keys ms : List ℕ)
-    → map (view_spot t) spots ≡ spots_of t → keys ≡ keys_of old (spots_of t) → ms ≡ modules
-    → IfOk r (λ v. v.items ≡ placed_from spots keys ms)
-    → IfOk r (λ v. map (view_placed t) v.items ≡ placed_all (spots_of t) (keys_of old (spots_of t)) modules)
-objects_arm (Ok v) t old modules spots keys ms es ek em is = ap (λ os. map (view_placed t) os) is ∙ (placed_view t spots keys ms ∙ (ap (λ s. placed_all s keys ms) es ∙ (ap (λ k. placed_all (spots_of t) k ms) ek ∙ ap (λ m. placed_all (spots_of t) (keys_of old (spots_of t)) m) em)))
-objects_arm (Err e) t old modules spots keys ms es ek em is = is
-
-pub ready_arm : {E : Type 0} (r : Result (Vec CodePlaced Global) E) (t : Tree) (old : List Placed) (modules : List ℕ) (spots : List CodeSpot) (keys ms : List ℕ)
-    → IsTree t → limit_of t ≡ None → All (IsSpotIn t) spots → IsPlacement GREATEST_ID (sizes_of t) modules
-    → map (view_spot t) spots ≡ spots_of t → keys ≡ keys_of old (spots_of t) → ms ≡ modules
-    → IfOk r (λ v. v.items ≡ placed_from spots keys ms)
-    → IfOk r (λ v. (c : ℕ) → AreReady c t v.items)
-ready_arm (Ok v) t old modules spots keys ms tree limit valid placement es ek em is =
-    let made : map (view_placed t) v.items ≡ placed_all (spots_of t) (keys_of old (spots_of t)) modules =
-    ap (λ os. map (view_placed t) os) is ∙ (placed_view t spots keys ms ∙ (ap (λ s. placed_all s keys ms) es ∙ (ap (λ k. placed_all (spots_of t) k ms) ek ∙ ap (λ m. placed_all (spots_of t) (keys_of old (spots_of t)) m) em))) in
-    let nk = length-keys_of old (spots_of t) in
-    let nm : length modules ≡ length (spots_of t) = placement.each ∙ len_map (size_of (spots_of t)) (spots_of t) in
-    λ c. are_ready c t v.items tree limit (rw is (placed_valid t spots keys ms valid))
-    (ap (map (λ o. o.spot)) made ∙ placed_spots (spots_of t) (keys_of old (spots_of t)) modules nk nm)
-    (subst (All (λ m. (1 ≤ m) × (m ≤ GREATEST_ID))) (sym (ap (map (λ o. o.module_id)) made ∙ placed_modules (spots_of t) (keys_of old (spots_of t)) modules nk nm)) placement.numbers)
-ready_arm (Err e) t old modules spots keys ms tree limit valid placement es ek em is = is
 
 pub listed_some : (c : ℕ) (objects : List Placed) (id : ℕ) (b : Bytes) → list_any (is_in id) objects ≡ true → b ≡ module_bytes c objects id → Some (id, b) ≡ module_if_used c objects id
 listed_some c objects id b used is = rw (used, is) refl

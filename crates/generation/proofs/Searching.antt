@@ -1,15 +1,20 @@
--- Listed modules, which rise by id, are found by halves.
-use Rattle.std.proofs.Common.{◌≡◌, ℕ, zero, suc, ◌<◌, ◌≤◌, leb, ◌∙◌, Bool, true, false, cond, List, [], ◌∷◌, length, map, get_or, Some, None, refl, ap, arith}
+-- Listed modules, which rise by id, are found by halves, and so are the two places between which those of a group stand.
+use Rattle.std.proofs.Common.{◌≡◌, ℕ, zero, suc, ◌<◌, ◌≤◌, ◌∙◌, true, false, cond, List, [], ◌∷◌, length, map, get_or, Some, None, refl, ap, arith, inl, inr, ◌+◌, ◌-◌, Bool, take, drop, sym, subst, ◌++◌, ◌==◌}
 use Rattle.std.specs.Prelude.{nat_lt}
-use Rattle.std.specs.List.Sorted.{IsNonDecreasingBy, IsPartitionPoint}
-use Rattle.std.proofs.lemmas.Bool.{eq-eqb, ne_eqb, ltb-true, ltb-false}
-use Rattle.std.proofs.lemmas.Bool.Decides.{nat_tests}
-use Rattle.std.proofs.lemmas.List.{get_or-map, get_or_default}
+use Rattle.std.specs.List.Sorted.{IsNonDecreasingBy, IsPartitionPoint, IsPartitionedBy}
+use Rattle.std.proofs.lemmas.Bool.{eq-eqb, ne_eqb, ltb-true, ltb-false, cases_eq, cases_lt, cases_Bool}
+use Rattle.std.proofs.lemmas.List.{get_or-map, get_or_default, length-map, length-take, length-drop, get_or-take, get_or-drop, append-nil}
 use Rattle.path_tree.specs.Paths.{Bytes}
 use Rattle.biop_object.specs.Names.{module_in}
 use Rattle.generation.specs.View.{IsRising, view_listed}
 use Rattle.generation.specs.declared.made.Listed.{Listed}
-use Rattle.generation.proofs.Limiting.{len_map}
+use Rattle.std.proofs.lemmas.List.Sorted.{IsPartitionedBy-ltb}
+use Rattle.std.proofs.lemmas.List.Edits.{split_between}
+use Rattle.std.proofs.lemmas.List.Elements.{All-tail, filter-append}
+use Rattle.std.specs.List.{All, filter}
+use Rattle.module_groups.proofs.CallerLemmas.{groups_rise}
+use Rattle.generation.specs.Groups.{group_of, group_in}
+use Rattle.generation.specs.Inner.Halves.{IsFirstOfGroup}
 
 -- what stands where no module does
 abbrev pub nothing : Listed
@@ -20,23 +25,17 @@ id_at ms k d e lt = ap (λ (m : ℕ × Bytes). m.0) (get_or-map view_listed ms k
 
 pub ids_rise : (ms : List Listed) → IsRising (map view_listed ms) → (i j : ℕ) (d : Listed) → i < j → j < length ms → (get_or ms i d).id < (get_or ms j d).id
 ids_rise ms is i j d lt inside =
-    let n = len_map view_listed ms in
+    let n = length-map ms view_listed in
     let up = is.rising i j (0, []) lt (omega (arith, n, inside)) in
     let a = id_at ms i d (0, []) (omega (arith, lt, inside)) in
     let b = id_at ms j d (0, []) inside in
     omega (arith, up, a, b)
 
 pub ids_up : (ms : List Listed) → IsRising (map view_listed ms) → IsNonDecreasingBy (λ l. l.id) ms
-ids_up ms is i j d le inside = go (leb j i) refl where
-  go : (t : Bool) → leb j i ≡ t → (get_or ms i d).id ≤ (get_or ms j d).id
-  go true e =
-      let high : j ≤ i = grind (arith, nat_tests, e) in
-      let same : i ≡ j = omega (arith, le, high) in
-      omega (arith, ap (λ k. (get_or ms k d).id) same)
-  go false e =
-      let low : i < j = grind (arith, nat_tests, e) in
-      let up = ids_rise ms is i j d low inside in
-      omega (arith, up)
+ids_up ms is i j d le inside = elim (cases_eq i j) [
+  | inl same ↦ omega (arith, ap (λ k. (get_or ms k d).id) same)
+  | inr ne ↦ let up = ids_rise ms is i j d (omega (arith, le, ne)) inside in omega (arith, up)
+]
 
 -- the first module of an id, at its place
 found_at : (ms : List Listed) (k id : ℕ) → ((i : ℕ) → i < k → (get_or ms i nothing).id < id) → k < length ms → (get_or ms k nothing).id ≡ id
@@ -72,11 +71,81 @@ pub no_module_at : (ms : List Listed) (id first : ℕ) → IsRising (map view_li
     → module_in (map view_listed ms) id ≡ None
 no_module_at ms id first is point other = absent_in ms id each where
   each : (i : ℕ) → i < length ms → (get_or ms i nothing).id ≡ id → ⊥
-  each i inside e = go (nat_lt i first) refl where
-    go : (t : Bool) → nat_lt i first ≡ t → ⊥
-    go true t = let low = lower ms id first point i (ltb-true i first t) in omega (arith, low, e)
-    go false t =
-        let past : first ≤ i = ltb-false i first t in
+  each i inside e = elim (cases_lt i first) [
+    | inl below ↦ let low = lower ms id first point i below in omega (arith, low, e)
+    | inr past ↦
         let high : id ≤ (get_or ms first nothing).id = ltb-false _ id (point.1 first nothing (omega arith) (omega (arith, past, inside))) in
         let up = ids_up ms is first i nothing past inside in
         other (omega (arith, past, inside)) nothing (omega (arith, high, up, e))
+  ]
+
+-- ---- the places that are found
+
+groups_up : (ms : List Listed) → IsRising (map view_listed ms) → IsNonDecreasingBy (λ l. group_of l.id) ms
+groups_up ms is i j d le inside = groups_rise (get_or ms i d).id (get_or ms j d).id (ids_up ms is i j d le inside)
+
+pub groups_parted : (ms : List Listed) (j : ℕ) → IsRising (map view_listed ms) → IsPartitionedBy (λ l. nat_lt (group_of l.id) j) ms
+groups_parted ms j is = IsPartitionedBy-ltb (λ l. group_of l.id) ms j (groups_up ms is)
+
+pub first_found : (ms : List Listed) (j place : ℕ) → place ≤ length ms
+    → IsPartitionPoint (λ l. nat_lt (group_of l.id) j ≡ true) (λ l. nat_lt (group_of l.id) j ≡ false) ms place → IsFirstOfGroup ms j place
+first_found ms j place within point = record {
+  within = within;
+  lower = λ k d lt. ltb-true (group_of (get_or ms k d).id) j (point.0 k d (omega arith) lt);
+  others = λ k d le lt. ltb-false (group_of (get_or ms k d).id) j (point.1 k d le lt);
+}
+
+-- the first place isn't behind the other
+pub listed_in_order : (ms : List Listed) (j first end : ℕ) → IsFirstOfGroup ms j first → IsFirstOfGroup ms (j + 1) end → first ≤ end
+listed_in_order ms j first end is up_to = elim (cases_lt end first) [
+  | inl past ↦
+      let low = is.lower end nothing past in
+      let high = up_to.others end nothing (omega arith) (omega (arith, past, is.within)) in
+      absurd (omega (arith, low, high))
+  | inr le ↦ le
+]
+
+-- ---- what stands between the places
+
+none_kept : (p : Listed → Bool) (ms : List Listed) → All (λ l. p l ≡ false) ms → filter p ms ≡ []
+none_kept p [] all = refl
+none_kept p (l ∷ ls) all = let here : p l ≡ false = all 0 l (omega arith) in rw here (none_kept p ls (All-tail (λ x. p x ≡ false) l ls all))
+
+all_kept : (p : Listed → Bool) (ms : List Listed) → All (λ l. p l ≡ true) ms → filter p ms ≡ ms
+all_kept p [] all = refl
+all_kept p (l ∷ ls) all = let here : p l ≡ true = all 0 l (omega arith) in rw here (ap (λ r. l ∷ r) (all_kept p ls (All-tail (λ x. p x ≡ true) l ls all)))
+
+kept_seen : (j : ℕ) (ms : List Listed) → map view_listed (filter (λ l. group_of l.id == j) ms) ≡ group_in (map view_listed ms) j
+kept_seen j [] = refl
+kept_seen j (l ∷ ls) = elim (cases_Bool (group_of l.id == j)) [ inl e ↦ rw e (ap (λ r. view_listed l ∷ r) (kept_seen j ls)) | inr e ↦ rw e (kept_seen j ls) ]
+
+pub listed_cut_is : (ms : List Listed) (j first end : ℕ) → IsFirstOfGroup ms j first → IsFirstOfGroup ms (j + 1) end
+    → map view_listed (take (end - first) (drop first ms)) ≡ group_in (map view_listed ms) j
+listed_cut_is ms j first end is up_to =
+    ap (map view_listed) (sym (ap (filter own) (split_between ms first end (listed_in_order ms j first end is up_to))
+    ∙ filter-append own (take first ms) (within ++ drop end ms) ∙ ap (λ l. l ++ filter own (within ++ drop end ms)) (none_kept own (take first ms) before)
+    ∙ filter-append own within (drop end ms) ∙ ap (λ l. filter own within ++ l) (none_kept own (drop end ms) after) ∙ append-nil (filter own within) ∙ all_kept own within inside))
+    ∙ kept_seen j ms
+  where
+    own : Listed → Bool
+    own l = group_of l.id == j
+
+    within : List Listed
+    within = take (end - first) (drop first ms)
+
+    before : All (λ l. own l ≡ false) (take first ms)
+    before k d lt =
+        let n : k < first = omega (arith, lt, length-take first ms) in
+        subst (λ l. own l ≡ false) (sym (get_or-take first ms k d n)) (ne_eqb (group_of (get_or ms k d).id) j (λ e. omega (arith, is.lower k d n, e)))
+
+    after : All (λ l. own l ≡ false) (drop end ms)
+    after k d lt =
+        let high = up_to.others (end + k) d (omega arith) (omega (arith, lt, length-drop end ms)) in
+        subst (λ l. own l ≡ false) (sym (get_or-drop end ms k d)) (ne_eqb (group_of (get_or ms (end + k) d).id) j (λ e. omega (arith, high, e)))
+
+    inside : All (λ l. own l ≡ true) within
+    inside k d lt =
+        let n : k < end - first = omega (arith, lt, length-take (end - first) (drop first ms)) in
+        let low = is.others (first + k) d (omega arith) (omega (arith, n, up_to.within)) in
+        let high = up_to.lower (first + k) d (omega (arith, n)) in
+        subst (λ l. own l ≡ true) (sym (get_or-take (end - first) (drop first ms) k d n ∙ get_or-drop first ms k d)) (eq-eqb (group_of (get_or ms (first + k) d).id) j (omega (arith, low, high)))

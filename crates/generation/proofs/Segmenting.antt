@@ -1,11 +1,13 @@
 -- The entries of a folder, one after another: those of one name together are an object and what stands in it.
-use Rattle.std.proofs.Common.{◌≡◌, ◌≢◌, ℕ, zero, suc, ◌+◌, ◌-◌, ◌<◌, ◌≤◌, ◌==◌, ◌&&◌, Bool, true, false, List, [], ◌∷◌, ◌++◌, length, take, drop, map, get_or, Option, Some, None, cond, refl, sym, ◌∙◌, ap, subst, inl, inr, ◌⊎◌, arith, append_assoc, append-nil, length-append, length-take, length-drop}
+use Rattle.std.proofs.Common.{◌≡◌, ◌≢◌, ℕ, zero, suc, ◌+◌, ◌-◌, ◌<◌, ◌≤◌, ◌==◌, ◌&&◌, Bool, true, false, List, [], ◌∷◌, ◌++◌, length, take, drop, map, get_or, Option, Some, None, cond, refl, sym, ◌∙◌, ap, subst, inl, inr, ◌⊎◌, arith, append_assoc, append-nil, length-append, length-drop}
 use Rattle.std.proofs.Math.Seq.{take-add}
 use Rattle.std.specs.List.{All}
 use Rattle.std.proofs.lemmas.Bool.{cases_eq}
 use Rattle.std.proofs.lemmas.Bool.Decides.{nat_tests}
 use Rattle.std.proofs.lemmas.List.Elements.{All-cons}
-use Rattle.std.proofs.lemmas.List.{map-id, map-append, get_or-map, get_or-take, get_or-drop, drop-drop, drop_more, take_more, take_all}
+use Rattle.std.proofs.lemmas.List.{map-id, map-append, get_or-map, get_or-take, get_or-drop, drop-drop, drop_more, take_more, take_all, length-map}
+use Rattle.std.proofs.lemmas.List.Edits.{length-between, between_none}
+use Rattle.generation.proofs.Spotting.{entry_get}
 use Rattle.path_tree.specs.Paths.{Bytes, PathNames, same_name}
 use Rattle.path_tree.specs.Trees.{Tree, IsTree, is_a_file}
 use Rattle.path_tree.specs.Nestings.{under, nested}
@@ -16,14 +18,9 @@ use Rattle.generation.specs.Publication.{Spot, count_in, below, spots_in, spots_
 use Rattle.generation.specs.declared.spots.Spot.{Spot as CodeSpot}
 use Rattle.generation.specs.View.{view_spot, path_at, content_in, bytes_at, is_file_at}
 use Rattle.generation.specs.Inner.Segments.{segment, stripped, within, name_at, IsFolderAt, HaveName, first_inside, first_spot}
-use Rattle.generation.proofs.Limiting.{len_map}
 use Rattle.generation.proofs.Numbering.{length-spots}
-use Rattle.generation.proofs.Spotting.{path_get}
 
 -- ---- segments
-
-pub length-segment : (t : Tree) (a b : ℕ) → b ≤ length t → length (segment t a b) ≡ b - a
-length-segment t a b le = omega (arith, length-take (b - a) (drop a t), length-drop a t, le)
 
 pub segment_both : (t : Tree) (a b c : ℕ) → a ≤ b → b ≤ c → segment t a c ≡ segment t a b ++ segment t b c
 segment_both t a b c le le' =
@@ -35,9 +32,6 @@ pub segment_first : (t : Tree) (a b : ℕ) (d : Item) → a < b → b ≤ length
 segment_first t a b d lt le =
     let n : b - a ≡ suc (b - (a + 1)) = omega (arith, lt) in
     ap (λ k. take k (drop a t)) n ∙ ap (take (suc (b - (a + 1)))) (drop_more t a d (omega (arith, lt, le)))
-
-pub segment_none : (t : Tree) (a : ℕ) → segment t a a ≡ []
-segment_none t a = let n : a - a ≡ 0 = omega arith in ap (λ k. take k (drop a t)) n
 
 pub segment_at : (t : Tree) (a b i : ℕ) (d : Item) → i < b - a → get_or (segment t a b) i d ≡ get_or t (a + i) d
 segment_at t a b i d lt = get_or-take (b - a) (drop a t) i d lt ∙ get_or-drop a t i d
@@ -60,18 +54,18 @@ dropped_some (n ∷ ns) (suc k) ne = omega (arith, dropped_some ns k ne)
 pub deep_at : (t : Tree) (from to depth i : ℕ) → IsFolderAt t from to depth → from ≤ i → i < to → depth < length (path_at t i)
 deep_at t from to depth i h low high =
     let within : i - from < to - from = omega (arith, low, high) in
-    let n : length (segment t from to) ≡ to - from = length-segment t from to h.inside in
+    let n : length (segment t from to) ≡ to - from = length-between t from to h.inside in
     let e : get_or (stripped depth (segment t from to)) (i - from) no_item ≡ (drop depth (get_or t i no_item).0, (get_or t i no_item).1) =
     get_or-map (λ e. (drop depth e.0, e.1)) (segment t from to) (i - from) no_item no_item (omega (arith, n, within))
     ∙ ap (λ (x : Item). (drop depth x.0, x.1)) (segment_at t from to (i - from) no_item within ∙ ap (λ k. get_or t k no_item) (omega (arith, low))) in
-    let some : drop depth (get_or t i no_item).0 ≢ [] = λ none. h.deep (i - from) no_item (omega (arith, n, within, len_map {B = Item} (λ (e : Item). (drop depth e.0, e.1)) (segment t from to))) (ap (λ (x : Item). x.0) e ∙ none) in
-    subst (λ (p : PathNames). depth < length p) (path_get t i no_item (omega (arith, high, h.inside))) (dropped_some (get_or t i no_item).0 depth some)
+    let some : drop depth (get_or t i no_item).0 ≢ [] = λ none. h.deep (i - from) no_item (omega (arith, n, within, length-map {B = Item} (segment t from to) (λ (e : Item). (drop depth e.0, e.1)))) (ap (λ (x : Item). x.0) e ∙ none) in
+    subst (λ (p : PathNames). depth < length p) ((entry_get t i no_item (omega (arith, high, h.inside))).0) (dropped_some (get_or t i no_item).0 depth some)
 
 -- a folder in which an entry lies has fewer names than a path has at most
 pub few_names : (t : Tree) (from to depth : ℕ) → IsTree t → IsFolderAt t from to depth → from < to → depth < 16
 few_names t from to depth tree h lt =
     let inside : from < length t = omega (arith, lt, h.inside) in
-    omega (arith, deep_at t from to depth from h (omega arith) lt, (tree.paths from no_item inside).0.depth, ap length (path_get t from no_item inside))
+    omega (arith, deep_at t from to depth from h (omega arith) lt, (tree.paths from no_item inside).0.depth, ap length ((entry_get t from no_item inside).0))
 
 -- ---- the entries of one name
 
@@ -87,9 +81,9 @@ strip_one depth n (e ∷ es) h =
 
 pub group_strip : (t : Tree) (from to end depth : ℕ) (n : Bytes) → IsFolderAt t from to depth → end ≤ to → HaveName t from end depth n → stripped depth (segment t from end) ≡ map (under n) (stripped (depth + 1) (segment t from end))
 group_strip t from to end depth n h le same = strip_one depth n (segment t from end) (λ i d lt.
-    let k : length (segment t from end) ≡ end - from = length-segment t from end (omega (arith, le, h.inside)) in
+    let k : length (segment t from end) ≡ end - from = length-between t from end (omega (arith, le, h.inside)) in
     let inside : from + i < length t = omega (arith, lt, k, le, h.inside) in
-    let e : (get_or (segment t from end) i d).0 ≡ path_at t (from + i) = ap (λ (x : Item). x.0) (segment_at t from end i d (omega (arith, lt, k))) ∙ path_get t (from + i) d inside in (
+    let e : (get_or (segment t from end) i d).0 ≡ path_at t (from + i) = ap (λ (x : Item). x.0) (segment_at t from end i d (omega (arith, lt, k))) ∙ (entry_get t (from + i) d inside).0 in (
       subst (λ (p : PathNames). depth < length p) (sym e) (deep_at t from to depth (from + i) h (omega arith) (omega (arith, lt, k, le))),
       ap (λ p. get_or p depth []) e ∙ same (from + i) (omega arith) (omega (arith, lt, k)),
     ))
@@ -194,7 +188,7 @@ item_at t i = get_or t i no_item
 group_first : (t : Tree) (at end depth : ℕ) → at < end → end ≤ length t → stripped (depth + 1) (segment t at end) ≡ (drop (depth + 1) (path_at t at), (item_at t at).1) ∷ stripped (depth + 1) (segment t (at + 1) end)
 group_first t at end depth lt le =
     ap (stripped (depth + 1)) (segment_first t at end no_item lt le)
-    ∙ ap (λ p. (drop (depth + 1) p, (item_at t at).1) ∷ stripped (depth + 1) (segment t (at + 1) end)) (path_get t at no_item (omega (arith, lt, le)))
+    ∙ ap (λ p. (drop (depth + 1) p, (item_at t at).1) ∷ stripped (depth + 1) (segment t (at + 1) end)) ((entry_get t at no_item (omega (arith, lt, le))).0)
 
 starts_else : (t : Tree) (at end to depth : ℕ) → IsGroup t at end to depth → StartsElse (name_at t at depth) (stripped depth (segment t end to))
 starts_else t at end to depth g = elim (lt_or_is end to g.within) [
@@ -203,9 +197,9 @@ starts_else t at end to depth g = elim (lt_or_is end to g.within) [
       let deep = deep_at t end to depth end rest (omega arith) lt in
       let first : stripped depth (segment t end to) ≡ (name_at t end depth ∷ drop (depth + 1) (path_at t end), (item_at t end).1) ∷ stripped depth (segment t (end + 1) to) =
       ap (stripped depth) (segment_first t end to no_item lt g.folder.inside)
-      ∙ ap (λ p. (p, (item_at t end).1) ∷ stripped depth (segment t (end + 1) to)) (ap (drop depth) (path_get t end no_item (omega (arith, lt, g.folder.inside))) ∙ named_strip depth (name_at t end depth) (path_at t end) deep refl) in
+      ∙ ap (λ p. (p, (item_at t end).1) ∷ stripped depth (segment t (end + 1) to)) (ap (drop depth) ((entry_get t end no_item (omega (arith, lt, g.folder.inside))).0) ∙ named_strip depth (name_at t end depth) (path_at t end) deep refl) in
       subst (StartsElse (name_at t at depth)) (sym first) (g.other lt)
-  | inr is ↦ subst (StartsElse (name_at t at depth)) (sym (ap (λ k. stripped depth (segment t k to)) is ∙ ap (stripped depth) (segment_none t to))) tt
+  | inr is ↦ subst (StartsElse (name_at t at depth)) (sym (ap (λ k. stripped depth (segment t k to)) is ∙ ap (stripped depth) (between_none t to))) tt
 ] where
   lt_or_is : (a b : ℕ) → a ≤ b → (a < b) ⊎ (a ≡ b)
   lt_or_is a b le = elim (cases_eq a b) [ inl is ↦ inr is | inr ne ↦ inl (omega (arith, le, ne)) ]
@@ -317,7 +311,7 @@ inside_front t at end to depth number g = go (length (path_at t at) == depth + 1
   go false = refl
   go true = elim (cases_eq (at + 1) end) [
     | inl is ↦
-        let none : stripped (depth + 1) (segment t (at + 1) end) ≡ [] = ap (λ k. stripped (depth + 1) (segment t k end)) is ∙ ap (stripped (depth + 1)) (segment_none t end) in
+        let none : stripped (depth + 1) (segment t (at + 1) end) ≡ [] = ap (λ k. stripped (depth + 1) (segment t k end)) is ∙ ap (stripped (depth + 1)) (between_none t end) in
         ap (λ l. map (within (take (depth + 1) (path_at t at))) (spots_in number (suc number) (nested l))) none ∙ sym (ap (λ l. map (within (take (depth + 1) (path_at t (at + 1)))) (spots_in number (suc number) (nested l))) none)
     | inr ne ↦ ap (λ p. map (within p) (spots_in number (suc number) (nested (stripped (depth + 1) (segment t (at + 1) end))))) (sym (group_front t at end to depth (at + 1) g (omega arith) (omega (arith, ne, g.some))))
   ]
@@ -356,7 +350,7 @@ rest_front : (t : Tree) (at end to depth parent number : ℕ) → IsGroup t at e
     → map (within (take depth (path_at t at))) (spots_in parent number (nested (stripped depth (segment t end to)))) ≡ listed_from t end to depth parent number
 rest_front t at end to depth parent number g = elim (cases_eq end to) [
   | inl is ↦
-      let none : stripped depth (segment t end to) ≡ [] = ap (λ k. stripped depth (segment t k to)) is ∙ ap (stripped depth) (segment_none t to) in
+      let none : stripped depth (segment t end to) ≡ [] = ap (λ k. stripped depth (segment t k to)) is ∙ ap (stripped depth) (between_none t to) in
       ap (λ l. map (within (take depth (path_at t at))) (spots_in parent number (nested l))) none ∙ sym (ap (λ l. map (within (take depth (path_at t end))) (spots_in parent number (nested l))) none)
   | inr ne ↦ ap (λ p. map (within p) (spots_in parent number (nested (stripped depth (segment t end to))))) (sym (g.folder.front end (omega (arith, g.some)) (omega (arith, ne, g.within))))
 ]
@@ -377,9 +371,9 @@ listed_more t at end to depth parent number more spots with_one with_all spot wh
     let viewed : map (view_spot t) with_all ≡ (map (view_spot t) spots ++ first ∷ []) ++ deeper =
     all ∙ (ap (λ l. l ++ listed_from t (first_inside t at depth) end (depth + 1) number more) made
     ∙ ap (λ k. (map (view_spot t) spots ++ first ∷ []) ++ listed_from t (first_inside t at depth) end (depth + 1) number k) (em ∙ long)) in
-    let count : length deeper ≡ count_in (nested inside) = len_map (within (take (depth + 1) (path_at t (first_inside t at depth)))) (spots_in number (suc number) (nested inside)) ∙ length-spots number (suc number) (nested inside) in
+    let count : length deeper ≡ count_in (nested inside) = length-map (spots_in number (suc number) (nested inside)) (within (take (depth + 1) (path_at t (first_inside t at depth)))) ∙ length-spots number (suc number) (nested inside) in
     let total : length with_all ≡ suc (number + count_in (nested inside)) =
-    omega (arith, ap length viewed, len_map (view_spot t) with_all, length-append (map (view_spot t) spots ++ first ∷ []) deeper, length-append (map (view_spot t) spots) (first ∷ []), len_map (view_spot t) spots, count, en) in
+    omega (arith, ap length viewed, length-map with_all (view_spot t), length-append (map (view_spot t) spots ++ first ∷ []) deeper, length-append (map (view_spot t) spots) (first ∷ []), length-map spots (view_spot t), count, en) in
     let rest = listed_from t end to depth parent (suc (number + count_in (nested inside))) in
     ap (λ l. l ++ listed_from t end to depth parent (length with_all)) viewed
     ∙ (ap (λ k. ((map (view_spot t) spots ++ first ∷ []) ++ deeper) ++ listed_from t end to depth parent k) total
@@ -391,7 +385,7 @@ listed_more t at end to depth parent number more spots with_one with_all spot wh
 -- once all entries are passed
 pub listed_end : (t : Tree) (at to depth parent number : ℕ) (viewed whole : List Spot) → at ≡ to → viewed ++ listed_from t at to depth parent number ≡ whole → viewed ≡ whole
 listed_end t at to depth parent number viewed whole is so_far =
-    let none : stripped depth (segment t at to) ≡ [] = ap (λ k. stripped depth (segment t k to)) is ∙ ap (stripped depth) (segment_none t to) in
+    let none : stripped depth (segment t at to) ≡ [] = ap (λ k. stripped depth (segment t k to)) is ∙ ap (stripped depth) (between_none t to) in
     sym (append-nil viewed) ∙ (ap (λ l. viewed ++ map (within (take depth (path_at t at))) (spots_in parent number (nested l))) (sym none) ∙ so_far)
 
 -- the gateway, and all entries in it

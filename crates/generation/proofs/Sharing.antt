@@ -1,29 +1,34 @@
--- Modules whose objects are as before have the same bytes.
-use Rattle.std.proofs.Common.{◌≡◌, ◌≢◌, ℕ, zero, suc, ◌<◌, Bool, true, false, List, [], ◌∷◌, ◌++◌, length, take, Some, None, Ok, refl, sym, ◌∙◌, ap, subst, arith, get_or, set, ◌⊎◌, inl, inr}
+-- The objects of one tree beside those of another: they are found in one pass, since both stand in the order of paths, and modules whose objects are as before have the same bytes.
+use Rattle.std.proofs.Common.{◌≡◌, ◌≢◌, ℕ, zero, suc, ◌<◌, Bool, true, false, List, [], ◌∷◌, ◌++◌, length, take, Some, None, Ok, refl, sym, ◌∙◌, ap, subst, arith, get_or, set, ◌⊎◌, inl, inr, ◌+◌, drop, map, Option, cond, append_assoc}
 use Rattle.std.specs.Prelude.{slice_get}
 use Rattle.std.specs.List.{All, AllByRecursion}
 use Rattle.std.specs.Option.{option_map}
-use Rattle.std.specs.Ordering.{is_eq}
+use Rattle.std.specs.Ordering.{is_eq, is_lt, ordering_reverse}
 use Rattle.std.specs.declared.cmp.Ordering.{Ordering}
 use Rattle.std.specs.declared.cmp.Ordering.TheVariants.{Less, Equal, Greater}
 use Rattle.std.proofs.Math.Seq.{take-length}
 use Rattle.std.proofs.lemmas.Option.{same_Some}
-use Rattle.std.proofs.lemmas.List.Elements.{All-push}
+use Rattle.std.proofs.lemmas.List.Elements.{All-push, All-head, All-tail}
+use Rattle.generation.proofs.Spotting.{paths_differ, less_differ, kind_apart, kind_same}
 use Rattle.path_tree.specs.Paths.{Bytes, PathNames, path_cmp, same_name, same_path}
 use Rattle.path_tree.specs.Trees.{Tree, IsTree, file_in, entry_at, content_at}
 use Rattle.path_tree.specs.declared.entry.Entry.TheVariants as entries
 use Rattle.path_tree.specs.Edits.{apply_all, path_in, OthersStay}
 use Rattle.path_tree.specs.declared.tree.Edit.{Edit}
-use Rattle.path_tree.proofs.CallerLemmas.{path_cmp-is, same_name-refl, same_path-refl, Item, Apart, Rises, rises_tree}
+use Rattle.path_tree.proofs.CallerLemmas.{path_cmp-is, same_name-refl, same_path-refl, Item, Apart, Rises, rises_tree, path_total}
 use Rattle.biop_object.specs.Names.{Layout, module_in}
-use Rattle.generation.specs.Layouts.{Placed, key_bytes, object_bytes, module_bytes, layout_of, same_module}
+use Rattle.generation.specs.Layouts.{Placed, key_bytes, object_bytes, module_bytes, layout_of, same_module, placed_at, key_in, module_of, is_same_spot}
 use Rattle.generation.specs.Inner.Stays.{AreAsBefore, SameModules, AreTheirs}
 use Rattle.generation.specs.View.{view_placed, view_spot, path_at, bytes_at, is_file_at, IsSpotIn}
 use Rattle.generation.specs.declared.objects.Placed.{Placed as CodePlaced}
 use Rattle.generation.specs.declared.spots.Spot.{Spot as CodeSpot}
 use Rattle.biop_object.specs.Objects.{file_spelling}
-use Rattle.generation.proofs.Fronts.{paths_differ, less_differ}
-use Rattle.generation.proofs.Inside.{listed_bytes}
+use Rattle.std.proofs.lemmas.List.{drop_more}
+use Rattle.std.proofs.lemmas.Bool.{cond_both}
+use Rattle.generation.proofs.Naming.{listed_bytes}
+use Rattle.generation.proofs.Numbering.{all_unmap}
+use Rattle.generation.specs.Publication.{Spot, AreRising}
+use Rattle.generation.specs.Inner.Merging.{from_path, first_same}
 
 -- ---- a tree's entries by number
 
@@ -71,9 +76,6 @@ path_found (x ∷ xs) p (suc i) e = let h = path_found xs p i e in (omega (arith
 -- the entries that aren't flagged are named by none of these edits
 abbrev pub AreNamed : Tree → List Bool → List Edit → Type 0
 AreNamed t flags edits = (i : ℕ) → i < length t → get_or flags i true ≡ false → All (λ e. same_path (path_at t i) (path_in e) ≡ false) edits
-
-pub none_named : (t : Tree) (flags : List Bool) → AreNamed t flags []
-none_named t flags = λ i lt off k d below. absurd (omega (arith, below))
 
 -- a flag that is off was off before one more was set
 off : (flags : List Bool) (j i : ℕ) → get_or (set flags j true) i true ≡ false → (i ≢ j) × (get_or flags i true ≡ false)
@@ -153,3 +155,146 @@ pub equal_order : (o : Ordering) → is_eq o ≡ true → o ≡ Equal
 equal_order Less e = cc
 equal_order Equal e = refl
 equal_order Greater e = cc
+
+-- ---- objects of one tree are found among those of another
+
+-- ---- the order of paths
+
+paths_greater : (a b : PathNames) → path_cmp a b ≡ Greater → path_cmp b a ≡ Less
+paths_greater a b e = path_total.antisymm b a ∙ ap ordering_reverse e
+
+less_apart : (a b : PathNames) → path_cmp a b ≡ Less → same_path a b ≡ false
+less_apart a b e = paths_differ a b (less_differ a b e)
+
+more_apart : (a b : PathNames) → path_cmp b a ≡ Less → same_path a b ≡ false
+more_apart a b e = paths_differ a b (λ h. less_differ b a e (sym h))
+
+-- ---- one object
+
+none_later : (os : List Placed) (s : Spot) → All (λ o. path_cmp s.path o.spot.path ≡ Less) os → placed_at os s ≡ None
+none_later [] s all = refl
+none_later (o ∷ os) s all =
+    let apart : same_path o.spot.path s.path ≡ false = more_apart o.spot.path s.path (All-head (λ q. path_cmp s.path q.spot.path ≡ Less) o os all) in
+    rw apart (none_later os s (All-tail (λ q. path_cmp s.path q.spot.path ≡ Less) o os all))
+
+-- what is looked for from a path on isn't among the objects before it
+passed_same : (p : PathNames) (os : List Placed) (r : Spot) → (p ≡ r.path) ⊎ (path_cmp p r.path ≡ Less) → placed_at os r ≡ placed_at (from_path p os) r
+passed_same p [] r how = refl
+passed_same p (o ∷ os) r how = go (path_cmp o.spot.path p) refl (passed_same p os r how) where
+  less : path_cmp o.spot.path p ≡ Less → path_cmp o.spot.path r.path ≡ Less
+  less e = elim how [
+    | inl is ↦ subst (λ z. path_cmp o.spot.path z ≡ Less) is e
+    | inr more ↦ path_total.trans o.spot.path p r.path e more
+  ]
+
+  go : (c : Ordering) → path_cmp o.spot.path p ≡ c → placed_at os r ≡ placed_at (from_path p os) r → placed_at (o ∷ os) r ≡ placed_at (cond (is_lt c) (from_path p os) (o ∷ os)) r
+  go Less e rest = let apart : same_path o.spot.path r.path ≡ false = less_apart o.spot.path r.path (less e) in rw apart rest
+  go Equal e rest = refl
+  go Greater e rest = refl
+
+-- the first object from a path on is the only one that can stand there
+first_found : (os : List Placed) (s : Spot) → AreRising (map (λ o. o.spot) os) → placed_at os s ≡ first_same (from_path s.path os) s
+first_found [] s rising = refl
+first_found (o ∷ os) s rising = go (path_cmp o.spot.path s.path) refl (first_found os s rising.1) where
+  later : All (λ q. path_cmp o.spot.path q.spot.path ≡ Less) os
+  later = all_unmap (λ r. path_cmp o.spot.path r.path ≡ Less) (λ o. o.spot) os rising.0
+
+  here : All (λ q. path_cmp s.path q.spot.path ≡ Less) os → placed_at (o ∷ os) s ≡ first_same (o ∷ os) s
+  here all = ap (λ r. cond (is_same_spot o.spot s) (Some o) r) (none_later os s all)
+
+  go : (c : Ordering) → path_cmp o.spot.path s.path ≡ c → placed_at os s ≡ first_same (from_path s.path os) s → placed_at (o ∷ os) s ≡ first_same (cond (is_lt c) (from_path s.path os) (o ∷ os)) s
+  go Less e rest = let apart : same_path o.spot.path s.path ≡ false = less_apart o.spot.path s.path e in rw apart rest
+  go Equal e rest = here (subst (λ z. All (λ q. path_cmp z q.spot.path ≡ Less) os) (path_cmp-is o.spot.path s.path e) later)
+  go Greater e rest = here (λ k d lt. path_total.trans s.path o.spot.path (get_or os k d).spot.path (paths_greater o.spot.path s.path e) (later k d lt))
+
+pub still_rising : (p : PathNames) (os : List Placed) → AreRising (map (λ o. o.spot) os) → AreRising (map (λ o. o.spot) (from_path p os))
+still_rising p [] rising = tt
+still_rising p (o ∷ os) rising = cond_both (is_lt (path_cmp o.spot.path p)) (from_path p os) (o ∷ os) (λ l. AreRising (map (λ q. q.spot) l)) (λ _. still_rising p os rising.1) (λ _. rising)
+
+-- ---- all objects
+
+rest_same : {A : Type 0} (f : Option Placed → A) (old : List Placed) (p : PathNames) (ss : List Spot) → All (λ r. path_cmp p r.path ≡ Less) ss
+    → map (λ r. f (placed_at old r)) ss ≡ map (λ r. f (placed_at (from_path p old) r)) ss
+rest_same f old p [] all = refl
+rest_same f old p (s ∷ ss) all =
+    ap (λ x. x ∷ map (λ r. f (placed_at old r)) ss) (ap f (passed_same p old s (inr (All-head (λ r. path_cmp p r.path ≡ Less) s ss all))))
+    ∙ ap (λ xs. f (placed_at (from_path p old) s) ∷ xs) (rest_same f old p ss (All-tail (λ r. path_cmp p r.path ≡ Less) s ss all))
+
+one_step : {A : Type 0} (f : Option Placed → A) (old : List Placed) (s : Spot) (ss : List Spot) → AreRising (map (λ o. o.spot) old) → AreRising (s ∷ ss)
+    → map (λ r. f (placed_at old r)) (s ∷ ss) ≡ f (first_same (from_path s.path old) s) ∷ map (λ r. f (placed_at (from_path s.path old) r)) ss
+one_step f old s ss rising later =
+    ap (λ x. x ∷ map (λ r. f (placed_at old r)) ss) (ap f (first_found old s rising))
+    ∙ ap (λ xs. f (first_same (from_path s.path old) s) ∷ xs) (rest_same f old s.path ss later.0)
+
+rising_from : (view : CodeSpot → Spot) (xs : List CodeSpot) (i : ℕ) → AreRising (map view xs) → AreRising (map view (drop i xs))
+rising_from view xs zero rising = rising
+rising_from view [] (suc i) rising = tt
+rising_from view (x ∷ xs) (suc i) rising = rising_from view xs i rising.1
+
+-- what is found so far, with what the rest of the objects gives for the rest of the spots, is all
+pub found_more : {A : Type 0} (f : Option Placed → A) (view : CodeSpot → Spot) (old left : List Placed) (xs : List CodeSpot) (i : ℕ) (d : CodeSpot) (all found : List A) (x : A)
+    → i < length xs → AreRising (map (λ o. o.spot) old) → AreRising (map view xs)
+    → all ≡ found ++ map (λ r. f (placed_at old r)) (map view (drop i xs))
+    → x ≡ f (first_same (from_path (view (get_or xs i d)).path old) (view (get_or xs i d)))
+    → left ≡ from_path (view (get_or xs i d)).path old
+    → all ≡ (found ++ x ∷ []) ++ map (λ r. f (placed_at left r)) (map view (drop (i + 1) xs))
+found_more f view old left xs i d all found x lt rising later so_far is rest =
+    let s = view (get_or xs i d) in
+    let ss = map view (drop (i + 1) xs) in
+    let cut : map view (drop i xs) ≡ s ∷ ss = ap (map view) (drop_more xs i d lt) in
+    let up : AreRising (s ∷ ss) = subst AreRising cut (rising_from view xs i later) in
+    so_far
+    ∙ (ap (λ ys. found ++ map (λ r. f (placed_at old r)) ys) cut
+    ∙ (ap (λ ys. found ++ ys) (one_step f old s ss rising up)
+    ∙ (ap (λ y. found ++ (y ∷ map (λ r. f (placed_at (from_path s.path old) r)) ss)) (sym is)
+    ∙ (ap (λ l. found ++ (x ∷ map (λ r. f (placed_at l r)) ss)) (sym rest)
+    ∙ sym (append_assoc found (x ∷ []) (map (λ r. f (placed_at left r)) ss))))))
+
+-- ---- what is read of an object that is there
+
+pub key_seen : (t : Tree) (o : Option CodePlaced) → option_map (λ p. p.key) o ≡ key_in (option_map (view_placed t) o)
+key_seen t (Some o) = refl
+key_seen t None = refl
+
+pub module_seen : (t : Tree) (o : Option CodePlaced) → option_map (λ p. p.«module») o ≡ module_of (option_map (view_placed t) o)
+module_seen t (Some o) = refl
+module_seen t None = refl
+
+-- ---- where the objects that come before end
+
+pub stops : (t : Tree) (p : PathNames) (os : List CodePlaced) (i : ℕ) (d : CodePlaced) → i < length os → is_lt (path_cmp (view_placed t (get_or os i d)).spot.path p) ≡ false
+    → from_path p (map (view_placed t) (drop i os)) ≡ map (view_placed t) (drop i os)
+stops t p os i d lt e = rw (drop_more os i d lt, e) refl
+
+pub none_here : (t : Tree) (s : Spot) (os : List CodePlaced) (i : ℕ) (d : CodePlaced) → i < length os → path_cmp (view_placed t (get_or os i d)).spot.path s.path ≡ Greater
+    → None ≡ first_same (map (view_placed t) (drop i os)) s
+none_here t s os i d lt e =
+    let o = view_placed t (get_or os i d) in
+    let apart : same_path o.spot.path s.path ≡ false = more_apart o.spot.path s.path (paths_greater o.spot.path s.path e) in
+    rw (drop_more os i d lt, apart) refl
+
+bools : (a b : Bool) → (a ≡ b) ⊎ (a ≢ b)
+bools true true = inl refl
+bools true false = inr (λ h. cc)
+bools false true = inr (λ h. cc)
+bools false false = inl refl
+
+one_object : (t u : Tree) (s : CodeSpot) (o : CodePlaced) (found : Option CodePlaced) → path_cmp (view_placed t o).spot.path (view_spot u s).path ≡ Equal
+    → (o.spot.whole ≡ s.whole → found ≡ Some o) → (o.spot.whole ≢ s.whole → found ≡ None)
+    → option_map (view_placed t) found ≡ cond (is_same_spot (view_placed t o).spot (view_spot u s)) (Some (view_placed t o)) None
+one_object t u s o found e has lacks = elim (bools o.spot.whole s.whole) [
+  | inl h ↦
+      let both : is_same_spot (view_placed t o).spot (view_spot u s) ≡ true = kind_same o.spot.whole s.whole _ (bytes_at t o.spot.entry) (bytes_at u s.entry) h ∙ same in
+      ap (option_map (view_placed t)) (has h) ∙ sym (ap (λ b. cond b (Some (view_placed t o)) None) both)
+  | inr h ↦
+      let other : is_same_spot (view_placed t o).spot (view_spot u s) ≡ false = kind_apart o.spot.whole s.whole _ (bytes_at t o.spot.entry) (bytes_at u s.entry) h in
+      ap (option_map (view_placed t)) (lacks h) ∙ sym (ap (λ b. cond b (Some (view_placed t o)) None) other)
+] where
+  same : same_path (view_placed t o).spot.path (view_spot u s).path ≡ true
+  same = subst (λ z. same_path (view_placed t o).spot.path z ≡ true) (path_cmp-is (view_placed t o).spot.path (view_spot u s).path e) (same_path-refl (view_placed t o).spot.path)
+
+pub one_here : (t u : Tree) (s : CodeSpot) (os : List CodePlaced) (i : ℕ) (d : CodePlaced) (found : Option CodePlaced) → i < length os
+    → path_cmp (view_placed t (get_or os i d)).spot.path (view_spot u s).path ≡ Equal
+    → ((get_or os i d).spot.whole ≡ s.whole → found ≡ Some (get_or os i d)) → ((get_or os i d).spot.whole ≢ s.whole → found ≡ None)
+    → option_map (view_placed t) found ≡ first_same (map (view_placed t) (drop i os)) (view_spot u s)
+one_here t u s os i d found lt e has lacks = rw (drop_more os i d lt) (one_object t u s (get_or os i d) found e has lacks)

@@ -1,18 +1,19 @@
--- Sizes of objects, with one more of them added to its folder.
-use Rattle.std.proofs.Common.{◌≡◌, ℕ, ◌+◌, ◌*◌, ◌<◌, ◌≤◌, ◌==◌, Bool, true, false, List, [], ◌∷◌, ◌++◌, length, take, map, set, get_or, Option, Some, None, cond, refl, sym, ◌∙◌, ap, subst, inl, inr, arith}
-use Rattle.std.specs.List.{All, sum_by}
-use Rattle.std.proofs.lemmas.Bool.{cases_eq}
+-- Sizes of objects, with one more of them added to its folder, and the first folder that is too large.
+use Rattle.std.proofs.Common.{◌≡◌, ℕ, ◌+◌, ◌*◌, ◌<◌, ◌≤◌, ◌==◌, true, false, List, [], ◌∷◌, ◌++◌, length, take, map, set, get_or, Option, Some, None, refl, sym, ◌∙◌, ap, subst, inl, inr, arith, Bool, drop, Ok}
+use Rattle.std.specs.List.{All, sum_by, find}
+use Rattle.std.proofs.lemmas.Bool.{cases_eq, cond_both}
 use Rattle.std.proofs.lemmas.Bool.Decides.{nat_tests}
-use Rattle.std.proofs.lemmas.List.{map-append, take-map, take_more, get_or-map, length-map, length-set, length-take, get_or-set_same, get_or-set_other, ext_get_or}
+use Rattle.std.proofs.lemmas.List.{take-map, get_or-map, length-map, length-set, length-take, get_or-set_same, get_or-set_other, ext_get_or, map_more, drop_more}
 use Rattle.std.proofs.lemmas.List.Elements.{All-head, All-tail, All-take}
 use Rattle.std.proofs.lemmas.List.Sums.{sum_by-cons, sum_by-append}
 use Rattle.path_tree.specs.Paths.{Bytes}
 use Rattle.path_tree.specs.Trees.{Tree}
 use Rattle.generation.specs.declared.spots.Spot.{Spot as CodeSpot}
-use Rattle.generation.specs.Publication.{Spot, gateway_spot, spots_of, sizes_of, limit_of, is_child, binding_rest, binding_size, size_of}
+use Rattle.generation.specs.Publication.{Spot, gateway_spot, spots_of, sizes_of, limit_of, is_child, binding_rest, binding_size, size_of, is_large_folder, Passed}
 use Rattle.generation.specs.View.{view_spot, AreSpotsOf}
 use Rattle.generation.proofs.Placing.{within_limits}
 use Rattle.generation.proofs.Numbering.{number_at, all_numbered, all_in_folders, all_valid, IsValidSpot, child_has, IsFolderOf}
+use Rattle.generation.specs.Limits.{check_of, unless_passed}
 
 -- ---- one object more
 
@@ -36,14 +37,12 @@ size-more xs s r folder child =
 
 -- the size of a folder that so many bindings make
 share_small : (k : ℕ) (s : Spot) → IsValidSpot s → binding_size k s ≤ 336
-share_small k s valid = go (is_child k s) refl where
-  rest : (c : Option Bytes) → binding_rest c ≤ 82
-  rest (Some b) = omega arith
-  rest None = omega arith
-
-  go : (b : Bool) → is_child k s ≡ b → cond {A = ℕ} b (length s.name + binding_rest s.content) 0 ≤ 336
-  go true e = let p = child_has k s e in omega (arith, (valid.name p.0 p.1).at_most, rest s.content)
-  go false e = omega arith
+share_small k s valid =
+    cond_both {A = ℕ} (is_child k s) (length s.name + binding_rest s.content) 0 (λ n. n ≤ 336) (λ e. let p = child_has k s e in omega (arith, (valid.name p.0 p.1).at_most, rest s.content)) (λ _. omega arith)
+  where
+    rest : (c : Option Bytes) → binding_rest c ≤ 82
+    rest (Some b) = omega arith
+    rest None = omega arith
 
 shares_small : (k : ℕ) (xs : List Spot) → All IsValidSpot xs → sum_by (binding_size k) xs ≤ 336 * length xs
 shares_small k [] all = omega arith
@@ -103,14 +102,11 @@ sizes-some t xs s p n e folder is =
 
 -- ---- as the code goes through them
 
-viewed_more : (t : Tree) (spots : List CodeSpot) (i : ℕ) (d : CodeSpot) → i < length spots → map (view_spot t) (take (i + 1) spots) ≡ map (view_spot t) (take i spots) ++ view_spot t (get_or spots i d) ∷ []
-viewed_more t spots i d lt = ap (map (view_spot t)) (take_more spots i d lt) ∙ map-append (view_spot t) (take i spots) (get_or spots i d ∷ [])
-
 pub weighed_none : (t : Tree) (spots : List CodeSpot) (i : ℕ) (d : CodeSpot) → i < length spots → (get_or spots i d).parent ≡ None
     → map (size_of (map (view_spot t) (take i spots))) (map (view_spot t) spots) ≡ map (size_of (map (view_spot t) (take (i + 1) spots))) (map (view_spot t) spots)
 weighed_none t spots i d lt e =
     sizes-none (map (view_spot t) spots) (map (view_spot t) (take i spots)) (view_spot t (get_or spots i d)) e
-    ∙ ap (λ xs. map (size_of xs) (map (view_spot t) spots)) (sym (viewed_more t spots i d lt))
+    ∙ ap (λ xs. map (size_of xs) (map (view_spot t) spots)) (sym (map_more (view_spot t) spots i d lt))
 
 -- an object's folder is one of the objects
 pub folder_there : (t : Tree) (spots : List CodeSpot) (i : ℕ) (d : CodeSpot) (p : ℕ) → AreSpotsOf t spots → i < length spots → (get_or spots i d).parent ≡ Some p → IsFolderOf (spots_of t) p
@@ -128,7 +124,7 @@ weighed_some t spots i d p n are lt e is =
     let s = view_spot t (get_or spots i d) in
     ap (λ all. set (map (size_of xs) all) p (get_or (map (size_of xs) all) p 0 + n)) are.each
     ∙ (sizes-some t xs s p n e (folder_there t spots i d p are lt e) is
-    ∙ (ap (λ all. map (size_of (xs ++ s ∷ [])) all) (sym are.each) ∙ ap (λ ys. map (size_of ys) (map (view_spot t) spots)) (sym (viewed_more t spots i d lt))))
+    ∙ (ap (λ all. map (size_of (xs ++ s ∷ [])) all) (sym are.each) ∙ ap (λ ys. map (size_of ys) (map (view_spot t) spots)) (sym (map_more (view_spot t) spots i d lt))))
 
 -- an object's folder has a size among those of all
 pub folder_within : (t : Tree) (spots : List CodeSpot) (sizes : List ℕ) (xs : List Spot) (i : ℕ) (d : CodeSpot) (p : ℕ) → AreSpotsOf t spots → i < length spots → (get_or spots i d).parent ≡ Some p
@@ -161,3 +157,53 @@ sizes_read t spots lent sizes each same is =
 -- a tree that passes no limit has few objects
 pub few_lent : (t : Tree) (spots lent : List CodeSpot) → limit_of t ≡ None → map (view_spot t) spots ≡ spots_of t → lent ≡ spots → length lent ≤ 8192
 few_lent t spots lent limit each same = let within = within_limits t limit in omega (arith, within.few, ap length each, ap length same, length-map spots (view_spot t))
+
+-- ---- the first folder that is too large
+
+-- the gateway, as the code has it: what stands where no object does
+abbrev pub top_spot : CodeSpot
+top_spot = record { entry = 0; names = 0; whole = false; number = 0; parent = None }
+
+pub size_at : (t : Tree) (all : List Spot) (spots : List CodeSpot) (sizes : List ℕ) (i : ℕ) (d : CodeSpot)
+    → sizes ≡ map (size_of all) (map (view_spot t) spots) → i < length sizes → get_or sizes i 0 ≡ size_of all (view_spot t (get_or spots i d))
+size_at t all spots sizes i d e lt =
+    let n : length sizes ≡ length spots = ap length e ∙ (length-map (map (view_spot t) spots) (size_of all) ∙ length-map spots (view_spot t)) in
+    let m : length (map (view_spot t) spots) ≡ length spots = length-map spots (view_spot t) in
+    rw e (get_or-map (size_of all) (map (view_spot t) spots) i (view_spot t d) 0 (omega (arith, n, m, lt))
+    ∙ ap (size_of all) (get_or-map (view_spot t) spots i d (view_spot t d) (omega (arith, n, lt))))
+
+pub find_more : {A B : Type 0} (p : B → Bool) (f : A → B) (xs : List A) (i : ℕ) (d : A) → i < length xs → p (f (get_or xs i d)) ≡ false
+    → find p (map f (drop i xs)) ≡ find p (map f (drop (i + 1) xs))
+find_more p f xs i d lt differs = rw (drop_more xs i d lt, differs) refl
+
+pub find_here : {A B : Type 0} (p : B → Bool) (f : A → B) (xs : List A) (i : ℕ) (d : A) → i < length xs → p (f (get_or xs i d)) ≡ true
+    → find p (map f (drop i xs)) ≡ Some (f (get_or xs i d))
+find_here p f xs i d lt passes = rw (drop_more xs i d lt, passes) refl
+
+no_large : (s : Spot) → is_large_folder (gateway_spot ∷ []) s ≡ false
+no_large s = go s.content where
+  go : (c : Option Bytes) → is_large_folder (gateway_spot ∷ []) (record s { content = c }) ≡ false
+  go (Some b) = refl
+  go None = refl
+
+-- the gateway of the empty tree isn't large
+pub some_file : (t : Tree) (spots : List CodeSpot) (s : Spot) → AreSpotsOf t spots → is_large_folder (map (view_spot t) spots) s ≡ true → 0 < length t
+some_file [] spots s are e =
+    let h : is_large_folder (gateway_spot ∷ []) s ≡ true = ap (λ all. is_large_folder all s) (sym are.each) ∙ e in
+    let g : is_large_folder (gateway_spot ∷ []) s ≡ false = no_large s in
+    cc
+some_file (e ∷ es) spots s are h = omega arith
+
+pub as_many : (t : Tree) (spots : List CodeSpot) (sizes : List ℕ) (i : ℕ) → sizes ≡ map (size_of (map (view_spot t) spots)) (map (view_spot t) spots) → i < length sizes → i < length spots
+as_many t spots sizes i e lt =
+    let n : length sizes ≡ length spots = ap length e ∙ (length-map (map (view_spot t) spots) (size_of (map (view_spot t) spots)) ∙ length-map spots (view_spot t)) in
+    omega (arith, n, lt)
+
+-- ---- a tree that is checked
+
+none_passed : (p : Option Passed) → unless_passed p ≡ Ok 0 → p ≡ None
+none_passed (Some p) e = cc
+none_passed None e = refl
+
+pub passes : (t : Tree) → check_of t ≡ Ok 0 → limit_of t ≡ None
+passes t e = none_passed (limit_of t) e

@@ -1,8 +1,8 @@
 -- What is written of a generation: bindings, modules, messages.
-use Rattle.std.proofs.Common.{◌≡◌, ℕ, zero, suc, ◌+◌, ◌-◌, ◌*◌, ◌%◌, ◌<◌, ◌≤◌, min, Bool, true, false, List, [], ◌∷◌, ◌++◌, length, take, drop, map, Option, Some, cond, ◌==◌, refl, sym, subst, ◌∙◌, ap, arith, get_or, length-append, length-drop, length-take, Vec, Global, Result, inl, inr, lit≤}
+use Rattle.std.proofs.Common.{◌≡◌, ℕ, zero, suc, ◌+◌, ◌-◌, ◌*◌, ◌%◌, ◌<◌, ◌≤◌, min, false, List, [], ◌∷◌, ◌++◌, length, take, drop, map, Option, Some, ◌==◌, refl, sym, subst, ◌∙◌, ap, arith, get_or, length-append, length-drop, length-take, Vec, Global, Result, inl, inr, lit≤}
 use Rattle.std.specs.List.{All, flat_map}
 use Rattle.std.specs.Prelude.{IfOk}
-use Rattle.std.proofs.lemmas.Bool.{cases_lt}
+use Rattle.std.proofs.lemmas.Bool.{cases_lt, cond_both}
 use Rattle.std.proofs.lemmas.List.Elements.{All-map}
 use Rattle.path_tree.specs.Paths.{Bytes}
 use Rattle.biop_object.specs.Objects.{gateway_kind}
@@ -17,17 +17,17 @@ use Rattle.generation.specs.Publication.{Spot as SpotFields}
 use Rattle.generation.specs.Layouts.{Placed, key_in, placed_at, old_keys, taken_in, free_keys, fill_keys, keys_of, count_in, dii_lines, gateway_location, control_section, block_section, GenerationState, section_of}
 use Rattle.biop_object.specs.Names.{module_in}
 use Rattle.std.specs.Option.{unwrap_or}
+use Rattle.std.proofs.lemmas.List.{length-map, take_min, drop_all, take_all}
 use Rattle.cycle_planner.specs.declared.Item.{Item}
 use Rattle.generation.specs.Groups.{group_in}
 use Rattle.generation.specs.View.{view_listed}
-use Rattle.generation.proofs.Limiting.{len_map}
 use Rattle.generation.specs.View.{IsRising}
 use Rattle.generation.proofs.Grouping.{few_of_group}
 
 pub keys_are : (old : List Placed) (spots : List SpotFields) (keys : List (Option ℕ)) → keys ≡ old_keys old spots → fill_keys keys (free_keys (taken_in keys) (length keys)) ≡ keys_of old spots
 keys_are old spots keys e =
     ap (λ k. fill_keys k (free_keys (taken_in k) (length k))) e
-    ∙ ap (λ n. fill_keys (old_keys old spots) (free_keys (taken_in (old_keys old spots)) n)) (len_map (λ s. key_in (placed_at old s)) spots)
+    ∙ ap (λ n. fill_keys (old_keys old spots) (free_keys (taken_in (old_keys old spots)) n)) (length-map spots (λ s. key_in (placed_at old s)))
 
 -- ---- bindings
 
@@ -46,27 +46,12 @@ small_count (c ∷ cs) (suc id) most some all = small_count cs id most some (λ 
 
 -- ---- blocks
 
-take_none : {A : Type 0} (n : ℕ) → take {A = A} n [] ≡ []
-take_none zero = refl
-take_none (suc n) = refl
-
-take_min : {A : Type 0} (n : ℕ) (xs : List A) → take (min n (length xs)) xs ≡ take n xs
-take_min zero xs = let z : min 0 (length xs) ≡ 0 = omega arith in ap (λ n. take n xs) z
-take_min (suc n) [] = take_none (min (suc n) 0) ∙ sym (take_none (suc n))
-take_min (suc n) (x ∷ xs) = let z : min (suc n) (suc (length xs)) ≡ suc (min n (length xs)) = omega arith in ap (λ k. take k (x ∷ xs)) z ∙ ap (λ ys. x ∷ ys) (take_min n xs)
-
-drop_over : {A : Type 0} (n : ℕ) (xs : List A) → length xs ≤ n → drop n xs ≡ []
-drop_over zero [] le = refl
-drop_over zero (x ∷ xs) le = absurd (omega (arith, le))
-drop_over (suc n) [] le = refl
-drop_over (suc n) (x ∷ xs) le = drop_over n xs (omega (arith, le))
-
 pub block_cut : (bytes : List ℕ) (n a e : ℕ) → a ≡ min (n * 4066) (length bytes) → e ≡ min (a + 4066) (length bytes)
     → take (e - a) (drop a bytes) ≡ blocks.block_of bytes 4066 n
 block_cut bytes n a e ea ee = elim (cases_lt (length bytes) (n * 4066)) [
-  | inl past ↦ let none : drop (n * 4066) bytes ≡ [] = drop_over (n * 4066) bytes (omega (arith, past)) in
-      let all : drop a bytes ≡ [] = drop_over a bytes (omega (arith, past, ea)) in
-      ap (λ d. take (e - a) d) all ∙ (take_none (e - a) ∙ sym (ap (λ d. take 4066 d) none))
+  | inl past ↦ let none : drop (n * 4066) bytes ≡ [] = drop_all (n * 4066) bytes (omega (arith, past)) in
+      let all : drop a bytes ≡ [] = drop_all a bytes (omega (arith, past, ea)) in
+      ap (λ d. take (e - a) d) all ∙ (take_all (e - a) [] (omega arith) ∙ sym (ap (λ d. take 4066 d) none))
   | inr here ↦ let at : a ≡ n * 4066 = omega (arith, here, ea) in
       let left : length (drop a bytes) ≡ length bytes - a = length-drop a bytes in
       let span : e - a ≡ min 4066 (length (drop a bytes)) = omega (arith, here, ea, ee, left) in
@@ -111,7 +96,7 @@ pub dii_fits : (c g group : ℕ) (counts : List ℕ) (layout : List (ℕ × Byte
     → payload ≡ dii_spelling (record { download = c; block_size = 4066; transaction = dii_transaction g group; modules = dii_lines counts (group_in layout group) }) → length payload ≤ 4084
 dii_fits c g group counts layout payload rising some e =
     let listed = group_in layout group in
-    let n : length (dii_lines counts listed) ≡ length listed = len_map _ listed in
+    let n : length (dii_lines counts listed) ≡ length listed = length-map listed _ in
     let short = dii_short (record { download = c; block_size = 4066; transaction = dii_transaction g group; modules = dii_lines counts listed }) (omega (arith, n, few_of_group layout group rising some)) in
     omega (arith, short, ap length e)
 
@@ -121,11 +106,7 @@ block_short bytes a e le = let n : length (take (e - a) (drop a bytes)) ≤ e - 
 pub small_bytes : (layout : List (ℕ × Bytes)) (id : ℕ) → All (λ m. length m.1 ≤ 268435456) layout → length (unwrap_or (module_in layout id) []) ≤ 268435456
 small_bytes [] id all = omega arith
 small_bytes (m ∷ ms) id all =
-    let here : length m.1 ≤ 268435456 = all 0 (0, []) (omega arith) in
-    go (m.0 == id) here (small_bytes ms id (λ k e l. all (suc k) e (omega (arith, l)))) where
-      go : (b : Bool) → length m.1 ≤ 268435456 → length (unwrap_or (module_in ms id) []) ≤ 268435456 → length (unwrap_or (cond b (Some m.1) (module_in ms id)) []) ≤ 268435456
-      go true here rest = here
-      go false here rest = rest
+    cond_both (m.0 == id) (Some m.1) (module_in ms id) (λ o. length (unwrap_or o []) ≤ 268435456) (λ _. all 0 (0, []) (omega arith)) (λ _. small_bytes ms id (λ k e l. all (suc k) e (omega (arith, l))))
 
 -- an item's section, seen through the fields
 pub section_arm : {E : Type 0} (r : Result (Vec ℕ Global) E) (inside g : GenerationState) (item known : Item) → inside ≡ g → item ≡ known

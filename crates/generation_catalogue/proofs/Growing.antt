@@ -1,5 +1,5 @@
 -- What holds of every history: trees are added at the end, and items are drawn from the current generation.
-use Rattle.std.proofs.Common.{◌≡◌, ℕ, suc, Bool, true, false, cond, List, [], ◌∷◌, ◌++◌, Result, Ok, Err, refl, sym, ◌∙◌}
+use Rattle.std.proofs.Common.{◌≡◌, ℕ, Bool, true, false, cond, List, [], ◌∷◌, ◌++◌, Result, Ok, Err, sym, ◌∙◌}
 use Rattle.std.specs.List.{All, Contains}
 use Rattle.std.proofs.lemmas.List.{append-nil}
 use Rattle.std.proofs.lemmas.List.Elements.{All-take, All-drop}
@@ -13,14 +13,14 @@ use Rattle.generation_catalogue.specs.declared.entry.Refusal.{Refusal}
 use Rattle.generation_catalogue.specs.declared.entry.Entry.TheVariants as entries
 use Rattle.generation_catalogue.specs.History.{CatalogueState, current_of, cursor_of, count_drawn, cycle_in, trees_of, items_drawn, with_commit, or_same, last_tree, outcome_of, is_entered, with_entry}
 use Rattle.generation_catalogue.specs.Laws.{HistoriesGrow}
-use Rattle.generation_catalogue.proofs.Replay.{trees_accepted, trees_refused, trees_drawn, number_is}
+use Rattle.generation_catalogue.proofs.Replay.{number_is, trees_more}
 
 by_commit : (c : CatalogueState) (editor : ℕ) (edits : List Edit) → (rest : List Tree) × (trees_of (with_commit c editor edits) ≡ trees_of c ++ rest)
 by_commit c editor edits = by (is_entered (outcome_of c edits)) (outcome_of c edits) where
   by : (entered : Bool) (o : Result ℕ Refusal) → (rest : List Tree) × (trees_of (cond entered (with_entry c (entries.Commit editor edits o)) c) ≡ trees_of c ++ rest)
   by false o = ([], sym (append-nil (trees_of c)))
-  by true (Ok n) = (or_same (last_tree (trees_of c)) (apply_all (last_tree (trees_of c)) edits) ∷ [], trees_accepted c.entries [] editor edits n)
-  by true (Err r) = ([], trees_refused c.entries [] editor edits r ∙ sym (append-nil (trees_of c)))
+  by true (Ok n) = (or_same (last_tree (trees_of c)) (apply_all (last_tree (trees_of c)) edits) ∷ [], trees_more c.entries (entries.Commit editor edits (Ok n) ∷ []) [])
+  by true (Err r) = ([], trees_more c.entries (entries.Commit editor edits (Err r) ∷ []) [] ∙ sym (append-nil (trees_of c)))
 
 pub items_are_its_own : (c : CatalogueState) (asked : ℕ) → All (Contains (items_of (current_of c))) (items_drawn c asked)
 items_are_its_own c asked =
@@ -30,7 +30,7 @@ items_are_its_own c asked =
 pub histories_grow : HistoriesGrow
 histories_grow = record {
   by_commit = by_commit;
-  by_draw = λ c asked. trees_drawn c.entries [] asked (current_of c).number (cursor_of c) (count_drawn c asked);
+  by_draw = λ c asked. trees_more c.entries (entries.Draw asked (current_of c).number (cursor_of c) (count_drawn c asked) ∷ []) [];
   number = number_is;
   items = items_are_its_own;
 }

@@ -14,11 +14,9 @@ use Rattle.oc_bytes.specs.Outcome.{cap_at_u64}
 use Rattle.path_tree.specs.Trees.{Tree}
 use Rattle.path_tree.specs.Edits.{apply_all}
 use Rattle.path_tree.specs.declared.tree.Edit.{Edit}
-use Rattle.path_tree.specs.declared.tree.EditFault.{EditFault}
 use Rattle.path_tree.specs.declared.tree.ApplyFault.{ApplyFault}
 use Rattle.path_tree.specs.declared.tree.ApplyFault.TheVariants as apply_faults
 use Rattle.path_tree.specs.Edits.{apply_cause}
-use Rattle.generation.specs.Publication as passed
 use Rattle.generation.specs.Publication.{Passed, limit_of}
 use Rattle.generation.specs.Limits.{check_of, unless_passed, limit_cause}
 use Rattle.generation.specs.declared.limit.Limit.{Limit}
@@ -37,17 +35,11 @@ use Rattle.generation_catalogue.specs.Requests.{commit_cause, of_edits, of_limit
 
 -- ---- the trees
 
-pub trees_accepted : (es : List Entry) (ts : List Tree) (editor : ℕ) (edits : List Edit) (n : ℕ) → trees_after ts (es ++ entries.Commit editor edits (Ok n) ∷ []) ≡ with_tree (trees_after ts es) edits
-trees_accepted [] ts editor edits n = refl
-trees_accepted (entries.Commit e x (Ok m) ∷ es) ts editor edits n = trees_accepted es (with_tree ts x) editor edits n
-trees_accepted (entries.Commit e x (Err r) ∷ es) ts editor edits n = trees_accepted es ts editor edits n
-trees_accepted (entries.Draw a g f k ∷ es) ts editor edits n = trees_accepted es ts editor edits n
-
-pub trees_refused : (es : List Entry) (ts : List Tree) (editor : ℕ) (edits : List Edit) (r : Refusal) → trees_after ts (es ++ entries.Commit editor edits (Err r) ∷ []) ≡ trees_after ts es
-trees_refused [] ts editor edits r = refl
-trees_refused (entries.Commit e x (Ok m) ∷ es) ts editor edits r = trees_refused es (with_tree ts x) editor edits r
-trees_refused (entries.Commit e x (Err q) ∷ es) ts editor edits r = trees_refused es ts editor edits r
-trees_refused (entries.Draw a g f k ∷ es) ts editor edits r = trees_refused es ts editor edits r
+pub trees_more : (es later : List Entry) (ts : List Tree) → trees_after ts (es ++ later) ≡ trees_after (trees_after ts es) later
+trees_more [] later ts = refl
+trees_more (entries.Commit e x (Ok m) ∷ es) later ts = trees_more es later (with_tree ts x)
+trees_more (entries.Commit e x (Err r) ∷ es) later ts = trees_more es later ts
+trees_more (entries.Draw a g f k ∷ es) later ts = trees_more es later ts
 
 -- a generation's tree is the last of the trees that lead to it
 tree_from : (ts : List Tree) (g : GenerationState) → (fold next_of g ts).tree ≡ unwrap_or (last_or (Some g.tree) ts) []
@@ -63,20 +55,14 @@ current_tree c = tree_of_generation c.carousel (trees_of c)
 
 pub current_accepted : (c : CatalogueState) (editor : ℕ) (edits : List Edit) (n : ℕ) → current_of (with_entry c (entries.Commit editor edits (Ok n))) ≡ generation_after c edits
 current_accepted c editor edits n =
-    ap (generation_of c.carousel) (trees_accepted c.entries [] editor edits n)
+    ap (generation_of c.carousel) (trees_more c.entries (entries.Commit editor edits (Ok n) ∷ []) [])
     ∙ fold_push next_of (first_of c.carousel) (trees_of c) (or_same (last_tree (trees_of c)) (apply_all (last_tree (trees_of c)) edits))
 
 pub current_refused : (c : CatalogueState) (editor : ℕ) (edits : List Edit) (r : Refusal) → current_of (with_entry c (entries.Commit editor edits (Err r))) ≡ current_of c
-current_refused c editor edits r = ap (generation_of c.carousel) (trees_refused c.entries [] editor edits r)
-
-pub trees_drawn : (es : List Entry) (ts : List Tree) (asked generation first count : ℕ) → trees_after ts (es ++ entries.Draw asked generation first count ∷ []) ≡ trees_after ts es
-trees_drawn [] ts asked generation first count = refl
-trees_drawn (entries.Commit e x (Ok m) ∷ es) ts asked generation first count = trees_drawn es (with_tree ts x) asked generation first count
-trees_drawn (entries.Commit e x (Err q) ∷ es) ts asked generation first count = trees_drawn es ts asked generation first count
-trees_drawn (entries.Draw a g f k ∷ es) ts asked generation first count = trees_drawn es ts asked generation first count
+current_refused c editor edits r = ap (generation_of c.carousel) (trees_more c.entries (entries.Commit editor edits (Err r) ∷ []) [])
 
 current_drawn : (c : CatalogueState) (asked generation first count : ℕ) → current_of (with_entry c (entries.Draw asked generation first count)) ≡ current_of c
-current_drawn c asked generation first count = ap (generation_of c.carousel) (trees_drawn c.entries [] asked generation first count)
+current_drawn c asked generation first count = ap (generation_of c.carousel) (trees_more c.entries (entries.Draw asked generation first count ∷ []) [])
 
 -- a generation's number is how many trees lead to it
 number_from : (ts : List Tree) (g : GenerationState) → (fold next_of g ts).number ≡ g.number + length ts
@@ -94,32 +80,20 @@ cycle_for weights g = cycle_of weights (lines_of g)
 draws_more : (c : CatalogueState) (e : Entry) → draws_of (with_entry c e) ≡ draws_of c + cond (is_draw e) 1 0
 draws_more c e = fold_push (λ (n : ℕ) (x : Entry). n + cond (is_draw x) 1 0) 0 c.entries e
 
-since_accepted : (es : List Entry) (n editor : ℕ) (edits : List Edit) (k : ℕ) → drawn_since n (es ++ entries.Commit editor edits (Ok k) ∷ []) ≡ 0
-since_accepted [] n editor edits k = refl
-since_accepted (entries.Commit e x (Ok m) ∷ es) n editor edits k = since_accepted es 0 editor edits k
-since_accepted (entries.Commit e x (Err q) ∷ es) n editor edits k = since_accepted es n editor edits k
-since_accepted (entries.Draw a g f c ∷ es) n editor edits k = since_accepted es (n + c) editor edits k
-
-since_refused : (es : List Entry) (n editor : ℕ) (edits : List Edit) (r : Refusal) → drawn_since n (es ++ entries.Commit editor edits (Err r) ∷ []) ≡ drawn_since n es
-since_refused [] n editor edits r = refl
-since_refused (entries.Commit e x (Ok m) ∷ es) n editor edits r = since_refused es 0 editor edits r
-since_refused (entries.Commit e x (Err q) ∷ es) n editor edits r = since_refused es n editor edits r
-since_refused (entries.Draw a g f c ∷ es) n editor edits r = since_refused es (n + c) editor edits r
-
-since_drawn : (es : List Entry) (n asked generation first count : ℕ) → drawn_since n (es ++ entries.Draw asked generation first count ∷ []) ≡ drawn_since n es + count
-since_drawn [] n asked generation first count = refl
-since_drawn (entries.Commit e x (Ok m) ∷ es) n asked generation first count = since_drawn es 0 asked generation first count
-since_drawn (entries.Commit e x (Err q) ∷ es) n asked generation first count = since_drawn es n asked generation first count
-since_drawn (entries.Draw a g f c ∷ es) n asked generation first count = since_drawn es (n + c) asked generation first count
+since_more : (es later : List Entry) (n : ℕ) → drawn_since n (es ++ later) ≡ drawn_since (drawn_since n es) later
+since_more [] later n = refl
+since_more (entries.Commit e x (Ok m) ∷ es) later n = since_more es later 0
+since_more (entries.Commit e x (Err q) ∷ es) later n = since_more es later n
+since_more (entries.Draw a g f c ∷ es) later n = since_more es later (n + c)
 
 pub cursor_accepted : (c : CatalogueState) (editor : ℕ) (edits : List Edit) (n : ℕ) → cursor_of (with_entry c (entries.Commit editor edits (Ok n))) ≡ 0
 cursor_accepted c editor edits n =
     let after = with_entry c (entries.Commit editor edits (Ok n)) in
-    ap (λ (x : ℕ). x % length (cycle_in after)) (since_accepted c.entries 0 editor edits n) ∙ zero-mod (length (cycle_in after))
+    ap (λ (x : ℕ). x % length (cycle_in after)) (since_more c.entries (entries.Commit editor edits (Ok n) ∷ []) 0) ∙ zero-mod (length (cycle_in after))
 
 cursor_refused : (c : CatalogueState) (editor : ℕ) (edits : List Edit) (r : Refusal) → cursor_of (with_entry c (entries.Commit editor edits (Err r))) ≡ cursor_of c
 cursor_refused c editor edits r =
-    ap (λ (x : ℕ). x % length (cycle_in (with_entry c (entries.Commit editor edits (Err r))))) (since_refused c.entries 0 editor edits r)
+    ap (λ (x : ℕ). x % length (cycle_in (with_entry c (entries.Commit editor edits (Err r))))) (since_more c.entries (entries.Commit editor edits (Err r) ∷ []) 0)
     ∙ ap (λ (g : GenerationState). drawn_since 0 c.entries % length (cycle_for c.weights g)) (current_refused c editor edits r)
 
 -- the cursor is below the cycle's length
@@ -136,7 +110,7 @@ modulo_next n d length some within = sym (mod-add-mod n length d) ∙ by (eqb (n
 pub cursor_drawn : (c : CatalogueState) (asked generation first count : ℕ) → cursor_of c + count ≤ length (cycle_in c)
     → cursor_of (with_entry c (entries.Draw asked generation first count)) ≡ (if cursor_of c + count == length (cycle_in c) then 0 else cursor_of c + count)
 cursor_drawn c asked generation first count within =
-    ap (λ (x : ℕ). x % length (cycle_in (with_entry c (entries.Draw asked generation first count)))) (since_drawn c.entries 0 asked generation first count)
+    ap (λ (x : ℕ). x % length (cycle_in (with_entry c (entries.Draw asked generation first count)))) (since_more c.entries (entries.Draw asked generation first count ∷ []) 0)
     ∙ ap (λ (g : GenerationState). (drawn_since 0 c.entries + count) % length (cycle_for c.weights g)) (current_drawn c asked generation first count)
     ∙ modulo_next (drawn_since 0 c.entries) count (length (cycle_in c)) (omega arith) within
 
@@ -190,20 +164,6 @@ looked_at c edits g h n total tree e m ne t l f k = record {
 
 outcome_looked : (c : CatalogueState) (edits : List Edit) (tree : Tree) → IsLookedAt c edits tree → outcome_of c edits ≡ unless_edit ((current_of c).number + 1) (apply_all tree edits)
 outcome_looked c edits tree l = outcome_is c edits l.number l.total ∙ ap (λ (t : Tree). unless_edit ((current_of c).number + 1) (apply_all t edits)) (sym l.tree)
-
--- what is looked at so makes an entry, whatever comes of it
-pub entered_looked : (c : CatalogueState) (edits : List Edit) (tree : Tree) → IsLookedAt c edits tree → is_entered (outcome_of c edits) ≡ true
-entered_looked c edits tree l = ap is_entered (outcome_looked c edits tree l) ∙ by_edits (apply_all tree edits) where
-  by_limit : (o : Option Passed) → is_entered (unless_limit ((current_of c).number + 1) o) ≡ true
-  by_limit None = refl
-  by_limit (Some (passed.Objects n)) = refl
-  by_limit (Some (passed.Folder p)) = refl
-  by_limit (Some (passed.Total n)) = refl
-  by_limit (Some (passed.Modules n)) = refl
-
-  by_edits : (r : Result Tree (ℕ × EditFault)) → is_entered (unless_edit ((current_of c).number + 1) r) ≡ true
-  by_edits (Err fault) = refl
-  by_edits (Ok t) = by_limit (limit_of t)
 
 pub outcome_accepted : (c : CatalogueState) (edits : List Edit) (tree t : Tree) → IsLookedAt c edits tree → apply_all tree edits ≡ Ok t → check_of t ≡ Ok 0
     → (outcome_of c edits ≡ Ok ((current_of c).number + 1)) × (next_of (current_of c) t ≡ generation_after c edits)
@@ -308,7 +268,7 @@ follows_accepted c editor edits n total now next bytes draws cursor o g t whole_
     let counted : draws_of (with_entry c new) ≡ draws_of c = draws_more c new ∙ add-zero (draws_of c) in
     let more : journal_of (with_entry c new) ≡ journal_of c + put_bytes edits = journal_more c new in
     let was : length (trees_of c) ≤ 16382 = let e = number_is c in omega (arith, e, f.number, within.0) in
-    let published : ArePublishable c.carousel (trees_of (with_entry c new)) = same_published c.carousel (trees_of (with_entry c new)) (with_tree (trees_of c) edits) (trees_accepted c.entries [] editor edits n) (record {
+    let published : ArePublishable c.carousel (trees_of (with_entry c new)) = same_published c.carousel (trees_of (with_entry c new)) (with_tree (trees_of c) edits) (trees_more c.entries (entries.Commit editor edits (Ok n) ∷ []) []) (record {
       carousel_id = f.history.published.carousel_id;
       few = let e = length-append (trees_of c) (or_same (last_tree (trees_of c)) (apply_all (last_tree (trees_of c)) edits) ∷ []) in omega (arith, e, was);
       each = All-push IsPublishable (trees_of c) (or_same (last_tree (trees_of c)) (apply_all (last_tree (trees_of c)) edits)) f.history.published.each (subst (λ (x : GenerationState). IsPublishable x.tree) g whole_tree);
@@ -339,7 +299,7 @@ follows_refused c editor edits r total now bytes draws cursor o e t f =
       cursor = f.cursor ∙ sym (cursor_refused c editor edits r);
       number = rw (current_refused c editor edits r) f.number;
       history = history_more c new (ap (λ (x : Result ℕ Refusal). entries.Commit editor edits x) (sym o)) e (subst (λ (x : ℕ). x ≤ 16777216) (sym counted) f.history.draws)
-          (same_published c.carousel (trees_of (with_entry c new)) (trees_of c) (trees_refused c.entries [] editor edits r) f.history.published) f.history;
+          (same_published c.carousel (trees_of (with_entry c new)) (trees_of c) (trees_more c.entries (entries.Commit editor edits (Err r) ∷ []) []) f.history.published) f.history;
     }
 
 pub follows_drawn : (c : CatalogueState) (asked : ℕ) (now : GenerationState) (bytes draws cursor : ℕ)
@@ -360,7 +320,7 @@ follows_drawn c asked now bytes draws cursor some most room f =
           ∙ sym (cursor_drawn c asked (current_of c).number (cursor_of c) (count_drawn c asked) within);
       number = rw same f.number;
       history = history_more c new refl (some, most) (omega (arith, counted, room))
-          (same_published c.carousel (trees_of (with_entry c new)) (trees_of c) (trees_drawn c.entries [] asked (current_of c).number (cursor_of c) (count_drawn c asked)) f.history.published) f.history;
+          (same_published c.carousel (trees_of (with_entry c new)) (trees_of c) (trees_more c.entries (entries.Draw asked (current_of c).number (cursor_of c) (count_drawn c asked) ∷ []) []) f.history.published) f.history;
     }
 
 -- ---- the same, as the code keeps it

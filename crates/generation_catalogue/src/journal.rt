@@ -1,13 +1,15 @@
-ghost use Rattle.std.specs.Prelude.{◌≡◌, ◌+◌, ◌<◌, ◌≤◌, [], ◌⊎◌, length, is_some, ◌==◌, if◌then◌else◌, true, Ok, Err, IfOk, OnOk, OnErr, IsErrOf};
+ghost use Rattle.std.specs.Prelude.{◌≡◌, ◌+◌, ◌<◌, ◌≤◌, [], ◌⊎◌, length, take, drop, is_some, ◌==◌, if◌then◌else◌, true, Ok, Err, IfOk, OnOk, OnErr, IsErrOf};
 ghost use Rattle.std.specs.Arc.{arc_value};
 ghost use Rattle.std.specs.List.{All, Contains};
 ghost use Rattle.oc_bytes.specs.Outcome.{Gives, cap_at_u64};
 ghost use Rattle.cycle_planner.specs.Weights.{AreWeights};
 ghost use Rattle.generation.specs.Lawful.{IsPublishable};
 ghost use Rattle.generation.specs.Layouts.{items_of};
-ghost use Rattle.generation_catalogue.specs.History.{IsHistory, current_of, journal_of, put_bytes, put_size, outcome_of, is_entered, with_commit, draws_of, items_drawn, count_drawn, with_draw};
+ghost use Rattle.generation_catalogue.specs.History.{IsHistory, current_of, journal_of, put_bytes, put_size, outcome_of, is_entered, with_commit, cursor_of, draws_of, items_drawn, count_drawn, with_draw};
 ghost use Rattle.generation_catalogue.specs.Requests.{commit_cause, generation_after};
 ghost use Rattle.generation_catalogue.specs.Calls.{IsCommitted, IsDrawn};
+ghost use Rattle.generation_catalogue.specs.Kept.{StandsIn, with_next};
+ghost use Rattle.cycle_planner.specs.Walks.{IsWalk, left_of};
 ghost use Rattle.cycle_planner.specs.declared.TheConstants.{MOST_DRAWN};
 
 use crate::entry::{Batch, CommitFault, DrawFault, Entry, Refusal};
@@ -38,6 +40,16 @@ pub struct Journal {
     put_bytes: u64,
     draws: u64,
     cursor: u64,
+    stand: Option<Stand>,
+}
+
+/// Where a draw begins, kept from one to the next so that only the first of a generation goes over all lines: how many items the
+/// cycle has, a walk before its first item, and one before the item at the cursor.
+#[derive(Clone, Copy, Debug)]
+pub struct Stand {
+    length: u64,
+    first: Walk,
+    next: Walk,
 }
 
 impl Model for Journal {
@@ -75,6 +87,7 @@ impl Journal {
             put_bytes: 0,
             draws: 0,
             cursor: 0,
+            stand: None,
         })
     }
 
@@ -155,6 +168,7 @@ impl Journal {
         self.current = next;
         self.put_bytes = total;
         self.cursor = 0;
+        self.stand = None;
         Ok(number)
     }
 
@@ -197,7 +211,7 @@ impl Journal {
     }
 
     /// Draws at most so many items of the cycle, 1 to [`cycle_planner::MOST_DRAWN`]: what `Catalogue::draw` says. The weights have to be those of this
-    /// history.
+    /// history. The first draw of a generation goes over all its lines; each other one takes a walk's steps alone, one for an item.
     pub fn draw(&mut self, weigh: &Weigh, asked: u32) -> Result<Batch, DrawFault>
         requires asked { (1 ≤ asked) × (asked ≤ MOST_DRAWN) }
         requires weights { weigh.now.weights ≡ self.old.weights }
@@ -219,10 +233,10 @@ impl Journal {
         if self.draws == MOST_DRAWS {
             return Err(DrawFault::DrawsFull(MOST_DRAWS));
         }
-        let items = self.next_items(weigh, asked)?;
+        let (items, stand) = self.next_items(weigh, asked)?;
         let generation = Arc::try_clone(&self.current)?;
         let first = self.cursor;
-        self.enter_draw(weigh, asked, items.len() as u64)?;
+        self.enter_draw(asked, items.len() as u64, stand)?;
         Ok(Batch {
             generation,
             first,
@@ -230,38 +244,52 @@ impl Journal {
         })
     }
 
-    /// The items of the cycle from the cursor on, at most so many.
-    fn next_items(&self, weigh: &Weigh, asked: u32) -> Result<Vec<Item>, NoMemory>
+    /// Where the next draw begins: as the draw before it left it, or made of all lines where it is the first of its generation.
+    fn stand_now(&self, weigh: &Weigh) -> Stand
         requires { weigh.now.weights ≡ self.now.weights }
-        ensures items { IfOk result (λ items. items.items ≡ items_drawn self.now asked) }
-        ensures count { IfOk result (λ items. length items.items ≡ count_drawn self.now asked) }
+        ensures { StandsIn self.now (cursor_of self.now) result }
     {
-        let lines = self.current.lines();
-        let first = self.cursor;
-        let count = u64::from(asked).min(cycle_len(lines, weigh) - first);
-        let mut items = Vec::with_capacity(self.alloc, count as usize)?;
-        let mut walk = Walk::at(lines, weigh, first);
-        for _at in first..first + count {
-            let Some(item) = walk.next(lines, weigh) else {
-                unreachable!();
-            };
-            items.push(item)?;
+        match self.stand {
+            Some(stand) => stand,
+            None => {
+                let lines = self.current.lines();
+                let first = Walk::new(lines, weigh);
+                Stand {
+                    length: cycle_len(lines, weigh),
+                    first,
+                    next: first,
+                }
+            }
         }
-        Ok(items)
     }
 
-    /// Enters a draw of so many items from the cursor on. Out of memory changes nothing.
-    fn enter_draw(&mut self, weigh: &Weigh, asked: u32, count: u64) -> Result<(), NoMemory>
-        requires weights { weigh.now.weights ≡ self.old.weights }
+    /// The items of the cycle from the cursor on, at most so many, and where a walk stands behind them.
+    fn next_items(&self, weigh: &Weigh, asked: u32) -> Result<(Vec<Item>, Stand), NoMemory>
+        requires { weigh.now.weights ≡ self.now.weights }
+        ensures items { IfOk result (λ p. p.0.items ≡ items_drawn self.now asked) }
+        ensures count { IfOk result (λ p. length p.0.items ≡ count_drawn self.now asked) }
+        ensures stand { IfOk result (λ p.
+            StandsIn self.now (cursor_of self.now + count_drawn self.now asked) p.1) }
+    {
+        let stand = self.stand_now(weigh);
+        let lines = self.current.lines();
+        let count = u64::from(asked).min(stand.length - self.cursor);
+        let (items, next) = taken(self.alloc, lines, weigh, stand.next, count)?;
+        Ok((items, moved(stand, next)))
+    }
+
+    /// Enters a draw of so many items from the cursor on, behind which a walk stands so. Out of memory changes nothing.
+    fn enter_draw(&mut self, asked: u32, count: u64, stand: Stand) -> Result<(), NoMemory>
         requires asked { (1 ≤ asked) × (asked ≤ MOST_DRAWN) }
         requires count { count ≡ count_drawn self.old asked }
+        requires stand { StandsIn self.old (cursor_of self.old + count_drawn self.old asked) stand }
         requires room { draws_of self.old < MOST_DRAWS }
         ensures entered { OnOk result (self.new ≡ with_draw self.old asked) }
         ensures unchanged { OnErr result (self.new ≡ self.old) }
     {
         let generation = self.current.number();
         let first = self.cursor;
-        let cursor = place_after(first, count, cycle_len(self.current.lines(), weigh));
+        let cursor = place_after(first, count, stand.length);
         self.entries.push(Entry::Draw {
             asked,
             generation,
@@ -270,8 +298,59 @@ impl Journal {
         })?;
         self.draws += 1;
         self.cursor = cursor;
+        self.stand = Some(at_place(stand, cursor));
         Ok(())
     }
+}
+
+/// The same cycle, in which the next draw begins where a walk stands.
+fn moved(stand: Stand, next: Walk) -> Stand
+    ensures { result ≡ with_next stand next }
+{
+    Stand {
+        length: stand.length,
+        first: stand.first,
+        next,
+    }
+}
+
+/// The same cycle, in which the next draw begins at its first item where the cursor went back to it.
+fn at_place(stand: Stand, cursor: u64) -> Stand
+    ensures { result ≡ (if cursor == 0 then with_next stand stand.first else stand) }
+{
+    if cursor == 0 {
+        moved(stand, stand.first)
+    } else {
+        stand
+    }
+}
+
+/// So many items that a walk comes to next, and the walk behind them.
+fn taken(
+    alloc: Global,
+    lines: &[(u16, u32)],
+    weigh: &Weigh,
+    from: Walk,
+    count: u64,
+) -> Result<(Vec<Item>, Walk), NoMemory>
+    requires walk { IsWalk weigh.now.weights lines.now from }
+    requires count { count ≤ length (left_of weigh.now.weights lines.now from) }
+    ensures items { IfOk result (λ p.
+        p.0.items ≡ take count (left_of weigh.now.weights lines.now from)) }
+    ensures walk { IfOk result (λ p. IsWalk weigh.now.weights lines.now p.1) }
+    ensures left { IfOk result (λ p.
+        left_of weigh.now.weights lines.now p.1
+        ≡ drop count (left_of weigh.now.weights lines.now from)) }
+{
+    let mut items = Vec::with_capacity(alloc, count as usize)?;
+    let mut walk = from;
+    for _at in 0..count {
+        let Some(item) = walk.next(lines, weigh) else {
+            unreachable!();
+        };
+        items.push(item)?;
+    }
+    Ok((items, walk))
 }
 
 /// The place after so many items of a cycle: at its end, that of its first item again.

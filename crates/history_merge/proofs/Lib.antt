@@ -1,7 +1,5 @@
 pub mod Lists
 pub mod Cutting
-pub mod Growing
-pub mod Placing
 pub mod Ordering
 pub mod Numbers
 pub mod Replying

@@ -1,6 +1,6 @@
--- A merge without its opens is the entries.
-use Rattle.std.proofs.Common.{◌≡◌, ℕ, suc, Bool, true, false, cond, List, [], ◌∷◌, ◌++◌, map, filter, drop, get_or, ap, ◌∙◌, refl}
-use Rattle.std.specs.List.{flat_map, range_with_len}
+-- A merge without its opens is the entries; more entries after the others, and what each event of a merge is.
+use Rattle.std.proofs.Common.{◌≡◌, ℕ, suc, Bool, true, false, cond, List, [], ◌∷◌, ◌++◌, map, filter, drop, get_or, ap, ◌∙◌, refl, zero, ◌+◌, ◌≤◌, sym, arith, append_assoc}
+use Rattle.std.specs.List.{flat_map, range_with_len, count_by}
 use Rattle.std.proofs.lemmas.List.Elements.{filter-append}
 use Rattle.ts_packet.specs.declared.Fate.{Fate}
 use Rattle.generation_catalogue.specs.History.{is_draw}
@@ -10,9 +10,9 @@ use Rattle.carousel_world.specs.Events.{Step}
 use Rattle.carousel_world.specs.declared.event.Reply.{Reply}
 use Rattle.open_history.specs.Opens.{ReaderView}
 use Rattle.open_history.specs.declared.entry.OpenEntry.{OpenEntry}
-use Rattle.history_merge.specs.Merging.{event_of, opened_of, has_heard, opens_by, opens_of, opens_at, merge_entries, merge_of, drawn_with}
-use Rattle.history_merge.specs.Merged.{is_draw_step, is_commit_of, is_commit_at}
-use Rattle.history_merge.proofs.Lists.{filter_skips}
+use Rattle.history_merge.specs.Merging.{event_of, opened_of, has_heard, opens_by, opens_of, opens_at, merge_entries, merge_of, drawn_with, Each}
+use Rattle.history_merge.specs.Merged.{is_draw_step, is_commit_of, is_commit_at, MergesGrow}
+use Rattle.history_merge.proofs.Lists.{filter_skips, count_more, count_same, each_append}
 
 -- a test that no open passes
 module _ (picked : Step × Reply → Bool) (not_opens : (r : ℕ) (o : OpenEntry) → picked (opened_of r o) ≡ false) (passes : List ReaderView) where
@@ -65,3 +65,72 @@ module _ (editors : List ℕ) (passes : List ReaderView) where
 
   pub draws_stand : (fates : List (List Fate)) (es : List Entry) → filter drawn (merge_of editors passes fates es) ≡ drawn_with editors fates (filter is_draw es)
   draws_stand fates es = past_opens drawn (λ r o. refl) passes 0 (merge_entries editors passes 0 fates es) ∙ draws_in 0 fates es
+
+-- ---- more entries after the others
+
+drop_more : {A : Type 0} (n : ℕ) (xs : List A) → drop n (drop 1 xs) ≡ drop (suc n) xs
+drop_more zero [] = refl
+drop_more (suc n) [] = refl
+drop_more n (x ∷ xs) = refl
+
+module _ (editors : List ℕ) (passes : List ReaderView) where
+  abbrev later : ℕ → List (List Fate) → List Entry → List (Step × Reply)
+  later k fates es = merge_entries editors passes k fates es
+
+  onwards_from : (k : ℕ) (fates : List (List Fate)) (es more : List Entry)
+      → later k fates (es ++ more) ≡ later k fates es ++ later (k + count_by is_draw es) (drop (count_by is_draw es) fates) more
+  onwards_from k fates [] more = λ i. later (same i) fates more
+    where
+      same : k ≡ k + 0
+      same = omega arith
+  onwards_from k fates (entries.Commit editor edits outcome ∷ es) more =
+      let e = entries.Commit editor edits outcome in
+      let n : count_by is_draw es ≡ count_by is_draw (e ∷ es) = sym (count_same is_draw e es refl) in
+      ap (λ (l : List (Step × Reply)). event_of editors e [] ∷ l)
+      (onwards_from k fates es more ∙ (λ i. later k fates es ++ later (k + n i) (drop (n i) fates) more))
+  onwards_from k fates (entries.Draw asked generation first count ∷ es) more =
+      let e = entries.Draw asked generation first count in
+      let n = count_by is_draw es in
+      let rest = later (suc k) (drop 1 fates) es in
+      let one = count_more is_draw e es refl in
+      let c : suc k + n ≡ k + count_by is_draw (e ∷ es) = omega arith in
+      let f : drop n (drop 1 fates) ≡ drop (count_by is_draw (e ∷ es)) fates = drop_more n fates ∙ ap (λ (j : ℕ). drop j fates) (sym one) in
+      ap (λ (l : List (Step × Reply)). event_of editors e (get_or fates 0 []) ∷ l)
+      (ap (λ (l : List (Step × Reply)). opens_at passes (suc k) ++ l) (onwards_from (suc k) (drop 1 fates) es more ∙ (λ i. rest ++ later (c i) (f i) more))
+      ∙ sym (append_assoc (opens_at passes (suc k)) rest (later (k + count_by is_draw (e ∷ es)) (drop (count_by is_draw (e ∷ es)) fates) more)))
+
+pub onwards : MergesGrow
+onwards editors passes fates es more =
+    let n = count_by is_draw es in
+    ap (λ (l : List (Step × Reply)). opens_at passes 0 ++ l) (onwards_from editors passes 0 fates es more)
+    ∙ sym (append_assoc (opens_at passes 0) (merge_entries editors passes 0 fates es) (merge_entries editors passes (0 + n) (drop n fates) more))
+    ∙ (λ i. merge_of editors passes fates es ++ merge_entries editors passes (zero_more i) (drop n fates) more)
+  where
+    zero_more : 0 + count_by is_draw es ≡ count_by is_draw es
+    zero_more = omega arith
+
+-- what is true of each open is true of each of those after so many draws
+module _ (Q : Step × Reply → Type 0) (passes : List ReaderView) (opens : (r : ℕ) → 1 ≤ r → r ≤ 64 → (o : OpenEntry) → Q (opened_of r o)) where
+  of_reader : (r : ℕ) → 1 ≤ r → r ≤ 64 → (os : List OpenEntry) → Each Q (map (opened_of r) os)
+  of_reader r low high [] = tt
+  of_reader r low high (o ∷ os) = (opens r low high o, of_reader r low high os)
+
+  of_readers : (k a n : ℕ) → 1 ≤ a → a + n ≤ 65 → Each Q (flat_map (opens_of passes k) (range_with_len a n))
+  of_readers k a zero low high = tt
+  of_readers k a (suc n) low high =
+      each_append Q (opens_of passes k a) (flat_map (opens_of passes k) (range_with_len (a + 1) n))
+      (of_reader a low (omega arith) (filter (has_heard k) (opens_by a passes))) (of_readers k (a + 1) n (omega arith) (omega arith))
+
+  pub each_opened : (k : ℕ) → Each Q (opens_at passes k)
+  each_opened k = of_readers k 1 64 (omega arith) (omega arith)
+
+  -- and with each entry's event, each of a merge
+  module _ (editors : List ℕ) where
+    of_entries : (k : ℕ) (fates : List (List Fate)) (es : List Entry) → Each (λ e. (f : List Fate) → Q (event_of editors e f)) es → Each Q (merge_entries editors passes k fates es)
+    of_entries k fates [] h = tt
+    of_entries k fates (entries.Commit editor edits outcome ∷ es) h = (h.0 [], of_entries k fates es h.1)
+    of_entries k fates (entries.Draw asked generation first count ∷ es) h =
+        (h.0 (get_or fates 0 []), each_append Q (opens_at passes (suc k)) (merge_entries editors passes (suc k) (drop 1 fates) es) (each_opened (suc k)) (of_entries (suc k) (drop 1 fates) es h.1))
+
+    pub each_merged : (fates : List (List Fate)) (es : List Entry) → Each (λ e. (f : List Fate) → Q (event_of editors e f)) es → Each Q (merge_of editors passes fates es)
+    each_merged fates es h = each_append Q (opens_at passes 0) (merge_entries editors passes 0 fates es) (each_opened 0) (of_entries 0 fates es h)

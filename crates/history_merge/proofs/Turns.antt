@@ -1,10 +1,11 @@
 -- The first of a reader's opens are taken off, and so of each reader.
-use Rattle.std.proofs.Common.{◌≡◌, ◌≢◌, ℕ, suc, ◌+◌, ◌-◌, ◌<◌, ◌≤◌, Bool, true, false, cond, List, [], ◌∷◌, ◌++◌, length, map, filter, take, drop, get_or, set, sym, ap, ◌∙◌, refl, subst, arith, append_assoc, eq-eqb, ne_eqb, drop-cons}
+use Rattle.std.proofs.Common.{◌≡◌, ◌≢◌, ℕ, suc, ◌+◌, ◌-◌, ◌<◌, ◌≤◌, Bool, List, [], ◌∷◌, ◌++◌, length, map, filter, take, drop, get_or, set, sym, ap, ◌∙◌, refl, subst, arith, append_assoc, eq-eqb, ne_eqb, drop-cons}
 use Rattle.std.specs.Prelude.{◌==◌, if◌then◌else◌}
 use Rattle.std.specs.List.{flat_map, range_with_len}
-use Rattle.std.proofs.lemmas.List.{take_all, drop_all, length-drop, length-map, get_or-map, take-append-drop, take-set, drop-set, drop-set-lt, take_more_set, map-set, length-take-le}
+use Rattle.std.proofs.lemmas.List.{drop_all, length-map, get_or-map, take-append-drop, take-set, drop-set, drop-set-lt, take_more_set, map-set, length-take-le}
 use Rattle.std.proofs.lemmas.List.Elements.{filter-append}
 use Rattle.std.proofs.lemmas.Grind.{flat_map-append}
+use Rattle.std.proofs.lemmas.Bool.{cond_both}
 use mathlib.Core.List.{map-append}
 use mathlib.Core.Logic.{dite}
 use native.Mathlib.Decide.{ℕ_discrete}
@@ -29,10 +30,6 @@ left_at xs i x less is =
 -- a part up to a place is as long as that
 pub as_long : {A : Type 0} (n : ℕ) (xs : List A) → n ≤ length xs → n ≡ length (take n xs)
 as_long n xs h = sym (length-take-le n xs h)
-
--- a part from a place up to the end is what is left there
-pub to_end : {A : Type 0} (n : ℕ) (xs : List A) → take (length xs - n) (drop n xs) ≡ drop n xs
-to_end n xs = let e = length-drop n xs in take_all (length xs - n) (drop n xs) (omega arith)
 
 -- ---- the first opens
 
@@ -166,11 +163,8 @@ never_climbs b last (o ∷ os) h = (h.0, never_climbs o.draws last os h.2)
 
 waited_climb : (last r : ℕ) (passes : List ReaderView) → Each (IsInOrder last) passes → AllClimb 0 (waited_by passes r)
 waited_climb last r [] h = tt
-waited_climb last r (p ∷ ps) h = by (p.reader == r) (waited_climb last r ps h.1)
-  where
-    by : (b : Bool) → AllClimb 0 (waited_by ps r) → AllClimb 0 (cond b (all_wait p ∷ waited_by ps r) (waited_by ps r))
-    by true rest = (never_climbs 0 last p.opens h.0.rising, rest)
-    by false rest = rest
+waited_climb last r (p ∷ ps) h =
+    let rest = waited_climb last r ps h.1 in cond_both (p.reader == r) (all_wait p ∷ waited_by ps r) (waited_by ps r) (AllClimb 0) (λ _. (never_climbs 0 last p.opens h.0.rising, rest)) (λ _. rest)
 
 pub all_climb : (last : ℕ) (passes : List ReaderView) (rs : List ℕ) → Each (IsInOrder last) passes → AllClimb 0 (flat_map (waited_by passes) rs)
 all_climb last passes [] h = tt

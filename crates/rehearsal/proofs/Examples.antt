@@ -1,6 +1,5 @@
--- Scripts whose events are known, and words of a report, computed by the definitions.
+-- Scripts whose events are known, and words of a reply, computed by the definitions.
 use Rattle.std.proofs.Common.{◌≡◌, List, [], ◌∷◌, map, None, refl, codes}
-use Rattle.hex.specs.Hex.{encode_with}
 use Rattle.path_tree.specs.Paths.{PathNames}
 use Rattle.path_tree.specs.declared.tree.Edit.TheVariants as edits
 use Rattle.path_resolver.specs.declared.answer.Answer.TheVariants as answers
@@ -11,7 +10,7 @@ use Rattle.session_script.specs.Scripts as lines
 use Rattle.carousel_world.specs.Events.{Commit, Draw, Open}
 use Rattle.carousel_world.specs.declared.event.Reply.TheVariants as replies
 use Rattle.rehearsal.specs.Lines.{events_from, none_pending}
-use Rattle.rehearsal.specs.Reports.{content_word, answer_tail, reply_words}
+use Rattle.rehearsal.specs.Reports.{reply_words}
 
 abbrev a : PathNames
 a = codes "a" ∷ []
@@ -36,16 +35,6 @@ folders_wait = refl
 settles : events_from none_pending (acts_by (lines.Draw 5 (Lose ∷ []) ∷ lines.Settle ∷ lines.Open 3 a ∷ [])) ≡
     Draw 5 (Lose ∷ []) ∷ Draw 1048576 [] ∷ Draw 1048576 [] ∷ Open 3 a ∷ []
 settles = refl
-
-digits : content_word (codes "one\n") ≡ codes "6f6e650a"
-unfolding encode_with
-digits = refl
-
-no_content : answer_tail (answers.File []) ≡ codes " -"
-no_content = refl
-
-names : answer_tail (answers.Folder (codes "a" ∷ codes " b" ∷ [])) ≡ codes " a %20b"
-names = refl
 
 opens_nothing : reply_words (codes "/a") (replies.Opened None answers.NoCarousel) ≡ codes "- /a no-carousel"
 opens_nothing = refl

@@ -1,8 +1,6 @@
 mod Adding
-mod Digits
 mod Examples
 mod FilledBytes
 mod Nothing
 mod Running
-mod Texts
 mod Telling

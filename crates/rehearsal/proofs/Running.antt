@@ -1,6 +1,7 @@
 -- Events one after another, and their report.
 use Rattle.std.proofs.Common.{◌≡◌, ℕ, List, [], ◌∷◌, ◌++◌, Result, Ok, Err, refl, sym, ap, ◌∙◌, append-nil, append_assoc, subst}
 use Rattle.std.specs.Prelude.{OnOk}
+use Rattle.carousel_world.proofs.CallerLemmas.{after_all-append}
 use Rattle.session_script.specs.Scripts.{Fields, LineFields}
 use Rattle.path_tree.specs.Paths.{Bytes}
 use Rattle.shell_streams.specs.Sending.{OutputState, Puts}
@@ -18,10 +19,6 @@ use Rattle.rehearsal.specs.Rehearsals.{Rehearses}
 use Rattle.rehearsal.specs.Inner.Steps.{Stands, Runs, HasRun}
 use Rattle.rehearsal.specs.declared.rehearsal.Rehearsal.{Rehearsal}
 
-pub after_more : (w : WorldState) (a b : List Step) → after_all w (a ++ b) ≡ after_all (after_all w a) b
-after_more w [] b = refl
-after_more w (e ∷ es) b = after_more (happens w e) es b
-
 report_more : (w : WorldState) (a b : List Step) → report_in w (a ++ b) ≡ report_in w a ++ report_in (after_all w a) b
 report_more w [] b = refl
 report_more w (e ∷ es) b =
@@ -32,16 +29,12 @@ report_more w (e ∷ es) b =
 reports_then : (ws : List ℕ) (before es fs : List Step)
     → report_in (world_after 1 ws before) es ++ report_in (world_after 1 ws (before ++ es)) fs ≡ report_in (world_after 1 ws before) (es ++ fs)
 reports_then ws before es fs =
-    ap (λ (w : WorldState). report_in (world_after 1 ws before) es ++ report_in w fs) (after_more (initial_world 1 ws) before es)
+    ap (λ (w : WorldState). report_in (world_after 1 ws before) es ++ report_in w fs) (after_all-append (initial_world 1 ws) before es)
     ∙ sym (report_more (world_after 1 ws before) es fs)
 
 pub on_ok : {T E A : Type 0} (r : Result T E) → A → OnOk r A
 on_ok (Ok x) a = a
 on_ok (Err e) a = tt
-
-pub on_ok_map : {T E A B : Type 0} (r : Result T E) → (A → B) → OnOk r A → OnOk r B
-on_ok_map (Ok x) f a = f a
-on_ok_map (Err e) f a = tt
 
 meets_as : {ws : List ℕ} {a b : List Step} → a ≡ b → MeetsHeadline 1 ws a → MeetsHeadline 1 ws b
 meets_as {ws = ws} e m = subst (MeetsHeadline 1 ws) e m
@@ -124,7 +117,7 @@ stands_still before st = stands_as (sym (append-nil before)) st
 
 -- an event more in the world
 pub world_more : (k : Kept) (ws : List ℕ) (before : List Step) (e : Step) → StandsFor k (happens (world_after 1 ws before) e) → StandsFor k (world_after 1 ws (before ++ e ∷ []))
-world_more k ws before e st = subst (StandsFor k) (sym (after_more (initial_world 1 ws) before (e ∷ []))) st
+world_more k ws before e st = subst (StandsFor k) (sym (after_all-append (initial_world 1 ws) before (e ∷ []))) st
 
 -- ---- all lines
 

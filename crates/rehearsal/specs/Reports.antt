@@ -1,12 +1,9 @@
 -- The report of what happened in a world: a line for each event, with its reply. These are this project's own texts.
-use Rattle.std.specs.Prelude.{ℕ, List, [], ◌∷◌, ◌++◌, Option, Some, None, codes}
-use Rattle.std.specs.List.{flat_map}
+use Rattle.std.specs.Prelude.{ℕ, List, [], ◌∷◌, ◌++◌, codes}
 use Rattle.std.specs.Fmt.{decimal}
-use Rattle.hex.specs.Hex.{encode_lower}
 use Rattle.path_tree.specs.Paths.{Bytes}
-use Rattle.path_tree.specs.Texts.{text_of, printed_byte}
-use Rattle.path_resolver.specs.declared.answer.Answer.{Answer}
-use Rattle.path_resolver.specs.declared.answer.Answer.TheVariants as answers
+use Rattle.path_tree.specs.Texts.{text_of}
+use Rattle.shell_words.specs.Reports.{label_word, answer_tail}
 use Rattle.shell_words.specs.Texts.{with_number, answer_line, refusal_line}
 use Rattle.carousel_world.specs.Events.{Step, Commit, Draw, Open}
 use Rattle.carousel_world.specs.World.{WorldState, initial_world, replies_to}
@@ -24,32 +21,12 @@ abbrev pub path_words : Step → Bytes
 path_words (Open reader path) = text_of path
 path_words _ = []
 
--- the number of the generation that was held, and a hyphen where none was
-abbrev pub label_word : Option ℕ → Bytes
-label_word (Some number) = decimal number
-label_word None = codes "-"
-
 abbrev pub reply_words : Bytes → Reply → Bytes
 reply_words path (replies.Committed number) = with_number (codes "generation") number
 reply_words path (replies.Refused refusal) = codes "refused" ++ 32 ∷ refusal_line refusal
 reply_words path (replies.Drawn generation first count) = decimal generation ++ (32 ∷ decimal first ++ 32 ∷ decimal count)
 reply_words path (replies.DrawsFull draws) = with_number (codes "refused draws-full") draws
 reply_words path (replies.Opened label answer) = label_word label ++ (32 ∷ path ++ 32 ∷ answer_line answer)
-
--- two hexadecimal digits a byte, with small letters, and a hyphen for no bytes
-abbrev pub content_word : Bytes → Bytes
-content_word [] = codes "-"
-content_word (b ∷ bs) = encode_lower (b ∷ bs)
-
--- a name after a space, as it stands in a path's text
-abbrev pub spaced_name : Bytes → Bytes
-spaced_name name = 32 ∷ flat_map printed_byte name
-
--- the bytes of a file, and the names of a folder
-abbrev pub answer_tail : Answer → Bytes
-answer_tail (answers.File content) = 32 ∷ content_word content
-answer_tail (answers.Folder names) = flat_map spaced_name names
-answer_tail _ = []
 
 abbrev pub reply_tail : Reply → Bytes
 reply_tail (replies.Opened label answer) = answer_tail answer

@@ -5,6 +5,7 @@ ghost use Rattle.rehearsal.specs.Reports as texts;
 
 use carousel_world::Event;
 use oc_bytes::NoMemory;
+use shell_words::{commit_text, draw_text, open_text};
 use std::alloc::Global;
 
 /// What the line of an event says of the event. It is taken before the event happens, which uses the event up.
@@ -34,9 +35,9 @@ fn subject_words(alloc: Global, event: &Event) -> Result<String, NoMemory>
     ensures { IfOk result (λ text. string_bytes text ≡ texts.subject_words (view event.now)) }
 {
     match event {
-        Event::Commit { editor, edits: _ } => format!(in alloc; "commit {editor}"),
-        Event::Draw { .. } => String::from_str(alloc, "draw"),
-        Event::Open { reader, path: _ } => format!(in alloc; "open {reader}"),
+        Event::Commit { editor, edits: _ } => commit_text(alloc, *editor),
+        Event::Draw { .. } => draw_text(alloc),
+        Event::Open { reader, path: _ } => open_text(alloc, *reader),
     }
 }
 

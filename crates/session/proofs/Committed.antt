@@ -1,5 +1,6 @@
 -- Each editor's commits in the history are its lines in order, but for those that found no room.
 use Rattle.std.proofs.Common.{◌≡◌, ◌≢◌, ℕ, zero, suc, ◌<◌, cond, List, [], ◌∷◌, ◌++◌, length, map, get_or, Some, slice_get, Contains, Ok, Err, ◌⊎◌, inl, inr, ap, ◌∙◌, refl, subst, arith}
+use Rattle.std.proofs.lemmas.List.{get_or_default}
 use mathlib.Core.Logic.{dite}
 use native.Mathlib.Decide.{ℕ_discrete}
 use Rattle.ts_packet.specs.declared.Fate.{Fate}
@@ -78,13 +79,8 @@ find_place (y ∷ xs) x = dite (ℕ_discrete y x) (λ e. inl (0, omega arith, e)
     by n (inl h) = inl (suc h.0, omega (arith, h.1), h.2)
     by n (inr h) = inr (none_more y x xs n h)
 
-get_any : (xs : List ℕ) (p d e : ℕ) → p < length xs → get_or xs p d ≡ get_or xs p e
-get_any [] p d e less = absurd (omega (arith, less))
-get_any (x ∷ xs) zero d e less = refl
-get_any (x ∷ xs) (suc p) d e less = get_any xs p d e (omega (arith, less))
-
 pub not_among : (xs : List ℕ) (x y : ℕ) → HasNone xs x → Contains xs y → y ≢ x
-not_among xs x y lacks c e = lacks c.0 c.1 (get_any xs c.0 0 y c.1 ∙ c.2 ∙ e)
+not_among xs x y lacks c e = lacks c.0 c.1 (get_or_default xs c.0 0 y c.1 ∙ c.2 ∙ e)
 
 pub place_mapped : {A : Type 0} (f : ℕ → A) (xs : List ℕ) (p : ℕ) → p < length xs → slice_get (map f xs) p ≡ Some (f (get_or xs p 0))
 place_mapped f [] p less = absurd (omega (arith, less))

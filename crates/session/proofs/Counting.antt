@@ -1,7 +1,8 @@
 -- How many of the first events are draws, and how many are opens of a reader.
-use Rattle.std.proofs.Common.{◌≡◌, ◌≢◌, ℕ, suc, ◌+◌, ◌<◌, ◌≤◌, ◌==◌, Bool, true, false, List, [], ◌∷◌, ◌++◌, map, take, length, refl, sym, ap, ◌∙◌, arith, length-append}
+use Rattle.std.proofs.Common.{◌≡◌, ◌≢◌, ℕ, ◌+◌, ◌<◌, ◌≤◌, ◌==◌, Bool, true, false, List, [], ◌∷◌, ◌++◌, map, take, length, refl, sym, ap, ◌∙◌, arith, length-append, inl, inr}
 use Rattle.std.specs.Prelude.{slice_index_or, if◌then◌else◌}
 use Rattle.std.proofs.lemmas.List.{length-map, length-take-le, map-append, take_more}
+use Rattle.std.proofs.lemmas.Bool.{cases_Bool}
 use Rattle.path_tree.specs.Paths.{PathNames}
 use Rattle.carousel_world.specs.Events.{Step, Commit, Draw, Open}
 use Rattle.session.specs.Chains.{DrawFields}
@@ -23,11 +24,7 @@ few_opens : (r : ℕ) (xs : List Step) → length (opens_by r xs) ≤ length xs
 few_opens r [] = omega arith
 few_opens r (Commit editor edits ∷ xs) = let h = few_opens r xs in omega (arith, h)
 few_opens r (Draw asked fates ∷ xs) = let h = few_opens r xs in omega (arith, h)
-few_opens r (Open reader path ∷ xs) = by_test (reader == r) (few_opens r xs)
-  where
-    by_test : (t : Bool) → length (opens_by r xs) ≤ length xs → length (◌++◌ {A = PathNames} (if t then path ∷ [] else []) (opens_by r xs)) ≤ suc (length xs)
-    by_test true h = omega (arith, h)
-    by_test false h = omega (arith, h)
+few_opens r (Open reader path ∷ xs) = let h = few_opens r xs in elim (cases_Bool (reader == r)) [ inl e ↦ rw e (omega (arith, h)) | inr e ↦ rw e (omega (arith, h)) ]
 
 -- ---- one event
 

@@ -1,5 +1,7 @@
 -- From the commits that an editor made to its entries in the whole history.
 use Rattle.std.proofs.Common.{◌≡◌, ℕ, ◌+◌, ◌<◌, ◌≤◌, ◌==◌, Bool, true, false, cond, List, [], ◌∷◌, ◌++◌, length, filter, Some, slice_get, Result, inl, inr, sym, ap, ◌∙◌, refl, subst, arith, append_assoc, append-nil, length-append}
+use Rattle.std.proofs.lemmas.List.{append_cancel_left}
+use Rattle.std.proofs.lemmas.Option.{slice_get_within}
 use Rattle.path_tree.specs.declared.tree.Edit.{Edit}
 use Rattle.history_lock.specs.History.{Begins, times}
 use Rattle.generation_catalogue.specs.Laws.{HistoriesGrow}
@@ -10,7 +12,7 @@ use Rattle.generation_catalogue.specs.declared.entry.Entry.TheVariants as entrie
 use Rattle.history_merge.specs.Merged.{is_commit_at}
 use Rattle.session.specs.Chains.{Seen, GoesOnWith, Commits}
 use Rattle.session.specs.Gathering.{IsFullAfter, AreEntered, entries_to_next}
-use Rattle.session.proofs.Lists.{cancel, get_below, get_behind, get_front, none_pass, first_fails, begins_on, times_append, times_other}
+use Rattle.session.proofs.Lists.{get_behind, get_front, none_pass, first_fails, begins_on, times_append, times_other}
 use Rattle.session.proofs.Entering.{seen_with, seen_of, Commits1, first_commit, commits_enter, enters_begins, enters_keeps}
 use Rattle.session.proofs.Rooms.{not_entered, full_later}
 
@@ -39,14 +41,14 @@ none_between picked history s t before between rest is come keeps =
     let there : slice_get history (length before + k) ≡ Some e =
     ap (λ l. slice_get l (length before + k)) is ∙ get_front (before ++ between) rest (length before + k) e (get_behind before between k e here) in
     let less = come (length before + k) e (omega arith) there passes in
-    let below = get_below between k e here in
+    let below = slice_get_within between k e here in
     let size = length-append before between in
     let same = keeps (length before + k) (omega (arith, below, size)) in
     omega (arith, less, same))
 
 -- how the history goes on after what a call saw
 pub goes_on : (history before es : List Entry) (between rest : List Entry) → history ≡ before ++ es → history ≡ (before ++ between) ++ rest → es ≡ between ++ rest
-goes_on history before es between rest a b = cancel before es (between ++ rest) (sym a ∙ b ∙ append_assoc before between rest)
+goes_on history before es between rest a b = append_cancel_left before es (between ++ rest) (sym a ∙ b ∙ append_assoc before between rest)
 
 module _ (grow : HistoriesGrow) (id : ℕ) (ws : List ℕ) (place : ℕ) (itself : (place == place) ≡ true) (history : List Entry) where
   entered_next : (edits : List Edit) (lines : List (List Edit)) (s t : Seen) (before es : List Entry) → (c : CatalogueState) → GoesOnWith id ws s c

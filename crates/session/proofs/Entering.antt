@@ -1,5 +1,6 @@
 -- What an actor of a station enters, one entry after another.
 use Rattle.std.proofs.Common.{◌≡◌, ℕ, ◌-◌, ◌<◌, ◌==◌, Bool, true, false, cond, List, [], ◌∷◌, ◌++◌, length, Some, slice_get, ◌⊎◌, inl, inr, sym, ap, ◌∙◌, refl, subst, arith, append-nil, length-append}
+use Rattle.std.proofs.lemmas.Bool.{cases_Bool}
 use mathlib.Core.Logic.{dite}
 use native.Mathlib.Decide.{ℕ_discrete}
 use Rattle.path_tree.specs.declared.tree.Edit.{Edit}
@@ -71,28 +72,24 @@ enters_own P s (e ∷ es) t history h each begins k more =
 pub after_commit : (s : Seen) (c : CatalogueState) (place : ℕ) (edits : List Edit)
     → ((is_entered (outcome_of c edits) ≡ true) × (seen_after s c (with_commit c place edits) ≡ seen_with s c.entries (entries.Commit place edits (outcome_of c edits))))
     ⊎ ((is_entered (outcome_of c edits) ≡ false) × (seen_after s c (with_commit c place edits) ≡ seen_of s c.entries))
-after_commit s c place edits = by (is_entered (outcome_of c edits)) refl
-  where
-    one : length (c.entries ++ entries.Commit place edits (outcome_of c edits) ∷ []) - length c.entries ≡ 1
-    one = omega (arith, length-append c.entries (entries.Commit place edits (outcome_of c edits) ∷ []))
+after_commit s c place edits = elim (cases_Bool (is_entered (outcome_of c edits))) [
+  | inl is ↦ inl (
+    is,
+    ap (λ (b : Bool). seen_after s c (cond b (with_entry c (entries.Commit place edits (outcome_of c edits))) c)) is
+        ∙ (λ i. record { entries = c.entries ++ entries.Commit place edits (outcome_of c edits) ∷ []; own = s.own ++ places (length c.entries) (one i) }),
+  )
+  | inr is ↦ inr (
+    is,
+    ap (λ (b : Bool). seen_after s c (cond b (with_entry c (entries.Commit place edits (outcome_of c edits))) c)) is
+        ∙ (λ i. record { entries = c.entries; own = s.own ++ places (length c.entries) (none i) })
+        ∙ (λ i. record { entries = c.entries; own = append-nil s.own i }),
+  )
+] where
+  one : length (c.entries ++ entries.Commit place edits (outcome_of c edits) ∷ []) - length c.entries ≡ 1
+  one = omega (arith, length-append c.entries (entries.Commit place edits (outcome_of c edits) ∷ []))
 
-    none : length c.entries - length c.entries ≡ 0
-    none = omega arith
-
-    by : (b : Bool) → is_entered (outcome_of c edits) ≡ b
-        → ((is_entered (outcome_of c edits) ≡ true) × (seen_after s c (with_commit c place edits) ≡ seen_with s c.entries (entries.Commit place edits (outcome_of c edits))))
-        ⊎ ((is_entered (outcome_of c edits) ≡ false) × (seen_after s c (with_commit c place edits) ≡ seen_of s c.entries))
-    by true is = inl (
-      is,
-      ap (λ (b : Bool). seen_after s c (cond b (with_entry c (entries.Commit place edits (outcome_of c edits))) c)) is
-          ∙ (λ i. record { entries = c.entries ++ entries.Commit place edits (outcome_of c edits) ∷ []; own = s.own ++ places (length c.entries) (one i) }),
-    )
-    by false is = inr (
-      is,
-      ap (λ (b : Bool). seen_after s c (cond b (with_entry c (entries.Commit place edits (outcome_of c edits))) c)) is
-          ∙ (λ i. record { entries = c.entries; own = s.own ++ places (length c.entries) (none i) })
-          ∙ (λ i. record { entries = c.entries; own = append-nil s.own i }),
-    )
+  none : length c.entries - length c.entries ≡ 0
+  none = omega arith
 
 -- one commit more: it was entered, or it found no room
 abbrev pub Commits1 : (id : ℕ) (weights : List ℕ) (place : ℕ) → Seen → List Edit → List (List Edit) → Seen → CatalogueState → Type 0

@@ -3,6 +3,7 @@ use Rattle.std.proofs.Common.{◌≡◌, ◌<◌, suc, List, [], ◌∷◌, ◌+
 use Rattle.std.specs.List.{All}
 use Rattle.std.proofs.lemmas.List.{take-append-drop, map-append}
 use Rattle.std.proofs.Math.Seq.{drop-cons}
+use Rattle.session.proofs.Begun.{mentioned_in}
 use Rattle.path_resolver.specs.declared.shot.Shot.{Shot}
 use Rattle.station.specs.declared.station.Station.{Station}
 use Rattle.carousel_world.specs.Events.{Step}
@@ -12,7 +13,6 @@ use Rattle.session.specs.declared.cast.Cast.{Cast}
 use Rattle.session.specs.Inner.Plans.{AreInRange, before_steps}
 use Rattle.session.specs.Inner.Acting.{IsNext, Setting, view_happening}
 use Rattle.session.specs.Inner.Casting.{AllMentionedIn, AreSameActors, CastStands, IsMentionedIn}
-use Rattle.session.proofs.Casting.{mentioned_in}
 
 -- so far these happened
 abbrev pub HasActed : {X : _} {F : _} {g : _} → Station X F g → (all yielded : List Happening) → (shots shown : List Shot) → (old new : Cast) → Type 0

@@ -1,9 +1,11 @@
 -- From what is left of a session to the whole of it.
-use Rattle.std.proofs.Common.{◌≡◌, ℕ, suc, ◌+◌, ◌≤◌, ◌==◌, Bool, true, false, List, [], ◌∷◌, ◌++◌, map, length, refl, ap, sym, ◌∙◌, subst, arith, append-nil}
-use Rattle.std.specs.Prelude.{slice_index_or, is_some, if◌then◌else◌}
+use Rattle.std.proofs.Common.{◌≡◌, ℕ, suc, ◌+◌, ◌≤◌, ◌==◌, Bool, List, [], ◌∷◌, ◌++◌, map, length, refl, ap, sym, ◌∙◌, subst, arith, append-nil, inl, inr}
+use Rattle.std.specs.Prelude.{slice_index_or, is_some}
 use Rattle.std.specs.List.{All, count_by}
 use Rattle.std.specs.declared.vec.Vec.{Vec}
 use Rattle.std.specs.declared.alloc.Global.{Global}
+use Rattle.std.proofs.lemmas.Bool.{cases_Bool}
+use Rattle.session.proofs.Begun.{draws_count as drawings_count}
 use Rattle.path_tree.specs.Paths.{PathNames}
 use Rattle.path_tree.specs.declared.tree.Edit.{Edit}
 use Rattle.ts_packet.specs.declared.Fate.{Fate}
@@ -34,7 +36,6 @@ use Rattle.session.specs.Played.{IsPlayed, AllRead, PlayedIsASession, fates_of}
 use Rattle.session.specs.Sessions.{IsSession}
 use Rattle.session.specs.Inner.Acting.{Setting, done_in, draws_before, draws_of, readers_of}
 use Rattle.session.specs.Inner.Ending.{AllReadLast, AreDone, ClosedFields, EditorsDone, HasGathered, HasOpenedLast, MayOpenLast, ReaderDone, drawn_all}
-use Rattle.session.proofs.Casting.{draws_count as drawings_count}
 use Rattle.session.proofs.Parted.{commits_at_end, draws_at_end, events_parts, settle_there, staged_parts}
 use Rattle.session.proofs.Reading.{asked_count, opened_count}
 use Rattle.session.proofs.Staged.{asked_more, commits_more, count_all, draws_more, opens_more, steps_done}
@@ -75,13 +76,8 @@ module _ (setting : Setting) where
   asked_last r before all above [] = refl
   asked_last r before all above (Commit editor edits ∷ es) = asked_last r before all above es
   asked_last r before all above (Draw asked fates ∷ es) = asked_last r before all (suc above) es
-  asked_last r before all above (Open reader path ∷ es) = by_test (reader == r) (asked_last r before all above es)
-    where
-      by_test : (b : Bool) → asked_from r before all above (at_end es) ≡ map (asked_at all) (opens_by r es)
-          → ◌++◌ {A = Asked} (if b then record { path = path; least = all } ∷ [] else []) (asked_from r before all above (at_end es))
-          ≡ map (asked_at all) (◌++◌ {A = PathNames} (if b then path ∷ [] else []) (opens_by r es))
-      by_test true rest = ap (λ (zs : List Asked). asked_at all path ∷ zs) rest
-      by_test false rest = rest
+  asked_last r before all above (Open reader path ∷ es) =
+      let rest = asked_last r before all above es in elim (cases_Bool (reader == r)) [ inl e ↦ rw e (ap (λ (zs : List Asked). asked_at all path ∷ zs) rest) | inr e ↦ rw e rest ]
 
   asked_split : (r : ℕ) → asked_from r (draws_before setting) (draws_of setting) 0 done ++ map (asked_at (draws_of setting)) (opens_by r ends) ≡ asked_of r script
   asked_split r =

@@ -1,5 +1,6 @@
 -- What a station's actors did, gathered to its whole history.
 use Rattle.std.proofs.Common.{◌≡◌, ℕ, zero, suc, ◌+◌, ◌<◌, true, List, [], ◌∷◌, ◌++◌, length, Some, slice_get, ◌⊎◌, inl, inr, sym, ap, ◌∙◌, refl, subst, arith, eqb-true, eq-eqb}
+use Rattle.std.proofs.lemmas.Option.{slice_get_within}
 use Rattle.path_tree.specs.declared.tree.Edit.{Edit}
 use Rattle.history_lock.specs.History.{Begins, total, times, once_within}
 use Rattle.history_lock.specs.History as histories
@@ -11,7 +12,7 @@ use Rattle.carousel_world.specs.World.{Drawing}
 use Rattle.history_merge.specs.Merged.{IsPlaced, is_commit_at}
 use Rattle.session.specs.Chains.{Seen, nothing_seen, Commits, Draws, DrawFields}
 use Rattle.session.specs.Gathering.{AllCommitted, AreEntered, ActorsGather}
-use Rattle.session.proofs.Lists.{get_below, get_one, get_last, total_some, once_inside, each_from_get}
+use Rattle.session.proofs.Lists.{get_one, get_last, total_some, once_inside, each_from_get}
 use Rattle.session.proofs.Entering.{HasEntered, IsCommitAt, IsDrawn, commits_enter, draws_enter, enters_own}
 use Rattle.session.proofs.Entered.{are_entered}
 use Rattle.session.proofs.Feeding.{AreDrawn, are_drawn}
@@ -98,7 +99,7 @@ module _ (id : ℕ) (ws : List ℕ) (history : List Entry) (editors : List (List
   pub owner : (k : ℕ) (e : Entry) → slice_get history k ≡ Some e → IsEditors k e ⊎ IsFeeders k e
   owner k e here =
       let once = owned k in
-      let one = once_inside (length history) k (get_below history k e here) in
+      let one = once_inside (length history) k (slice_get_within history k e here) in
       let r = total_some (λ (s : Seen). times k s.own) (editors_seen ++ feeder ∷ []) (omega (arith, once, one)) in
       let begins : Begins (r.1).entries history = each_get (λ (s : Seen). Begins s.entries history) (editors_seen ++ feeder ∷ []) r.0 r.1 seen r.2 in
       by r.0 r.1 begins r.3 (get_last editors_seen feeder r.1 r.0 r.2)

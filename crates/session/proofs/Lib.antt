@@ -1,5 +1,4 @@
 mod Lists
-pub mod Linking
 pub mod Showing
 pub mod Opening
 pub mod Turning
@@ -12,7 +11,6 @@ mod Grown
 mod Telling
 mod Committed
 mod Scripted
-mod Opened
 mod Settled
 mod InPlace
 mod Session
@@ -24,10 +22,8 @@ mod Planning
 mod Counting
 mod Editing
 mod Reading
-mod Casting
 mod Seated
 mod Events
-mod Handed
 mod Doing
 mod Closing
 mod Lasting

@@ -2,20 +2,12 @@
 use Rattle.std.proofs.Common.{◌≡◌, ◌≢◌, ℕ, zero, suc, ◌+◌, ◌<◌, ◌≤◌, Bool, true, false, cond, List, [], ◌∷◌, ◌++◌, length, filter, Some, slice_get, count_by, ◌⊎◌, inl, inr, sym, ap, ◌∙◌, refl, arith, append_assoc, append-nil, length-append, ne_eqb}
 use Rattle.std.proofs.lemmas.List.Sums.{sum_by-append}
 use Rattle.std.proofs.lemmas.Bool.Decides.{nat_tests}
+use Rattle.std.proofs.lemmas.Bool.{cond_both, cases_Bool}
 use Rattle.history_lock.specs.History.{Begins, times, total, once_within}
 use Rattle.history_merge.specs.Merging.{Each}
 use Rattle.history_merge.proofs.CallerLemmas.{filter_takes, filter_skips}
 
 module _ {A : Type 0} where
-  pub cancel : (xs ys zs : List A) → xs ++ ys ≡ xs ++ zs → ys ≡ zs
-  cancel [] ys zs h = h
-  cancel (x ∷ xs) ys zs h = cancel xs ys zs (cc)
-
-  pub get_below : (xs : List A) (k : ℕ) (e : A) → slice_get xs k ≡ Some e → k < length xs
-  get_below [] k e h = absurd (cc)
-  get_below (x ∷ xs) zero e h = omega arith
-  get_below (x ∷ xs) (suc k) e h = let r = get_below xs k e h in omega arith
-
   pub get_one : (xs : List A) (k : ℕ) (x y : A) → slice_get xs k ≡ Some x → slice_get xs k ≡ Some y → x ≡ y
   get_one xs k x y h g = let e : Some x ≡ Some y = sym h ∙ g in cc
 
@@ -48,18 +40,13 @@ module _ {A : Type 0} where
   -- none passes the test
   pub none_pass : (p : A → Bool) (xs : List A) → ((k : ℕ) (e : A) → slice_get xs k ≡ Some e → p e ≡ true → ⊥) → filter p xs ≡ []
   none_pass p [] h = refl
-  none_pass p (x ∷ xs) h = by (none_pass p xs (λ k. h (suc k))) (p x) refl
-    where
-      by : filter p xs ≡ [] → (b : Bool) → p x ≡ b → filter p (x ∷ xs) ≡ []
-      by rest true is = absurd (h 0 x refl is)
-      by rest false is = filter_skips p x xs is ∙ rest
+  none_pass p (x ∷ xs) h = cond_both (p x) (x ∷ filter p xs) (filter p xs) (λ l. l ≡ []) (λ is. absurd (h 0 x refl is)) (λ _. none_pass p xs (λ k. h (suc k)))
 
   pub first_fails : (p : A → Bool) (x : A) (xs : List A) → filter p (x ∷ xs) ≡ [] → (p x ≡ false) × (filter p xs ≡ [])
-  first_fails p x xs h = by (p x) refl
-    where
-      by : (b : Bool) → p x ≡ b → (p x ≡ false) × (filter p xs ≡ [])
-      by true is = let e : x ∷ filter p xs ≡ [] = sym (filter_takes p x xs is) ∙ h in absurd (cc)
-      by false is = (is, sym (filter_skips p x xs is) ∙ h)
+  first_fails p x xs h = elim (cases_Bool (p x)) [
+    | inl is ↦ let e : x ∷ filter p xs ≡ [] = sym (filter_takes p x xs is) ∙ h in absurd (cc)
+    | inr is ↦ (is, sym (filter_skips p x xs is) ∙ h)
+  ]
 
   -- ---- how a list begins
 

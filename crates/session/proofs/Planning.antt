@@ -1,6 +1,6 @@
 -- Tasks, one after another, and whose they are.
 use Rattle.std.proofs.Common.{◌≡◌, ℕ, ◌==◌, Bool, true, false, List, [], ◌∷◌, ◌++◌, map, Result, Ok, Err, refl, sym, ap, ◌∙◌, subst, append-nil, append_assoc}
-use Rattle.std.specs.Prelude.{OnOk, OnErr, IfOk, if◌then◌else◌}
+use Rattle.std.specs.Prelude.{OnOk, IfOk, if◌then◌else◌}
 use Rattle.std.specs.List.{All}
 use Rattle.std.specs.declared.vec.Vec.{Vec}
 use Rattle.std.specs.declared.alloc.Global.{Global}
@@ -28,17 +28,9 @@ use Rattle.session.specs.Inner.Plans.{HasSplit, events_at, waiting_below}
 use Rattle.session.proofs.Staged.{commits_more, draws_more, opens_more}
 use Rattle.session.proofs.Taking.{either_side}
 
-pub on_ok_map : {T E A B : Type 0} (r : Result T E) → (A → B) → OnOk r A → OnOk r B
-on_ok_map (Ok x) f a = f a
-on_ok_map (Err e) f a = tt
-
 pub if_ok_map : {T E : Type 0} {P Q : T → Type 0} (r : Result T E) → ((x : T) → P x → Q x) → IfOk r P → IfOk r Q
 if_ok_map (Ok x) f h = f x h
 if_ok_map (Err e) f h = tt
-
-pub on_err_map : {T E A B : Type 0} (r : Result T E) → (A → B) → OnErr r A → OnErr r B
-on_err_map (Ok x) f a = tt
-on_err_map (Err e) f a = f a
 
 pub on_ok_always : {T E A : Type 0} (r : Result T E) → A → OnOk r A
 on_ok_always (Ok x) a = a

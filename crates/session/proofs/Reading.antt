@@ -1,5 +1,5 @@
 -- The seats of the readers, after one event more.
-use Rattle.std.proofs.Common.{◌≡◌, ◌≢◌, ◌⊎◌, inl, arith, ℕ, suc, ◌+◌, ◌<◌, ◌≤◌, ◌==◌, Bool, true, false, List, [], ◌∷◌, ◌++◌, map, length, refl, sym, ap, ◌∙◌, subst, append-nil, ne_eqb, eq-eqb}
+use Rattle.std.proofs.Common.{◌≡◌, ◌≢◌, ◌⊎◌, inl, arith, ℕ, suc, ◌+◌, ◌<◌, ◌≤◌, ◌==◌, Bool, List, [], ◌∷◌, ◌++◌, map, length, refl, sym, ap, ◌∙◌, subst, append-nil, ne_eqb, eq-eqb, inr}
 use Rattle.std.specs.Prelude.{slice_set, slice_index_or, if◌then◌else◌}
 use mathlib.Core.List.{IsPrefix}
 use mathlib.Core.Logic.{dite}
@@ -7,6 +7,7 @@ use native.Mathlib.Decide.{ℕ_discrete}
 use Rattle.std.proofs.lemmas.List.{get_or-map, get_or-set_other, length-set, length-map, length-append}
 use Rattle.std.proofs.lemmas.Grind.{get_or-set_at}
 use Rattle.std.proofs.Math.Seq.{map-set_same}
+use Rattle.std.proofs.lemmas.Bool.{cases_Bool}
 use Rattle.path_tree.specs.Paths.{PathNames}
 use Rattle.path_resolver.specs.declared.shot.Shot.{Shot}
 use Rattle.shot_board.proofs.CallerLemmas.{prefix_length}
@@ -18,7 +19,7 @@ use Rattle.carousel_world.specs.Events.{Step, Commit, Draw, Open}
 use Rattle.session.specs.Opened.{Asked, AreOpened, HasOpened}
 use Rattle.session.specs.Seats.{asked_at}
 use Rattle.session.specs.declared.reader.ReaderSeat.{ReaderSeat}
-use Rattle.session.specs.Lines.{draws_in, opens_by, asked_from, least_for}
+use Rattle.session.specs.Lines.{draws_in, opens_by, asked_from}
 use Rattle.session.specs.Inner.Plans.{above, before_steps, steps}
 use Rattle.session.specs.Inner.Acting.{AreApart, IsNext, ReaderStands, ReadersStand, Setting, draws_before, draws_of, events_in, reader_plan, readers_of}
 use Rattle.session.proofs.Staged.{above_more, asked_more, count_all, count_done, opens_more, unstaged}
@@ -31,11 +32,7 @@ asked_in reader setting done = asked_from reader (draws_before setting) (draws_o
 asked_none : (reader before all above : ℕ) (e : Stage × Step) → opens_by reader (e.1 ∷ []) ≡ [] → asked_from reader before all above (e ∷ []) ≡ []
 asked_none reader before all above (stage, Commit editor edits) none = refl
 asked_none reader before all above (stage, Draw asked fates) none = refl
-asked_none reader before all above (stage, Open r path) none = by_test (r == reader) none
-  where
-    by_test : (t : Bool) → ◌++◌ {A = PathNames} (if t then path ∷ [] else []) [] ≡ [] → ◌++◌ {A = Asked} (if t then record { path = path; least = least_for above before all stage } ∷ [] else []) [] ≡ []
-    by_test true h = absurd (cc)
-    by_test false h = refl
+asked_none reader before all above (stage, Open r path) none = elim (cases_Bool (r == reader)) [ inl e ↦ let bad = rw e at none in absurd (cc) | inr e ↦ rw e refl ]
 
 asked_one : (reader : ℕ) (setting : Setting) (done : List Step) (e : Step)
     → asked_in reader setting (done ++ e ∷ []) ≡ asked_in reader setting done ++ asked_from reader (draws_before setting) (draws_of setting) (0 + length (draws_in (steps (above done)))) ((Before, e) ∷ [])
@@ -89,13 +86,8 @@ pub asked_count : (reader before all above : ℕ) (es : List (Stage × Step)) �
 asked_count reader before all above [] = refl
 asked_count reader before all above ((stage, Commit editor edits) ∷ es) = asked_count reader before all above es
 asked_count reader before all above ((stage, Draw asked fates) ∷ es) = asked_count reader before all (suc above) es
-asked_count reader before all above ((stage, Open r path) ∷ es) = by_test (r == reader) (asked_count reader before all above es)
-  where
-    by_test : (t : Bool) → length (asked_from reader before all above es) ≡ length (opens_by reader (steps es))
-        → length (◌++◌ {A = Asked} (if t then record { path = path; least = least_for above before all stage } ∷ [] else []) (asked_from reader before all above es))
-        ≡ length (◌++◌ {A = PathNames} (if t then path ∷ [] else []) (opens_by reader (steps es)))
-    by_test true rest = ap suc rest
-    by_test false rest = rest
+asked_count reader before all above ((stage, Open r path) ∷ es) =
+    let rest = asked_count reader before all above es in elim (cases_Bool (r == reader)) [ inl e ↦ rw e (ap suc rest) | inr e ↦ rw e rest ]
 
 -- there is room for an open that comes next
 pub has_room : (setting : Setting) (done : List Step) (shots : List Shot) (seat : ReaderSeat) (path : PathNames) → ReaderStands setting done shots seat

@@ -1,7 +1,8 @@
 -- The end of a history that settles.
-use Rattle.std.proofs.Common.{◌≡◌, ℕ, ◌+◌, ◌≤◌, Bool, true, false, cond, nat_le, List, [], ◌∷◌, ◌++◌, length, map, filter, All, sym, ap, ◌∙◌, refl, subst, arith, append_assoc, length-append}
-use Rattle.std.proofs.lemmas.List.{map-append}
+use Rattle.std.proofs.Common.{◌≡◌, ℕ, ◌+◌, ◌≤◌, nat_le, List, [], ◌∷◌, ◌++◌, length, map, filter, All, sym, ap, ◌∙◌, refl, subst, arith, append_assoc, length-append}
+use Rattle.std.proofs.lemmas.List.{map-append, same_from_push}
 use Rattle.std.proofs.lemmas.List.Elements.{All-head, All-tail, All-nil, All-cons}
+use Rattle.std.proofs.lemmas.Bool.{cond_both}
 use Rattle.ts_packet.specs.declared.Fate.{Fate}
 use Rattle.path_tree.specs.declared.tree.Edit.{Edit}
 use Rattle.path_tree.specs.Paths.{PathNames}
@@ -37,12 +38,12 @@ use Rattle.session.proofs.Staged.{draws_more}
 abbrev TreesAre : WorldState → WorldState → Type 0
 TreesAre w v = (v.catalogue.carousel ≡ w.catalogue.carousel) × (trees_of v.catalogue ≡ trees_of w.catalogue)
 
+-- the world after a draw for which there is room
+abbrev drawn : WorldState → ℕ → List Fate → WorldState
+drawn w asked fates = record { catalogue = with_draw w.catalogue asked; drawings = w.drawings ++ drawing_of w.catalogue asked fates ∷ [] }
+
 same_trees : HistoriesGrow → (w : WorldState) (asked : ℕ) (fates : List Fate) → TreesAre w (happens w (Draw asked fates))
-same_trees grow w asked fates = by (nat_le 16777216 (draws_of w.catalogue))
-  where
-    by : (full : Bool) → TreesAre w (cond full w (record { catalogue = with_draw w.catalogue asked; drawings = w.drawings ++ drawing_of w.catalogue asked fates ∷ [] }))
-    by true = (refl, refl)
-    by false = (refl, grow.by_draw w.catalogue asked)
+same_trees grow w asked fates = cond_both (nat_le 16777216 (draws_of w.catalogue)) w (drawn w asked fates) (TreesAre w) (λ _. (refl, refl)) (λ _. (refl, grow.by_draw w.catalogue asked))
 
 published_before : HistoriesGrow → (w : WorldState) → let v = happens (happens w settling_step) settling_step in ArePublishable v.catalogue.carousel (trees_of v.catalogue)
     → ArePublishable w.catalogue.carousel (trees_of w.catalogue)
@@ -57,24 +58,15 @@ published_before grow w h =
 -- ---- how many draws there are
 
 commit_count : (c : CatalogueState) (editor : ℕ) (edits : List Edit) → draws_of (with_commit c editor edits) ≡ draws_of c
-commit_count c editor edits = by (is_entered (outcome_of c edits))
-  where
-    more : draws_of (with_entry c (entries.Commit editor edits (outcome_of c edits))) ≡ draws_of c
-    more = let a = count_append is_draw c.entries (entries.Commit editor edits (outcome_of c edits) ∷ []) in omega (arith, a)
-
-    by : (b : Bool) → draws_of (cond b (with_entry c (entries.Commit editor edits (outcome_of c edits))) c) ≡ draws_of c
-    by true = more
-    by false = refl
+commit_count c editor edits =
+    cond_both (is_entered (outcome_of c edits)) (with_entry c (entries.Commit editor edits (outcome_of c edits))) c (λ (d : CatalogueState). draws_of d ≡ draws_of c)
+    (λ _. let a = count_append is_draw c.entries (entries.Commit editor edits (outcome_of c edits) ∷ []) in omega (arith, a)) (λ _. refl)
 
 draw_count : (w : WorldState) (asked : ℕ) (fates : List Fate) → draws_of (happens w (Draw asked fates)).catalogue ≤ draws_of w.catalogue + 1
-draw_count w asked fates = by (nat_le 16777216 (draws_of w.catalogue))
-  where
-    more : draws_of (with_draw w.catalogue asked) ≡ draws_of w.catalogue + 1
-    more = count_append is_draw w.catalogue.entries (entries.Draw asked (current_of w.catalogue).number (cursor_of w.catalogue) (count_drawn w.catalogue asked) ∷ [])
-
-    by : (full : Bool) → draws_of (cond full w (record { catalogue = with_draw w.catalogue asked; drawings = w.drawings ++ drawing_of w.catalogue asked fates ∷ [] })).catalogue ≤ draws_of w.catalogue + 1
-    by true = omega arith
-    by false = omega (arith, more)
+draw_count w asked fates =
+    let more : draws_of (with_draw w.catalogue asked) ≡ draws_of w.catalogue + 1 =
+    count_append is_draw w.catalogue.entries (entries.Draw asked (current_of w.catalogue).number (cursor_of w.catalogue) (count_drawn w.catalogue asked) ∷ []) in
+    cond_both (nat_le 16777216 (draws_of w.catalogue)) w (drawn w asked fates) (λ (v : WorldState). draws_of v.catalogue ≤ draws_of w.catalogue + 1) (λ _. omega arith) (λ _. omega (arith, more))
 
 draws_few : (w : WorldState) (es : List Step) → draws_of (after_all w es).catalogue ≤ draws_of w.catalogue + length (draws_in es)
 draws_few w [] = omega arith
@@ -175,14 +167,6 @@ ends_answered grow law ws told weigh run ends published few undamaged before aft
 
 -- ---- where the catalogue's last entries are two draws, so are the last events but opens
 
-last_same : {A : Type 0} (xs ys : List A) (a b : A) → xs ++ a ∷ [] ≡ ys ++ b ∷ [] → (xs ≡ ys) × (a ≡ b)
-last_same [] [] a b h = (refl, cc)
-last_same [] (y ∷ []) a b h = absurd (cc)
-last_same [] (y ∷ z ∷ ys) a b h = absurd (cc)
-last_same (x ∷ []) [] a b h = absurd (cc)
-last_same (x ∷ z ∷ xs) [] a b h = absurd (cc)
-last_same (x ∷ xs) (y ∷ ys) a b h = let r = last_same xs ys a b (cc) in let e : x ≡ y = cc in (λ i. e i ∷ r.0 i, r.1)
-
 opened_steps : (told : List Told) → Each IsOpenTold told → All IsOpening (steps told)
 opened_steps [] h = All-nil IsOpening
 opened_steps (x ∷ told) h = All-cons IsOpening x.0 (steps told) (subst (λ (y : Told). IsOpening y.0) (sym (h.0).2) tt) (opened_steps told h.1)
@@ -202,8 +186,8 @@ ends_by : (a b z events : List Step) (f g : List Fate) → events ≡ a ++ Draw 
 ends_by a b z events f g cut opens later drew =
     let both : (draws_in a ++ draw_of f ∷ []) ++ draw_of g ∷ [] ≡ (drew.0 ++ settling_draw ∷ []) ++ settling_draw ∷ [] =
     sym (drawn_at_end a b z f g opens later) ∙ ap draws_in (sym cut) ∙ drew.1 ∙ sym (append_assoc drew.0 (settling_draw ∷ []) (settling_draw ∷ [])) in
-    let outer = last_same (draws_in a ++ draw_of f ∷ []) (drew.0 ++ settling_draw ∷ []) (draw_of g) settling_draw both in
-    let inner = last_same (draws_in a) drew.0 (draw_of f) settling_draw outer.0 in
+    let outer = same_from_push (draws_in a ++ draw_of f ∷ []) (drew.0 ++ settling_draw ∷ []) (draw_of g) settling_draw both in
+    let inner = same_from_push (draws_in a) drew.0 (draw_of f) settling_draw outer.0 in
     let first : f ≡ [] = ap (λ (d : DrawFields). d.fates) inner.1 in
     let second : g ≡ [] = ap (λ (d : DrawFields). d.fates) outer.1 in
     (a, b, z, cut ∙ (λ i. a ++ Draw 1048576 (first i) ∷ b ++ Draw 1048576 (second i) ∷ z) ∙ append_assoc a (settling_step ∷ b) (settling_step ∷ z), opens, later)

@@ -47,15 +47,12 @@ pub fn run_actors<R: Threads + Wait + Sync, G: Gate>(
         → i < length readers.old
         → DidRead (slice_index_or readers.old i d) (slice_index_or readers.new i d) }
 {
-    join_mut(
+    beside_editors(
         rt,
-        &mut ||
-            requires { All (IsEditorSeat station.now) editors.now }
-            ensures { (i : ℕ) (d : _)
-                → i < length editors.entry.now
-                → DidEdit station.entry.now (slice_index_or editors.entry.now i d)
-                (slice_index_or editors.exit.now i d) }
-        { edit_all(rt, alloc, station, gate, editors) },
+        alloc,
+        station,
+        gate,
+        editors,
         &mut ||
             requires pass { IsStationPass station.now feeder.now.pass }
             requires lines { All IsDrawLine feeder.now.draws.items }
@@ -70,6 +67,36 @@ pub fn run_actors<R: Threads + Wait + Sync, G: Gate>(
                 → DidRead (slice_index_or readers.entry.now i d)
                 (slice_index_or readers.exit.now i d) }
         { feed_and_read(rt, alloc, station, gate, shower, feeder, readers) },
+    );
+}
+
+/// The editors at once, each in a thread of its own, and something else beside them. By itself, so that little else is known where it
+/// is searched for that threads may share a station.
+fn beside_editors<R: Threads + Wait + Sync, G: Gate, F: FnMut()>(
+    rt: &R,
+    alloc: Global,
+    station: &Station,
+    gate: &G,
+    editors: &mut [EditorSeat],
+    other: &mut F,
+)
+    requires editors { All (IsEditorSeat station.now) editors.old }
+    requires other { F.pre other.old }
+    ensures editors { (i : ℕ) (d : _)
+        → i < length editors.old
+        → DidEdit station.now (slice_index_or editors.old i d) (slice_index_or editors.new i d) }
+    ensures other { F.step other.old tt other.new }
+{
+    join_mut(
+        rt,
+        &mut ||
+            requires { All (IsEditorSeat station.now) editors.now }
+            ensures { (i : ℕ) (d : _)
+                → i < length editors.entry.now
+                → DidEdit station.entry.now (slice_index_or editors.entry.now i d)
+                (slice_index_or editors.exit.now i d) }
+        { edit_all(rt, alloc, station, gate, editors) },
+        other,
     );
 }
 

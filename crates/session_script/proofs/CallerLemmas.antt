@@ -1,9 +1,8 @@
 -- Lemmas for those who use this crate.
 -- The lines of a part of a script, one after another: `line_at` and `none_left` say which are left, `at_place` what holds of one of them. The numbers of
 -- a script that lie in their ranges do so part by part: `before_in_range`, `during_in_range`, `finales_in_range`.
-use Rattle.std.proofs.Common.{◌≡◌, ℕ, suc, ◌<◌, List, [], ◌∷◌, ◌++◌, length, map, drop, get_or, All, Option, sym, ap, ◌∙◌, subst, arith}
-use Rattle.std.proofs.lemmas.List.{length-append}
-use Rattle.std.proofs.lemmas.List.Elements.{All-nil, All-cons, All-head, All-tail}
+use Rattle.std.proofs.Common.{◌≡◌, ℕ, suc, ◌<◌, List, [], ◌∷◌, ◌++◌, length, map, drop, get_or, All, Option, sym, ap, ◌∙◌, subst, arith, ◌+◌}
+use Rattle.std.proofs.lemmas.List.{length-append, get_or_append_left, get_or-append-add, get_or-map, length-map}
 use Rattle.std.proofs.Math.Seq.{drop-cons, drop-length}
 use Rattle.session_script.specs.declared.parts.TaskLine.{TaskLine}
 use Rattle.session_script.specs.declared.parts.Finale.{Finale}
@@ -35,19 +34,13 @@ abbrev InLines : List LineFields → Type 0
 InLines ls = All (λ (l : LineFields). IsInRange l.act) ls
 
 front : (xs ys : List LineFields) → InLines (xs ++ ys) → InLines xs
-front [] ys h = All-nil (λ (l : LineFields). IsInRange l.act)
-front (x ∷ xs) ys h =
-    let P : LineFields → Type 0 = λ l. IsInRange l.act in All-cons P x xs (All-head P x (xs ++ ys) h) (front xs ys (All-tail P x (xs ++ ys) h))
+front xs ys h = λ k d lt. subst (λ (l : LineFields). IsInRange l.act) (get_or_append_left xs ys d k lt) (h k d (let n = length-append xs ys in omega (arith, lt, n)))
 
 back : (xs ys : List LineFields) → InLines (xs ++ ys) → InLines ys
-back [] ys h = h
-back (x ∷ xs) ys h = back xs ys (All-tail (λ (l : LineFields). IsInRange l.act) x (xs ++ ys) h)
+back xs ys h = λ k d lt. subst (λ (l : LineFields). IsInRange l.act) (get_or-append-add xs ys k d) (h (length xs + k) d (let n = length-append xs ys in omega (arith, lt, n)))
 
 of_view : {A : Type 0} (view : A → LineFields) (xs : List A) → InLines (map view xs) → All (λ x. IsInRange (view x).act) xs
-of_view view [] h = All-nil (λ x. IsInRange (view x).act)
-of_view view (x ∷ xs) h =
-    let P : LineFields → Type 0 = λ l. IsInRange l.act in
-    All-cons (λ y. IsInRange (view y).act) x xs (All-head P (view x) (map view xs) h) (of_view view xs (All-tail P (view x) (map view xs) h))
+of_view view xs h = λ k d lt. subst (λ (l : LineFields). IsInRange l.act) (get_or-map view xs k d (view d) lt) (h k (view d) (let n = length-map xs view in omega (arith, lt, n)))
 
 pub before_in_range : (before during : List TaskLine) (settle : Option ℕ) (finales : List Finale) → InLines (lines_of before during settle finales)
     → All (λ (line : TaskLine). IsInRange (act_of line.task)) before

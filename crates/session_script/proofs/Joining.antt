@@ -1,6 +1,6 @@
 -- The lines of a script's parts, joined.
-use Rattle.std.proofs.Common.{◌≡◌, ℕ, ◌+◌, ◌<◌, List, [], ◌∷◌, ◌++◌, length, map, Option, refl, sym, ap, ◌∙◌, arith, append_assoc, length-append}
-use Rattle.std.proofs.lemmas.List.{length-map, map-append}
+use Rattle.std.proofs.Common.{◌≡◌, ℕ, ◌+◌, ◌<◌, List, [], ◌∷◌, ◌++◌, length, map, Option, sym, ap, ◌∙◌, arith, append_assoc, length-append}
+use Rattle.std.proofs.lemmas.List.{length-map, map-append, map-id}
 use Rattle.session_script.specs.declared.parts.TaskLine.{TaskLine}
 use Rattle.session_script.specs.declared.parts.Finale.{Finale}
 use Rattle.session_script.specs.declared.script.Line.{Line}
@@ -34,11 +34,7 @@ added_more view old now done x l h is =
 
 pub all_added : {A : Type 0} (view : A → LineFields) (old now : List Line) (done all : List A) → map (λ (x : A). x) done ≡ all → map view_line now ≡ map view_line old ++ map view done
     → map view_line now ≡ map view_line old ++ map view all
-all_added view old now done all e h = h ∙ ap (λ xs. map view_line old ++ map view xs) (sym (same done) ∙ e)
-  where
-    same : {A : Type 0} (xs : List A) → map (λ (x : A). x) xs ≡ xs
-    same [] = refl
-    same (x ∷ xs) = ap (λ ys. x ∷ ys) (same xs)
+all_added view old now done all e h = h ∙ ap (λ xs. map view_line old ++ map view xs) (sym (map-id done) ∙ e)
 
 -- ---- there is a line, where one of the parts has one
 

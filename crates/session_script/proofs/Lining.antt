@@ -1,7 +1,7 @@
 -- How many lines a generated script has, and their numbers.
 use Rattle.std.proofs.Common.{◌≡◌, ℕ, ◌+◌, ◌*◌, ◌≤◌, List, [], ◌∷◌, ◌++◌, length, map, Some, refl, sym, ap, ◌∙◌, arith, length-append}
 use Rattle.std.specs.List.{flat_map}
-use Rattle.std.proofs.lemmas.List.{length-map, map-append}
+use Rattle.std.proofs.lemmas.List.{length-map, map-append, map-id}
 use Rattle.std.proofs.lemmas.List.FromFn.{length-range_with_len}
 use Rattle.path_tree.specs.Paths.{PathNames}
 use Rattle.session_script.specs.declared.parts.Task.{Task}
@@ -88,11 +88,7 @@ one_numbered view act first stage number done made x y h is = record {
 
 pub all_numbered : {A B : Type 0} (view : B → LineFields) (act : A → Act) (first : ℕ) (stage : Stage) (number : ℕ) (done all : List A) (made : List B) → map (λ (x : A). x) done ≡ all
     → AreNumbered view act first stage number done made → map view made ≡ number_lines first stage (map act all)
-all_numbered view act first stage number done all made e h = h.lines ∙ ap (λ xs. number_lines first stage (map act xs)) (sym (same done) ∙ e)
-  where
-    same : {A : Type 0} (xs : List A) → map (λ (x : A). x) xs ≡ xs
-    same [] = refl
-    same (x ∷ xs) = ap (λ ys. x ∷ ys) (same xs)
+all_numbered view act first stage number done all made e h = h.lines ∙ ap (λ xs. number_lines first stage (map act xs)) (sym (map-id done) ∙ e)
 
 -- ---- the whole
 

@@ -1,7 +1,8 @@
 -- A script lists all whom its lines name.
-use Rattle.std.proofs.Common.{◌≡◌, ℕ, suc, ◌+◌, ◌==◌, Bool, true, false, not, cond, List, [], ◌∷◌, filter, All, Contains, Option, Some, None, Result, Ok, Err, ◌⊎◌, inl, inr, sym, ap, ◌∙◌, refl, subst, arith, ne_eqb}
+use Rattle.std.proofs.Common.{◌≡◌, ℕ, suc, ◌+◌, ◌==◌, Bool, true, not, cond, List, [], ◌∷◌, filter, All, Contains, Option, Some, None, Result, Ok, Err, ◌⊎◌, inl, inr, sym, ap, ◌∙◌, refl, subst, arith, ne_eqb}
 use Rattle.std.specs.List.{filter_map, cons_option}
 use Rattle.std.proofs.lemmas.List.Elements.{All-nil, All-cons}
+use Rattle.std.proofs.lemmas.Bool.{cond_both}
 use mathlib.Core.Logic.{dite}
 use native.Mathlib.Decide.{ℕ_discrete}
 use Rattle.oc_bytes.specs.Outcome.{cap_at_u32}
@@ -28,11 +29,7 @@ in_contains n (x ∷ xs) (inr h) = let c = in_contains n xs h in (suc c.0, omega
 in_filter : (p : ℕ → Bool) (n : ℕ) (xs : List ℕ) → p n ≡ true → In n xs → In n (filter p xs)
 in_filter p n [] h i = absurd i
 in_filter p n (x ∷ xs) h (inl e) = subst (λ b. In n (cond b (x ∷ filter p xs) (filter p xs))) (sym (ap p e ∙ h)) (inl e)
-in_filter p n (x ∷ xs) h (inr i) = by (p x) (in_filter p n xs h i)
-  where
-    by : (b : Bool) → In n (filter p xs) → In n (cond b (x ∷ filter p xs) (filter p xs))
-    by true r = inr r
-    by false r = r
+in_filter p n (x ∷ xs) h (inr i) = let r = in_filter p n xs h i in cond_both (p x) (x ∷ filter p xs) (filter p xs) (In n) (λ _. inr r) (λ _. r)
 
 in_first : (n : ℕ) (ns : List ℕ) → In n ns → In n (first_mentions ns)
 in_first n [] h = absurd h

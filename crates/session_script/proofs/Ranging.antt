@@ -1,10 +1,11 @@
 -- The numbers of a script lie in their ranges, and no actor stands twice.
-use Rattle.std.proofs.Common.{◌≡◌, ℕ, suc, ◌+◌, ◌<◌, ◌≤◌, Bool, true, false, not, ◌&&◌, ◌||◌, cond, eqb, nat_le, List, [], ◌∷◌, ◌++◌, length, filter, Option, Some, None, Result, Ok, Err, refl, ap, subst, arith, sym}
+use Rattle.std.proofs.Common.{◌≡◌, ℕ, ◌+◌, ◌<◌, ◌≤◌, Bool, true, false, not, ◌&&◌, ◌||◌, cond, eqb, nat_le, List, [], ◌∷◌, ◌++◌, length, filter, Option, Some, None, Result, Ok, Err, refl, ap, subst, arith, sym}
 use Rattle.std.specs.List.{All, AllByRecursion, IsDistinct, list_any, filter_map, cons_option}
 use borrow.Author.Tests.{leb-true}
 use Rattle.std.proofs.lemmas.Bool.{and_parts, eqb-true, eqb-false, ne_eqb}
-use Rattle.std.proofs.lemmas.List.Elements.{All-nil, All-cons, All-push, All-filter}
+use Rattle.std.proofs.lemmas.List.Elements.{All-nil, All-cons, All-push, All-filter, All-head, All-tail}
 use Rattle.std.proofs.lemmas.Map.Steps.{length-le_from_distinct_below}
+use Rattle.std.proofs.lemmas.Option.{cond_some}
 use Rattle.oc_bytes.specs.Decimals.{is_decimal, decimal_value, decimal_in}
 use Rattle.path_tree.specs.Paths.{Bytes, PathNames}
 use Rattle.ts_packet.specs.declared.Fate.{Fate}
@@ -21,13 +22,9 @@ use Rattle.session_script.specs.Ranges.{IsActor, IsInRange, AreActors, IsInRange
 
 -- ---- numbers in words
 
-chosen : (b : Bool) (v n : ℕ) → cond b (Some v) None ≡ Some n → (b ≡ true) × (v ≡ n)
-chosen true v n h = let e : v ≡ n = cc in (refl, e)
-chosen false v n h = cc
-
 bounds : (least greatest n : ℕ) (word : Bytes) → decimal_in least greatest word ≡ Some n → (least ≤ n) × (n ≤ greatest)
 bounds least greatest n word h =
-    let p = chosen (is_decimal word && nat_le least (decimal_value word) && nat_le (decimal_value word) greatest) (decimal_value word) n h in
+    let p = cond_some (is_decimal word && nat_le least (decimal_value word) && nat_le (decimal_value word) greatest) (decimal_value word) n h in
     let q = and_parts (is_decimal word && nat_le least (decimal_value word)) (nat_le (decimal_value word) greatest) p.0 in
     let r = and_parts (is_decimal word) (nat_le least (decimal_value word)) q.0 in
     let low : least ≤ decimal_value word = leb-true least (decimal_value word) r.1 in
@@ -88,13 +85,9 @@ commit_range words act h =
     let a = went (word_by actor_of BadNumber words) _ act h in
     subst IsInRange (ended (Commit a.0.0) act a.0.1 a.2) (actor_range words a.0 a.1)
 
-within_range : (b : Bool) (fates others : List Fate) → cond b (Some fates) None ≡ Some others → (b ≡ true) × (fates ≡ others)
-within_range true fates others h = let e : fates ≡ others = cc in (refl, e)
-within_range false fates others h = cc
-
 few_fates : (o : Option (List Fate)) (fates : List Fate) → if_within_limit o ≡ Some fates → length fates ≤ 65536
 few_fates (Some all) fates h =
-    let p = within_range (nat_le (length all) 65536) all fates h in
+    let p = cond_some (nat_le (length all) 65536) all fates h in
     let l : length all ≤ 65536 = leb-true (length all) 65536 p.0 in
     let e : length all ≡ length fates = ap length p.1 in
     omega arith
@@ -175,22 +168,16 @@ sayings_range a b (line ∷ lines) h all =
 
 -- ---- the script
 
-first : {X : Type 0} (P : X → Type 0) (x : X) (xs : List X) → All P (x ∷ xs) → P x
-first P x xs h = h 0 x (omega arith)
-
-others : {X : Type 0} (P : X → Type 0) (x : X) (xs : List X) → All P (x ∷ xs) → All P xs
-others P x xs h = λ k d l. h (suc k) d (omega arith)
-
 lines_range : (n : ℕ) (all : List Saying) → All SaysInRange all → All (λ line. IsInRange line.act) (lines_from n all)
 lines_range n [] h = All-nil _
-lines_range n (Passed ∷ below) h = lines_range (n + 1) below (others SaysInRange Passed below h)
-lines_range n (Starts ∷ below) h = lines_range (n + 1) below (others SaysInRange Starts below h)
-lines_range n (Does act ∷ below) h = All-cons (λ line. IsInRange line.act) _ _ (first SaysInRange (Does act) below h) (lines_range (n + 1) below (others SaysInRange (Does act) below h))
-lines_range n (Ends act ∷ below) h = All-cons (λ line. IsInRange line.act) _ _ (first SaysInRange (Ends act) below h) (lines_range (n + 1) below (others SaysInRange (Ends act) below h))
+lines_range n (Passed ∷ below) h = lines_range (n + 1) below (All-tail SaysInRange Passed below h)
+lines_range n (Starts ∷ below) h = lines_range (n + 1) below (All-tail SaysInRange Starts below h)
+lines_range n (Does act ∷ below) h = All-cons (λ line. IsInRange line.act) _ _ (All-head SaysInRange (Does act) below h) (lines_range (n + 1) below (All-tail SaysInRange (Does act) below h))
+lines_range n (Ends act ∷ below) h = All-cons (λ line. IsInRange line.act) _ _ (All-head SaysInRange (Ends act) below h) (lines_range (n + 1) below (All-tail SaysInRange (Ends act) below h))
 
 first_each : (ns : List ℕ) → All IsActor ns → All IsActor (first_mentions ns)
 first_each [] h = h
-first_each (n ∷ ns) h = All-cons IsActor n _ (first IsActor n ns h) (All-filter (λ m. not (eqb m n)) IsActor (first_mentions ns) (first_each ns (others IsActor n ns h)))
+first_each (n ∷ ns) h = All-cons IsActor n _ (All-head IsActor n ns h) (All-filter (λ m. not (eqb m n)) IsActor (first_mentions ns) (first_each ns (All-tail IsActor n ns h)))
 
 other_by : (n x : ℕ) (kept : List ℕ) → AllByRecursion (λ y. eqb n y ≡ false) kept → (b : Bool) → eqb x n ≡ b → AllByRecursion (λ y. eqb n y ≡ false) (cond (not b) (x ∷ kept) kept)
 other_by n x kept h true e = h
@@ -226,8 +213,8 @@ first_once (n ∷ ns) = (others_differ n (first_mentions ns), kept_distinct (λ 
 none_zero : (xs : List ℕ) → All IsActor xs → AllByRecursion (λ y. eqb 0 y ≡ false) xs
 none_zero [] h = tt
 none_zero (x ∷ xs) h =
-    let least = (first IsActor x xs h).at_least in
-    (ne_eqb 0 x (λ e. omega arith), none_zero xs (others IsActor x xs h))
+    let least = (All-head IsActor x xs h).at_least in
+    (ne_eqb 0 x (λ e. omega arith), none_zero xs (All-tail IsActor x xs h))
 
 below_by : (q x : ℕ) (xs : List ℕ) (b : Bool) → eqb q x ≡ b → x < 65 → (list_any (eqb q) xs ≡ true → q < 65) → (b || list_any (eqb q) xs) ≡ true → q < 65
 below_by q x xs true e l rest h = let same : q ≡ x = eqb-true q x e in omega arith
@@ -236,8 +223,8 @@ below_by q x xs false e l rest h = rest h
 below : (xs : List ℕ) → All IsActor xs → (q : ℕ) → list_any (eqb q) xs ≡ true → q < 65
 below [] h q f = cc
 below (x ∷ xs) h q f =
-    let most = (first IsActor x xs h).at_most in
-    below_by q x xs (eqb q x) refl (omega arith) (below xs (others IsActor x xs h) q) f
+    let most = (All-head IsActor x xs h).at_most in
+    below_by q x xs (eqb q x) refl (omega arith) (below xs (All-tail IsActor x xs h) q) f
 
 with_zero : (xs : List ℕ) → All IsActor xs → (q : ℕ) → list_any (eqb q) (0 ∷ xs) ≡ true → q < 65
 with_zero xs h q f = below_by q 0 xs (eqb q 0) refl (omega arith) (below xs h q) f
@@ -293,7 +280,7 @@ onto_actors None ns f h = h
 all_actors : (actor : Act → Option ℕ) → NamesActors actor → (all : List Saying) → All SaysInRange all → All IsActor (filter_map (who actor) all)
 all_actors actor f [] h = All-nil _
 all_actors actor f (s ∷ all) h =
-    onto_actors (who actor s) (filter_map (who actor) all) (λ n e. who_in_range actor f s n e (first SaysInRange s all h)) (all_actors actor f all (others SaysInRange s all h))
+    onto_actors (who actor s) (filter_map (who actor) all) (λ n e. who_in_range actor f s n e (All-head SaysInRange s all h)) (all_actors actor f all (All-tail SaysInRange s all h))
 
 script_range : (all : List Saying) → All SaysInRange all → IsInRanges (script_of all)
 script_range all h = record {

@@ -29,10 +29,10 @@ use Rattle.folder_playout.specs.Laws.{JudgedAsFirst, UnchangedIsPublished}
 use Rattle.folder_playout.specs.declared.reading.Unread.TheVariants as unread
 use Rattle.folder_playout.specs.declared.playing.AirFault.{AirFault}
 use Rattle.folder_playout.specs.declared.playing.AirFault.TheVariants as airs
-use Rattle.shell_commands.specs.Over.{Over, over, sink_over}
+use Rattle.receiver_commands.specs.Over.{Over, over, sink_over}
 use Rattle.shell_commands.specs.Publishing.{new_carousel, accepted_tree, tree_by, tree_of_folder}
 use Rattle.shell_commands.specs.Air.{AiredPart, AiredNothing, EndsAir, IsPublishedIfKnown, StaysOnAir, WereRead, air_status}
-use Rattle.shell_commands.proofs.Writing.{writes_all, writes_prefix}
+use Rattle.receiver_commands.proofs.CallerLemmas.{writes_all, writes_prefix}
 
 -- ---- the tree of a known folder
 

@@ -16,23 +16,19 @@ use Rattle.shell_streams.specs.Carriers.{sections_by, all_packets}
 use Rattle.shell_streams.specs.declared.carrier.Carrier.{Carrier}
 use Rattle.shell_streams.specs.declared.carrier.Carrier.TheVariants as carriers
 use Rattle.shell_streams.proofs.CallerLemmas.{told_same}
-use Rattle.shell_commands.specs.Over.{Over, over, IsUntouched, TakesPrefix, WritesPrefix, Appends}
-use Rattle.shell_commands.specs.AsRead.{AreFirst}
-use Rattle.shell_commands.specs.Record.{Records}
-use Rattle.shell_commands.specs.Open.{Question, Answers, answers_to, asks_paths, asks_all}
+use Rattle.receiver_commands.specs.Over.{Over, over, IsUntouched, TakesPrefix, WritesPrefix, Appends}
+use Rattle.receiver_commands.specs.AsRead.{AreFirst}
+use Rattle.receiver_commands.specs.Record.{Records}
+use Rattle.receiver_commands.specs.Open.{Question, Answers, answers_to, asks_paths, asks_all}
 use Rattle.shell_commands.specs.Air.{WereRead}
-use Rattle.shell_commands.specs.Watch.{Watches}
-use Rattle.shell_commands.specs.Find.{place_of}
-use Rattle.shell_commands.specs.OpenId.{sections_by_id}
+use Rattle.receiver_commands.specs.Watch.{Watches}
+use Rattle.receiver_commands.specs.Find.{place_of}
+use Rattle.receiver_commands.specs.OpenId.{sections_by_id}
 use Rattle.shell_commands.specs.Promises.{Promises, Keeps}
-use Rattle.shell_commands.specs.Statuses.{words_status}
-use Rattle.shell_commands.specs.declared.status.Status.{Status}
-use Rattle.shell_commands.specs.declared.status.Status.TheVariants as status
-use Rattle.shell_commands.proofs.Streaming.{first_none}
-use Rattle.shell_commands.proofs.Replying.{replies_nothing}
-use Rattle.shell_commands.proofs.Serving.{serves_no_memory}
-use Rattle.shell_commands.proofs.Reporting.{inspects_nothing}
-use Rattle.shell_commands.proofs.Unpacking.{extracts_nothing}
+use Rattle.receiver_commands.specs.Statuses.{words_status}
+use Rattle.receiver_commands.specs.declared.status.Status.{Status}
+use Rattle.receiver_commands.specs.declared.status.Status.TheVariants as status
+use Rattle.receiver_commands.proofs.CallerLemmas.{first_none, replies_nothing, serves_no_memory, inspects_nothing, extracts_nothing}
 use Rattle.shell_commands.proofs.Planning.{plan_nothing}
 
 pub takes_nothing : (source : Over Bytes) → IsUntouched source → TakesPrefix source

@@ -1,7 +1,6 @@
 -- The packet at which a carousel is found, and what is heard from there on.
-use Rattle.std.proofs.Common.{◌≡◌, ℕ, zero, suc, ◌*◌, ◌<◌, ◌≤◌, ◌⊎◌, inl, inr, List, [], ◌∷◌, ◌++◌, length, take, drop, Option, Some, None, refl, sym, ap, ◌∙◌, arith, length-append}
+use Rattle.std.proofs.Common.{◌≡◌, ℕ, zero, suc, ◌*◌, ◌<◌, ◌≤◌, ◌⊎◌, inl, inr, List, [], length, take, drop, Option, Some, None, refl, sym, ap, ◌∙◌, arith}
 use Rattle.std.proofs.lemmas.Bool.{cases_lt}
-use Rattle.std.proofs.lemmas.List.{take_all, take-append-le}
 use Rattle.path_tree.specs.Paths.{PathNames}
 use Rattle.path_resolver.specs.declared.answer.Answer.TheVariants as answers
 use Rattle.section_stream.specs.Cuts.{candidates}
@@ -12,7 +11,7 @@ use Rattle.psi_tables.specs.Finding.{found_in}
 use Rattle.shell_streams.specs.Cuts.{Bytes}
 use Rattle.shell_streams.specs.Packets.{packets_of, candidates_of}
 use Rattle.shell_streams.proofs.CallerLemmas.{packets_behind}
-use Rattle.shell_commands.specs.OpenId.{found_after, or_then, found_within, first_found, sections_after, sections_among}
+use Rattle.receiver_commands.specs.OpenId.{found_after, or_then, found_within, sections_after, sections_among}
 use Rattle.shell_commands.specs.Laws.{IsNowhere, IsFirst, IsNeverFound, HeardById}
 
 -- ---- the packet at which it is found
@@ -22,7 +21,7 @@ nowhere_behind n NoPat h = refl
 nowhere_behind n NotNamed h = refl
 nowhere_behind n (At pid) h = absurd h
 
-pub or_none : (o later : Option (ℕ × ℕ)) → o ≡ None → or_then o later ≡ later
+or_none : (o later : Option (ℕ × ℕ)) → o ≡ None → or_then o later ≡ later
 or_none o later e = ap (λ x. or_then x later) e
 
 none_within : (carousel : ℕ) (packets : List Bytes) (n : ℕ) → ((m : ℕ) → m ≤ n → IsNowhere (found_in carousel (take m packets))) → found_within carousel packets n ≡ None
@@ -45,26 +44,6 @@ first_within carousel packets (suc n) pid (suc k) h le = by (cases_lt n k) (firs
         let e : k ≡ n = omega arith in
         let none = none_within carousel packets n (λ m small. h.before m (omega arith)) in
         ap (λ i. found_within carousel packets (suc i)) e ∙ or_none _ _ none ∙ ap (found_after (suc n)) h.found
-
--- ---- one packet more
-
-same_front : (packets : List Bytes) (p : Bytes) (n : ℕ) → n ≤ length packets → take n (packets ++ p ∷ []) ≡ take n packets
-same_front packets p n h = take-append-le n packets (p ∷ []) h
-
-within_more : (carousel : ℕ) (packets : List Bytes) (p : Bytes) (n : ℕ) → n ≤ length packets → found_within carousel (packets ++ p ∷ []) n ≡ found_within carousel packets n
-within_more carousel packets p zero h = refl
-within_more carousel packets p (suc n) h =
-    ap (λ o. or_then o (found_after (suc n) (found_in carousel (take (suc n) (packets ++ p ∷ []))))) (within_more carousel packets p n (omega arith))
-    ∙ ap (λ ps. or_then (found_within carousel packets n) (found_after (suc n) (found_in carousel ps))) (same_front packets p (suc n) h)
-
-pub first_more : (carousel : ℕ) (packets : List Bytes) (p : Bytes) → first_found carousel (packets ++ p ∷ [])
-    ≡ or_then (first_found carousel packets) (found_after (suc (length packets)) (found_in carousel (packets ++ p ∷ [])))
-first_more carousel packets p =
-    let all = packets ++ p ∷ [] in
-    let e : length all ≡ suc (length packets) = omega (arith, length-append packets (p ∷ [])) in
-    ap (found_within carousel all) e
-    ∙ ap (λ o. or_then o (found_after (suc (length packets)) (found_in carousel (take (suc (length packets)) all)))) (within_more carousel packets p (length packets) (omega arith))
-    ∙ ap (λ ps. or_then (first_found carousel packets) (found_after (suc (length packets)) (found_in carousel ps))) (take_all (suc (length packets)) all (omega (arith, e)))
 
 -- ---- what is heard
 

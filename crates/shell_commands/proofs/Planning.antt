@@ -18,13 +18,13 @@ use Rattle.shell_streams.specs.Cuts.{Bytes}
 use Rattle.shell_streams.specs.Sending.{OutputState}
 use Rattle.shell_streams.specs.declared.output.OutputFault.{OutputFault}
 use Rattle.shell_streams.specs.declared.output.OutputFault.TheVariants as outputs
-use Rattle.shell_commands.specs.Over.{Over, sink_over, Failed, IsUntouched}
+use Rattle.receiver_commands.specs.Over.{Over, sink_over, Failed, IsUntouched}
 use Rattle.shell_commands.specs.Publishing.{first_outcome, unless_refused, end_by, publish_end}
 use Rattle.shell_commands.specs.Plan.{EndsPlan, EndsAlike, TellsPlan, plan_status}
-use Rattle.shell_commands.specs.declared.status.Status.{Status}
-use Rattle.shell_commands.specs.declared.status.Status.TheVariants as status
+use Rattle.receiver_commands.specs.declared.status.Status.{Status}
+use Rattle.receiver_commands.specs.declared.status.Status.TheVariants as status
 use Rattle.shell_commands.proofs.Committing.{tree_accepted}
-use Rattle.shell_commands.proofs.Writing.{writes_all, writes_prefix}
+use Rattle.receiver_commands.proofs.CallerLemmas.{writes_all, writes_prefix}
 
 -- ---- as publishing ends
 

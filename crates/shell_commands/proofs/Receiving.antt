@@ -31,7 +31,7 @@ use Rattle.shell_words.specs.Texts.{answered_line, tail_of}
 use Rattle.psi_tables.specs.Laws.{IsNowhereElse, IsFoundOnceItCame, EachIsFollowed}
 use Rattle.shell_commands.proofs.Beginning.{falls_never}
 use Rattle.shell_commands.proofs.Opening.{heard_by_id}
-use Rattle.shell_commands.specs.Mounts.{as_answer}
+use Rattle.receiver_commands.specs.Mounts.{as_answer}
 use Rattle.shell_commands.specs.Laws.{UsuallyFound, UnderMount, Receptions}
 use Rattle.shell_commands.specs.Reception.{Reception, SentOpens, CyclesOpen, node_answer, answer_in}
 

@@ -19,12 +19,11 @@ use Rattle.shell_streams.specs.declared.input.InputFault.TheVariants as inputs
 use Rattle.shell_streams.specs.declared.output.OutputFault.{OutputFault}
 use Rattle.shell_streams.specs.declared.output.OutputFault.TheVariants as outputs
 use Rattle.shell_streams.proofs.CallerLemmas.{told_weaker, all_rear}
-use Rattle.shell_commands.specs.Over.{Over, sink_over, Failed, IsUntouched, WritesAll}
+use Rattle.receiver_commands.specs.Over.{Over, sink_over, Failed, IsUntouched, WritesAll}
 use Rattle.shell_commands.specs.Rehearse.{ReadsAll, ReadsScript, EndsRehearse, Rehearses}
-use Rattle.shell_commands.specs.Statuses.{input_status, output_status, script_status}
-use Rattle.shell_commands.specs.declared.status.Status.TheVariants as status
-use Rattle.shell_commands.proofs.Replying.{goes_on}
-use Rattle.shell_commands.proofs.Writing.{writes_all, writes_prefix}
+use Rattle.receiver_commands.specs.Statuses.{input_status, output_status, script_status}
+use Rattle.receiver_commands.specs.declared.status.Status.TheVariants as status
+use Rattle.receiver_commands.proofs.CallerLemmas.{goes_on, writes_all, writes_prefix}
 
 ends_stopped : (weights : List ℕ) (source sink : Over Bytes) (fault : InputFault) → Known source.before source.after (Stopped (is_longer 16777216) fault)
     → (fault ≡ inputs.Failed → Failed source) → IsUntouched sink → EndsRehearse weights source sink (input_status fault)

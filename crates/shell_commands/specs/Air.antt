@@ -16,12 +16,12 @@ use Rattle.folder_playout.specs.declared.reading.Unread.{Unread}
 use Rattle.folder_playout.specs.declared.reading.Unread.TheVariants as unread
 use Rattle.folder_playout.specs.declared.playing.AirFault.{AirFault}
 use Rattle.folder_playout.specs.declared.playing.AirFault.TheVariants as airs
-use Rattle.shell_commands.specs.Over.{Over, IsUntouched, WritesAll, WritesPrefix}
-use Rattle.shell_commands.specs.Ends.{EndsWriting}
+use Rattle.receiver_commands.specs.Over.{Over, IsUntouched, WritesAll, WritesPrefix}
+use Rattle.receiver_commands.specs.Ends.{EndsWriting}
 use Rattle.shell_commands.specs.Publishing.{tree_of_folder}
-use Rattle.shell_commands.specs.Statuses.{output_status}
-use Rattle.shell_commands.specs.declared.status.Status.{Status}
-use Rattle.shell_commands.specs.declared.status.Status.TheVariants as status
+use Rattle.receiver_commands.specs.Statuses.{output_status}
+use Rattle.receiver_commands.specs.declared.status.Status.{Status}
+use Rattle.receiver_commands.specs.declared.status.Status.TheVariants as status
 
 -- these were read of the folder, one after another, and nothing else was
 abbrev pub WereRead : Bytes → Over FolderTree → List Reading → Type 0

@@ -7,10 +7,10 @@ use Rattle.folder_store.specs.Folders.{FolderTree, is_folder_at, MayFail}
 use Rattle.section_stream.specs.Groups.{packets_of_group}
 use Rattle.section_stream.specs.Packing.{idle}
 use Rattle.shell_streams.specs.Cuts.{Bytes}
-use Rattle.shell_commands.specs.Over.{Over, Failed}
+use Rattle.receiver_commands.specs.Over.{Over, Failed}
 use Rattle.shell_commands.specs.Publish.{IsTreeOf, Refuses}
-use Rattle.shell_commands.specs.declared.status.Status.{Status}
-use Rattle.shell_commands.specs.declared.status.Status.TheVariants as status
+use Rattle.receiver_commands.specs.declared.status.Status.{Status}
+use Rattle.receiver_commands.specs.declared.status.Status.TheVariants as status
 
 -- why a folder gives no generation
 abbrev pub Refused : Bytes → ℕ → Over FolderTree → Status → Type 0

@@ -23,8 +23,8 @@ use Rattle.shell_streams.specs.Cuts.{Bytes}
 use Rattle.shell_streams.specs.Packets.{packets_of, candidates_of}
 use Rattle.shell_streams.specs.declared.carrier.Carrier.{Carrier}
 use Rattle.shell_words.specs.Texts.{open_entry}
-use Rattle.shell_commands.specs.OpenId.{sections_among}
-use Rattle.shell_commands.specs.Mounts.{mounted_answer}
+use Rattle.receiver_commands.specs.OpenId.{sections_among}
+use Rattle.receiver_commands.specs.Mounts.{mounted_answer}
 use Rattle.shell_commands.specs.Reception.{Reception, SentOpens, CyclesOpen}
 
 -- ---- where the tables are as usual: one PAT of one section, and one map table of each program

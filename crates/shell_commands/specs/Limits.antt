@@ -23,7 +23,7 @@ use Rattle.shell_words.specs.declared.parsing.TheConstants.{MOST_CYCLES, MOST_AI
 use Rattle.shell_words.specs.declared.parsing.TheConstants.{MOST_BITRATE, MOST_BIG}
 use Rattle.shell_words.specs.declared.table.TheConstants.{MOST_MOUNT_NAME}
 use Rattle.shell_words.specs.declared.values.TheConstants as words
-use Rattle.shell_commands.specs.declared.assemble.TheConstants.{MOST_ASSEMBLED}
+use Rattle.receiver_commands.specs.declared.assemble.TheConstants.{MOST_ASSEMBLED}
 use Rattle.shell_commands.specs.declared.plain.TheConstants.{MOST_OPENED}
 use Rattle.shell_commands.specs.declared.rehearse.TheConstants.{MOST_SCRIPT_BYTES}
 use Rattle.shell_commands.specs.declared.publish.TheConstants.{PID}

@@ -7,12 +7,12 @@ use Rattle.publication_plan.specs.declared.planning.PlanEnd.{PlanEnd}
 use Rattle.publication_plan.specs.declared.planning.PlanEnd.TheVariants as planned
 use Rattle.shell_streams.specs.Cuts.{Bytes}
 use Rattle.shell_streams.specs.declared.output.OutputFault.{OutputFault}
-use Rattle.shell_commands.specs.Over.{Over, Failed, IsUntouched, WritesAll, WritesPrefix}
-use Rattle.shell_commands.specs.Ends.{EndsWriting}
+use Rattle.receiver_commands.specs.Over.{Over, Failed, IsUntouched, WritesAll, WritesPrefix}
+use Rattle.receiver_commands.specs.Ends.{EndsWriting}
 use Rattle.shell_commands.specs.Publishing.{publish_end}
-use Rattle.shell_commands.specs.Statuses.{output_status}
-use Rattle.shell_commands.specs.declared.status.Status.{Status}
-use Rattle.shell_commands.specs.declared.status.Status.TheVariants as status
+use Rattle.receiver_commands.specs.Statuses.{output_status}
+use Rattle.receiver_commands.specs.declared.status.Status.{Status}
+use Rattle.receiver_commands.specs.declared.status.Status.TheVariants as status
 
 -- The whole text of a plan that ends so was written; `refused` is the path text that the folders refused last.
 pub record Planned (folder : Bytes) (carousel : ℕ) (weights : List ℕ) (bitrate : ℕ) (end : PlanEnd) (sink : Over Bytes) (folders : Over FolderTree) (refused : Option Bytes) : Type 0 where

@@ -1,31 +1,31 @@
 -- What each command promises. A page of its own says it of each. `refused` is the path text that the
 -- folders refused last, and `told` what holds of the notices that were given.
-use Rattle.std.specs.Prelude.{ℕ, Bool, true, false, List, Option, Result, Ok, Err}
+use Rattle.std.specs.Prelude.{ℕ, Bool, true, false, List, [], Option, None, Result, Ok, Err}
 use Rattle.path_tree.specs.Paths.{PathNames}
 use Rattle.folder_playout.specs.Notices.{Notice}
 use Rattle.folder_store.specs.Folders.{FolderTree}
 use Rattle.shell_words.specs.Words as commands
 use Rattle.shell_streams.specs.Cuts.{Bytes}
 use Rattle.shell_streams.specs.declared.carrier.Carrier.TheVariants as carriers
-use Rattle.shell_commands.specs.Over.{Over, IsUntouched}
-use Rattle.shell_commands.specs.Input.{asked_module}
-use Rattle.shell_commands.specs.Assemble.{Assembles}
-use Rattle.shell_commands.specs.Open.{Answers, asks_paths, asks_all}
-use Rattle.shell_commands.specs.Record.{Records}
+use Rattle.receiver_commands.specs.Over.{Over, IsUntouched}
+use Rattle.receiver_commands.specs.Input.{asked_module}
+use Rattle.receiver_commands.specs.Assemble.{Assembles}
+use Rattle.receiver_commands.specs.Open.{Answers, asks_paths, asks_all}
+use Rattle.receiver_commands.specs.Record.{Records}
 use Rattle.shell_commands.specs.Publish.{Publishes}
 use Rattle.shell_commands.specs.Air.{StaysOnAir}
-use Rattle.shell_commands.specs.Find.{Finds}
-use Rattle.shell_commands.specs.OpenId.{OpensId}
-use Rattle.shell_commands.specs.Mounts.{ServesMounts}
-use Rattle.shell_commands.specs.Watch.{Watches}
-use Rattle.shell_commands.specs.Why.{SaysWhy}
-use Rattle.shell_commands.specs.Inspect.{Inspects}
-use Rattle.shell_commands.specs.Extract.{Extracts}
+use Rattle.receiver_commands.specs.Find.{Finds}
+use Rattle.receiver_commands.specs.OpenId.{OpensId}
+use Rattle.receiver_commands.specs.Mounts.{ServesMounts}
+use Rattle.receiver_commands.specs.Watch.{Watches}
+use Rattle.receiver_commands.specs.Why.{SaysWhy}
+use Rattle.receiver_commands.specs.Inspect.{Inspects}
+use Rattle.receiver_commands.specs.Extract.{Extracts}
 use Rattle.shell_commands.specs.Plan.{TellsPlan}
 use Rattle.shell_commands.specs.PublishPsi.{PublishesPsi}
 use Rattle.shell_commands.specs.Rehearse.{Rehearses}
-use Rattle.shell_commands.specs.Refusing.{Declines}
-use Rattle.shell_commands.specs.declared.status.Status.{Status}
+use Rattle.receiver_commands.specs.Refusing.{Declines}
+use Rattle.receiver_commands.specs.declared.status.Status.{Status}
 use Rattle.shell_commands.specs.declared.plain.TheConstants.{MOST_OPENED}
 
 -- a command that reads no input
@@ -64,6 +64,20 @@ writes_store _ = false
 abbrev pub gives_notices : Result commands.Named commands.Misfit → Bool
 gives_notices (Ok (commands.Air pid folder carousel cycles)) = true
 gives_notices _ = false
+
+-- whether a command is one of a broadcaster: it publishes, tells what it would publish, or rehearses
+abbrev pub is_of_broadcaster : commands.Named → Bool
+is_of_broadcaster (commands.Publish folder carousel cycles) = true
+is_of_broadcaster (commands.PublishOn pid folder carousel cycles) = true
+is_of_broadcaster (commands.PublishPsi folder carousel cycles) = true
+is_of_broadcaster (commands.Air pid folder carousel cycles) = true
+is_of_broadcaster (commands.Plan folder carousel bitrate) = true
+is_of_broadcaster commands.Rehearse = true
+is_of_broadcaster _ = false
+
+-- What is promised of any other command: it takes no weights, reads no folder and gives no notice.
+abbrev pub PromisesOther : List PathNames → commands.Named → Status → Over Bytes → Over Bytes → Over FolderTree → Type 0
+PromisesOther prefixes command s source sink store = Promises [] prefixes command s source sink (record { before = None; after = None; faults = 0; faults_after = 0 }) store None (λ notices. Unit {0})
 
 -- what is promised of words, under these weights and with watchers of these prefixes; words that don't fit, and those of a command that
 -- needs threads, are refused

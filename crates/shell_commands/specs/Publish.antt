@@ -9,11 +9,11 @@ use Rattle.folder_store.specs.Walk.{HasFiles}
 use Rattle.folder_store.specs.declared.reading.TreeFault.{TreeFault}
 use Rattle.carousel_world.specs.Publishing.{published_bytes}
 use Rattle.shell_streams.specs.Cuts.{Bytes}
-use Rattle.shell_commands.specs.Over.{Over, Failed, IsUntouched, WritesAll, WritesPrefix}
-use Rattle.shell_commands.specs.Ends.{EndsWriting}
+use Rattle.receiver_commands.specs.Over.{Over, Failed, IsUntouched, WritesAll, WritesPrefix}
+use Rattle.receiver_commands.specs.Ends.{EndsWriting}
 use Rattle.shell_commands.specs.Publishing.{publish_end, tree_of_folder}
-use Rattle.shell_commands.specs.declared.status.Status.{Status}
-use Rattle.shell_commands.specs.declared.status.Status.TheVariants as status
+use Rattle.receiver_commands.specs.declared.status.Status.{Status}
+use Rattle.receiver_commands.specs.declared.status.Status.TheVariants as status
 
 -- A tree that can be published. Where the folders are known, it is that of the folder, which has a file of these bytes at a path exactly where
 -- the folder has it at the path's text, and keeps a folder exactly where the folder has a bare one there; and nothing refuses it.

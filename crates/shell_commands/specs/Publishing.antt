@@ -10,8 +10,8 @@ use Rattle.folder_store.specs.Folders.{FolderTree, is_folder_at}
 use Rattle.folder_store.specs.Walk.{Walked, IsTooDeep, IsBadName, edits_of}
 use Rattle.folder_store.specs.declared.reading.TreeFault.TheVariants as trees
 use Rattle.shell_streams.specs.Cuts.{Bytes}
-use Rattle.shell_commands.specs.declared.status.Status.{Status}
-use Rattle.shell_commands.specs.declared.status.Status.TheVariants as status
+use Rattle.receiver_commands.specs.declared.status.Status.{Status}
+use Rattle.receiver_commands.specs.declared.status.Status.TheVariants as status
 
 -- ---- the end
 

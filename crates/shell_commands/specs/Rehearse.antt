@@ -11,10 +11,10 @@ use Rattle.rehearsal.specs.Lines.{events_of}
 use Rattle.rehearsal.specs.Reports.{report_of}
 use Rattle.shell_streams.specs.Cuts.{Bytes}
 use Rattle.shell_streams.specs.Held.{AllTaken, is_longer}
-use Rattle.shell_commands.specs.Over.{Over, IsUntouched, TakesPrefix, WritesAll, WritesPrefix}
-use Rattle.shell_commands.specs.Ends.{EndsRead}
-use Rattle.shell_commands.specs.declared.status.Status.{Status}
-use Rattle.shell_commands.specs.declared.status.Status.TheVariants as status
+use Rattle.receiver_commands.specs.Over.{Over, IsUntouched, TakesPrefix, WritesAll, WritesPrefix}
+use Rattle.receiver_commands.specs.Ends.{EndsRead}
+use Rattle.receiver_commands.specs.declared.status.Status.{Status}
+use Rattle.receiver_commands.specs.declared.status.Status.TheVariants as status
 use Rattle.shell_commands.specs.declared.rehearse.TheConstants.{MOST_SCRIPT_BYTES}
 
 -- ---- what was read

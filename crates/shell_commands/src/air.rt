@@ -1,12 +1,16 @@
 ghost use Rattle.std.specs.Prelude.{◌≡◌, ◌≤◌, ◌<◌, []};
 ghost use Rattle.shell_streams.specs.Sending.{IsInTime};
-ghost use Rattle.shell_commands.specs.Air.{StaysOnAir};
-ghost use Rattle.shell_commands.specs.Over.{over, sink_over};
+ghost use Rattle.shell_commands.specs.Air.{StaysOnAir, fault_status, unread_status as status_of_unread};
+ghost use Rattle.receiver_commands.specs.Over.{over, sink_over};
 
-use crate::status::Status;
 use cycle_planner::Weigh;
-use folder_playout::{FolderTrees, Notices, judged_as_first, keep_on_air, unchanged_is_published};
-use folder_store::Folders;
+use dsi_dii::LAST_GENERATION;
+use folder_playout::{
+    AirFault, FolderTrees, Notices, Unread, judged_as_first, keep_on_air, unchanged_is_published,
+};
+use folder_store::{Folders, TreeFault};
+use generation_catalogue::Refusal;
+use receiver_commands::Status;
 use shell_streams::Output;
 use std::alloc::Global;
 
@@ -51,6 +55,30 @@ pub fn air<O: Output, F: Folders, N: Notices>(
         alloc, pid, carousel, cycles, weigh, &mut trees, notices, out,
     ) {
         Ok(()) => Status::Done,
-        Err(fault) => Status::from(fault),
+        Err(fault) => status_of(fault),
+    }
+}
+
+/// The status of a playout that stopped.
+fn status_of(fault: AirFault) -> Status
+    ensures { result ≡ fault_status fault }
+{
+    match fault {
+        AirFault::Unread(fault) => unread_status(fault),
+        AirFault::SeasonFull => {
+            Status::TreeRefused(TreeFault::Commit(Refusal::SeasonFull(LAST_GENERATION)))
+        }
+        AirFault::Output(fault) => Status::from(fault),
+    }
+}
+
+/// The status where no tree was read.
+fn unread_status(fault: Unread) -> Status
+    ensures { result ≡ status_of_unread fault }
+{
+    match fault {
+        Unread::Failed(_) => Status::FolderFault,
+        Unread::Refused(fault, _) => Status::TreeRefused(fault),
+        Unread::NoMemory => Status::NoMemory,
     }
 }

@@ -1,5 +1,6 @@
-//! The commands of the carousel that need no threads: each takes its words, reads its input from a source or, `publish`, from a folder,
-//! and writes to a sink.
+//! The call for all commands that need no threads, and those of them that `receiver_commands` doesn't have: what a broadcaster publishes of
+//! a folder, and a script that is rehearsed. Each command takes its words, reads its input from a source or from a folder, and writes to a
+//! sink.
 //!
 //! ```
 //! ghost use Rattle.std.specs.Prelude.{◌≡◌};
@@ -24,29 +25,15 @@
 #![tactic(auto)]
 
 mod air;
-mod answers;
-mod assemble;
-mod extract;
-mod find;
-mod inspect;
 mod law;
-mod listing;
-mod mounts;
-mod open;
-mod open_id;
 mod plain;
 mod plan;
 mod publish;
 mod publish_psi;
-mod receiver;
-mod record;
 mod rehearse;
-mod status;
-mod watch;
-mod why;
 
-pub use assemble::MOST_ASSEMBLED;
 pub use law::{limits_are_numbers, receptions};
 pub use plain::{MOST_OPENED, begin, run_command, run_plain};
+pub use receiver_commands::Status;
+pub use receiver_commands::assemble::MOST_ASSEMBLED;
 pub use rehearse::MOST_SCRIPT_BYTES;
-pub use status::Status;

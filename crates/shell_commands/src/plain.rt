@@ -6,32 +6,32 @@ ghost use Rattle.folder_playout.specs.Laws.{PlayoutsMeet};
 ghost use Rattle.shell_words.specs.Words as commands;
 ghost use Rattle.watch_desk.specs.Prefixes.{prefixes_of};
 ghost use Rattle.shell_streams.specs.Sending.{IsInTime};
-ghost use Rattle.shell_commands.specs.Over.{over, sink_over};
+ghost use Rattle.receiver_commands.specs.Over.{over, sink_over};
 ghost use Rattle.shell_commands.specs.Laws.{Receptions};
 ghost use Rattle.shell_commands.specs.Limits.{Limits};
-ghost use Rattle.shell_commands.specs.Promises.{Promises, Keeps, gives_notices, writes_store};
+ghost use Rattle.shell_commands.specs.Promises.{Promises, PromisesOther, Keeps, gives_notices, is_of_broadcaster, writes_store};
 
 use crate::air::air;
-use crate::assemble::{Wanted, assemble};
-use crate::extract::extract;
-use crate::find::find;
-use crate::inspect::inspect;
 use crate::law::{limits_are_numbers, receptions};
-use crate::mounts::mounts;
-use crate::open::{list, open};
-use crate::open_id::open_id;
 use crate::plan::plan;
 use crate::publish::{PID, publish};
 use crate::publish_psi::publish_psi;
-use crate::record::record;
 use crate::rehearse::rehearse;
-use crate::status::Status;
-use crate::watch::watch;
-use crate::why::why;
 use cycle_planner::Weigh;
 use folder_playout::{Notices, playouts_meet};
 use folder_store::{Folders, Store};
 use oc_bytes::{Sink, Source};
+use receiver_commands::Status;
+use receiver_commands::assemble::{Wanted, assemble};
+use receiver_commands::extract::extract;
+use receiver_commands::find::find;
+use receiver_commands::inspect::inspect;
+use receiver_commands::mounts::mounts;
+use receiver_commands::open::{list, open};
+use receiver_commands::open_id::open_id;
+use receiver_commands::record::record;
+use receiver_commands::watch::watch;
+use receiver_commands::why::why;
 use shell_streams::{Buffered, Carrier, Output, room};
 use shell_words::{Command, WordsFault, command};
 use std::alloc::Global;
@@ -167,44 +167,10 @@ pub fn run_command<S: Source, O: Output, F: Folders, T: Store, N: Notices>(
     ensures in_time { IsInTime (O.state out.old) (O.state out.new) }
 {
     match command {
-        Command::Assemble {
-            id,
-            version,
-            size,
-            download,
-        } => {
-            let wanted = Wanted {
-                id,
-                version,
-                size,
-                download,
-            };
-            assemble(alloc, wanted, source, out)
-        }
-        Command::OpenSections(paths) => {
-            open(alloc, Carrier::Sections(MOST_OPENED), &paths, source, out)
-        }
-        Command::Open(pid, paths) => open(alloc, Carrier::Packets(pid), &paths, source, out),
-        Command::Record(pid) => record(alloc, pid, source, out),
-        Command::List(pid) => list(alloc, Carrier::Packets(pid), source, out),
         Command::Publish(folder, carousel, cycles) => {
             publish(
                 alloc,
                 PID,
-                folder.as_str(),
-                carousel,
-                cycles,
-                weigh,
-                out,
-                folders,
-            )
-        }
-        Command::Rehearse => rehearse(alloc, weigh, source, out),
-        Command::Find(carousel) => find(alloc, carousel, source, out),
-        Command::OpenId(carousel, paths) => open_id(alloc, carousel, &paths, source, out),
-        Command::PublishPsi(folder, carousel, cycles) => {
-            publish_psi(
-                alloc,
                 folder.as_str(),
                 carousel,
                 cycles,
@@ -225,22 +191,16 @@ pub fn run_command<S: Source, O: Output, F: Folders, T: Store, N: Notices>(
                 folders,
             )
         }
-        Command::Mounts(entries, paths) => mounts(alloc, entries, &paths, source, out),
-        Command::Watch(pid, paths) => watch(alloc, pid, &paths, filters, source, out),
-        Command::Plan(folder, carousel, bitrate) => {
-            plan(
+        Command::PublishPsi(folder, carousel, cycles) => {
+            publish_psi(
                 alloc,
                 folder.as_str(),
                 carousel,
-                bitrate,
-                &weigh,
+                cycles,
+                weigh,
                 out,
                 folders,
             )
-        }
-        Command::Inspect(pid) => inspect(alloc, pid, source, out),
-        Command::Extract(pid, folder) => {
-            extract(alloc, pid, folder.as_str(), source, out, store)
         }
         Command::Air(pid, folder, carousel, cycles) => {
             air(
@@ -255,7 +215,75 @@ pub fn run_command<S: Source, O: Output, F: Folders, T: Store, N: Notices>(
                 notices,
             )
         }
+        Command::Plan(folder, carousel, bitrate) => {
+            plan(
+                alloc,
+                folder.as_str(),
+                carousel,
+                bitrate,
+                &weigh,
+                out,
+                folders,
+            )
+        }
+        Command::Rehearse => rehearse(alloc, weigh, source, out),
+        other => run_receiving(alloc, other, source, out, store, filters),
+    }
+}
+
+/// Runs a command of a receiver, or `why`. One that needs threads or is of a broadcaster is none here: it is `Words`, and nothing is read or
+/// written.
+fn run_receiving<S: Source, O: Output, T: Store>(
+    alloc: Global,
+    command: Command,
+    source: &mut S,
+    out: &mut O,
+    store: &mut T,
+    filters: Vec<Filter>,
+) -> Status
+    requires sized { commands.IsSized command }
+    requires pending { (O.state out.old).pending ≡ [] }
+    ensures promises { is_of_broadcaster (commands.view command) ≡ false
+        → PromisesOther (prefixes_of filters.items) (commands.view command) result
+        (over S.left S.faults source.old source.new)
+        (sink_over (O.state out.old) (O.state out.new)) (over T.tree T.faults store.old store.new) }
+    ensures same { (O.state out.new).name ≡ (O.state out.old).name }
+    ensures stored { writes_store (Ok (commands.view command)) ≡ false → store.new ≡ store.old }
+    ensures in_time { IsInTime (O.state out.old) (O.state out.new) }
+{
+    match command {
+        Command::Assemble {
+            id,
+            version,
+            size,
+            download,
+        } => {
+            let wanted = Wanted {
+                id,
+                version,
+                size,
+                download,
+            };
+            assemble(alloc, wanted, source, out)
+        }
+        Command::OpenSections(paths) => {
+            open(alloc, Carrier::Sections(MOST_OPENED), &paths, source, out)
+        }
+        Command::Open(pid, paths) => open(alloc, Carrier::Packets(pid), &paths, source, out),
+        Command::OpenId(carousel, paths) => open_id(alloc, carousel, &paths, source, out),
+        Command::List(pid) => list(alloc, Carrier::Packets(pid), source, out),
+        Command::Record(pid) => record(alloc, pid, source, out),
+        Command::Find(carousel) => find(alloc, carousel, source, out),
+        Command::Mounts(entries, paths) => mounts(alloc, entries, &paths, source, out),
+        Command::Watch(pid, paths) => watch(alloc, pid, &paths, filters, source, out),
+        Command::Inspect(pid) => inspect(alloc, pid, source, out),
+        Command::Extract(pid, folder) => {
+            extract(alloc, pid, folder.as_str(), source, out, store)
+        }
         Command::Why(complaint) => why(alloc, complaint, out),
-        Command::Session | Command::Big(_) => Status::Words,
+        other => {
+            drop(other);
+            Status::Words
+        }
     }
 }

@@ -1,12 +1,12 @@
 ghost use Rattle.std.specs.Prelude.{◌≡◌, ◌≤◌, []};
 ghost use Rattle.shell_streams.specs.Sending.{IsInTime};
-ghost use Rattle.shell_commands.specs.Over.{over, sink_over};
+ghost use Rattle.receiver_commands.specs.Over.{over, sink_over};
 ghost use Rattle.shell_commands.specs.Plan.{TellsPlan, plan_status};
 
-use crate::status::Status;
 use cycle_planner::Weigh;
 use folder_store::Folders;
 use publication_plan::PlanEnd;
+use receiver_commands::Status;
 use shell_streams::{Output, OutputFault};
 use std::alloc::Global;
 

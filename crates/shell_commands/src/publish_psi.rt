@@ -5,18 +5,18 @@ ghost use Rattle.generation.specs.Layouts.{lines_of, section_of};
 ghost use Rattle.section_stream.specs.Packing.{IsSectionLike};
 ghost use Rattle.psi_tables.specs.Written.{announcer_packets, after_announcing};
 ghost use Rattle.shell_streams.specs.Sending.{Puts, IsInTime};
-ghost use Rattle.shell_commands.specs.Over.{over, sink_over};
+ghost use Rattle.receiver_commands.specs.Over.{over, sink_over};
 ghost use Rattle.shell_commands.specs.Announced.{cycles_sent, senders_start};
 ghost use Rattle.shell_commands.specs.PublishPsi.{PublishesPsi};
 
 use crate::publish::{PID, first_generation};
-use crate::status::Status;
 use carousel_world::publications_can_be_packed;
 use cycle_planner::Weigh;
 use cycle_sender::{Sender, put_packets};
 use folder_store::Folders;
 use generation::{Generation, generations_are_of_the_lists};
 use psi_tables::Announcer;
+use receiver_commands::Status;
 use shell_streams::{Output, OutputFault};
 use std::alloc::Global;
 

@@ -1,11 +1,11 @@
 ghost use Rattle.std.specs.Prelude.{◌≡◌, []};
 ghost use Rattle.shell_streams.specs.Sending.{IsInTime};
-ghost use Rattle.shell_commands.specs.Over.{over, sink_over};
+ghost use Rattle.receiver_commands.specs.Over.{over, sink_over};
 ghost use Rattle.shell_commands.specs.Rehearse.{Rehearses};
 
-use crate::status::Status;
 use cycle_planner::Weigh;
 use oc_bytes::Source;
+use receiver_commands::Status;
 use session_script::read_parts;
 use shell_streams::{Output, read_all};
 use std::alloc::Global;

@@ -5,3 +5,7 @@ pub mod Faults
 pub mod Complaining
 pub mod Firsts
 pub mod Reading
+mod Parts
+mod Digits
+mod Examples
+pub mod CallerLemmas

@@ -4,4 +4,5 @@ pub mod Words
 pub mod Keywords
 pub mod Counting
 pub mod Texts
+pub mod Reports
 pub mod Complaints

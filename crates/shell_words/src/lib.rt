@@ -1,4 +1,4 @@
-//! The words of commands, and the texts of answers and of refusals.
+//! The words of commands, and the texts of answers, of refusals and of a report's lines.
 //!
 //! ```
 //! use path_resolver::Answer;
@@ -20,6 +20,7 @@ mod keyword;
 mod limits;
 mod parsing;
 mod places;
+mod report;
 mod table;
 mod texts;
 mod values;
@@ -29,6 +30,10 @@ pub use complaints::complaint_text;
 pub use limits::limits_are_numbers;
 pub use parsing::command;
 pub use places::{Complaint, Slot, first_complaint};
+pub use report::{
+    commit_text, committed_text, draw_text, drawn_text, draws_full_text, open_text, opened_text,
+    put_answer_tail, refused_text,
+};
 pub use table::MOST_MOUNT_NAME;
 pub use texts::{answer_text, answered_text, refusal_text};
 pub use values::MOST_WATCHED;

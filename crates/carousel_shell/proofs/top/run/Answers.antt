@@ -2,7 +2,7 @@ use Rattle.std.proofs.Common.{◌∙◌, map, Ok, refl, rules}
 use Rattle.std.specs.String.{string_bytes}
 use Rattle.shell_words.specs.Words as commands
 use Rattle.watch_desk.specs.Prefixes.{prefixes_of}
-use Rattle.shell_commands.specs.Over.{over}
+use Rattle.receiver_commands.specs.Over.{over}
 use Rattle.shell_commands.proofs.CallerLemmas.{in_time_over}
 use Rattle.carousel_shell.proofs.Choosing.{all_decline, keeps_over}
 use Rattle.carousel_shell.proofs.top.run.Goals as goal

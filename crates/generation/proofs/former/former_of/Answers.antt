@@ -1,9 +1,9 @@
 use Rattle.std.proofs.Common.{None, sym, ◌∙◌, ap, subst, map, false, arith}
+use Rattle.generation.proofs.Sharing.{found_more, still_rising, key_seen, module_seen}
 use Rattle.generation.specs.declared.spots.Spot.{Spot}
 use Rattle.generation.specs.Publication.{AreRising}
 use Rattle.generation.specs.Layouts.{key_in, module_of, old_keys, old_modules}
 use Rattle.generation.specs.View.{view_spot, view_placed}
-use Rattle.generation.proofs.Merging.{found_more, still_rising, key_seen, module_seen}
 use Rattle.generation.proofs.former.former_of.Goals as goal
 
 pub loop-spot-preserved : goal.loop-spot-preserved

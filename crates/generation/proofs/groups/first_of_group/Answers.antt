@@ -1,7 +1,7 @@
 use Rattle.std.proofs.Common.{nat_lt, rules}
 use Rattle.std.proofs.lemmas.List.Sorted.{IsPartitionPoint-from_clause}
+use Rattle.generation.proofs.Searching.{groups_parted, first_found}
 use Rattle.module_groups.specs.Groups.{group_of}
-use Rattle.generation.proofs.Halves.{groups_parted, first_found}
 use Rattle.generation.proofs.groups.first_of_group.Goals as goal
 
 pub returns : goal.returns

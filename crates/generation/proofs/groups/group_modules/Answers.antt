@@ -1,8 +1,8 @@
 use Rattle.std.proofs.Common.{◌-◌, ap, length, map, take, drop, arith}
+use Rattle.std.proofs.lemmas.List.{length-map}
+use Rattle.generation.proofs.Searching.{listed_in_order, listed_cut_is}
 use Rattle.generation.specs.View.{view_listed}
-use Rattle.generation.proofs.Limiting.{len_map}
 use Rattle.generation.proofs.Grouping.{few_of_group}
-use Rattle.generation.proofs.Halves.{listed_in_order, listed_cut_is}
 use Rattle.generation.proofs.groups.group_modules.Goals as goal
 
 pub slice_bounds-result-count : goal.slice_bounds-result-count
@@ -18,5 +18,5 @@ pub returns-clause-few : goal.returns-clause-few
 returns-clause-few c =
     let few = few_of_group (map view_listed c.args.modules.now) c.args.group c.requires.rising c.requires.group.0 in
     let same = ap length (returns-clause-group c) in
-    let n = len_map view_listed (take (c.first_of_group-end.result - c.first_of_group-first.result) (drop c.first_of_group-first.result c.args.modules.now)) in
+    let n = length-map (take (c.first_of_group-end.result - c.first_of_group-first.result) (drop c.first_of_group-first.result c.args.modules.now)) view_listed in
     omega (arith, few, same, n)

@@ -1,15 +1,14 @@
 use Rattle.std.proofs.Common.{◌≡◌, ◌∙◌, ap, map, sym, subst}
-use Rattle.std.specs.List.{All}
+use Rattle.std.specs.List.{All, zip}
+use Rattle.generation.proofs.Filling.{are_placed, are_objects, few_old, read_objects, placed_read}
 use Rattle.module_packer.specs.Kept.{AreObjects}
 use Rattle.module_groups.specs.declared.TheConstants.{GREATEST_ID}
 use Rattle.generation.specs.Publication.{spots_of, sizes_of, AreRising}
 use Rattle.generation.specs.Layouts.{old_keys, old_modules, keys_of, modules_for}
 use Rattle.generation.specs.View.{view_spot, view_placed, IsSpotIn}
 use Rattle.generation.proofs.Writing.{keys_are}
-use Rattle.generation.proofs.Placing.{within_limits, objects_arm, ready_arm}
-use Rattle.generation.proofs.Filling.{lines_arm}
+use Rattle.generation.proofs.Placing.{within_limits}
 use Rattle.generation.proofs.Numbering.{rising_all}
-use Rattle.generation.proofs.Staying.{are_objects, old_arm, few_old, read_objects, placed_read}
 use Rattle.generation.proofs.made.objects_after.Goals as goal
 
 pub former_of-requires-clause-spots : goal.former_of-requires-clause-spots
@@ -39,22 +38,16 @@ pub returns : goal.returns
 returns c =
     let t = c.args.tree.now in
     let old = map (view_placed c.args.old_tree.now) c.args.old.now in
-    let tree = c.requires.weighed.spots.tree in
     let spots : map (view_spot t) c.deref.result.now ≡ spots_of t = ap (map (view_spot t)) c.deref.ensures.value ∙ c.requires.weighed.spots.each in
     let sizes : c.deref-2.result.now ≡ sizes_of t = c.deref-2.ensures.value ∙ c.requires.weighed.sizes in
     let olds : c.deref-3.result.now ≡ old_modules old (map (view_spot t) c.deref.result.now) = c.deref-3.ensures.value ∙ c.in_ok-former.ensures.modules in
     -- the modules are those where the objects stay or go
-    let placed = placed_read t old c.deref-2.result.now c.deref-3.result.now c.in_ok-modules.modules.items
+    let placed = placed_read t old (zip c.deref-2.result.now c.deref-3.result.now) c.in_ok-modules.modules.items
     (read_objects t old (map (view_spot t) c.deref.result.now) c.deref-2.result.now c.deref-3.result.now spots sizes olds) c.in_ok-modules.ensures.kept c.in_ok-modules.ensures.fits in
     let keyed : c.deref-6.result.now ≡ keys_of old (spots_of t) =
     c.deref-6.ensures.value ∙ (c.in_ok-keys.ensures ∙ keys_are old (spots_of t) c.deref-4.result.now (c.deref-4.ensures.value ∙ (c.in_ok-former.ensures.keys ∙ ap (old_keys old) spots))) in
     let again : map (view_spot t) c.deref-5.result.now ≡ spots_of t = ap (map (view_spot t)) c.deref-5.ensures.value ∙ c.requires.weighed.spots.each in
     let moved : c.deref-7.result.now ≡ modules_for old t = c.deref-7.ensures.value ∙ placed.0 in
-    let objects = objects_arm c.place_all.result t old (modules_for old t) c.deref-5.result.now c.deref-6.result.now c.deref-7.result.now again keyed moved c.place_all.ensures in
-    record {
-      objects = objects;
-      ready = ready_arm c.place_all.result t old (modules_for old t) c.deref-5.result.now c.deref-6.result.now c.deref-7.result.now
-          tree c.requires.tree (subst (All (IsSpotIn t)) (sym c.deref-5.ensures.value) c.requires.weighed.spots.valid) placed.1 again keyed moved c.place_all.ensures;
-      old = old_arm c.place_all.result t old (modules_for old t) tree placed.1 objects;
-      lines = lines_arm c.place_all.result t old (modules_for old t) tree c.requires.tree placed.1 objects;
-    }
+    let are = are_placed c.place_all.result t old c.deref-5.result.now c.deref-6.result.now c.deref-7.result.now c.requires.weighed.spots.tree c.requires.tree
+    (subst (All (IsSpotIn t)) (sym c.deref-5.ensures.value) c.requires.weighed.spots.valid) placed.1 again keyed moved c.place_all.ensures in
+    record { objects = are.objects; ready = are.ready; old = are.before; lines = are.lines }

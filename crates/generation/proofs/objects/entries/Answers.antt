@@ -1,11 +1,10 @@
-use Rattle.std.proofs.Common.{◌++◌, ◌∷◌, [], ◌∙◌, None, false, map, take, get_or, sym, ap, arith}
+use Rattle.std.proofs.Common.{◌++◌, ◌∷◌, [], ◌∙◌, map, take, get_or, sym, ap, arith}
 use Rattle.std.proofs.lemmas.List.{map-append, take_all, take_more}
 use Rattle.std.proofs.lemmas.List.Elements.{All-nil, All-push}
 use Rattle.biop_object.specs.Objects.{IsEntry}
-use Rattle.generation.specs.declared.objects.Placed.{Placed}
 use Rattle.generation.specs.Inner.Linking.{members_in}
 use Rattle.generation.specs.View.{IsId, IsSpotIn}
-use Rattle.generation.proofs.Members.{binding_of, bindings_are, all_lying, all_named, folder_group}
+use Rattle.generation.proofs.Members.{binding_of, bindings_are, all_lying, all_named, folder_group, no_object}
 use Rattle.generation.proofs.objects.entries.Goals as goal
 
 pub loop-child-init : goal.loop-child-init
@@ -31,12 +30,11 @@ loop-child-preserved c =
     let binding = binding_of c.args.carousel c.args.tree.now in
     let ms = c.deref-child-items.result.now in
     let i = c.loop-child.child-index in
-    let d : Placed = record { spot = record { entry = 0; names = 0; whole = false; number = 0; parent = None }; key = 0; «module» = 0 } in
     record {
       valid = rw c.in_ok-push.ensures.items (All-push IsEntry c.loop-child.entries.items c.in_ok-written.field-0 c.loop-child.invariant.valid c.in_ok-written.ensures.valid);
       so_far = c.in_ok-push.ensures.items ∙ (ap (λ l. l ++ c.in_ok-written.field-0 ∷ []) c.loop-child.invariant.so_far
           ∙ (ap (λ w. map binding (take i ms) ++ w ∷ []) c.in_ok-written.ensures.written
-          ∙ sym (ap (map binding) (take_more ms i d (omega arith)) ∙ map-append binding (take i ms) (get_or ms i d ∷ []))));
+          ∙ sym (ap (map binding) (take_more ms i no_object (omega arith)) ∙ map-append binding (take i ms) (get_or ms i no_object ∷ []))));
     }
 
 pub returns-clause-entries : goal.returns-clause-entries

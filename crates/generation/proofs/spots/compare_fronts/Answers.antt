@@ -1,5 +1,5 @@
 use Rattle.std.proofs.Common.{arith, sym, ◌∙◌}
-use Rattle.generation.proofs.Fronts.{cmp_more, cmp_decided, cmp_over}
+use Rattle.generation.proofs.Spotting.{cmp_more, cmp_decided, cmp_over}
 use Rattle.generation.proofs.spots.compare_fronts.Goals as goal
 
 pub loop-i-preserved : goal.loop-i-preserved

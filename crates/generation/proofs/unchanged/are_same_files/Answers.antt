@@ -1,10 +1,9 @@
-use Rattle.std.proofs.Common.{◌++◌, take, get_or, None, false, sym, ◌∙◌, ap, arith}
+use Rattle.std.proofs.Common.{◌++◌, take, get_or, sym, ◌∙◌, ap, arith}
 use Rattle.std.proofs.lemmas.List.{take_all}
-use Rattle.generation.specs.declared.objects.Placed.{Placed}
 use Rattle.generation.specs.Layouts.{object_bytes}
 use Rattle.generation.specs.Inner.Stays.{bytes_of_all}
 use Rattle.generation.specs.View.{view_placed}
-use Rattle.generation.proofs.Members.{one_more}
+use Rattle.generation.proofs.Members.{one_more, no_object}
 use Rattle.generation.proofs.unchanged.are_same_files.Goals as goal
 
 pub loop-place-preserved : goal.loop-place-preserved
@@ -12,12 +11,11 @@ loop-place-preserved c =
     let t = c.args.old_tree.now in
     let u = c.args.tree.now in
     let i = c.loop-place.place in
-    let d : Placed = record { spot = record { entry = 0; names = 0; whole = false; number = 0; parent = None }; key = 0; «module» = 0 } in
     λ k olds news.
-    one_more k olds t c.args.before.now i d (omega arith)
-    ∙ (ap (λ l. l ++ object_bytes k olds (view_placed t (get_or c.args.before.now i d))) (c.loop-place.invariant k olds news)
+    one_more k olds t c.args.before.now i no_object (omega arith)
+    ∙ (ap (λ l. l ++ object_bytes k olds (view_placed t (get_or c.args.before.now i no_object))) (c.loop-place.invariant k olds news)
     ∙ (ap (λ l. bytes_of_all k news u (take i c.args.after.now) ++ l) (c.is_same_file.ensures c.if-not-is_same_file.false k olds news)
-    ∙ sym (one_more k news u c.args.after.now i d (omega arith))))
+    ∙ sym (one_more k news u c.args.after.now i no_object (omega arith))))
 
 pub returns : goal.returns
 returns c = λ e k olds news.

@@ -3,7 +3,7 @@ use Rattle.std.specs.List.{flat_map}
 use Rattle.std.proofs.lemmas.Result.{err_from_is_err_and}
 use Rattle.std.proofs.lemmas.List.{take_all}
 use Rattle.shell_streams.proofs.CallerLemmas.{puts_nothing, puts_then, puts_stop, puts_as}
-use Rattle.rehearsal.proofs.Texts.{parts_next, parts_all}
+use Rattle.shell_words.proofs.CallerLemmas.{parts_next, parts_all}
 use Rattle.rehearsal.proofs.Telling.{told_line, report_is}
 use Rattle.rehearsal.proofs.told.put_report.Goals as goal
 

@@ -1,5 +1,5 @@
 use Rattle.std.proofs.Common.{Err, sym, ap, ◌∙◌, subst}
-use Rattle.session.proofs.Linking.{IsAnswered, one_commit_more, would_be_entered}
+use Rattle.session.proofs.Closing.{IsAnswered, one_commit_more, would_be_entered}
 use Rattle.session.proofs.editor.commit.Goals as goal
 
 pub returns-in-Ok-clause-commits : goal.returns-in-Ok-clause-commits

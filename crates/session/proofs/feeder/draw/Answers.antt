@@ -1,4 +1,5 @@
 use Rattle.std.proofs.Common.{◌∷◌, ◌++◌, List, [], Result, refl, subst}
+use Rattle.session.proofs.Closing.{one_draw_more}
 use Rattle.ts_packet.specs.declared.Fate.{Fate}
 use Rattle.generation_catalogue.specs.Calls.{IsDrawn}
 use Rattle.generation_catalogue.specs.declared.entry.Batch.{Batch}
@@ -9,7 +10,6 @@ use Rattle.station.specs.Calls.{InOneHold}
 use Rattle.station.specs.Passes.{carousel_of, weights_of}
 use Rattle.session.specs.Seats.{draw_of, drawing_in}
 use Rattle.session.specs.Shown.{HasShown}
-use Rattle.session.proofs.Linking.{one_draw_more}
 use Rattle.session.proofs.feeder.draw.Goals as goal
 
 pub returns-clause-fed : goal.returns-clause-fed

@@ -11,7 +11,7 @@ returns-in-Ok-clause-stays g c =
 
 pub returns-in-Err-clause-stays : goal.returns-in-Err-clause-stays
 returns-in-Err-clause-stays g c =
-    rw c.from.ensures
+    rw c.status_of.ensures
     (stays (record { pid = c.args.pid; carousel = c.args.carousel; weights = c.args.weigh.now.weights }) c.args.folder.now c.args.cycles _ _ _ _ _ c.requires.pending
     (λ rs h. let name = h.0 ∙ c.new-trees.ensures.same in
     were_over c.args.folder.now g.F.Folders.tree g.F.Folders.faults c.new-trees.result.folders.now c.keep_on_air.new.trees.folders.now _ _ c.new-trees.result.folder.now rs c.new-trees.ensures.folder c.new-trees.ensures.now (search (rules, name)) h.2)

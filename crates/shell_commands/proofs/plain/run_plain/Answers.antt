@@ -2,7 +2,7 @@ use Rattle.std.proofs.Common.{rules, refl, map, ◌∙◌}
 use Rattle.std.specs.String.{string_bytes}
 use Rattle.shell_words.specs.Words as commands
 use Rattle.watch_desk.specs.Prefixes.{prefixes_of}
-use Rattle.shell_commands.specs.Over.{over}
+use Rattle.receiver_commands.specs.Over.{over}
 use Rattle.shell_commands.proofs.Declining.{done_nothing, fault_keeps, promises_over, in_time_over}
 use Rattle.shell_commands.proofs.plain.run_plain.Goals as goal
 

@@ -2,7 +2,7 @@ use Rattle.std.proofs.Common.{◌∙◌, ap, sym, Ok, Err, inl, inr}
 use Rattle.std.proofs.lemmas.Result.{err_from_is_err_and}
 use Rattle.std.specs.Arc.{arc_value}
 use Rattle.folder_store.specs.Folders.{is_folder_at}
-use Rattle.shell_commands.specs.Over.{over}
+use Rattle.receiver_commands.specs.Over.{over}
 use Rattle.shell_commands.proofs.Committing.{refused_walk, refused_commit, folder_found, made_of_folder}
 use Rattle.shell_commands.proofs.publish.first_generation.Goals as goal
 

@@ -1,15 +1,15 @@
 use Rattle.std.proofs.Common.{◌≡◌, ◌≤◌, ◌+◌, sym, subst, ap, ◌∙◌, map, length, arith, ◌++◌, ◌∷◌, []}
 use Rattle.std.specs.List.{All}
+use Rattle.std.proofs.lemmas.List.{length-map}
+use Rattle.generation.proofs.Lists.{next_is, stands_next}
 use Rattle.module_groups.specs.declared.TheConstants.{GREATEST_ID}
 use Rattle.generation.specs.Layouts.{modules_for, next_of, layout_of, lines_in, keys_of, placed_all, counts_after, generation_of, greatest}
 use Rattle.generation.specs.Publication.{spots_of}
 use Rattle.cycle_planner.specs.Cycle.{AreLines}
 use Rattle.generation.specs.Inner.Stays.{AreAsBefore, SameModules}
 use Rattle.generation.specs.View.{AreReady, AreMarked, IsRising, IsSpotIn, view_generation, view_listed, view_placed}
-use Rattle.generation.proofs.Limiting.{len_map}
 use Rattle.generation.proofs.Counting.{small_counts, counts_are}
 use Rattle.generation.proofs.Grouping.{rising_of}
-use Rattle.generation.proofs.Making.{next_is, stands_next}
 use Rattle.generation.proofs.Sharing.{are_theirs}
 use Rattle.generation.proofs.made.Generation.renewed.Goals as goal
 
@@ -53,7 +53,7 @@ pub counts_next-requires-clause-few : goal.counts_next-requires-clause-few
 counts_next-requires-clause-few c =
     let ready = c.in_ok-objects.ensures.ready c.self.inside.carousel in
     let layout = c.in_ok-modules.ensures.layout ∙ ap (λ os. layout_of c.self.inside.carousel (map (view_placed c.args.tree) os)) c.deref-4.ensures.value in
-    omega (arith, ready.modules, ap length layout, len_map view_listed c.in_ok-modules.modules.items, ap length c.deref-7.ensures.value)
+    omega (arith, ready.modules, ap length layout, length-map c.in_ok-modules.modules.items view_listed, ap length c.deref-7.ensures.value)
 
 pub invariant_of-result : goal.invariant_of-result
 invariant_of-result c =
@@ -72,7 +72,7 @@ invariant_of-result c =
       number = omega (arith, c.requires.number, ap (λ g. g.number) c.self.view_is);
       counts = subst (All (λ k. k ≤ c.self.inside.number + 1)) (sym counted)
           (small_counts (map view_listed c.deref-5.result.now) (map view_listed c.deref-7.result.now) c.deref-8.result.now c.self.inside.number (subst (All (λ k. k ≤ c.self.inside.number)) (sym c.deref-8.ensures.value) c.self.invariant.counts));
-      modules = omega (arith, ready.modules, ap length layout, len_map view_listed c.in_ok-modules.modules.items);
+      modules = omega (arith, ready.modules, ap length layout, length-map c.in_ok-modules.modules.items view_listed);
       sizes = subst (All (λ m. length m.1 ≤ 268435456)) (sym layout) ready.sizes;
       spots = ready.spots;
       old = c.in_ok-objects.ensures.old;

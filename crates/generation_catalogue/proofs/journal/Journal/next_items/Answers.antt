@@ -1,39 +1,44 @@
+use Rattle.std.proofs.Common.{ℕ, ◌+◌, ◌-◌, min, ap, sym, ◌∙◌, subst}
 use Rattle.std.specs.Arc.{arc_value}
-use Rattle.std.proofs.Common.{◌≡◌, ◌-◌, min, Some, slice_get, ap, sym, ◌∙◌, subst, arith}
-use Rattle.cycle_planner.specs.Cycle.{cycle_of}
-use Rattle.cycle_planner.proofs.CallerLemmas.{item_behind, behind_item}
-use Rattle.generation_catalogue.specs.Kept.{view_journal}
-use Rattle.generation_catalogue.specs.History.{cycle_in}
-use Rattle.generation_catalogue.proofs.Drawing.{same_cycle, one_more_item, drawn_items, none_left}
+use Rattle.generation_catalogue.specs.History.{count_drawn, cursor_of}
+use Rattle.generation_catalogue.specs.Kept.{StandsIn, view_journal}
+use Rattle.generation_catalogue.proofs.Drawing.{drawn_items, few_left, same_lines, stand_here}
 use Rattle.generation_catalogue.proofs.journal.Journal.next_items.Goals as goal
 
-pub loop-at-preserved : goal.loop-at-preserved
-loop-at-preserved g c =
-    let same = same_cycle (view_journal c.self.inside) c.args.self.now (arc_value c.self.inside.current) c.deref.result.now c.args.weigh.now.weights c.lines-lines.result.now c.requires c.lines-lines.ensures.exact c.deref.ensures c.self.invariant.current c.self.view_is in
-    let cycle = cycle_of c.args.weigh.now.weights c.lines-lines.result.now in
-    let left = sym c.loop-at.invariant.left ∙ c.in-Some.ensures.items in
-    let here : slice_get (cycle_in c.args.self.now) c.loop-at._at ≡ Some c.in-Some.item = subst (λ xs. slice_get xs c.loop-at._at ≡ Some c.in-Some.item) same (item_behind cycle _ c.loop-at._at c.in-Some.item left) in
-    record {
-      items = one_more_item (cycle_in c.args.self.now) c.loop-at.items.items c.push.new.self.items c.self.inside.cursor c.loop-at._at c.in-Some.item (omega arith) c.in_ok-push.ensures.items c.loop-at.invariant.items here;
-      walk = c.next.ensures.walk;
-      left = behind_item cycle _ c.loop-at._at c.in-Some.item left;
-    }
+pub taken-requires-clause-walk : goal.taken-requires-clause-walk
+taken-requires-clause-walk g c =
+    let lines = same_lines (view_journal c.self.inside) c.args.self.now (arc_value c.self.inside.current) c.deref.result.now c.lines-lines.result.now c.lines-lines.ensures.exact c.deref.ensures c.self.invariant.current c.self.view_is in
+    (stand_here c.args.self.now c.args.weigh.now.weights c.lines-lines.result.now (cursor_of c.args.self.now) c.stand_now-stand.result c.requires lines c.stand_now-stand.ensures).goes_on
+
+pub taken-requires-clause-count : goal.taken-requires-clause-count
+taken-requires-clause-count g c =
+    let lines = same_lines (view_journal c.self.inside) c.args.self.now (arc_value c.self.inside.current) c.deref.result.now c.lines-lines.result.now c.lines-lines.ensures.exact c.deref.ensures c.self.invariant.current c.self.view_is in
+    let place = c.self.invariant.cursor ∙ ap cursor_of c.self.view_is in
+    let count = c.min-count.ensures ∙ ap (λ (a : ℕ). min a (c.stand_now-stand.result.length - c.self.inside.cursor)) c.from.ensures in
+    few_left c.args.self.now c.args.weigh.now.weights c.lines-lines.result.now c.stand_now-stand.result c.args.asked c.self.inside.cursor c.min-count.result place
+    (stand_here c.args.self.now c.args.weigh.now.weights c.lines-lines.result.now (cursor_of c.args.self.now) c.stand_now-stand.result c.requires lines c.stand_now-stand.ensures) count
 
 pub returns-clause-items : goal.returns-clause-items
 returns-clause-items g c =
-    (drawn_items (view_journal c.self.inside) c.args.self.now (arc_value c.self.inside.current) c.deref.result.now c.args.weigh.now.weights c.lines-lines.result.now c.self.inside.cursor c.args.asked c.cycle_len.result c.min-count.result c.loop-at._at c.loop-at.items.items
-    c.requires c.lines-lines.ensures.exact c.deref.ensures c.self.invariant.current c.self.view_is c.self.invariant.cursor c.cycle_len.ensures.len
-    (c.min-count.ensures ∙ ap (λ a. min a (c.cycle_len.result - c.self.inside.cursor)) c.from.ensures) (omega (arith, c.loop-at-test.false, c.loop-at.auto._at-end)) c.loop-at.invariant.items).0
+    let lines = same_lines (view_journal c.self.inside) c.args.self.now (arc_value c.self.inside.current) c.deref.result.now c.lines-lines.result.now c.lines-lines.ensures.exact c.deref.ensures c.self.invariant.current c.self.view_is in
+    let place = c.self.invariant.cursor ∙ ap cursor_of c.self.view_is in
+    let count = c.min-count.ensures ∙ ap (λ (a : ℕ). min a (c.stand_now-stand.result.length - c.self.inside.cursor)) c.from.ensures in
+    (drawn_items c.args.self.now c.args.weigh.now.weights c.lines-lines.result.now c.stand_now-stand.result c.in_ok-items.next c.args.asked c.self.inside.cursor c.min-count.result c.in_ok-items.items.items
+    c.requires lines place c.stand_now-stand.ensures count c.in_ok-items.ensures.items c.in_ok-items.ensures.walk c.in_ok-items.ensures.left).0
 
 pub returns-clause-count : goal.returns-clause-count
 returns-clause-count g c =
-    (drawn_items (view_journal c.self.inside) c.args.self.now (arc_value c.self.inside.current) c.deref.result.now c.args.weigh.now.weights c.lines-lines.result.now c.self.inside.cursor c.args.asked c.cycle_len.result c.min-count.result c.loop-at._at c.loop-at.items.items
-    c.requires c.lines-lines.ensures.exact c.deref.ensures c.self.invariant.current c.self.view_is c.self.invariant.cursor c.cycle_len.ensures.len
-    (c.min-count.ensures ∙ ap (λ a. min a (c.cycle_len.result - c.self.inside.cursor)) c.from.ensures) (omega (arith, c.loop-at-test.false, c.loop-at.auto._at-end)) c.loop-at.invariant.items).1
+    let lines = same_lines (view_journal c.self.inside) c.args.self.now (arc_value c.self.inside.current) c.deref.result.now c.lines-lines.result.now c.lines-lines.ensures.exact c.deref.ensures c.self.invariant.current c.self.view_is in
+    let place = c.self.invariant.cursor ∙ ap cursor_of c.self.view_is in
+    let count = c.min-count.ensures ∙ ap (λ (a : ℕ). min a (c.stand_now-stand.result.length - c.self.inside.cursor)) c.from.ensures in
+    (drawn_items c.args.self.now c.args.weigh.now.weights c.lines-lines.result.now c.stand_now-stand.result c.in_ok-items.next c.args.asked c.self.inside.cursor c.min-count.result c.in_ok-items.items.items
+    c.requires lines place c.stand_now-stand.ensures count c.in_ok-items.ensures.items c.in_ok-items.ensures.walk c.in_ok-items.ensures.left).1
 
--- the draw ends within the cycle, so that an item is there
-pub unreachable-requires : goal.unreachable-requires
-unreachable-requires g c =
-    let cycle = cycle_of c.args.weigh.now.weights c.lines-lines.result.now in
-    let few = none_left cycle c.loop-at._at (sym c.loop-at.invariant.left ∙ c.in_default.ensures.items.0) in
-    omega (arith, few, c.loop-at-test.true, c.loop-at.auto._at, c.min-count.ensures, c.cycle_len.ensures.len)
+pub returns-clause-stand : goal.returns-clause-stand
+returns-clause-stand g c =
+    let lines = same_lines (view_journal c.self.inside) c.args.self.now (arc_value c.self.inside.current) c.deref.result.now c.lines-lines.result.now c.lines-lines.ensures.exact c.deref.ensures c.self.invariant.current c.self.view_is in
+    let place = c.self.invariant.cursor ∙ ap cursor_of c.self.view_is in
+    let count = c.min-count.ensures ∙ ap (λ (a : ℕ). min a (c.stand_now-stand.result.length - c.self.inside.cursor)) c.from.ensures in
+    let stands = (drawn_items c.args.self.now c.args.weigh.now.weights c.lines-lines.result.now c.stand_now-stand.result c.in_ok-items.next c.args.asked c.self.inside.cursor c.min-count.result c.in_ok-items.items.items
+    c.requires lines place c.stand_now-stand.ensures count c.in_ok-items.ensures.items c.in_ok-items.ensures.walk c.in_ok-items.ensures.left).2 in
+    subst (StandsIn c.args.self.now (cursor_of c.args.self.now + count_drawn c.args.self.now c.args.asked)) (sym c.moved.ensures) stands

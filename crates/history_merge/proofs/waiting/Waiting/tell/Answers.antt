@@ -1,8 +1,9 @@
 use Rattle.std.proofs.Common.{◌≡◌, ◌-◌, ◌++◌, List, IfOk, length, map, take, drop, subst, ap, ◌∙◌}
+use Rattle.std.proofs.lemmas.List.{take_rest}
 use Rattle.open_history.specs.declared.entry.OpenEntry.{OpenEntry}
 use Rattle.history_merge.specs.Merging.{opened_of}
 use Rattle.history_merge.specs.Merges.{known_view}
-use Rattle.history_merge.proofs.Turns.{as_long, to_end, front_takes, is_left}
+use Rattle.history_merge.proofs.Turns.{as_long, front_takes, is_left}
 use Rattle.history_merge.proofs.waiting.Waiting.tell.Goals as goal
 
 pub slice_bounds-tell_opens-end : goal.slice_bounds-tell_opens-end
@@ -18,4 +19,4 @@ pub returns-clause-left : goal.returns-clause-left
 returns-clause-left c =
     let opens = c.args.self.now.opens.now in
     let front = c.front_of-front.result in
-    is_left c.args.draws c.args.self.now.reader opens (take (length opens - front) (drop front opens)) (to_end front opens ∙ ap (λ n. drop n opens) c.front_of-front.ensures.front) c.requires
+    is_left c.args.draws c.args.self.now.reader opens (take (length opens - front) (drop front opens)) (take_rest opens front ∙ ap (λ n. drop n opens) c.front_of-front.ensures.front) c.requires

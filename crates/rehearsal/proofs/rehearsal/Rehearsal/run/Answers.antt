@@ -1,13 +1,13 @@
 use Rattle.std.proofs.Common.{[], ◌∷◌, ◌∙◌, Option, ap, sym, subst}
 use Rattle.std.specs.Prelude.{IfSome}
-use Rattle.std.proofs.lemmas.Result.{err_from_is_err_and}
+use Rattle.std.proofs.lemmas.Result.{err_from_is_err_and, on_ok_weaker}
 use Rattle.session_script.specs.Parts.{act_of}
 use Rattle.carousel_world.specs.Events.{Step}
 use Rattle.rehearsal.specs.Lines.{pending_after}
 use Rattle.carousel_world.specs.World.{InRange}
 use Rattle.rehearsal.specs.declared.interpreter.Happening.{Happening}
 use Rattle.rehearsal.specs.Happening.{happened, view_happening}
-use Rattle.rehearsal.proofs.Running.{runs_none, runs_empty, runs_as, stands_more, stands_still, on_ok_map}
+use Rattle.rehearsal.proofs.Running.{runs_none, runs_empty, runs_as, stands_more, stands_still}
 use Rattle.rehearsal.proofs.rehearsal.Rehearsal.run.Goals as goal
 
 pub returns-in_err-what-clause-runs : goal.returns-in_err-what-clause-runs
@@ -27,7 +27,7 @@ returns-in-Some-clause-runs g c = λ ws before p st.
 
 pub returns-in-Some-clause-stands : goal.returns-in-Some-clause-stands
 returns-in-Some-clause-stands g c =
-    on_ok_map c.happen.result (λ f ws before p st.
+    on_ok_weaker c.happen.result (λ f ws before p st.
     let is = ap (λ (e : Step). e ∷ []) c.into_event.ensures ∙ ap happened (sym c.in-Some.is) ∙ c.in_ok-what.ensures.happens p st.pending in
     stands_more before is (f ws before (pending_after p (act_of c.args.task)) (record { world = st.world; headline = st.headline; pending = c.in_ok-what.ensures.waits p st.pending })))
     c.happen.ensures.stands

@@ -1,7 +1,7 @@
 use Rattle.std.proofs.Common.{[], ◌∷◌, ◌++◌, append_assoc}
-use Rattle.std.proofs.lemmas.Result.{err_from_is_err_and}
+use Rattle.std.proofs.lemmas.Result.{err_from_is_err_and, on_ok_weaker}
 use Rattle.rehearsal.specs.Lines.{settling_step}
-use Rattle.rehearsal.proofs.Running.{runs_then, runs_stop, stands_as, on_ok_map}
+use Rattle.rehearsal.proofs.Running.{runs_then, runs_stop, stands_as}
 use Rattle.rehearsal.proofs.rehearsal.Rehearsal.settle.Goals as goal
 
 pub returns-in_err-draw_to_settle-clause-runs : goal.returns-in_err-draw_to_settle-clause-runs
@@ -16,6 +16,6 @@ returns-clause-runs g c = λ ws before p st.
 
 pub returns-clause-stands : goal.returns-clause-stands
 returns-clause-stands g c =
-    on_ok_map c.draw_to_settle-2.result
+    on_ok_weaker c.draw_to_settle-2.result
     (λ f ws before p st. stands_as (append_assoc before (settling_step ∷ []) (settling_step ∷ [])) (f ws (before ++ settling_step ∷ []) p (c.in_ok-draw_to_settle.ensures.stands ws before p st)))
     c.draw_to_settle-2.ensures.stands

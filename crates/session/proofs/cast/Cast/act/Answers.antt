@@ -1,7 +1,7 @@
 use Rattle.std.proofs.Common.{refl}
+use Rattle.std.proofs.lemmas.Result.{on_ok_weaker}
+use Rattle.session.proofs.Begun.{cast_drew, cast_edited, cast_opened, draw_has_room, is_cast, open_is_next, same_readers, shots_count}
 use Rattle.shot_board.specs.Showers.{shown_by}
-use Rattle.session.proofs.Planning.{on_ok_map}
-use Rattle.session.proofs.Casting.{cast_drew, cast_edited, cast_opened, draw_has_room, is_cast, open_is_next, same_readers, shots_count}
 use Rattle.session.proofs.cast.Cast.act.Goals as goal
 
 pub draw-requires-clause-room : goal.draw-requires-clause-room
@@ -22,7 +22,7 @@ returns-in-Commit-clause-actors g c = record { editors = c.commit_now.ensures.pl
 
 pub returns-in-Commit-clause-stands : goal.returns-in-Commit-clause-stands
 returns-in-Commit-clause-stands g c =
-    on_ok_map c.commit_now.result (λ f setting done st next.
+    on_ok_weaker c.commit_now.result (λ f setting done st next.
     cast_edited setting c.args.station.now done (shown_by c.args.shower.now) c.args.self.now _ st c.args.deed c.in-Commit.editor c.in-Commit.edits c.in-Commit.is refl refl (f done st.editors)) c.commit_now.ensures.stands
 
 pub returns-in_ok-draw-in-Draw-clause-cast : goal.returns-in_ok-draw-in-Draw-clause-cast
@@ -46,6 +46,6 @@ returns-in-Open-clause-actors g c = record { editors = refl; draws = refl; reade
 
 pub returns-in-Open-clause-stands : goal.returns-in-Open-clause-stands
 returns-in-Open-clause-stands g c =
-    on_ok_map c.open_now.result (λ f setting done st next.
+    on_ok_weaker c.open_now.result (λ f setting done st next.
     cast_opened setting c.args.station.now done (shown_by c.args.shower.now) c.args.self.now _ st c.args.deed c.in-Open.reader c.in-Open.path c.in-Open.is refl refl
     (f setting done (shown_by c.args.shower.now) st.readers (shots_count c.args.station.now done (shown_by c.args.shower.now) c.args.self.now.feeder st.feeder))) c.open_now.ensures.stands

@@ -1,10 +1,11 @@
 use Rattle.std.proofs.Common.{◌++◌, List, Option, sym, ap, ◌∙◌, subst, append-nil}
 use Rattle.std.specs.Prelude.{IfSome}
+use Rattle.std.proofs.lemmas.Result.{on_ok_weaker}
 use Rattle.carousel_world.specs.Events.{Step}
 use Rattle.carousel_world.specs.World.{InRange}
 use Rattle.rehearsal.specs.declared.interpreter.Happening.{Happening}
 use Rattle.rehearsal.specs.Happening.{happened, view_happening}
-use Rattle.session.proofs.Planning.{on_ok_always, on_ok_map, split_as, split_same}
+use Rattle.session.proofs.Planning.{on_ok_always, split_as, split_same}
 use Rattle.session.proofs.plan.Work.add.Goals as goal
 
 pub give-requires : goal.give-requires
@@ -12,7 +13,7 @@ give-requires c = subst (λ (what : Option Happening). IfSome what (λ h. InRang
 
 pub returns-in-Some-clause-split : goal.returns-in-Some-clause-split
 returns-in-Some-clause-split c =
-    on_ok_map c.give.result
+    on_ok_weaker c.give.result
     (λ f done p h w. split_as (ap (λ (es : List Step). done ++ es) (ap happened (sym c.in-Some.is) ∙ c.in_ok-what.ensures.happens p w)) (f done h)) c.give.ensures
 
 pub returns-in-Some-clause-waits : goal.returns-in-Some-clause-waits

@@ -1,0 +1,23 @@
+use Rattle.std.proofs.Common.{◌∙◌, append-nil}
+use Rattle.std.proofs.lemmas.Result.{err_from_is_err_and}
+use Rattle.shell_streams.proofs.CallerLemmas.{puts_none, puts_then, puts_as, puts_ok, puts_err}
+use Rattle.receiver_commands.proofs.find.write_found.Goals as goal
+
+pub returns-in_err-line-clause-puts : goal.returns-in_err-line-clause-puts
+returns-in_err-line-clause-puts g c =
+    let p = err_from_is_err_and c.from_residual.result c.from_residual.ensures.1 in
+    rw (p.1, p.2) (puts_none _ _)
+
+pub returns-in_err-put-clause-puts : goal.returns-in_err-put-clause-puts
+returns-in_err-put-clause-puts g c =
+    let p = err_from_is_err_and c.from_residual-in_err-put.result c.from_residual-in_err-put.ensures.1 in
+    rw (p.1, p.2) (puts_err (puts_as (c.as_bytes.ensures.value ∙ c.in_ok-line.ensures) c.in_err-put.ensures.puts))
+
+pub returns-in_err-flush-clause-puts : goal.returns-in_err-flush-clause-puts
+returns-in_err-flush-clause-puts g c =
+    let p = err_from_is_err_and c.from_residual-in_err-flush.result c.from_residual-in_err-flush.ensures.1 in
+    rw (p.1, p.2) (puts_err (puts_as (append-nil _) (puts_then (puts_as (c.as_bytes.ensures.value ∙ c.in_ok-line.ensures) c.in_ok-put.ensures.puts) c.in_err-flush.ensures.puts)))
+
+pub returns-clause-puts : goal.returns-clause-puts
+returns-clause-puts g c =
+    puts_ok _ (puts_as (append-nil _) (puts_then (puts_as (c.as_bytes.ensures.value ∙ c.in_ok-line.ensures) c.in_ok-put.ensures.puts) c.in_ok-flush.ensures.puts))

@@ -1,0 +1,155 @@
+ghost use Rattle.std.specs.Prelude.{◌≡◌, ◌==◌, ◌&&◌, ◌≤◌, ◌++◌, ◌∷◌, List, [], OnOk};
+ghost use Rattle.std.specs.Option.{option_map};
+ghost use Rattle.ddb_block.specs.Blocks as ddb;
+ghost use Rattle.shell_streams.specs.Cuts.{Bytes};
+ghost use Rattle.receiver_commands.specs.Over.{over, sink_over};
+ghost use Rattle.receiver_commands.specs.Input.{block_heard};
+ghost use Rattle.receiver_commands.specs.Gathering.{asked_of, HasBlocks};
+ghost use Rattle.shell_streams.specs.Sending.{Puts, IsInTime};
+ghost use Rattle.receiver_commands.specs.Assemble.{Assembles, IsModule};
+ghost use Rattle.block_assembler.specs.declared.TheConstants.{MOST_MODULE_SIZE};
+
+use crate::status::Status;
+use block_assembler::{Assembler, NewFault};
+use ddb_block::{Parts, parts_of};
+use dsi_dii::BLOCK_SIZE;
+use dsmcc_section::{Table, payload_of};
+use oc_bytes::{NoMemory, Source};
+use shell_streams::{Carrier, Listener, Output, OutputFault, hear_all};
+use std::alloc::Global;
+
+/// The most sections that are taken. This project's own limit.
+pub const MOST_ASSEMBLED: u32 = 65_536;
+
+/// The module that is asked for.
+#[derive(Clone, Copy)]
+pub struct Wanted {
+    /// Its id, any 16-bit number.
+    pub id: u16,
+    /// Its version, any 8-bit number.
+    pub version: u8,
+    /// How many bytes it has, at most [`block_assembler::MOST_MODULE_SIZE`].
+    pub size: u32,
+    /// The id of the download that its blocks name, any 32-bit number.
+    pub download: u32,
+}
+
+/// The blocks of the module so far.
+#[derive(Drop)]
+struct Gatherer {
+    wanted: Wanted,
+    assembler: Assembler,
+}
+
+impl Listener for Gatherer {
+    ghost use Rattle.receiver_commands.specs.Gatherers.{Gathers};
+
+    ghost heard = { Gathers };
+
+    fn hear(&mut self, section: &[u8]) -> Result<(), NoMemory> {
+        offer_section(self.wanted, section, &mut self.assembler);
+        Ok(())
+    }
+}
+
+/// Writes the module that is asked for, out of the sections that stand back to back in the source: of each of its blocks the first that fits
+/// (ISO/IEC 13818-6, 7.3.7.1). All else that they carry is passed over.
+///
+/// The whole input is read first. `ReadFault` comes where the source fails, and `InputTooLong` exactly where [`MOST_ASSEMBLED`] sections were
+/// taken and at least a byte more is read; nothing is written then. Nor is it where `Incomplete` comes, exactly where a block is missing: it
+/// has the least number of one. `Done` comes where the whole module was written. After `WriteFault`, where the sink fails, and after
+/// `NoMemory` a prefix of it was written. No other status comes. These rules are this project's own.
+///
+/// Nothing may be pending in the output when it is called.
+pub fn assemble<S: Source, O: Output>(
+    alloc: Global,
+    wanted: Wanted,
+    source: &mut S,
+    out: &mut O,
+) -> Status
+    requires size { wanted.size ≤ MOST_MODULE_SIZE }
+    requires pending { (O.state out.old).pending ≡ [] }
+    ensures assembles { Assembles (asked_of wanted) result
+        (over S.left S.faults source.old source.new)
+        (sink_over (O.state out.old) (O.state out.new)) }
+    ensures same { (O.state out.new).name ≡ (O.state out.old).name }
+    ensures in_time { IsInTime (O.state out.old) (O.state out.new) }
+{
+    let assembler = match Assembler::new(alloc, wanted.size, BLOCK_SIZE) {
+        Ok(assembler) => assembler,
+        Err(NewFault::NoMemory) => return Status::NoMemory,
+        Err(_) => unreachable!(),
+    };
+    let mut gatherer = Gatherer { wanted, assembler };
+    match hear_all(
+        alloc,
+        Carrier::Sections(MOST_ASSEMBLED),
+        source,
+        &mut gatherer,
+    ) {
+        Ok(()) => write_module(&gatherer.assembler, out),
+        Err(fault) => Status::from(fault),
+    }
+}
+
+/// Writes the module where no block of it is missing.
+fn write_module<O: Output>(assembler: &Assembler, out: &mut O) -> Status
+    requires { (O.state out.old).pending ≡ [] }
+    ensures writes { IsModule assembler.now.blocks (sink_over (O.state out.old) (O.state out.new))
+        result }
+    ensures same { (O.state out.new).name ≡ (O.state out.old).name }
+    ensures in_time { IsInTime (O.state out.old) (O.state out.new) }
+{
+    if let Some(block) = assembler.first_missing() {
+        return Status::Incomplete(u32::from(block));
+    }
+    match assembler.whole() {
+        Some(bytes) => match write_all(bytes, out) {
+            Ok(()) => Status::Done,
+            Err(fault) => Status::from(fault),
+        },
+        None => unreachable!(),
+    }
+}
+
+fn write_all<O: Output>(bytes: &[u8], out: &mut O) -> Result<(), OutputFault>
+    ensures puts { Puts result (O.state out.old) (O.state out.new) bytes.now }
+    ensures empty { OnOk result ((O.state out.new).pending ≡ []) }
+{
+    out.put(bytes)?;
+    out.flush()
+}
+
+/// Offers the block that a section carries, where it is one of the wanted. The block's bytes are lent up to the assembler.
+fn offer_section(wanted: Wanted, section: &[u8], assembler: &mut Assembler)
+    ensures { (sections : List Bytes)
+        → HasBlocks (asked_of wanted) assembler.old sections
+        → HasBlocks (asked_of wanted) assembler.new (sections ++ section.now ∷ []) }
+{
+    if let Some(block) = block_in(section) {
+        if is_wanted(wanted, &block) {
+            let _ = assembler.offer(block.block, block.bytes);
+        }
+    }
+}
+
+/// Whether it is a block of the module.
+fn is_wanted(wanted: Wanted, block: &Parts<'_>) -> bool
+    ensures { result ≡ ((block.now.download == wanted.download)
+        && (block.now.module == wanted.id)
+        && (block.now.version == wanted.version)) }
+{
+    block.download == wanted.download
+        && block.module == wanted.id
+        && block.version == wanted.version
+}
+
+/// The block message that a section carries.
+fn block_in(section: &[u8]) -> Option<Parts<'_>>
+    ensures { option_map ddb.parts_view result ≡ block_heard section.now }
+{
+    match payload_of(section) {
+        Ok((Table::Blocks, payload)) => parts_of(payload).ok(),
+        Ok((Table::Control, _)) | Err(_) => None,
+    }
+}

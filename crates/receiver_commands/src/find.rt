@@ -1,0 +1,95 @@
+ghost use Rattle.std.specs.Prelude.{◌≡◌, [], IfOk, OnOk};
+ghost use Rattle.std.specs.String.{string_bytes};
+ghost use Rattle.psi_tables.specs.Finding.{found_in};
+ghost use Rattle.shell_streams.specs.Carriers.{Hears, all_packets};
+ghost use Rattle.shell_streams.specs.Sending.{Puts, IsInTime};
+ghost use Rattle.receiver_commands.specs.Over.{over, sink_over};
+ghost use Rattle.receiver_commands.specs.Find as finding;
+ghost use Rattle.receiver_commands.specs.Find.{Finds};
+
+use crate::open::status_of;
+use crate::status::Status;
+use oc_bytes::{NoMemory, Source};
+use psi_tables::{Find, Finder};
+use shell_streams::{InputFault, Output, OutputFault, PacketListener, hear_all_packets};
+use std::alloc::Global;
+
+/// The finder as a listener.
+#[derive(Drop)]
+struct Seeking {
+    finder: Finder,
+}
+
+impl PacketListener for Seeking {
+    ghost use Rattle.std.specs.Prelude.{◌≡◌};
+    ghost use Rattle.psi_tables.specs.Stands.{StandsFor};
+
+    ghost heard = { λ start now packets.
+        (now.finder.directory.carousel ≡ start.finder.directory.carousel)
+        × StandsFor now.finder packets };
+
+    fn hear(&mut self, packet: &[u8; 188]) -> Result<(), NoMemory> {
+        self.finder.feed(packet)
+    }
+}
+
+/// Writes where the carousel of the id `carousel`, any 32-bit number, is, by the program association table and the map tables
+/// (ISO/IEC 13818-1, 2.4.4) in the packets of the source: its PID in decimal, or `no-pat` where no section of the PAT came, or
+/// `not-named` where no map table in force names it, on a line.
+///
+/// The whole input is read first; a last piece of fewer than 188 bytes is passed over. `ReadFault` comes where the source fails, and
+/// `InputTooLong` exactly where [`shell_streams::MOST_PACKETS`] packets were taken and at least a byte more is read; nothing is written then. `NotAll`
+/// comes exactly where no PID is written. After `WriteFault`, where the sink fails, and after `NoMemory` a prefix of the line was
+/// written. No other status but `Done` comes. The texts are this project's own.
+///
+/// Nothing may be pending in the output when it is called.
+pub fn find<S: Source, O: Output>(
+    alloc: Global,
+    carousel: u32,
+    source: &mut S,
+    out: &mut O,
+) -> Status
+    requires { (O.state out.old).pending ≡ [] }
+    ensures finds { Finds carousel result (over S.left S.faults source.old source.new)
+        (sink_over (O.state out.old) (O.state out.new)) }
+    ensures same { (O.state out.new).name ≡ (O.state out.old).name }
+    ensures in_time { IsInTime (O.state out.old) (O.state out.new) }
+{
+    match place(alloc, carousel, source) {
+        Ok(found) => status_of(write_found(alloc, found, out)),
+        Err(fault) => Status::from(fault),
+    }
+}
+
+/// Where the carousel is, by all packets of the source.
+fn place<S: Source>(alloc: Global, carousel: u32, source: &mut S) -> Result<Find, InputFault>
+    ensures { Hears all_packets (λ found packets. found ≡ found_in carousel packets) result
+        (S.left source.old) (S.left source.new) (S.faults source.old) (S.faults source.new) }
+{
+    let finder = Finder::new(alloc, carousel)?;
+    let mut seeking = Seeking { finder };
+    hear_all_packets(alloc, source, &mut seeking)?;
+    Ok(seeking.finder.find())
+}
+
+/// Writes the line, and says whether it is a PID.
+fn write_found<O: Output>(alloc: Global, found: Find, out: &mut O) -> Result<bool, OutputFault>
+    ensures found { IfOk result (λ all. all ≡ finding.is_at found) }
+    ensures puts { Puts result (O.state out.old) (O.state out.new) (finding.found_line found) }
+    ensures empty { OnOk result ((O.state out.new).pending ≡ []) }
+{
+    let line = found_line(alloc, found)?;
+    out.put(line.as_bytes())?;
+    out.flush()?;
+    Ok(matches!(found, Find::At(_)))
+}
+
+fn found_line(alloc: Global, found: Find) -> Result<String, NoMemory>
+    ensures { IfOk result (λ text. string_bytes text ≡ finding.found_line found) }
+{
+    match found {
+        Find::NoPat => String::from_str(alloc, "no-pat\n"),
+        Find::NotNamed => String::from_str(alloc, "not-named\n"),
+        Find::At(pid) => format!(in alloc; "{pid}\n"),
+    }
+}

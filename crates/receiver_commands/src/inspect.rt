@@ -1,0 +1,42 @@
+ghost use Rattle.std.specs.Prelude.{◌≡◌, []};
+ghost use Rattle.shell_streams.specs.Sending.{IsInTime};
+ghost use Rattle.receiver_commands.specs.Over.{over, sink_over};
+ghost use Rattle.receiver_commands.specs.Inspect.{Inspects, report_status};
+
+use crate::status::Status;
+use oc_bytes::Source;
+use reception_report::{SyncPlace, receive_packets, write_report};
+use shell_streams::{Output, OutputFault};
+use std::alloc::Global;
+
+/// Writes a report on all packets of the source: what a receiver of the PID `pid`, 0 to 8,190, holds after them, and what it passed over.
+///
+/// `ReadFault` comes where the source fails, and `InputTooLong` exactly where [`shell_streams::MOST_PACKETS`] packets were taken and at least a
+/// byte more is read; nothing is written then. `Done` and `NotPackets` come where the whole report was written: `NotPackets` exactly where the
+/// input isn't one of packets, and then it says where the sync byte stands. After `WriteFault`, where the sink fails, and after `NoMemory` a
+/// prefix of the report was written. No other status comes. These rules are this project's own.
+///
+/// Nothing may be pending in the output when it is called.
+pub fn inspect<S: Source, O: Output>(alloc: Global, pid: u16, source: &mut S, out: &mut O) -> Status
+    requires { (O.state out.old).pending ≡ [] }
+    ensures inspects { Inspects pid result (over S.left S.faults source.old source.new)
+        (sink_over (O.state out.old) (O.state out.new)) }
+    ensures same { (O.state out.new).name ≡ (O.state out.old).name }
+    ensures in_time { IsInTime (O.state out.old) (O.state out.new) }
+{
+    match receive_packets(alloc, pid, source) {
+        Ok(reception) => status_of(reception.sync, write_report(alloc, &reception, out)),
+        Err(fault) => Status::from(fault),
+    }
+}
+
+/// The status where a report was written of an input whose sync byte stands elsewhere, if it does.
+fn status_of(sync: Option<SyncPlace>, written: Result<(), OutputFault>) -> Status
+    ensures { result ≡ report_status sync written }
+{
+    match (written, sync) {
+        (Ok(()), None) => Status::Done,
+        (Ok(()), Some(place)) => Status::NotPackets(place),
+        (Err(fault), _) => Status::from(fault),
+    }
+}

@@ -1,0 +1,38 @@
+//! The commands for receivers: each reads an input of sections or packets from a source, writes to a sink what a receiver makes of it, and says
+//! how it ended. So does `why`, which reads nothing.
+//!
+//! ```
+//! use oc_bytes::{MemSink, MemSource};
+//! use receiver_commands::open::list;
+//! use sample_sections::{DSI, FILE_BLOCK, FILE_DII};
+//! use shell_streams::{Buffered, Carrier, room};
+//!
+//! let mut input = Vec::new(alloc);
+//! for section in [&DSI[..], &FILE_DII[..], &FILE_BLOCK[..]] {
+//!     input.extend_from_slice(section)?;
+//! }
+//! let mut source = MemSource::new(input, Vec::new(alloc), 4096);
+//! let (mut sink, mut pending) = (MemSink::new(alloc, Vec::new(alloc), 4096), room(alloc)?);
+//! let mut out = Buffered::new(&mut sink, &mut pending);
+//! let status = list(alloc, Carrier::Sections(3), &mut source, &mut out);
+//! assert_eq!(rt; status.code(), 0);
+//! assert_eq!(rt; sink.written(), b"/ folder 1\n/a file 5\n".as_slice());
+//! ```
+#![tactic(auto)]
+
+mod answers;
+pub mod assemble;
+pub mod extract;
+pub mod find;
+pub mod inspect;
+mod listing;
+pub mod mounts;
+pub mod open;
+pub mod open_id;
+mod receiver;
+pub mod record;
+mod status;
+pub mod watch;
+pub mod why;
+
+pub use status::Status;

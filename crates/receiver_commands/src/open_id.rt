@@ -1,0 +1,120 @@
+ghost use Rattle.std.specs.Prelude.{◌≡◌, ◌++◌, ◌∷◌, [], List, Some, None, map, OnOk};
+ghost use Rattle.std.specs.Arc.{arc_value};
+ghost use Rattle.path_resolver.specs.Shots.{held_of};
+ghost use Rattle.section_stream.specs.Cuts.{Bytes};
+ghost use Rattle.tuner_core.specs.Heard.{as_heard};
+ghost use Rattle.tuner_core.specs.LookBack.{held_after};
+ghost use Rattle.shell_streams.specs.Carriers.{Hears};
+ghost use Rattle.shell_streams.specs.Sending.{IsInTime};
+ghost use Rattle.receiver_commands.specs.Over.{over, sink_over};
+ghost use Rattle.receiver_commands.specs.OpenId.{OpensId, sections_by_id};
+ghost use Rattle.receiver_commands.specs.Seeking.{HasHeard};
+
+use crate::answers::write_answers;
+use crate::open::status_of;
+use crate::receiver::Receiver;
+use crate::status::Status;
+use oc_bytes::{NoMemory, Source};
+use path_resolver::Shot;
+use path_tree::Path;
+use psi_tables::{Find, Finder};
+use section_stream::PacketDemux;
+use shell_streams::{InputFault, Output, PacketListener, hear_all_packets, hear_each};
+use std::alloc::Global;
+use std::sync::Arc;
+use tuner_core::Tuner;
+
+/// A receiver that seeks the PID of its carousel first.
+#[derive(Drop)]
+struct Seeker {
+    alloc: Global,
+    finder: Finder,
+    /// The carousel's PID, once it is found.
+    stream: Option<PacketDemux>,
+    receiver: Receiver,
+}
+
+impl PacketListener for Seeker {
+    ghost use Rattle.receiver_commands.specs.Seeking.{HasHeard};
+
+    ghost heard = { λ start now packets. HasHeard start.finder.directory.carousel now packets };
+
+    fn hear(&mut self, packet: &[u8; 188]) -> Result<(), NoMemory> {
+        match &mut self.stream {
+            Some(stream) => {
+                let sections = stream.feed(packet)?;
+                hear_each(&sections, &mut self.receiver)
+            }
+            None => self.seek(packet),
+        }
+    }
+}
+
+impl Seeker {
+    /// Takes a packet before the carousel is found.
+    fn seek(&mut self, packet: &[u8; 188]) -> Result<(), NoMemory>
+        requires { self.old.stream ≡ None }
+        ensures { OnOk result ((packets : List Bytes)
+            → HasHeard self.old.finder.directory.carousel self.old packets
+            → HasHeard self.old.finder.directory.carousel self.new (packets ++ packet.now ∷ [])) }
+    {
+        self.finder.feed(packet)?;
+        if let Find::At(pid) = self.finder.find() {
+            let stream = PacketDemux::new(self.alloc, pid)?;
+            self.stream = Some(stream);
+        }
+        Ok(())
+    }
+}
+
+/// Writes the answers to the paths out of the packets of the source, by the id of the carousel, any 32-bit number: what `open` with the
+/// PID that `find` gives writes of the packets after the first one at which `find` gives a PID. Where there is none each answer is
+/// `no-carousel`.
+///
+/// The whole input is read first, once; a last piece of fewer than 188 bytes is passed over. `ReadFault` comes where the source fails,
+/// and `InputTooLong` exactly where [`shell_streams::MOST_PACKETS`] packets were taken and at least a byte more is read; nothing is written then. `NotAll`
+/// comes exactly where some answer is neither a file nor a folder. After `WriteFault`, where the sink fails, and after `NoMemory` a
+/// prefix of the answers was written. No other status but `Done` comes. These rules are this project's own.
+///
+/// Nothing may be pending in the output when it is called.
+pub fn open_id<S: Source, O: Output>(
+    alloc: Global,
+    carousel: u32,
+    paths: &[Path],
+    source: &mut S,
+    out: &mut O,
+) -> Status
+    requires { (O.state out.old).pending ≡ [] }
+    ensures opens { OpensId carousel paths.now result (over S.left S.faults source.old source.new)
+        (sink_over (O.state out.old) (O.state out.new)) }
+    ensures same { (O.state out.new).name ≡ (O.state out.old).name }
+    ensures in_time { IsInTime (O.state out.old) (O.state out.new) }
+{
+    match receive_by_id(alloc, carousel, source) {
+        Ok(shot) => status_of(write_answers(alloc, &*shot, paths, out)),
+        Err(fault) => Status::from(fault),
+    }
+}
+
+/// What a receiver holds that sought the carousel in all packets of the source.
+fn receive_by_id<S: Source>(
+    alloc: Global,
+    carousel: u32,
+    source: &mut S,
+) -> Result<Arc<Shot>, InputFault>
+    ensures { Hears (sections_by_id carousel)
+        (λ shot sections. held_of (arc_value shot) ≡ held_after (map as_heard sections)) result
+        (S.left source.old) (S.left source.new) (S.faults source.old) (S.faults source.new) }
+{
+    let finder = Finder::new(alloc, carousel)?;
+    let mut seeker = Seeker {
+        alloc,
+        finder,
+        stream: None,
+        receiver: Receiver {
+            tuner: Tuner::new(alloc),
+        },
+    };
+    hear_all_packets(alloc, source, &mut seeker)?;
+    Ok(seeker.receiver.tuner.shot(0, 0)?)
+}

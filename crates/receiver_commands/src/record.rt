@@ -1,0 +1,106 @@
+ghost use Rattle.std.specs.Prelude.{◌≡◌, false, [], map, OnOk};
+ghost use Rattle.section_stream.specs.Kept.{view_bytes};
+ghost use Rattle.shell_streams.specs.Packets.{is_ready};
+ghost use Rattle.shell_streams.specs.Sending.{Puts, IsInTime};
+ghost use Rattle.receiver_commands.specs.Over.{over, sink_over};
+ghost use Rattle.receiver_commands.specs.Accepted as sections;
+ghost use Rattle.receiver_commands.specs.Record.{Records};
+ghost use Rattle.receiver_commands.specs.Statuses.{end_status};
+
+use crate::status::Status;
+use dsmcc_section::payload_of;
+use oc_bytes::Source;
+use section_stream::candidates_grow;
+use shell_streams::{Output, OutputFault, PacketReader};
+use std::alloc::Global;
+
+/// Writes the sections of the PID `pid`, 0 to 8,191, that the packets of the source carry: each that reads as a section of
+/// DSM-CC with its CRC (ISO/IEC 13818-6), unchanged, in the order in which they are cut out of the packets. A packet has 188
+/// bytes (ISO/IEC 13818-1, 2.4.3.2); a last piece of fewer is passed over.
+///
+/// What is due is written before more is read from the source, so whoever sends the packets finds each section written
+/// when it has come.
+///
+/// `Done` comes where the source was read to its end and all of them were written. `ReadFault` comes where the source
+/// fails, and `InputTooLong` exactly where [`shell_streams::MOST_PACKETS`] packets were taken and at least a byte more is read: all sections
+/// that were complete by then were written. After `WriteFault`, where the sink fails, and after `NoMemory` a prefix of them was written. No
+/// other status comes. These rules are this project's own.
+///
+/// Nothing may be pending in the output when it is called.
+pub fn record<S: Source, O: Output>(alloc: Global, pid: u16, source: &mut S, out: &mut O) -> Status
+    requires { (O.state out.old).pending ≡ [] }
+    ensures records { Records pid result (over S.left S.faults source.old source.new)
+        (sink_over (O.state out.old) (O.state out.new)) }
+    ensures same { (O.state out.new).name ≡ (O.state out.old).name }
+    ensures in_time { IsInTime (O.state out.old) (O.state out.new) }
+{
+    match record_all(alloc, pid, source, out) {
+        Ok(()) => Status::Done,
+        Err(status) => status,
+    }
+}
+
+/// Writes them up to the end of the input.
+fn record_all<S: Source, O: Output>(
+    alloc: Global,
+    pid: u16,
+    source: &mut S,
+    out: &mut O,
+) -> Result<(), Status>
+    requires { (O.state out.old).pending ≡ [] }
+    ensures records { Records pid (end_status result) (over S.left S.faults source.old source.new)
+        (sink_over (O.state out.old) (O.state out.new)) }
+    ensures same { (O.state out.new).name ≡ (O.state out.old).name }
+    ensures in_time { IsInTime (O.state out.old) (O.state out.new) }
+{
+    candidates_grow();
+    let mut reader = PacketReader::new(alloc, pid)?;
+    while let Some(candidates) = reader.next(source)? {
+        put_accepted(&candidates, out)?;
+        write_before_reading(&reader, out)?;
+    }
+    out.flush()?;
+    Ok(())
+}
+
+/// Writes what is pending, unless the next packet is held already.
+fn write_before_reading<O: Output>(reader: &PacketReader, out: &mut O) -> Result<(), OutputFault>
+    ensures puts { Puts result (O.state out.old) (O.state out.new) [] }
+    ensures due { OnOk result (is_ready reader.now ≡ false → (O.state out.new).pending ≡ []) }
+{
+    if reader.is_ready() {
+        Ok(())
+    } else {
+        out.flush()
+    }
+}
+
+/// Puts those of the candidates that are sections after what is pending.
+fn put_accepted<O: Output>(candidates: &[Vec<u8>], out: &mut O) -> Result<(), OutputFault>
+    ensures { Puts result (O.state out.old) (O.state out.new)
+        (sections.accepted_bytes (map view_bytes candidates.now)) }
+{
+    for candidate in candidates {
+        put_one(candidate, out)?;
+    }
+    Ok(())
+}
+
+/// Puts a candidate after what is pending, where it is a section.
+fn put_one<O: Output>(candidate: &[u8], out: &mut O) -> Result<(), OutputFault>
+    ensures { Puts result (O.state out.old) (O.state out.new)
+        (sections.accepted_one candidate.now) }
+{
+    if is_accepted(candidate) {
+        out.put(candidate)
+    } else {
+        Ok(())
+    }
+}
+
+/// Whether a candidate is a section.
+fn is_accepted(candidate: &[u8]) -> bool
+    ensures { result ≡ sections.is_accepted candidate.now }
+{
+    payload_of(candidate).is_ok()
+}

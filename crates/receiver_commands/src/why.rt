@@ -1,0 +1,53 @@
+ghost use Rattle.std.specs.Prelude.{◌≡◌, [], OnOk};
+ghost use Rattle.shell_streams.specs.Sending.{IsInTime, Puts};
+ghost use Rattle.shell_words.specs.Complaints.{complaint_line};
+ghost use Rattle.receiver_commands.specs.Over.{sink_over};
+ghost use Rattle.receiver_commands.specs.Why.{SaysWhy, why_status};
+
+use crate::status::Status;
+use shell_streams::{Output, OutputFault};
+use shell_words::{Complaint, complaint_text};
+use std::alloc::Global;
+
+/// Writes one line on what is wrong with the words of a command line, or that they fit.
+///
+/// `Done` comes exactly where something is wrong and the whole line was written, and `NotAll` exactly where they fit and it was. After
+/// `WriteFault`, where the sink fails, and after `NoMemory` a prefix of the line was written. No other status comes. These rules are this
+/// project's own.
+///
+/// Nothing may be pending in the output when it is called.
+pub fn why<O: Output>(alloc: Global, complaint: Complaint, out: &mut O) -> Status
+    requires { (O.state out.old).pending ≡ [] }
+    ensures says { SaysWhy complaint result (sink_over (O.state out.old) (O.state out.new)) }
+    ensures same { (O.state out.new).name ≡ (O.state out.old).name }
+    ensures in_time { IsInTime (O.state out.old) (O.state out.new) }
+{
+    match write_complaint(alloc, complaint, out) {
+        Ok(()) => status_of(complaint),
+        Err(fault) => Status::from(fault),
+    }
+}
+
+/// The status where the line was written.
+fn status_of(complaint: Complaint) -> Status
+    ensures { result ≡ why_status complaint }
+{
+    match complaint {
+        Complaint::Fits => Status::NotAll,
+        _ => Status::Done,
+    }
+}
+
+/// Writes the line.
+fn write_complaint<O: Output>(
+    alloc: Global,
+    complaint: Complaint,
+    out: &mut O,
+) -> Result<(), OutputFault>
+    ensures puts { Puts result (O.state out.old) (O.state out.new) (complaint_line complaint) }
+    ensures empty { OnOk result ((O.state out.new).pending ≡ []) }
+{
+    let line = complaint_text(alloc, complaint)?;
+    out.put(line.as_bytes())?;
+    out.flush()
+}
